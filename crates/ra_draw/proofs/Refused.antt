@@ -1,5 +1,5 @@
 -- What the refusal of a fault of reading is, and what it is not.
-use Rattle.std.proofs.Common.{◌≡◌, ◌<◌, ◌≤◌, ℕ, Result, Ok, Err, refl, arith}
+use Rattle.std.proofs.Common.{◌≡◌, ◌≢◌, ◌⊎◌, ◌<◌, ◌≤◌, ℕ, Result, Ok, Err, refl, sym, ◌∙◌, inl, inr, arith}
 use Rattle.std.specs.Prelude.{IsErrAnd, IfErr}
 use Rattle.ra_world.specs.declared.error.ReadFault.{ReadFault}
 use Rattle.ra_world.specs.declared.error.ReadFault.TheVariants as read
@@ -60,3 +60,42 @@ many n v l a b h k = omega arith
 
 pub below : (n : ℕ) → n < 16777217 → n ≤ 16777216
 below n h = omega arith
+
+-- ---- A refusal that is passed on
+
+-- it is no verdict
+pub never : {V A : Type 0} (r : Result V DrawError) (fault : DrawError) (v : V) → IsErrAnd r (λ e. e ≡ fault) → r ≡ Ok v → A
+never (Ok w) fault v is e = absurd is
+never (Err f) fault v is e = absurd cc
+
+-- it is the same one
+pub passed : {V : Type 0} (r : Result V DrawError) (fault other : DrawError) → IsErrAnd r (λ e. e ≡ fault) → r ≡ Err other → fault ≡ other
+passed (Ok w) fault other is e = absurd is
+passed (Err f) fault other is e = cc
+
+-- and not another one
+pub unlike : {V : Type 0} (r : Result V DrawError) (fault other : DrawError) → IsErrAnd r (λ e. e ≡ fault) → fault ≢ other → IfErr r (λ e. e ≢ other)
+unlike (Ok w) fault other is not = tt
+unlike (Err f) fault other is not = λ e. not (sym is ∙ e)
+
+-- what is said of each but the writer's, if it is the writer's
+pub of_writer : {V : Type 0} (r : Result V DrawError) (P : Type 0) → IsErrAnd r (λ e. e ≡ draw.Write) → IfErr r (λ e. e ≢ draw.Write → P)
+of_writer (Ok w) P is = tt
+of_writer (Err f) P is = λ not. absurd (not is)
+
+-- that of a text without a verdict
+pub of_verdict : (fault : DrawError) → (fault ≡ draw.Read) ⊎ (fault ≡ draw.Memory) → (fault ≢ draw.Limit) × (fault ≢ draw.TooLong) × (fault ≢ draw.Write)
+of_verdict fault (inl is) = ((λ e. absurd cc), (λ e. absurd cc), (λ e. absurd cc))
+of_verdict fault (inr is) = ((λ e. absurd cc), (λ e. absurd cc), (λ e. absurd cc))
+
+-- that of a trace or a log without a picture
+pub of_picture : (fault : DrawError) (X : Type 0) → ((fault ≡ draw.TooLong) × X) ⊎ (fault ≡ draw.Memory)
+    → (fault ≢ draw.Limit) × (fault ≢ draw.Write) × (fault ≡ draw.TooLong → X)
+of_picture fault X (inl (is, long)) = ((λ e. absurd cc), (λ e. absurd cc), (λ e. long))
+of_picture fault X (inr is) = ((λ e. absurd cc), (λ e. absurd cc), (λ e. absurd cc))
+
+pub write_no_limit : draw.Write ≢ draw.Limit
+write_no_limit e = absurd cc
+
+pub write_not_long : draw.Write ≢ draw.TooLong
+write_not_long e = absurd cc
