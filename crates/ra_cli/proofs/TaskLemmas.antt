@@ -46,6 +46,12 @@ refused_as One Other before after f (why, reader, writer, out, cause) = (why, re
 pub without_cause : (Cause : Refusal → Type 0) (before after : Option (List ℕ)) → IsRefusedFor Cause before after → IsRefused before after
 without_cause Cause before after (why, reader, writer, out, cause) = (why, reader, writer, out)
 
+-- a cause that says nothing of the input
+pub of_any : (Cause : Refusal → Type 0) (old before after : Option (List ℕ)) → IsRefusedFor Cause before after
+    → IsRefusedFor (λ why. IfSome old (λ input. Cause why)) before after
+of_any Cause old before after (why, reader, writer, out, cause) =
+    (why, reader, writer, out, for_each old (λ input. Cause why) (λ input. cause))
+
 choices_cause : (choices : List ℕ) (fault : ChoicesError) → ((fault ≡ Choice) × (choices_of choices ≡ None)) ⊎ (fault ≡ Memory) → fault ≡ Choice
     → choices_of choices ≡ None
 choices_cause choices fault (inl (is, none)) choice = none

@@ -3,6 +3,7 @@ use Rattle.ra_cli.specs.Statuses.{IsPrinted}
 use Rattle.ra_cli.proofs.Statuses.{prefix_of}
 use Rattle.ra_cli.proofs.Helping.{for_each}
 use Rattle.ra_cli.proofs.Numbers.{at_most_3, none_of_3}
+use Rattle.ra_cli.proofs.TaskLemmas.{of_any}
 use Rattle.ra_cli.proofs.serving.do_alone.Goals as goal
 
 pub returns-in-Answer-clause-done : goal.returns-in-Answer-clause-done
@@ -79,3 +80,35 @@ returns-in-Sim-clause-broken g c words fits is = c.simulate-outcome.ensures.brok
 
 pub returns-in-Survey-clause-broken : goal.returns-in-Survey-clause-broken
 returns-in-Survey-clause-broken g c words fits is = c.survey_seeds-outcome.ensures.broken words is
+
+pub returns-in-Check-clause-range : goal.returns-in-Check-clause-range
+returns-in-Check-clause-range g c = c.judge-outcome.ensures.range
+
+pub returns-in-Check-clause-done : goal.returns-in-Check-clause-done
+returns-in-Check-clause-done g c is = rw c.in-Check.is (c.judge-outcome.ensures.valid is)
+
+pub returns-in-Check-clause-unfinished : goal.returns-in-Check-clause-unfinished
+returns-in-Check-clause-unfinished g c is = rw c.in-Check.is (c.judge-outcome.ensures.invalid is)
+
+pub returns-in-Check-clause-refused : goal.returns-in-Check-clause-refused
+returns-in-Check-clause-refused g c is = rw c.in-Check.is (of_any _ (g.R.Read.remaining c.args.reader.now) _ _ (c.judge-outcome.ensures.refused is))
+
+pub returns-in-Check-clause-broken : goal.returns-in-Check-clause-broken
+returns-in-Check-clause-broken g c words fits is =
+    let suits = rw c.in-Check.is at fits in c.judge-outcome.ensures.broken words suits.1 is
+
+pub returns-in-CheckMarks-clause-range : goal.returns-in-CheckMarks-clause-range
+returns-in-CheckMarks-clause-range g c = c.judge_marks-outcome.ensures.range
+
+pub returns-in-CheckMarks-clause-done : goal.returns-in-CheckMarks-clause-done
+returns-in-CheckMarks-clause-done g c is = rw c.in-CheckMarks.is (c.judge_marks-outcome.ensures.valid is)
+
+pub returns-in-CheckMarks-clause-unfinished : goal.returns-in-CheckMarks-clause-unfinished
+returns-in-CheckMarks-clause-unfinished g c is = rw c.in-CheckMarks.is (c.judge_marks-outcome.ensures.invalid is)
+
+pub returns-in-CheckMarks-clause-refused : goal.returns-in-CheckMarks-clause-refused
+returns-in-CheckMarks-clause-refused g c is = rw c.in-CheckMarks.is (of_any _ (g.R.Read.remaining c.args.reader.now) _ _ (c.judge_marks-outcome.ensures.refused is))
+
+pub returns-in-CheckMarks-clause-broken : goal.returns-in-CheckMarks-clause-broken
+returns-in-CheckMarks-clause-broken g c words fits is =
+    let suits = rw c.in-CheckMarks.is at fits in c.judge_marks-outcome.ensures.broken words suits.1 is
