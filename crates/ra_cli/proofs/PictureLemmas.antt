@@ -1,13 +1,13 @@
 -- What `ra draw` prints, as the statuses tell it: what was read to its end is all of the input.
 use Rattle.std.proofs.Common.{◌≡◌, ◌≢◌, ℕ, List, [], ◌++◌, Option, Some, None, Result, Ok, Err, String, Global, string_bytes, sym, ap, subst, ◌∙◌, inl, inr, arith}
-use Rattle.std.specs.Prelude.{IfSome, IfOk, IfErr, MatchOption}
+use Rattle.std.specs.Prelude.{◌<◌, IfSome, IfOk, IfErr, MatchOption}
 use Rattle.std.specs.Io.KnownBytes.{Appends}
 use Rattle.std.proofs.lemmas.List.{append-nil}
 use Rattle.ra_draw.specs.declared.error.DrawError.{DrawError}
-use Rattle.ra_draw.specs.declared.error.DrawError.TheVariants.{Memory}
+use Rattle.ra_draw.specs.declared.error.DrawError.TheVariants.{Memory, TooLong, Write}
 use Rattle.ra_draw.specs.declared.part.Part.{Part}
-use Rattle.ra_draw.specs.Drawing.{IsInput, IsPicture}
-use Rattle.ra_cli.specs.Pictures.{Attempts, IsOfKind, SaysWhyNot}
+use Rattle.ra_draw.specs.Drawing.{IsInput, IsPicture, drawn_lines, line_limit}
+use Rattle.ra_cli.specs.Pictures.{Attempts, IsOfKind, SaysWhyNot, Shows}
 use Rattle.ra_cli.specs.Statuses.{IsPrinted, BreaksOff}
 use Rattle.ra_cli.specs.Words.{ReadsBy}
 use Rattle.ra_cli.specs.declared.drawing.Denial.{Denial}
@@ -60,4 +60,28 @@ denies kind part old new before after Untouched text line input (Err fault) says
   unwritten = λ other. same;
   too_long = λ e. absurd cc;
   prefix = λ e. absurd cc;
+}
+
+-- an attempt by which a picture is drawn
+pub shows : (kind : InputKind) (part : Part) (old new before after : Option (List ℕ)) (Untouched : Type 0) (input : List ℕ) → IsInput old new input
+    → Shows kind part input before after → Attempts kind part old new before after Untouched (Ok None)
+shows kind part old new before after Untouched input read drawn = record {
+  ok = (input, read, drawn);
+  unwritten = tt;
+  too_long = λ e. absurd cc;
+  prefix = λ e. absurd cc;
+}
+
+-- an attempt that is refused
+pub refuses : (kind : InputKind) (part : Part) (old new before after : Option (List ℕ)) (Untouched : Type 0) (fault : DrawError)
+    → (fault ≢ Write → Untouched)
+    → (fault ≡ TooLong → (input : List ℕ) × IsInput old new input × IsOfKind kind input × (line_limit < drawn_lines part input))
+    → (fault ≡ Write → (input prefix rest : List ℕ) × IsInput old new input × IsOfKind kind input
+    × IsPicture (prefix ++ rest) × (rest ≢ []) × Appends before after prefix)
+    → Attempts kind part old new before after Untouched (Err fault)
+refuses kind part old new before after Untouched fault unwritten long broken = record {
+  ok = tt;
+  unwritten = unwritten;
+  too_long = λ e. long cc;
+  prefix = λ e. broken cc;
 }

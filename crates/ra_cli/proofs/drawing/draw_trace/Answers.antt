@@ -1,20 +1,15 @@
-use Rattle.std.proofs.Common.{◌≡◌, Ok, Err, ap, refl}
-use Rattle.ra_draw.specs.declared.error.DrawError.TheVariants.{TooLong, Write}
+use Rattle.std.proofs.Common.{Ok, Err, ap, refl}
 use Rattle.ra_trace.specs.declared.verdict.Verdict.TheVariants.{Invalid}
 use Rattle.ra_cli.specs.Checks.{verdict_text as line_of}
 use Rattle.ra_cli.specs.declared.input_kind.InputKind.TheVariants.{Trace}
-use Rattle.ra_cli.proofs.PictureLemmas.{denies}
+use Rattle.ra_cli.proofs.PictureLemmas.{denies, shows, refuses}
 use Rattle.ra_cli.proofs.drawing.draw_trace.Goals as goal
 
 pub returns-in-Ok-Valid : goal.returns-in-Ok-Valid
 returns-in-Ok-Valid g c =
-    let (input, read, verdict, draws) = rw c.in-Ok-Valid.field-0-is at c.in-Ok-Valid.ensures.ok in
-    record {
-      ok = (input, read, ((_, _, verdict), draws.0, draws.1, draws.2, draws.3));
-      unwritten = tt;
-      too_long = λ e. absurd cc;
-      prefix = λ e. absurd cc;
-    }
+    let (input, read, verdict, drawn) = rw c.in-Ok-Valid.field-0-is at c.in-Ok-Valid.ensures.ok in
+    shows Trace c.args.part
+    (g.R.Read.remaining c.args.reader.now) (g.R.Read.remaining c.draw.new.reader) (g.W.Write.contents c.args.writer.now) (g.W.Write.contents c.draw.new.writer) _ input read ((_, _, verdict), drawn.0, drawn.1, drawn.2, drawn.3)
 
 pub returns-in-Ok-Invalid : goal.returns-in-Ok-Invalid
 returns-in-Ok-Invalid g c =
@@ -27,15 +22,9 @@ returns-in-Ok-Invalid g c =
 
 pub returns-in-Err : goal.returns-in-Err
 returns-in-Err g c =
-    record {
-      ok = tt;
-      unwritten = c.in-Err.ensures.unwritten;
-      too_long = λ is.
-          let same : c.in-Err.fault ≡ TooLong = cc in
-          let (input, a, b, read, verdict, long) = c.in-Err.ensures.too_long (ap Err same) in
-          (input, read, (a, b, verdict), long);
-      prefix = λ is.
-          let same : c.in-Err.fault ≡ Write = cc in
-          let (input, a, b, prefix, rest, read, verdict, picture, left, appends) = c.in-Err.ensures.prefix (ap Err same) in
-          (input, prefix, rest, read, (a, b, verdict), picture, left, appends);
-    }
+    refuses Trace c.args.part
+    (g.R.Read.remaining c.args.reader.now) (g.R.Read.remaining c.draw.new.reader) (g.W.Write.contents c.args.writer.now) (g.W.Write.contents c.draw.new.writer) _ c.in-Err.fault c.in-Err.ensures.unwritten
+    (λ same. let (input, a, b, read, verdict, long) = c.in-Err.ensures.too_long (ap Err same) in (input, read, (a, b, verdict), long))
+    (λ same.
+    let (input, a, b, prefix, rest, read, verdict, picture, left, appends) = c.in-Err.ensures.prefix (ap Err same) in
+    (input, prefix, rest, read, (a, b, verdict), picture, left, appends))
