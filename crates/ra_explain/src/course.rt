@@ -9,9 +9,9 @@ use std::alloc::Global;
 /// A run, as far as the lines of its trace were followed.
 #[derive(Drop)]
 pub struct Course {
-    /// The world after the steps so far. There is none before the first line, or where memory ran out for it.
-    world: Option<MarklessWorld>,
-    /// How many nodes there are, or 0 before the first line.
+    /// The world after the steps so far.
+    world: MarklessWorld,
+    /// How many nodes there are.
     nodes: u16,
     /// The marks of the last step.
     marks: Marks,
@@ -19,25 +19,56 @@ pub struct Course {
     come: u64,
 }
 
+/// Returns the number of nodes and that with which each name begins, if this is the first line of a trace.
+fn opening_of(line: &Line) -> Option<(u16, u64)> {
+    match line {
+        Line::First { nodes, start, .. } => Some((nodes.get(), *start)),
+        Line::Stepped(_) | Line::Marked(_) | Line::Last => None,
+    }
+}
+
+/// Returns what a text without its line feed says, if it is the first line of a trace.
+fn opening_in(text: &[u8]) -> Option<(u16, u64)> {
+    match &Line::parse(text) {
+        Some(line) => opening_of(line),
+        None => None,
+    }
+}
+
+/// Returns whether what follows the first line of a text goes up to the line with the number `line`, with one line feed behind that, at the
+/// end.
+fn goes_to(line: u64, text: &[u8]) -> bool {
+    let mut rest = text;
+    for _ in 2..line {
+        let Some((_, behind)) = next_line(rest) else {
+            return false;
+        };
+        rest = behind;
+    }
+    is_one_line(rest)
+}
+
 impl Course {
-    /// Opens the world of the first line. Where memory runs out the note keeps that.
-    fn open(&mut self, alloc: Global, note: &mut Note, nodes: u16, start: u64) {
+    /// Begins one with the world of the first line, or returns `None` if memory runs out for it, which the note keeps.
+    fn open(alloc: Global, note: &mut Note, nodes: u16, start: u64) -> Option<Course> {
         match MarklessWorld::new(alloc, nodes, start) {
-            Ok(world) => {
-                self.nodes = nodes;
-                self.world = Some(world);
-            }
+            Ok(world) => Some(Course {
+                world,
+                nodes,
+                marks: Marks::new(alloc),
+                come: 0,
+            }),
             // A first line has a number of nodes, so memory ran out.
-            Err(_) => note.refuse_if(true),
+            Err(_) => {
+                note.refuse_if(true);
+                None
+            }
         }
     }
 
     /// Makes a step. Where memory runs out the note keeps that.
     fn make(&mut self, alloc: Global, note: &mut Note, step: &Step) {
-        let Some(world) = &mut self.world else {
-            return;
-        };
-        match world.step(alloc, step) {
+        match self.world.step(alloc, step) {
             Ok(outcome) => {
                 self.marks = outcome.marks;
                 self.come = 0;
@@ -47,46 +78,40 @@ impl Course {
         }
     }
 
-    /// Takes a line that is not wrong.
+    /// Takes a line behind the first one that is not wrong.
     fn take(&mut self, alloc: Global, note: &mut Note, line: &Line) {
         match line {
-            Line::First { nodes, start, .. } => self.open(alloc, note, nodes.get(), *start),
             Line::Stepped(step) => self.make(alloc, note, step),
             Line::Marked(_) => self.come = self.come.saturating_add(1),
-            Line::Last => {}
+            Line::First { .. } | Line::Last => {}
         }
     }
 
-    /// Takes the lines of a text before the one with the number `line`, and returns whether one line feed stands behind them, at the end.
-    fn follow(&mut self, alloc: Global, note: &mut Note, line: u64, text: &[u8]) -> bool {
+    /// Takes the lines of a text behind the first one and before the one with the number `line`.
+    fn follow(&mut self, alloc: Global, note: &mut Note, line: u64, text: &[u8]) {
         let mut rest = text;
-        for _ in 1..line {
+        for _ in 2..line {
             let Some((shown, behind)) = next_line(rest) else {
-                return false;
+                return;
             };
             rest = behind;
             if let Some(read) = Line::parse(shown) {
                 self.take(alloc, note, &read);
             }
         }
-        is_one_line(rest)
     }
 
     /// Returns the run before the line with the number `line` of a trace, or `None` where the text does not begin with the first line and end
     /// with that one, or there is no memory for the world. The cost is linear in the text, and that of the steps in it.
     pub fn at_line(alloc: Global, note: &mut Note, line: u64, text: &[u8]) -> Option<Course> {
-        let mut course = Course {
-            world: None,
-            nodes: 0,
-            marks: Marks::new(alloc),
-            come: 0,
-        };
-        let goes_there = course.follow(alloc, note, line, text);
-        if goes_there && course.world.is_some() {
-            Some(course)
-        } else {
-            None
+        let (first, behind) = next_line(text)?;
+        let (nodes, start) = opening_in(first)?;
+        if line < 2 || !goes_to(line, behind) {
+            return None;
         }
+        let mut course = Course::open(alloc, note, nodes, start)?;
+        course.follow(alloc, note, line, behind);
+        Some(course)
     }
 
     /// Returns the next mark of the last step, if one has not come yet.
@@ -96,8 +121,7 @@ impl Course {
 
     /// Returns why a step is not made, and how many nodes there are, or `None` if it is made.
     pub fn refusal(&mut self, alloc: Global, step: &Step) -> Option<(StepError, u16)> {
-        let world = self.world.as_mut()?;
-        let why = world.step(alloc, step).err()?;
+        let why = self.world.step(alloc, step).err()?;
         Some((why, self.nodes))
     }
 }
