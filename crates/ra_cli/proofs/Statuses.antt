@@ -1,5 +1,5 @@
 -- What a refusal comes to, and a text of which the writer took a prefix, as the statuses tell it.
-use Rattle.std.proofs.Common.{◌≡◌, ◌≢◌, ◌⊎◌, ℕ, Bool, List, [], ◌++◌, Option, sym, ap, subst, refl, inl, inr, codes}
+use Rattle.std.proofs.Common.{◌≡◌, ◌≢◌, ◌⊎◌, ℕ, ◌≤◌, Bool, List, [], ◌++◌, Option, sym, ap, subst, refl, ◌∙◌, inl, inr, codes, arith}
 use Rattle.std.specs.Prelude.{IfSome}
 use Rattle.std.specs.Io.KnownBytes.{Appends}
 use Rattle.ra_schedule.specs.declared.choice.Policy.{Policy}
@@ -110,6 +110,33 @@ broken words old before between after refusal fails stays same (inl writer) =
     inr (subst (λ (o : Option (List ℕ)). IfSome old (λ input. BreaksOff words input before o)) (sym (stays writer)) (fails writer))
 broken words old before between after refusal fails stays same (inr (other, says)) =
     said words old before after refusal (subst (λ (o : Option (List ℕ)). IsSaid refusal o after) (same other) says)
+
+-- the line is written, or a prefix of it, if the reader failed
+pub line_of_failed : (refusal : Refusal) (line : List ℕ) (before after : Option (List ℕ)) (result : ℕ) → line ≡ refused_line (word_of refusal) → IsOfReader refusal
+    → ((result ≡ 1) × Appends before after line)
+    ⊎ ((result ≡ 1) × (prefix : List ℕ) × (rest : List ℕ) × (line ≡ prefix ++ rest) × (rest ≢ []) × Appends before after prefix)
+    → (result ≡ 1) × IsSaid refusal before after
+line_of_failed refusal line before after result is reader (inl (one, all)) = (one, inl (reader, subst (Appends before after) is all))
+line_of_failed refusal line before after result is reader (inr (one, prefix, rest, parts, left, some)) = (one, inr (prefix, rest, sym is ∙ parts, left, some))
+
+-- and if it did not fail
+pub line_of_refused : (refusal : Refusal) (line : List ℕ) (before after : Option (List ℕ)) (result status : ℕ) → status ≡ result
+    → line ≡ refused_line (word_of refusal)
+    → ((result ≡ 2) × Appends before after line)
+    ⊎ ((result ≡ 1) × (prefix : List ℕ) × (rest : List ℕ) × (line ≡ prefix ++ rest) × (rest ≢ []) × Appends before after prefix)
+    → (status ≤ 2) × (1 ≤ status) × (status ≡ 2 → Appends before after (refused_line (word_of refusal))) × (status ≡ 1 → IsSaid refusal before after)
+line_of_refused refusal line before after result status same is (inl (two, all)) = (
+  omega (arith, same, two),
+  omega (arith, same, two),
+  λ _. subst (Appends before after) is all,
+  λ one. absurd (omega (arith, same, two, one)),
+)
+line_of_refused refusal line before after result status same is (inr (one, prefix, rest, parts, left, some)) = (
+  omega (arith, same, one),
+  omega (arith, same, one),
+  λ two. absurd (omega (arith, same, one, two)),
+  λ _. inr (prefix, rest, sym is ∙ parts, left, some),
+)
 
 -- of a text of which the writer took a prefix
 pub prefix_of : (words : List (List ℕ)) (old before after : Option (List ℕ)) (text prefix rest : List ℕ) → IfSome old (λ input. IsPrinted words input text)
