@@ -9,6 +9,7 @@ use Rattle.ra_trace.specs.declared.error.TraceError.TheVariants.{Memory}
 use Rattle.ra_cli.specs.declared.refusal.Refusal.TheVariants.{Check}
 use Rattle.ra_cli.proofs.Statuses.{none_of_check, of_verdict, broken, prefix_of}
 use Rattle.ra_cli.proofs.TaskLemmas.{refused_for}
+use Rattle.ra_cli.proofs.Numbers.{at_most_3, none_of_done, none_of_3}
 use Rattle.ra_cli.proofs.serving.judge.Goals as goal
 
 -- what is valid was read to its end
@@ -103,3 +104,21 @@ returns-in-Ok-verdict_text-clause-broken g c words trace one =
           prefix_of words old (g.W.Write.contents c.args.writer.now) (g.W.Write.contents c.written-status.new.writer) (verdict_text c.in-Ok.verdict) prefix rest
           (of_verdict words old c.in-Ok.verdict trace c.in-Ok.ensures.ok) (sym (c.as_bytes.ensures.value ∙ c.in-Ok-verdict_text.ensures) ∙ is) left some
     ]
+
+pub returns-in-Err-clause-range : goal.returns-in-Err-clause-range
+returns-in-Err-clause-range g c = at_most_3 _ c.refuse.ensures.range
+
+pub returns-in-Err-clause-valid : goal.returns-in-Err-clause-valid
+returns-in-Err-clause-valid g c is = none_of_done _ c.refuse.ensures.not_done is
+
+pub returns-in-Err-clause-invalid : goal.returns-in-Err-clause-invalid
+returns-in-Err-clause-invalid g c is = none_of_3 _ c.refuse.ensures.range is
+
+pub returns-in-Err-verdict_text-clause-range : goal.returns-in-Err-verdict_text-clause-range
+returns-in-Err-verdict_text-clause-range g c = at_most_3 _ c.refuse-in-Err-verdict_text.ensures.range
+
+pub returns-in-Err-verdict_text-clause-valid : goal.returns-in-Err-verdict_text-clause-valid
+returns-in-Err-verdict_text-clause-valid g c is = none_of_done _ c.refuse-in-Err-verdict_text.ensures.not_done is
+
+pub returns-in-Err-verdict_text-clause-invalid : goal.returns-in-Err-verdict_text-clause-invalid
+returns-in-Err-verdict_text-clause-invalid g c is = none_of_3 _ c.refuse-in-Err-verdict_text.ensures.range is

@@ -5,6 +5,7 @@ use Rattle.ra_cli.specs.declared.refusal.Refusal.TheVariants.{Draw}
 use Rattle.ra_cli.proofs.PictureLemmas.{of_picture, of_denied}
 use Rattle.ra_cli.proofs.Statuses.{of_draw, broken}
 use Rattle.ra_cli.proofs.TaskLemmas.{of_part, refused_for}
+use Rattle.ra_cli.proofs.Numbers.{at_most_3, none_of_done, none_of_3, done_at_most_3, done_not_1, done_not_2, done_not_3}
 use Rattle.ra_cli.proofs.serving.paint.Goals as goal
 
 pub returns-in-Ok-Some-clause-not_drawn : goal.returns-in-Ok-Some-clause-not_drawn
@@ -54,3 +55,24 @@ returns-in-Err-clause-broken g c words by one =
     (λ is. ap g.W.Write.contents (c.refuse.ensures.unwritten is).1)
     (λ other. ap g.W.Write.contents (c.in-Err.ensures.unwritten (λ e. other (inr (inr (inr (ap Draw e)))))))
     (c.refuse.ensures.broken one)
+
+pub returns-in-Ok-None-clause-range : goal.returns-in-Ok-None-clause-range
+returns-in-Ok-None-clause-range g c = done_at_most_3 _ c.new.ensures
+
+pub returns-in-Ok-None-clause-not_drawn : goal.returns-in-Ok-None-clause-not_drawn
+returns-in-Ok-None-clause-not_drawn g c is = done_not_3 _ c.new.ensures is
+
+pub returns-in-Ok-None-clause-refused : goal.returns-in-Ok-None-clause-refused
+returns-in-Ok-None-clause-refused g c is = done_not_2 _ c.new.ensures is
+
+pub returns-in-Ok-None-clause-broken : goal.returns-in-Ok-None-clause-broken
+returns-in-Ok-None-clause-broken g c words by is = done_not_1 _ c.new.ensures is
+
+pub returns-in-Err-clause-range : goal.returns-in-Err-clause-range
+returns-in-Err-clause-range g c = at_most_3 _ c.refuse.ensures.range
+
+pub returns-in-Err-clause-drawn : goal.returns-in-Err-clause-drawn
+returns-in-Err-clause-drawn g c is = none_of_done _ c.refuse.ensures.not_done is
+
+pub returns-in-Err-clause-not_drawn : goal.returns-in-Err-clause-not_drawn
+returns-in-Err-clause-not_drawn g c is = none_of_3 _ c.refuse.ensures.range is

@@ -1,7 +1,8 @@
 use Rattle.std.proofs.Common.{Err, refl, ap, inl, inr}
+use Rattle.std.proofs.lemmas.Bool.{false≢true}
 use Rattle.ra_cli.specs.declared.refusal.Refusal.TheVariants.{Choices, Perform}
 use Rattle.ra_cli.proofs.Statuses.{none_of_choices, of_perform, of_performed, broken}
-use Rattle.ra_cli.proofs.Numbers.{at_most_3, none_of_done, none_of_3}
+use Rattle.ra_cli.proofs.Numbers.{at_most_3, none_of_done, none_of_3, done_at_most_3, left_at_most_3, done_not_1, done_not_2, done_not_3, left_not_0, left_not_1, left_not_2}
 use Rattle.ra_cli.proofs.TaskLemmas.{of_choices, of_named, refused_for}
 use Rattle.ra_cli.proofs.serving.simulate.Goals as goal
 
@@ -72,3 +73,36 @@ returns-clause-unfinished g c is = none_of_3 _ c.refuse-in-Err-perform_as.ensure
 
 pub returns-in-Err-clause-choices_first : goal.returns-in-Err-clause-choices_first
 returns-in-Err-clause-choices_first g c none = (c.refuse.ensures.not_done, refl)
+
+pub returns-in-Ok-true-clause-range : goal.returns-in-Ok-true-clause-range
+returns-in-Ok-true-clause-range g c = done_at_most_3 _ c.new.ensures
+
+pub returns-in-Ok-true-clause-unfinished : goal.returns-in-Ok-true-clause-unfinished
+returns-in-Ok-true-clause-unfinished g c is = done_not_3 _ c.new.ensures is
+
+pub returns-in-Ok-true-clause-refused : goal.returns-in-Ok-true-clause-refused
+returns-in-Ok-true-clause-refused g c is = done_not_2 _ c.new.ensures is
+
+pub returns-in-Ok-true-clause-broken : goal.returns-in-Ok-true-clause-broken
+returns-in-Ok-true-clause-broken g c words is = done_not_1 _ c.new.ensures is
+
+pub returns-in-Ok-true-clause-choices_first : goal.returns-in-Ok-true-clause-choices_first
+returns-in-Ok-true-clause-choices_first g c none = absurd (false≢true (c.in-Ok.ensures.choices none))
+
+pub returns-in-Ok-false-clause-range : goal.returns-in-Ok-false-clause-range
+returns-in-Ok-false-clause-range g c = left_at_most_3 _ c.new-in-Ok-false.ensures
+
+pub returns-in-Ok-false-clause-done : goal.returns-in-Ok-false-clause-done
+returns-in-Ok-false-clause-done g c is = left_not_0 _ c.new-in-Ok-false.ensures is
+
+pub returns-in-Ok-false-clause-refused : goal.returns-in-Ok-false-clause-refused
+returns-in-Ok-false-clause-refused g c is = left_not_2 _ c.new-in-Ok-false.ensures is
+
+pub returns-in-Ok-false-clause-broken : goal.returns-in-Ok-false-clause-broken
+returns-in-Ok-false-clause-broken g c words is = left_not_1 _ c.new-in-Ok-false.ensures is
+
+pub returns-in-Ok-false-clause-choices_first : goal.returns-in-Ok-false-clause-choices_first
+returns-in-Ok-false-clause-choices_first g c none = absurd (false≢true (c.in-Ok.ensures.choices none))
+
+pub returns-clause-choices_first : goal.returns-clause-choices_first
+returns-clause-choices_first g c none = absurd (false≢true (c.in-Ok.ensures.choices none))

@@ -5,6 +5,7 @@ use Rattle.ra_cli.specs.declared.error.RunScriptError.{RunScriptError}
 use Rattle.ra_cli.proofs.ClusterRuns.{of_known}
 use Rattle.ra_cli.proofs.Statuses.{of_run, of_surveyed, broken}
 use Rattle.ra_cli.proofs.TaskLemmas.{refused_for}
+use Rattle.ra_cli.proofs.Numbers.{at_most_3, none_of_done, none_of_3, done_at_most_3, left_at_most_3, done_not_1, done_not_2, done_not_3, left_not_0, left_not_1, left_not_2}
 use Rattle.ra_cli.proofs.serving.survey_seeds.Goals as goal
 
 pub returns-in-Ok-true-clause-done : goal.returns-in-Ok-true-clause-done
@@ -33,3 +34,36 @@ returns-in-Err-clause-broken g c words one =
     (λ is. ap g.W.Write.contents (c.refuse.ensures.unwritten is).1)
     (λ other. ap g.W.Write.contents (c.in-Err.ensures.unwritten (λ e. other (inr (inr (inl (ap Cluster e)))))))
     (c.refuse.ensures.broken one)
+
+pub returns-in-Ok-true-clause-range : goal.returns-in-Ok-true-clause-range
+returns-in-Ok-true-clause-range g c = done_at_most_3 _ c.new.ensures
+
+pub returns-in-Ok-true-clause-unfinished : goal.returns-in-Ok-true-clause-unfinished
+returns-in-Ok-true-clause-unfinished g c is = done_not_3 _ c.new.ensures is
+
+pub returns-in-Ok-true-clause-refused : goal.returns-in-Ok-true-clause-refused
+returns-in-Ok-true-clause-refused g c is = done_not_2 _ c.new.ensures is
+
+pub returns-in-Ok-true-clause-broken : goal.returns-in-Ok-true-clause-broken
+returns-in-Ok-true-clause-broken g c words is = done_not_1 _ c.new.ensures is
+
+pub returns-in-Ok-false-clause-range : goal.returns-in-Ok-false-clause-range
+returns-in-Ok-false-clause-range g c = left_at_most_3 _ c.new-in-Ok-false.ensures
+
+pub returns-in-Ok-false-clause-done : goal.returns-in-Ok-false-clause-done
+returns-in-Ok-false-clause-done g c is = left_not_0 _ c.new-in-Ok-false.ensures is
+
+pub returns-in-Ok-false-clause-refused : goal.returns-in-Ok-false-clause-refused
+returns-in-Ok-false-clause-refused g c is = left_not_2 _ c.new-in-Ok-false.ensures is
+
+pub returns-in-Ok-false-clause-broken : goal.returns-in-Ok-false-clause-broken
+returns-in-Ok-false-clause-broken g c words is = left_not_1 _ c.new-in-Ok-false.ensures is
+
+pub returns-in-Err-clause-range : goal.returns-in-Err-clause-range
+returns-in-Err-clause-range g c = at_most_3 _ c.refuse.ensures.range
+
+pub returns-in-Err-clause-done : goal.returns-in-Err-clause-done
+returns-in-Err-clause-done g c is = none_of_done _ c.refuse.ensures.not_done is
+
+pub returns-in-Err-clause-unfinished : goal.returns-in-Err-clause-unfinished
+returns-in-Err-clause-unfinished g c is = none_of_3 _ c.refuse.ensures.range is
