@@ -1,6 +1,6 @@
 -- Which words ask for a task that neither loses nor repeats a message.
-use Rattle.std.proofs.Common.{◌≡◌, ◌≢◌, ℕ, Bool, true, false, List, length, Option, Some, None, codes, slice_get, sym, ap, ◌∙◌, arith}
-use Rattle.std.specs.Prelude.{IfSome}
+use Rattle.std.proofs.Common.{◌≡◌, ◌≢◌, ℕ, Bool, true, false, List, length, Option, Some, None, Result, Ok, Err, codes, slice_get, sym, ap, ◌∙◌, arith}
+use Rattle.std.specs.Prelude.{IfSome, IfOk}
 use Rattle.ra_cli.specs.Finishing.{HasNoChoices, RunsFaithfully}
 use Rattle.ra_cli.specs.Words.{ChecksBy, OnAnswer, OnHelp, SimsFaithfully}
 use Rattle.ra_cli.specs.declared.command_line.Task.{Task}
@@ -55,6 +55,10 @@ no_numbers P (task.Help text) none = tt
 pub none_numbered : (P : ℕ → ℕ → Type 0) (result : Option Task) → IfSome result (λ task. OnAnswer task (λ _ _. ⊥)) → IfSome result (λ task. OnAnswer task P)
 none_numbered P None none = tt
 none_numbered P (Some asked) none = no_numbers P asked none
+
+pub none_numbered_by : {E : Type 0} (P : ℕ → ℕ → Type 0) (result : Result Task E) → IfOk result (λ task. OnAnswer task (λ _ _. ⊥)) → IfOk result (λ task. OnAnswer task P)
+none_numbered_by P (Ok asked) none = no_numbers P asked none
+none_numbered_by P (Err fault) none = tt
 
 -- what is so of any words is so of these
 pub of_these : (words : List (List ℕ)) (result : Option Task) → IfSome result (λ task. (any : List (List ℕ)) → ChecksBy any task) → IfSome result (ChecksBy words)

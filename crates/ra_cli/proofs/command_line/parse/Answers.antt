@@ -1,7 +1,7 @@
-use Rattle.std.proofs.Common.{string_bytes}
+use Rattle.std.proofs.Common.{map, string_bytes}
 use Rattle.std.specs.Prelude.{Any}
-use Rattle.ra_cli.specs.Words.{IsHelpWord}
-use Rattle.ra_cli.proofs.Faithful.{no_help, sim_words}
+use Rattle.ra_cli.specs.Words.{GivesNode, IsHelpWord}
+use Rattle.ra_cli.proofs.Faithful.{no_help, none_numbered_by, sim_words}
 use Rattle.ra_cli.proofs.command_line.parse.Goals as goal
 
 pub returns-in-Some-clause-help : goal.returns-in-Some-clause-help
@@ -28,3 +28,18 @@ returns-in-Ok-try_get_matches_from-clause-plain c are = sim_words _ (c.are_sim_w
 
 pub returns-clause-plain : goal.returns-clause-plain
 returns-clause-plain c are = sim_words _ (c.are_sim_words.ensures are) c.if-are_sim_words.false
+
+pub returns-clause-help : goal.returns-clause-help
+returns-clause-help c = c.help_of.ensures.help
+
+pub returns-clause-marks : goal.returns-clause-marks
+returns-clause-marks c = c.help_of.ensures.marks
+
+pub returns-clause-faithful : goal.returns-clause-faithful
+returns-clause-faithful c = c.help_of.ensures.faithful
+
+pub returns-clause-choices : goal.returns-clause-choices
+returns-clause-choices c = c.help_of.ensures.choices
+
+pub returns-clause-numbers : goal.returns-clause-numbers
+returns-clause-numbers c = none_numbered_by (GivesNode (map string_bytes c.args.words.now)) c.help_of.result c.help_of.ensures.numbers
