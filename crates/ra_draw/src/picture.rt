@@ -33,7 +33,17 @@ struct Headline {
     part: Part,
 }
 
-/// Adds what is drawn: the nodes, requests and messages, and which lines where they are not all.
+/// Adds which lines are drawn if they are not all.
+fn put_part(pen: &mut Pen, part: Part) {
+    if part.from > 1 {
+        pen.write(", from line $", &[Number(part.from)]);
+    }
+    if part.to < u64::MAX {
+        pen.write(", to line $", &[Number(part.to)]);
+    }
+}
+
+/// Adds what is drawn: the nodes, requests and messages, and which lines if they are not all.
 fn put_headline(pen: &mut Pen, headline: &Headline) {
     let nodes = u64::from(headline.nodes);
     pen.write(
@@ -48,12 +58,7 @@ fn put_headline(pen: &mut Pen, headline: &Headline) {
             Text(ending_of(headline.count)),
         ],
     );
-    if headline.part.from > 1 {
-        pen.write(", from line $", &[Number(headline.part.from)]);
-    }
-    if headline.part.to < u64::MAX {
-        pen.write(", to line $", &[Number(headline.part.to)]);
-    }
+    put_part(pen, headline.part);
 }
 
 /// Adds the size of the picture, its title, how shapes look, and the legend.
@@ -101,25 +106,64 @@ fn draw_course(
     }
 }
 
-/// Draws the part of a trace in which each resource begins with this number.
-fn draw_trace(alloc: Global, sheet: &mut Sheet, start: u64, trace: &[u8], headline: &Headline) {
-    let mut course = Course::new(alloc, headline.nodes);
+/// Draws the part of a trace in which each resource begins with this number. The course is one in which nothing has happened yet.
+fn draw_trace(
+    alloc: Global,
+    sheet: &mut Sheet,
+    course: &mut Course,
+    start: u64,
+    trace: &[u8],
+    headline: &Headline,
+) {
     let followed = course.follow(alloc, start, trace, headline.part);
-    draw_course(alloc, sheet, &course, followed, headline);
+    draw_course(alloc, sheet, course, followed, headline);
 }
 
-/// Draws the part of a mark log. Its nodes are those up to the highest one that it names in or before the part.
-fn draw_marks(alloc: Global, sheet: &mut Sheet, log: &[u8], headline: &Headline) {
-    let mut course = Course::new(alloc, 1);
+/// Draws the part of a mark log. Its nodes are those up to the highest one that it names in or before the part. The course is one in which
+/// nothing has happened yet.
+fn draw_marks(
+    alloc: Global,
+    sheet: &mut Sheet,
+    course: &mut Course,
+    log: &[u8],
+    headline: &Headline,
+) {
     let followed = course.follow_marks(log, headline.part);
     let nodes = course.nodes;
     draw_course(
         alloc,
         sheet,
-        &course,
+        course,
         followed,
         &Headline { nodes, ..*headline },
     );
+}
+
+/// Draws the part of a trace in which each resource begins with a number, or of a mark log, which has no such number.
+fn draw_part(
+    alloc: Global,
+    sheet: &mut Sheet,
+    course: &mut Course,
+    start: Option<u64>,
+    text: &[u8],
+    headline: &Headline,
+) {
+    match start {
+        Some(start) => draw_trace(alloc, sheet, course, start, text, headline),
+        None => draw_marks(alloc, sheet, course, text, headline),
+    }
+}
+
+/// Draws the same with a course of its own.
+fn draw_text(
+    alloc: Global,
+    sheet: &mut Sheet,
+    start: Option<u64>,
+    text: &[u8],
+    headline: &Headline,
+) {
+    let mut course = Course::new(alloc, headline.nodes);
+    draw_part(alloc, sheet, &mut course, start, text, headline);
 }
 
 /// Returns the number of nodes and that with which each resource begins, where this is the first line of a trace.
@@ -150,26 +194,26 @@ fn headline_of(nodes: u16, part: Part, totals: Totals) -> Headline {
     }
 }
 
-/// Returns what stands in the picture of a part of a text, its attributes first.
-fn inner_of(alloc: Global, text: &[u8], part: Part, totals: Totals) -> Result<Vec<u8>, Memory> {
-    let mut sheet = Sheet::new(alloc);
+/// Draws the part of a text that is a trace or a mark log, as the totals say.
+fn draw_inner(alloc: Global, sheet: &mut Sheet, text: &[u8], part: Part, totals: Totals) {
     if let Totals::Marks { .. } = totals {
-        draw_marks(alloc, &mut sheet, text, &headline_of(1, part, totals));
-        return sheet.finish();
+        draw_text(alloc, sheet, None, text, &headline_of(1, part, totals));
+        return;
     }
     let (first, _) = cut(text, b'\n');
     // A trace begins with a first line.
     if let Some(line) = Line::parse(first)
         && let Some((nodes, start)) = opening_of(&line)
     {
-        draw_trace(
-            alloc,
-            &mut sheet,
-            start,
-            text,
-            &headline_of(nodes, part, totals),
-        );
+        let headline = headline_of(nodes, part, totals);
+        draw_text(alloc, sheet, Some(start), text, &headline);
     }
+}
+
+/// Returns what stands in the picture of a part of a text, its attributes first.
+fn inner_of(alloc: Global, text: &[u8], part: Part, totals: Totals) -> Result<Vec<u8>, Memory> {
+    let mut sheet = Sheet::new(alloc);
+    draw_inner(alloc, &mut sheet, text, part, totals);
     sheet.finish()
 }
 
