@@ -1,5 +1,5 @@
 -- What the checks of the fields say where none fails.
-use Rattle.std.proofs.Common.{◌≡◌, ℕ, ◌^◌, ◌≤◌, Bool, true, false, cond, not, List, [], ◌∷◌, ◌++◌, length, drop, Option, Some, None, refl, sym, ◌∙◌, arith}
+use Rattle.std.proofs.Common.{◌≡◌, ℕ, ◌+◌, ◌^◌, ◌≤◌, Bool, true, false, cond, not, List, [], ◌∷◌, ◌++◌, length, drop, Option, Some, None, refl, sym, subst, ◌∙◌, arith}
 use Rattle.std.specs.Prelude.{◌||◌, ◌⊎◌, ◌==◌, nat_lt, nat_le, slice_index, Result, Ok, Err}
 use Rattle.std.specs.List.{list_all}
 use Rattle.std.proofs.lemmas.Bool.{ltb-false, le-ltb}
@@ -10,7 +10,7 @@ use Rattle.ra_frame.specs.declared.error.FrameError.{FrameError}
 use Rattle.ra_frame.specs.declared.error.FrameError.TheVariants.{Short, Version}
 use Rattle.ra_frame.specs.declared.format.Format.{Format}
 use Rattle.ra_frame.specs.declared.format.Format.TheVariants.{V1, V2}
-use Rattle.ra_frame.specs.Format.{version_byte, greatest_node, greatest_mode}
+use Rattle.ra_frame.specs.Format.{version_byte, mode_place, greatest_node, greatest_mode}
 use Rattle.ra_frame.specs.Faults.{Check, first_failing, checks_of, first_fault_of, format_of, is_within, greatest_mode_of}
 use Rattle.ra_frame.specs.Checked.{IsChecked, head_checks, numbers_checks, name_checks}
 
@@ -107,6 +107,13 @@ checked format bytes v e =
       name_high = within_high 1 32 _ len.1;
       name = name.1;
     }
+
+ends_before : (mode len rest : ℕ) → len ≡ mode + 18 + rest → mode + 9 + 8 ≤ len
+ends_before mode len rest e = grind (arith)
+
+-- the bytes of the clock are there
+pub clock_is_there : (format : Format) (bytes : List ℕ) (mode : ℕ) → mode ≡ mode_place format → IsChecked format bytes → mode + 9 + 8 ≤ length bytes
+clock_is_there format bytes mode e all = ends_before mode (length bytes) (slice_index bytes (mode_place format + 17)) (subst (λ m. length bytes ≡ m + 18 + slice_index bytes (mode_place format + 17)) (sym e) all.long)
 
 -- where a name is told by its bytes alone
 pub name_passes : (name : List ℕ) (r : Bool) → 1 ≤ length name → length name ≤ 32 → (r ≡ true → IsName name) → (IsName name → r ≡ true) → r ≡ list_all is_name_byte name

@@ -2,12 +2,15 @@ use Rattle.std.proofs.Common.{◌≡◌, Some, None, Result, Ok, sym, ap, ◌∙
 use Rattle.ra_frame.specs.declared.error.FrameError.{FrameError}
 use Rattle.ra_frame.specs.declared.format.Format.{Format}
 use Rattle.ra_frame.specs.Faults.{format_of, fault_by}
-use Rattle.ra_frame.proofs.Checks.{checked}
+use Rattle.ra_frame.proofs.Checks.{checked, clock_is_there}
 use Rattle.ra_frame.proofs.Texts.{one_frame, no_fault}
 use Rattle.ra_frame.proofs.decoding.decode.Goals as goal
 
 none_apart : {fault : FrameError} → None ≡ Some fault → ⊥
 none_apart {fault} e = cc
+
+pub number_at-requires : goal.number_at-requires
+number_at-requires c = clock_is_there c.in_ok-format.format c.args.bytes.now _ c.mode_place.ensures.value (checked c.in_ok-format.format c.args.bytes.now (sym c.in_ok-format.ensures) (sym c.in-None.ensures))
 
 pub message_of-requires : goal.message_of-requires
 message_of-requires c = checked c.in_ok-format.format c.args.bytes.now (sym c.in_ok-format.ensures) (sym c.in-None.ensures)
