@@ -1,5 +1,5 @@
 -- What is taken of the bytes that a reader shows.
-use Rattle.std.proofs.Common.{◌≡◌, ◌≢◌, ℕ, zero, suc, ◌+◌, ◌<◌, ◌≤◌, min, Bool, true, false, ◌==◌, List, [], ◌∷◌, ◌++◌, length, get_or, take, Option, Some, None, Ok, Err, refl, sym, ap, subst, ◌∙◌, arith, append_assoc, length-append, length-take-le, take-take, inl, inr}
+use Rattle.std.proofs.Common.{◌≡◌, ◌≢◌, ℕ, zero, suc, ◌+◌, ◌-◌, ◌<◌, ◌≤◌, min, Bool, true, false, ◌==◌, List, [], ◌∷◌, ◌++◌, length, get_or, take, Option, Some, None, Ok, Err, refl, sym, ap, subst, ◌∙◌, arith, append_assoc, length-append, length-take-le, take-take, inl, inr}
 use Rattle.std.proofs.lemmas.Bool.{cases_Bool, eqb-true, eqb-false}
 use Rattle.std.proofs.lemmas.List.{append-nil, take_more}
 use Rattle.std.proofs.lemmas.List.Elements.{All-nil, All-append, All-more, All-push}
@@ -9,7 +9,7 @@ use Rattle.ra_trace.specs.declared.error.TraceError.{TraceError}
 use Rattle.ra_trace.specs.declared.error.TraceError.TheVariants.{Read, Limit, Memory}
 use Rattle.ra_trace.specs.declared.reading.LineEnd.TheVariants.{Feed, Input}
 use Rattle.ra_trace.specs.Reading.{IsOpenLine}
-use Rattle.ra_trace.specs.NextLine.{EndsPart, ReadsSoFar, IsPart, TakesBytes, TakesPart}
+use Rattle.ra_trace.specs.NextLine.{EndsPart, FailsWithin, ReadsLine, ReadsSoFar, IsPart, TakesBytes, TakesPart}
 use Rattle.ra_trace.proofs.Ends.{NoFeed}
 
 none_before : (xs : List ℕ) (k : ℕ) → k ≤ length xs → ((j : ℕ) → j < k → get_or xs j 0 ≢ 10) → NoFeed (take k xs)
@@ -93,3 +93,93 @@ part_fails left most old mid new before bytes Read took earlier unended within =
     subst (λ (bs : List ℕ). ReadsSoFar left old new bs (Err Read)) (sym took.0) (reader_fails left old mid new before Read refl earlier took.1 unended within)
 part_fails left most old mid new before bytes Limit took earlier unended within = absurd took
 part_fails left most old mid new before bytes Memory took earlier unended within = absurd took
+
+-- ---- Counts of bytes
+
+pub small : 136 < 9223372036854775808
+small = omega arith
+
+pub at_most : (count left len : ℕ) → len ≡ count → count ≤ left → len ≤ left
+at_most count left len is within = omega (arith, is, within)
+
+pub just_left : (count left len : ℕ) → count ≤ left → len ≡ count → left ≤ len → count ≡ left
+just_left count left len within is full = omega (arith, within, is, full)
+
+pub is_short : (count left len : ℕ) → len ≡ count → len < left → count < left
+is_short count left len is less = omega (arith, is, less)
+
+pub enough_room : (count len left most : ℕ) → len ≡ count → most ≡ min left 128 → count ≤ left → count < 128 → len ≤ most
+enough_room count len left most len_is most_is within short = omega (arith, len_is, most_is, within, short)
+
+pub room_left : (count len left most : ℕ) → len ≡ count → most ≡ min left 128 → count < 128 → count + (most - len) ≤ 128
+room_left count len left most len_is most_is short = omega (arith, len_is, most_is, short)
+
+module _ (before bytes : List ℕ) where
+  module _ (byte : ℕ) (is : bytes ≡ before ++ byte ∷ []) where
+    pub pushed_len : length bytes ≡ length before + 1
+    pushed_len = omega (arith, ap length is, length-append before (byte ∷ []))
+
+    pub pushed_more : length before < length bytes
+    pushed_more = omega (arith, pushed_len)
+
+    pub pushed_within : (left : ℕ) → length before < left → length bytes ≤ left
+    pushed_within left short = omega (arith, pushed_len, short)
+
+    pub pushed_count : (turn : ℕ) → turn ≡ length before → turn + 1 ≡ length bytes
+    pushed_count turn count = omega (arith, pushed_len, count)
+
+  module _ (part : List ℕ) (count : ℕ) (is : bytes ≡ before ++ part) (long : length part ≡ count) where
+    pub nothing_came : count ≡ 0 → bytes ≡ before
+    nothing_came none = is_same part is (omega (arith, long, none))
+      where
+        is_same : (part : List ℕ) → bytes ≡ before ++ part → length part ≡ 0 → bytes ≡ before
+        is_same [] is none = is ∙ append-nil before
+        is_same (byte ∷ part) is none = absurd (omega (arith, none))
+
+    pub some_came : (count ≡ 0 → ⊥) → length before < length bytes
+    some_came some = omega (arith, ap length is, length-append before part, long, some)
+
+    pub no_longer : (len left most : ℕ) → len ≡ length before → most ≡ min left 128 → length before < 128 → count ≤ most - len → length bytes ≤ 128
+    no_longer len left most len_is most_is short few = omega (arith, ap length is, length-append before part, long, len_is, most_is, short, few)
+
+    pub still_within : (len left most : ℕ) → len ≡ length before → most ≡ min left 128 → length before ≤ left → count ≤ most - len → length before + length part ≤ left
+    still_within len left most len_is most_is within few = omega (arith, long, len_is, most_is, within, few)
+
+-- ---- Byte by byte
+
+pub open_so_far : (turn : ℕ) (bytes : List ℕ) → turn ≡ length bytes → turn < 128 → NoFeed bytes → IsOpenLine bytes
+open_so_far turn bytes count more none = (none, omega (arith, count, more))
+
+pub no_byte_yet : (left : ℕ) (bytes : List ℕ) → bytes ≡ [] → (0 ≡ length bytes) × (length bytes ≤ left) × NoFeed bytes
+no_byte_yet left bytes none = (omega (arith, ap length none), omega (arith, ap length none), subst NoFeed (sym none) (All-nil (λ b. b ≢ 10)))
+
+pub joined : (old mid new : Option (List ℕ)) (before part bytes : List ℕ) → bytes ≡ before ++ part → Consumes old mid before → Consumes mid new part → Consumes old new bytes
+joined old mid new before part bytes is earlier later = subst (Consumes old new) (sym is) (Consumes-trans old mid new before part earlier later)
+
+pub takes_byte : (left : ℕ) (old mid new : Option (List ℕ)) (before : List ℕ) (byte : ℕ) → Consumes old mid before → Consumes mid new (byte ∷ [])
+    → length before < left → TakesBytes left old new (before ++ byte ∷ [])
+takes_byte left old mid new before byte earlier later short = takes_more left old mid new before (byte ∷ []) earlier later (omega (arith, short))
+
+pub ends_at_feed : (left : ℕ) (old mid new : Option (List ℕ)) (before bytes : List ℕ) (byte : ℕ) → bytes ≡ before ++ byte ∷ [] → byte ≡ 10 → IsOpenLine before
+    → Consumes old mid before → Consumes mid new (byte ∷ []) → length before < left → ReadsLine left old new bytes (Ok Feed)
+ends_at_feed left old mid new before bytes byte is feed unended earlier later short = (
+  subst (TakesBytes left old new) (sym is) (takes_byte left old mid new before byte earlier later short),
+  (before, unended, is ∙ ap (λ (b : ℕ). before ++ b ∷ []) feed),
+)
+
+pub no_feed_more : (before bytes : List ℕ) (byte : ℕ) → bytes ≡ before ++ byte ∷ [] → NoFeed before → byte ≢ 10 → NoFeed bytes
+no_feed_more before bytes byte is none other = subst NoFeed (sym is) (All-push (λ b. b ≢ 10) before byte none other)
+
+pub all_turns : (turn count : ℕ) → turn ≡ count → turn ≤ 128 → 128 ≤ turn → count ≡ 128
+all_turns turn count is most all = omega (arith, is, most, all)
+
+pub nothing_open : IsOpenLine []
+nothing_open = (All-nil (λ b. b ≢ 10), omega arith)
+
+pub read_fails : (left : ℕ) (old new : Option (List ℕ)) (fault : TraceError) → fault ≡ Read → Consumes old new [] → FailsWithin left old new [] fault
+read_fails left old new fault is untaken = subst (FailsWithin left old new []) (sym is) ((untaken, omega arith), nothing_open)
+
+-- ---- Part by part
+
+pub nearer : (old new : ℕ) → old < 128 → old < new → 128 - new < 128 - old
+nearer old new short more = omega (arith, short, more)
