@@ -8,6 +8,7 @@ pub mod Spelled
 pub mod Passing
 pub mod Told
 pub mod Traced
+pub mod Refusing
 pub mod Prefixes
 pub mod Verdicts
 pub mod Due

@@ -1,12 +1,72 @@
-use Rattle.std.proofs.Common.{◌≡◌, Err, ap}
-use Rattle.std.proofs.lemmas.Result.{err_from_is_err_and}
-use Rattle.ra_world.specs.declared.error.RunError.TheVariants.{Refused}
-use Rattle.ra_trace.specs.declared.error.WriteTraceError.TheVariants.{Run}
+use Rattle.std.proofs.Common.{◌≢◌, Err, refl, sym, ap, ◌∙◌, subst, inl}
+use Rattle.std.specs.Io.KnownBytes.{Appends}
+use Rattle.std.proofs.lemmas.Result.{err_from_is_err_and, IfOk-from_err, MatchResult-from_err, IfErr-weaker, IfErr-at_err}
+use Rattle.ra_trace.specs.declared.error.WriteTraceError.TheVariants.{Write}
+use Rattle.ra_trace.specs.TraceText.{IsTrace}
+use Rattle.ra_trace.proofs.Refusing.{passes, all_made, tells_unwritten, memory_or_writer, of_writer}
 use Rattle.ra_trace.proofs.writing.write_trace.Goals as goal
 
-pub returns-in_err-text-clause-refused : goal.returns-in_err-text-clause-refused
-returns-in_err-text-clause-refused g c place cause is =
-    let p = err_from_is_err_and c.from_residual.result c.from_residual.ensures.1 in
-    let ends = rw (p.1, p.2) at is in
-    let why : c.in_err-text.field-0.0 ≡ Run (Refused place cause) = cc in
-    c.in_err-text.ensures.refused place cause (ap Err why)
+-- ---- No trace is made
+
+pub returns-in_err-text : goal.returns-in_err-text
+returns-in_err-text g c =
+    let result = c.from_residual.result in
+    let p = err_from_is_err_and result c.from_residual.ensures.1 in
+    let e = c.in_err-text.ensures in
+    let tells = passes c.args.nodes c.args.start c.args.steps.now.items result c.in_err-text.field-0.0 (p.1 ∙ ap Err p.2)
+    (record { bad_count = e.bad_count; refused = e.refused; never = e.never; memory = e.memory; allowed = e.allowed; early = e.early }) in
+    record {
+      ok = IfOk-from_err result _ c.from_residual.ensures.0;
+      bad_count = tells.bad_count;
+      refused = tells.refused;
+      never = tells.never;
+      memory = tells.memory;
+      allowed = λ number steps. IfErr-weaker result _ _ (λ fault same. inl same) (tells.allowed number steps);
+      unwritten = MatchResult-from_err result _ _ c.from_residual.ensures.0 (λ fault other. refl);
+      prefix = λ is. absurd (IfErr-at_err (λ fault. fault ≢ Write) is tells.early refl);
+    }
+
+-- ---- The trace is not written
+
+pub returns-in_err-write_out : goal.returns-in_err-write_out
+returns-in_err-write_out g c =
+    let result = c.from_residual-in_err-write_out.result in
+    let p = err_from_is_err_and result c.from_residual-in_err-write_out.ensures.1 in
+    let is = p.1 ∙ ap Err p.2 in
+    let (moves, made, trace) = c.in_ok-text.ensures.ok in
+    let tells = tells_unwritten c.args.nodes c.args.start c.args.steps.now.items result is trace.count in
+    record {
+      ok = IfOk-from_err result _ c.from_residual-in_err-write_out.ensures.0;
+      bad_count = tells.0;
+      refused = tells.1;
+      never = tells.2;
+      memory = tells.3;
+      allowed = λ number steps. memory_or_writer c.args.nodes c.args.start c.args.steps.now.items result is;
+      unwritten = of_writer c.args.nodes c.args.start c.args.steps.now.items result is _;
+      prefix = λ _.
+          let (prefix, rest, whole, some, appends) = c.in_err-write_out.ensures.err in
+          (moves, prefix, rest, made, subst (IsTrace c.args.nodes c.args.start moves) (sym c.as_bytes.ensures.value ∙ whole) trace, some, appends);
+    }
+
+-- ---- It is written
+
+pub returns : goal.returns
+returns g c =
+    let (moves, made, trace) = c.in_ok-text.ensures.ok in
+    let tells = all_made c.args.nodes c.args.start c.args.steps.now.items tt trace.count in
+    record {
+      ok = (
+        moves,
+        _,
+        made,
+        trace,
+        subst (Appends (g.W.Write.contents c.args.writer.now) (g.W.Write.contents c.write_out.new.writer)) c.as_bytes.ensures.value c.in_ok-write_out.ensures.ok,
+      );
+      bad_count = tells.bad_count;
+      refused = tells.refused;
+      never = tells.never;
+      memory = tells.memory;
+      allowed = λ number steps. tt;
+      unwritten = tt;
+      prefix = λ is. absurd cc;
+    }
