@@ -1,5 +1,5 @@
 -- How far a checker has come in what it reads.
-use Rattle.std.proofs.Common.{◌≡◌, ◌≢◌, ◌⊎◌, ℕ, ◌+◌, ◌-◌, ◌≤◌, List, [], ◌∷◌, ◌++◌, length, Option, Some, None, refl, sym, ap, ◌∙◌, subst, inl, inr, arith, append_assoc, length-append}
+use Rattle.std.proofs.Common.{◌≡◌, ◌≢◌, ◌⊎◌, ℕ, ◌+◌, ◌-◌, ◌<◌, ◌≤◌, List, [], ◌∷◌, ◌++◌, length, Option, Some, None, refl, sym, ap, ◌∙◌, subst, inl, inr, arith, append_assoc, length-append}
 use Rattle.std.specs.Prelude.{flat_map, Result, Ok, Err, IfOk, IfErr, IfSome, IsNone}
 use Rattle.std.specs.Io.KnownBytes.{Consumes, IsAtEnd}
 use Rattle.std.proofs.lemmas.List.Elements.{All-nil}
@@ -351,3 +351,33 @@ answers_at_end limit left old now new checker number (Ok (Invalid line why)) don
 answers_at_end limit left old now new checker number (Err Read) done failed = fails_at_end limit left old now new checker number Read done failed
 answers_at_end limit left old now new checker number (Err Limit) done failed = fails_at_end limit left old now new checker number Limit done failed
 answers_at_end limit left old now new checker number (Err Memory) done none = absurd none
+
+-- ---- From line to line
+
+-- what is left where it is neither wrong nor the last
+pub right_turns : (limit left : ℕ) (old new : Option (List ℕ)) (after : Checker) (number : ℕ) (bytes : List ℕ) (next : Next)
+    → Turns limit left old new after number bytes (Ok next) → ((why : Cause) → next ≡ Next.Wrong why → ⊥) → (next ≡ Next.Last → ⊥)
+    → IsAlong limit (left - length bytes) old new after (number + 1)
+right_turns limit left old new after number bytes Next.Right turns wrong last = turns
+right_turns limit left old new after number bytes Next.Last turns wrong last = absurd (last refl)
+right_turns limit left old new after number bytes (Next.Wrong why) turns wrong last = absurd (wrong why refl)
+
+pub some_taken : (left : ℕ) (bytes : List ℕ) (next : Next) → SomeTaken left bytes next → ((why : Cause) → next ≡ Next.Wrong why → ⊥)
+    → (1 ≤ length bytes) × (length bytes ≤ left)
+some_taken left bytes Next.Right some wrong = some
+some_taken left bytes Next.Last some wrong = some
+some_taken left bytes (Next.Wrong why) some wrong = absurd (wrong why refl)
+
+pub at_first : (limit taken : ℕ) → 2 + (limit - taken) ≤ limit + 2
+at_first limit taken = omega arith
+
+module _ (left count taken : ℕ) (is : taken ≡ count) (some : (1 ≤ count) × (count ≤ left)) where
+  pub few_taken : taken ≤ left
+  few_taken = omega (arith, is, some.1)
+
+  pub fewer_left : left - taken < left
+  fewer_left = omega (arith, is, some.0, some.1)
+
+  -- no more lines than bytes
+  pub still_short : (number limit : ℕ) → number + left ≤ limit + 2 → (number + 1) + (left - taken) ≤ limit + 2
+  still_short number limit short = omega (arith, is, some.0, some.1, short)

@@ -1,9 +1,9 @@
 -- What stands before and after a byte, and after words.
-use Rattle.std.proofs.Common.{◌≡◌, ◌≢◌, ℕ, zero, suc, ◌+◌, ◌-◌, ◌<◌, length-drop, add-one, ◌∙◌, ◌==◌, true, false, List, [], ◌∷◌, ◌++◌, length, get_or, take, drop, All, Option, Some, None, MatchOption, Bor, option_map, refl, sym, ap, arith, inl, inr, ◌⊎◌, eq-eqb}
-use Rattle.std.proofs.lemmas.Bool.{ne_eqb, cases_Bool, eqb-true}
+use Rattle.std.proofs.Common.{◌≡◌, ◌≢◌, ℕ, zero, suc, ◌+◌, ◌-◌, ◌<◌, length-drop, add-one, ◌∙◌, ◌==◌, Bool, true, false, if◌then◌else◌, List, [], ◌∷◌, ◌++◌, length, get_or, take, drop, All, Option, Some, None, MatchOption, Bor, option_map, refl, sym, ap, arith, inl, inr, ◌⊎◌, eq-eqb}
+use Rattle.std.proofs.lemmas.Bool.{ne_eqb, cases_Bool, eqb-true, false≢true}
 use Rattle.std.proofs.lemmas.List.{take_all}
 use Rattle.std.proofs.lemmas.List.Elements.{All-head, All-tail}
-use Rattle.std.proofs.lemmas.Option.{same_Some}
+use Rattle.std.proofs.lemmas.Option.{same_Some, none-some}
 use Rattle.ra_trace.specs.Forms.{cut, behind}
 
 -- an option that was mapped
@@ -15,31 +15,44 @@ pub cases_Option : {A : Type 0} (o : Option A) → (o ≡ None) ⊎ ((x : A) × 
 cases_Option None = inl refl
 cases_Option (Some x) = inr (x, refl)
 
+if_true : {A : Type 0} (b : Bool) (x y : A) → b ≡ true → (if b then x else y) ≡ x
+if_true true x y is = refl
+if_true false x y is = absurd (false≢true is)
+
+if_false : {A : Type 0} (b : Bool) (x y : A) → b ≡ false → (if b then x else y) ≡ y
+if_false true x y is = absurd (false≢true (sym is))
+if_false false x y is = refl
+
+-- what is cut after one more byte
+abbrev longer : ℕ → List ℕ × List ℕ → List ℕ × List ℕ
+longer b parts = (b ∷ parts.0, parts.1)
+
 -- none of these bytes is that one
 abbrev pub IsFree : ℕ → List ℕ → Type 0
 IsFree byte bytes = All (λ b. (b == byte) ≡ false) bytes
 
 pub cut-append : (byte : ℕ) (xs ys : List ℕ) → IsFree byte xs → cut byte (xs ++ byte ∷ ys) ≡ Some (xs, ys)
-cut-append byte [] ys free = let same : (byte == byte) ≡ true = eq-eqb byte byte refl in rw same
+cut-append byte [] ys free = if_true (byte == byte) (Some ([], ys)) (option_map (longer byte) (cut byte ys)) (eq-eqb byte byte refl)
 cut-append byte (x ∷ xs) ys free =
-    let other : (x == byte) ≡ false = All-head (λ b. (b == byte) ≡ false) x xs free in
-    rw (other, cut-append byte xs ys (All-tail (λ b. (b == byte) ≡ false) x xs free))
+    if_false (x == byte) (Some ([], xs ++ byte ∷ ys)) (option_map (longer x) (cut byte (xs ++ byte ∷ ys))) (All-head (λ b. (b == byte) ≡ false) x xs free)
+    ∙ ap (option_map (longer x)) (cut-append byte xs ys (All-tail (λ b. (b == byte) ≡ false) x xs free))
 
 pub cut-at : (byte : ℕ) (text : List ℕ) (end : ℕ) → end < length text → get_or text end 0 ≡ byte → ((k : ℕ) → k < end → get_or text k 0 ≢ byte)
     → cut byte text ≡ Some (take end text, drop (suc end) text)
 cut-at byte [] end within here before = absurd (omega arith)
-cut-at byte (x ∷ xs) zero within here before = let same : (x == byte) ≡ true = eq-eqb x byte here in rw same
+cut-at byte (x ∷ xs) zero within here before = if_true (x == byte) (Some ([], xs)) (option_map (longer x) (cut byte xs)) (eq-eqb x byte here)
 cut-at byte (x ∷ xs) (suc end) within here before =
-    let other : (x == byte) ≡ false = ne_eqb x byte (before 0 (omega arith)) in
-    rw (other, cut-at byte xs end (omega arith) here (λ k h. before (suc k) (omega arith)))
+    if_false (x == byte) (Some ([], xs)) (option_map (longer x) (cut byte xs)) (ne_eqb x byte (before 0 (omega arith)))
+    ∙ ap (option_map (longer x)) (cut-at byte xs end (omega arith) here (λ k h. before (suc k) (omega arith)))
 
 pub cut-only : (byte : ℕ) (text : List ℕ) (parts : List ℕ × List ℕ) → cut byte text ≡ Some parts → text ≡ parts.0 ++ byte ∷ parts.1
 cut-only byte [] parts e = absurd cc
 cut-only byte (b ∷ text) parts e =
     elim (cases_Bool (b == byte)) [
-      | inl same ↦ let is : ([], text) ≡ parts = same_Some _ _ (rw same at e) in rw (sym is, eqb-true b byte same)
+      | inl same ↦ let is : ([], text) ≡ parts = same_Some _ _ (sym (if_true (b == byte) (Some ([], text)) (option_map (longer b) (cut byte text)) same) ∙ e) in rw (sym is, eqb-true b byte same)
       | inr other ↦
-          let (others, found, is) = mapped (λ (rest : List ℕ × List ℕ). (b ∷ rest.0, rest.1)) (cut byte text) parts (rw other at e) in
+          let (others, found, is) = mapped (longer b) (cut byte text) parts
+          (sym (if_false (b == byte) (Some ([], text)) (option_map (longer b) (cut byte text)) other) ∙ e) in
           rw (sym is) (ap (λ (bytes : List ℕ). b ∷ bytes) (cut-only byte text others found))
     ]
 
@@ -50,20 +63,20 @@ to_end text end = take_all (length text - (end + 1)) (drop (end + 1) text) (omeg
 pub cut-none : (byte : ℕ) (text : List ℕ) → ((k : ℕ) → k < length text → get_or text k 0 ≢ byte) → cut byte text ≡ None
 cut-none byte [] before = refl
 cut-none byte (x ∷ xs) before =
-    let other : (x == byte) ≡ false = ne_eqb x byte (before 0 (omega arith)) in
-    rw (other, cut-none byte xs (λ k h. before (suc k) (omega arith)))
+    if_false (x == byte) (Some ([], xs)) (option_map (longer x) (cut byte xs)) (ne_eqb x byte (before 0 (omega arith)))
+    ∙ ap (option_map (longer x)) (cut-none byte xs (λ k h. before (suc k) (omega arith)))
 
 pub behind-append : (words rest : List ℕ) → behind words (words ++ rest) ≡ Some rest
 behind-append [] rest = refl
-behind-append (w ∷ words) rest = let same : (w == w) ≡ true = eq-eqb w w refl in rw (same, behind-append words rest)
+behind-append (w ∷ words) rest = if_true (w == w) (behind words (words ++ rest)) None (eq-eqb w w refl) ∙ behind-append words rest
 
 pub behind-only : (words text rest : List ℕ) → behind words text ≡ Some rest → text ≡ words ++ rest
 behind-only [] text rest e = same_Some _ _ e
 behind-only (w ∷ words) [] rest e = absurd cc
 behind-only (w ∷ words) (b ∷ text) rest e =
     elim (cases_Bool (w == b)) [
-      | inl same ↦ let is = behind-only words text rest (rw same at e) in rw (eqb-true w b same, is)
-      | inr other ↦ absurd (let clash : None ≡ Some rest = rw other at e in cc)
+      | inl same ↦ let is = behind-only words text rest (sym (if_true (w == b) (behind words text) None same) ∙ e) in rw (eqb-true w b same, is)
+      | inr other ↦ absurd (none-some rest (sym (if_false (w == b) (behind words text) None other) ∙ e))
     ]
 
 pub behind-none : (words text : List ℕ) → ((rest : List ℕ) → text ≢ words ++ rest) → behind words text ≡ None
@@ -71,8 +84,8 @@ behind-none [] text other = absurd (other text refl)
 behind-none (w ∷ words) [] other = refl
 behind-none (w ∷ words) (b ∷ text) other =
     elim (cases_Bool (w == b)) [
-      | inl same ↦ rw (same, behind-none words text (λ rest e. other rest (cc (eqb-true w b same))))
-      | inr not ↦ rw not
+      | inl same ↦ if_true (w == b) (behind words text) None same ∙ behind-none words text (λ rest e. other rest (cc (eqb-true w b same)))
+      | inr not ↦ if_false (w == b) (behind words text) None not
     ]
 
 -- by `strip_prefix`

@@ -1,5 +1,6 @@
 -- The forms of lines are gone through, row by row.
-use Rattle.std.proofs.Common.{◌≡◌, ℕ, zero, suc, ◌+◌, ◌<◌, List, [], ◌∷◌, length, get_or, drop, map, Option, Some, None, Bor, refl, sym, ap, ◌∙◌, arith}
+use Rattle.std.proofs.Common.{◌≡◌, ℕ, zero, suc, ◌+◌, ◌<◌, ◌≤◌, List, [], ◌∷◌, length, get_or, drop, map, Option, Some, None, Bor, refl, sym, ap, ◌∙◌, arith}
+use Rattle.std.proofs.lemmas.List.{drop_all, length-map}
 use Rattle.ra_trace.specs.declared.forms.Kind.{Kind}
 use Rattle.ra_trace.specs.declared.line.Line.{Line}
 use Rattle.ra_trace.specs.Forms.{Form, read_as, behind, line_by, line_in}
@@ -36,3 +37,8 @@ read_there rows i d text rest line passed within begins is = is ∙ sym (line_th
 pub passed_there : (rows : List Row) (i : ℕ) (d : Row) (text : List ℕ) → HasPassed rows i text → i < length rows
     → behind (get_or rows i d).0.now text ≡ None → HasPassed rows (i + 1) text
 passed_there rows i d text passed within other = record { line_is = line_there rows i d text passed within ∙ rw other }
+
+-- it begins like none of them
+pub passed_all : (rows : List Row) (i : ℕ) (text : List ℕ) → HasPassed rows i text → length rows ≤ i → None ≡ line_in text
+passed_all rows i text passed all =
+    sym (passed.line_is ∙ ap (λ (forms : List Form). line_by forms text) (drop_all i (map form_of rows) (omega (arith, all, length-map rows form_of))))

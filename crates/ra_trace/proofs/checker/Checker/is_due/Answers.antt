@@ -1,5 +1,6 @@
 use Rattle.std.proofs.Common.{◌≡◌, ◌∙◌, sym, ap, Some, None}
 use Rattle.std.proofs.lemmas.Bool.{false≢true}
+use Rattle.std.proofs.lemmas.Option.{slice_get_within}
 use Rattle.ra_trace.proofs.Due.{next_left, first_left}
 use Rattle.ra_trace.proofs.checker.Checker.is_due.Goals as goal
 
@@ -24,3 +25,12 @@ pub returns-in-None-clause-other : goal.returns-in-None-clause-other
 returns-in-None-clause-other c is others e =
     let at = first_left c.args.self.now.marks.items c.args.self.now.come c.args.mark.now others e in
     none_some (sym c.in-None.is ∙ c.at.ensures ∙ at)
+
+pub returns-in-Some-clause-within : goal.returns-in-Some-clause-within
+returns-in-Some-clause-within c = λ _. slice_get_within c.args.self.now.marks.items c.args.self.now.come c.in-Some.due (sym c.at.ensures ∙ c.in-Some.is)
+
+pub returns-in-None-clause-within : goal.returns-in-None-clause-within
+returns-in-None-clause-within c = λ none. absurd (false≢true none)
+
+pub returns-in-None-clause-next : goal.returns-in-None-clause-next
+returns-in-None-clause-next c = λ none. absurd (false≢true none)
