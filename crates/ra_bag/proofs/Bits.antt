@@ -397,3 +397,7 @@ module _ (filled : Filled) (slots : List (Option Message)) (shown : IsShown fill
             (take_all (64 * j) (padded filled.gone slots) (omega (arith, end, bits_bound filled.words.items (padded filled.gone slots) shown.1))),
         ap length (gone_none filled.gone slots),
       )
+
+-- no bits are those of no slots
+pub none_shown : (filled : Filled) → filled.words.items ≡ [] → filled.gone ≡ 0 → IsShown filled []
+none_shown filled words gone = (omega (arith, gone), rw (words, gone))

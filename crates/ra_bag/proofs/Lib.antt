@@ -3,3 +3,4 @@ pub mod Taken
 pub mod Numbers
 pub mod Told
 pub mod Bits
+mod Calls
