@@ -1,5 +1,5 @@
 -- Which names a client has after its operations.
-use Rattle.std.proofs.Common.{◌≡◌, ◌≢◌, ◌⊎◌, ℕ, Bool, true, false, List, [], ◌∷◌, ◌++◌, length, All, refl, sym, ap, ◌∙◌, inl, inr, arith, length-append}
+use Rattle.std.proofs.Common.{◌≡◌, ◌≢◌, ◌⊎◌, ℕ, Bool, true, false, if◌then◌else◌, List, [], ◌∷◌, ◌++◌, length, All, refl, sym, ap, ◌∙◌, inl, inr, arith, length-append}
 use Rattle.std.proofs.lemmas.Bool.{cases_Bool, false≢true}
 use Rattle.std.proofs.lemmas.List.Elements.{All-nil, All-cons, All-head, All-tail, All-same}
 use Rattle.std.specs.Str.{bytes_eq}
@@ -14,6 +14,26 @@ use Rattle.ra_script.specs.ScriptText.{is_held_from, is_held_after}
 abbrev pub IsHeldFrom : Bool → List Op → List ℕ → Type 0
 IsHeldFrom held ops name = IsHeldAfter ops name ⊎ ((held ≡ true) × All (λ op. op ≢ Unlock name) ops)
 
+-- ---- What a test of a name decides
+
+at_then : (ops : List Op) (name : List ℕ) (b x y : Bool) → b ≡ true → is_held_from (if b then x else y) ops name ≡ true → is_held_from x ops name ≡ true
+at_then ops name true x y is h = h
+at_then ops name false x y is h = absurd (false≢true is)
+
+at_else : (ops : List Op) (name : List ℕ) (b x y : Bool) → b ≡ false → is_held_from (if b then x else y) ops name ≡ true → is_held_from y ops name ≡ true
+at_else ops name true x y is h = absurd (false≢true (sym is))
+at_else ops name false x y is h = h
+
+by_then : (ops : List Op) (name : List ℕ) (b x y : Bool) → b ≡ true → is_held_from x ops name ≡ true → is_held_from (if b then x else y) ops name ≡ true
+by_then ops name true x y is h = h
+by_then ops name false x y is h = absurd (false≢true is)
+
+by_else : (ops : List Op) (name : List ℕ) (b x y : Bool) → b ≡ false → is_held_from y ops name ≡ true → is_held_from (if b then x else y) ops name ≡ true
+by_else ops name true x y is h = absurd (false≢true (sym is))
+by_else ops name false x y is h = h
+
+-- ---- The test and what it says
+
 -- one more operation in front
 later : (op : Op) (ops : List Op) (name : List ℕ) → IsHeldAfter ops name → IsHeldAfter (op ∷ ops) name
 later op ops name h = (op ∷ h.0, h.1, h.2, ap (λ (xs : List Op). op ∷ xs) h.3, h.4)
@@ -23,12 +43,12 @@ held_from held [] name h = inr (h, All-nil (λ op. op ≢ Unlock name))
 held_from held (Lock locked mode ∷ ops) name h =
     elim (cases_Bool (bytes_eq locked name)) [
       | inl same ↦
-          elim (held_from true ops name (rw same at h)) [
+          elim (held_from true ops name (at_then ops name (bytes_eq locked name) true held same h)) [
             | inl w ↦ inl (later (Lock locked mode) ops name w)
             | inr w ↦ inl ([], ops, mode, ap (λ (n : List ℕ). Lock n mode ∷ ops) ((bytes_decides locked name).0 same), w.1)
           ]
       | inr other ↦
-          elim (held_from held ops name (rw other at h)) [
+          elim (held_from held ops name (at_else ops name (bytes_eq locked name) true held other h)) [
             | inl w ↦ inl (later (Lock locked mode) ops name w)
             | inr w ↦ inr (w.0, All-cons (λ op. op ≢ Unlock name) (Lock locked mode) ops (λ e. cc) w.1)
           ]
@@ -36,12 +56,12 @@ held_from held (Lock locked mode ∷ ops) name h =
 held_from held (Unlock unlocked ∷ ops) name h =
     elim (cases_Bool (bytes_eq unlocked name)) [
       | inl same ↦
-          elim (held_from false ops name (rw same at h)) [
+          elim (held_from false ops name (at_then ops name (bytes_eq unlocked name) false held same h)) [
             | inl w ↦ inl (later (Unlock unlocked) ops name w)
             | inr w ↦ absurd (false≢true w.0)
           ]
       | inr other ↦
-          elim (held_from held ops name (rw other at h)) [
+          elim (held_from held ops name (at_else ops name (bytes_eq unlocked name) false held other h)) [
             | inl w ↦ inl (later (Unlock unlocked) ops name w)
             | inr w ↦ inr (w.0, All-cons (λ op. op ≢ Unlock name) (Unlock unlocked) ops (λ e. different unlocked name other e) w.1)
           ]
@@ -71,11 +91,11 @@ is_held_from-true held [] name h =
     ]
 is_held_from-true held (Lock locked mode ∷ ops) name h =
     elim (cases_Bool (bytes_eq locked name)) [
-      | inl same ↦ rw same (is_held_from-true true ops name (elim h [
+      | inl same ↦ by_then ops name (bytes_eq locked name) true held same (is_held_from-true true ops name (elim h [
         | inl w ↦ elim (earlier (Lock locked mode) ops name w) [ inl v ↦ inl v | inr v ↦ inr (refl, v.2) ]
         | inr w ↦ inr (refl, All-tail (λ o. o ≢ Unlock name) (Lock locked mode) ops w.1)
       ]))
-      | inr other ↦ rw other (is_held_from-true held ops name (elim h [
+      | inr other ↦ by_else ops name (bytes_eq locked name) true held other (is_held_from-true held ops name (elim h [
         | inl w ↦
             elim (earlier (Lock locked mode) ops name w) [
               | inl v ↦ inl v
@@ -86,7 +106,7 @@ is_held_from-true held (Lock locked mode ∷ ops) name h =
     ]
 is_held_from-true held (Unlock unlocked ∷ ops) name h =
     elim (cases_Bool (bytes_eq unlocked name)) [
-      | inl same ↦ rw same (is_held_from-true false ops name (elim h [
+      | inl same ↦ by_then ops name (bytes_eq unlocked name) false held same (is_held_from-true false ops name (elim h [
         | inl w ↦
             elim (earlier (Unlock unlocked) ops name w) [
               | inl v ↦ inl v
@@ -94,7 +114,7 @@ is_held_from-true held (Unlock unlocked ∷ ops) name h =
             ]
         | inr w ↦ absurd (All-head (λ o. o ≢ Unlock name) (Unlock unlocked) ops w.1 (ap Unlock ((bytes_decides unlocked name).0 same)))
       ]))
-      | inr other ↦ rw other (is_held_from-true held ops name (elim h [
+      | inr other ↦ by_else ops name (bytes_eq unlocked name) false held other (is_held_from-true held ops name (elim h [
         | inl w ↦
             elim (earlier (Unlock unlocked) ops name w) [
               | inl v ↦ inl v
