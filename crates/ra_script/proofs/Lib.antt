@@ -14,3 +14,4 @@ mod Words
 mod BroughtToEnd
 mod Performs
 mod Wording
+mod Firsts

@@ -134,3 +134,16 @@ table_at (c ∷ clients) (suc place) client lt at = table_at clients place clien
 
 pub tables_lt : (clients : List ClientRef) (place : ℕ) → place < length clients → place < length (map client_table clients)
 tables_lt clients place lt = rw (length-map clients client_table) lt
+
+-- ---- Each client is added
+
+-- there is room for the next one
+pub room_for : (nodes : ℕ) (clients : List ClientRef) (place count : ℕ) → are_placed nodes (map client_table clients) ≡ true → place < length clients → count ≡ place → count < 64
+room_for nodes clients place count placed lt is = omega (arith, placed_few nodes (map client_table clients) placed, length-map clients client_table, lt, is)
+
+pub at_a_node : (nodes script_nodes node : ℕ) (number : ℤ) → is_up_to nodes number ≡ true → node ≡ natural number → script_nodes ≡ nodes → (1 ≤ node) × (node ≤ script_nodes)
+at_a_node nodes script_nodes node number within is nodes_are =
+    let parts = up_to_parts nodes number within in (omega (arith, parts.0, is), omega (arith, parts.1, is, nodes_are))
+
+pub all_clients : (clients : List ClientRef) (place : ℕ) → length clients ≤ place → length (map client_table clients) ≤ place
+all_clients clients place past = omega (arith, past, length-map clients client_table)

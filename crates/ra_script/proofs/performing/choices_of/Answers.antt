@@ -1,5 +1,5 @@
 use Rattle.std.proofs.Common.{◌≡◌, ◌⊎◌, ℕ, List, All, string_bytes, sym, subst, inl, inr}
-use Rattle.std.proofs.lemmas.Result.{err_from_is_err_and}
+use Rattle.std.proofs.lemmas.Result.{err_from_is_err_and, IfOk-from_err}
 use Rattle.ra_schedule.specs.declared.choice.Policy.{Policy}
 use Rattle.ra_script.specs.declared.error.ChoicesError.{ChoicesError}
 use Rattle.ra_script.specs.declared.error.ChoicesError.TheVariants as choices
@@ -50,3 +50,12 @@ returns-in_err-text-clause-err c input script_is =
           (read_scripts input c.args.script.now script_is) recording.run.follows recording.choices unrepeated);
     } in
     rw (p.1, p.2) (of_fault c.args.policy.now input c.in_err-text.field-0.0 (All HasText items → ⊥) _ wordless c.in_err-text.ensures.err)
+
+pub returns-in_err-recording-clause-ok : goal.returns-in_err-recording-clause-ok
+returns-in_err-recording-clause-ok c input script_is = IfOk-from_err c.from_residual.result _ c.from_residual.ensures.0
+
+pub returns-in_err-text-clause-ok : goal.returns-in_err-text-clause-ok
+returns-in_err-text-clause-ok c input script_is = IfOk-from_err c.from_residual-in_err-text.result _ c.from_residual-in_err-text.ensures.0
+
+pub returns-in_err-end_line-clause-ok : goal.returns-in_err-end_line-clause-ok
+returns-in_err-end_line-clause-ok c input script_is = IfOk-from_err c.from_residual-in_err-end_line.result _ c.from_residual-in_err-end_line.ensures.0

@@ -1,4 +1,5 @@
 use Rattle.std.proofs.Common.{◌≡◌, ℕ, List, string_bytes, sym, subst, ◌∙◌}
+use Rattle.std.proofs.lemmas.Result.{IfOk-from_err}
 use Rattle.ra_world.specs.Run.{IsRun}
 use Rattle.ra_world.specs.Traffic.{Move}
 use Rattle.ra_trace.specs.TraceText.{IsTrace}
@@ -22,3 +23,6 @@ returns-clause-ok c input script_is =
       says = subst (λ (n : ℕ). IsTrace n 0 moves (string_bytes c.in-Ok.text)) nodes_is
           (subst (λ (xs : List Move). IsTrace c.nodes.result 0 xs (string_bytes c.in-Ok.text)) equal trace);
     }
+
+pub returns-in_err-recording-clause-ok : goal.returns-in_err-recording-clause-ok
+returns-in_err-recording-clause-ok c input script_is = IfOk-from_err c.from_residual.result _ c.from_residual.ensures.0
