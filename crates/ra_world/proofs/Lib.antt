@@ -43,6 +43,7 @@ mod Queues
 mod Causes
 mod Reporting
 mod StepTries
+mod AtPlace
 mod StepAnswers
 mod Worlds
 pub mod Refusing

@@ -1,4 +1,4 @@
-use Rattle.std.proofs.Common.{rules, ◌≡◌, ◌+◌, ◌<◌, ◌++◌, List, length, get_or, Err, refl, sym, ap, ◌∙◌, subst, arith, inl}
+use Rattle.std.proofs.Common.{lit<, ℕ, ◌≡◌, ◌+◌, ◌<◌, ◌++◌, List, length, Err, refl, sym, ap, ◌∙◌, subst, inl}
 use Rattle.ra_stamp.specs.declared.message.Message.{Message}
 use Rattle.ra_node.specs.Events.Event.{Ask as AskedFor}
 use Rattle.ra_node.specs.Turns.{MayAsk}
@@ -10,6 +10,8 @@ use Rattle.ra_world.specs.World.{HasCause}
 use Rattle.ra_world.specs.Keeping.{Tries}
 use Rattle.ra_world.specs.Refused.{refusal_of_ask}
 use Rattle.ra_world.proofs.StepTries.{shown, with_cause, at_err, short, same_nodes, ask_refused, ask_on, reads_same, memory_of_ask, few_carried, room_for, kept_by, here, run_of}
+use Rattle.ra_world.proofs.StepAnswers.{kept_run}
+use Rattle.ra_world.proofs.AtPlace.{place_in, number_above, number_of, count_with, kept_as, kept_back, moved, sends_fit}
 use Rattle.ra_world.proofs.world.WorldOf.ask.Goals as goal
 
 pub returns-in_err-may_ask-clause-tried : goal.returns-in_err-may_ask-clause-tried
@@ -19,8 +21,8 @@ returns-in_err-may_ask-clause-tried g c =
     let e = c.in_err-may_ask.field-0.0 in
     let place = c.in-Some.place in
     let number : place + 1 ≡ c.args.node = c.in-Some.ensures.some.0 in
-    let within : place < length w.nodes.items = search rules in
-    let at : old ≡ get_or w.nodes.items place old = search rules in
+    let within = place_in w.nodes.items c.deref.result.now place c.deref.ensures.value c.in-Some.ensures.some.1 in
+    let at = c.index-asked.ensures in
     let why = ask_refused w.start w.nodes.items w.under_way.items w.log.moves place c.args.node c.args.client c.args.name c.args.mode old e
     c.self.invariant number within at
     (λ is. c.in_err-may_ask.ensures.busy.0 (ap Err is)) (λ is. c.in_err-may_ask.ensures.exhausted.0 (ap Err is)) (λ is. c.in_err-may_ask.ensures.no_memory (ap Err is)) in
@@ -37,9 +39,9 @@ returns-in_err-make_room-clause-tried g c =
     let old = c.index-asked.result.now in
     let place = c.in-Some.place in
     let number : place + 1 ≡ c.args.node = c.in-Some.ensures.some.0 in
-    let within : place < length w.nodes.items = search rules in
-    let at : old ≡ get_or w.nodes.items place old = search rules in
-    let may : MayAsk (resource_at old c.args.name) c.args.client = search rules in
+    let within = place_in w.nodes.items c.deref.result.now place c.deref.ensures.value c.in-Some.ensures.some.1 in
+    let at = c.index-asked.ensures in
+    let may = c.in_ok-may_ask.ensures.allowed.0 refl in
     short w.start w.nodes.items w.log.moves c.args.self.now _ (Ask c.args.node c.args.client c.args.name c.args.mode) c.from_residual-in_err-make_room.result c.self.view_is
     (ap (shown w.start w.nodes.items) c.make_room.ensures.moves)
     (ask_on c.runs_go_on_where_steps_are_allowed.ensures.ask w.start w.nodes.items w.under_way.items w.log.moves place c.args.node c.args.client c.args.name c.args.mode old
@@ -53,10 +55,10 @@ returns-in_err-outcome-clause-tried g c =
     let old = c.index_mut-asked.result.now in
     let place = c.in-Some.place in
     let number : place + 1 ≡ c.args.node = c.in-Some.ensures.some.0 in
-    let within : place < length w.nodes.items = search rules in
-    let at_first : first ≡ get_or w.nodes.items place first = search rules in
-    let at : old ≡ get_or w.nodes.items place old = search rules in
-    let may_first : MayAsk (resource_at first c.args.name) c.args.client = search rules in
+    let within = place_in w.nodes.items c.deref.result.now place c.deref.ensures.value c.in-Some.ensures.some.1 in
+    let at_first = c.index-asked.ensures in
+    let at = c.index_mut-asked.ensures.value in
+    let may_first = c.in_ok-may_ask.ensures.allowed.0 refl in
     let may = subst (λ (s : NodeState). MayAsk (resource_at s c.args.name) c.args.client) (sym (reads_same w.nodes.items place first old within at_first at)) may_first in
     let memory : c.in_err-outcome.field-0.0 ≡ refused.Memory = c.in_err-outcome.ensures.allowed.1 may in
     short w.start w.nodes.items w.log.moves c.args.self.now _ (Ask c.args.node c.args.client c.args.name c.args.mode) c.from_residual-in_err-outcome.result c.self.view_is
@@ -77,12 +79,12 @@ invariant_of-self-2 g c =
     let place = c.in-Some.place in
     let outcome = c.in_ok-outcome.outcome in
     let number : place + 1 ≡ c.args.node = c.in-Some.ensures.some.0 in
-    let within : place < length w.nodes.items = search rules in
-    let at : old ≡ get_or w.nodes.items place old = search rules in
+    let within = place_in w.nodes.items c.deref.result.now place c.deref.ensures.value c.in-Some.ensures.some.1 in
+    let at = c.index_mut-asked.ensures.value in
     kept_by c.kept_runs_go_on.ensures.event w.start w.nodes.items w.under_way.items w.under_way.items c.keep.new.under_way.items w.log.moves c.make_room.new.log.moves c.keep.new.log.moves
     (record { step = Ask c.args.node c.args.client c.args.name c.args.mode; sends = outcome.sends.items; marks = outcome.marks.items })
     place c.args.node (AskedFor c.args.client c.args.name c.args.mode) old c.ask.new.self c.self.invariant number within at
-    (omega (arith, number), omega (arith, number, within)) (here c.args.node (AskedFor c.args.client c.args.name c.args.mode))
+    (number_of w.nodes.items place c.args.node number within) (here c.args.node (AskedFor c.args.client c.args.name c.args.mode))
     c.in_ok-outcome.ensures.ok refl
     (c.keep.ensures.messages ∙ ap (λ (ms : List Message). ms ++ outcome.sends.items) c.make_room.ensures.messages)
     c.make_room.ensures.moves c.keep.ensures.moves
@@ -98,10 +100,75 @@ keep-requires g c =
     let old = c.index_mut-asked.result.now in
     let place = c.in-Some.place in
     let outcome = c.in_ok-outcome.outcome in
-    let within : place < length w.nodes.items = search rules in
-    let at_first : first ≡ get_or w.nodes.items place first = search rules in
-    let at : old ≡ get_or w.nodes.items place old = search rules in
+    let within = place_in w.nodes.items c.deref.result.now place c.deref.ensures.value c.in-Some.ensures.some.1 in
+    let at_first = c.index-asked.ensures in
+    let at = c.index_mut-asked.ensures.value in
     let few = few_carried c.events_keep_a_node_consistent.ensures.room_by_event w.nodes.items place first old c.ask.new.self (AskedFor c.args.client c.args.name c.args.mode)
     outcome.sends.items outcome.marks.items
     (c.kept_runs_go_on.ensures.counts w.start w.nodes.items w.under_way.items w.log.moves place c.self.invariant within) within at_first at c.may_ask.ensures.consistent c.in_ok-outcome.ensures.ok in
-    (omega arith, (omega (arith, few.0, c.in_ok-make_room.ensures.bag_room), room_for c.make_room.new.log (length outcome.marks.items) 2 c.in_ok-make_room.ensures.log_room few.1))
+    (lit< tt, (
+      sends_fit w.nodes.items c.deref.result.now _ _ _ _ c.deref.ensures.value c.deref.ensures.len c.len-sends.ensures few.0 c.in_ok-make_room.ensures.bag_room,
+      room_for c.make_room.new.log (length outcome.marks.items) 2 c.in_ok-make_room.ensures.log_room few.1,
+    ))
+
+pub returns-in_default-clause-tried : goal.returns-in_default-clause-tried
+returns-in_default-clause-tried g c =
+    let w = c.self.inside in
+    (refl, inl (number_above w.start w.nodes.items c.deref.result.now w.log.moves c.args.self.now c.args.node c.self.view_is c.deref.ensures.value (c.in_default.ensures.none.0 refl)))
+
+pub returns-in_default-clause-run : goal.returns-in_default-clause-run
+returns-in_default-clause-run g c =
+    let w = c.self.inside in
+    (kept_run w.start w.nodes.items w.under_way.items w.log.moves c.args.self.now c.self.invariant c.self.view_is).1
+
+pub returns-in_default-clause-count : goal.returns-in_default-clause-count
+returns-in_default-clause-count g c =
+    let w = c.self.inside in
+    (kept_run w.start w.nodes.items w.under_way.items w.log.moves c.args.self.now c.self.invariant c.self.view_is).0
+
+pub index-asked-requires : goal.index-asked-requires
+index-asked-requires g c = subst (λ (n : ℕ). c.in-Some.place < n) c.deref.ensures.len c.in-Some.ensures.some.1
+
+pub returns-in_err-may_ask-clause-run : goal.returns-in_err-may_ask-clause-run
+returns-in_err-may_ask-clause-run g c =
+    let w = c.self.inside in
+    (kept_run w.start w.nodes.items w.under_way.items w.log.moves c.args.self.now c.self.invariant c.self.view_is).1
+
+pub returns-in_err-may_ask-clause-count : goal.returns-in_err-may_ask-clause-count
+returns-in_err-may_ask-clause-count g c =
+    let w = c.self.inside in
+    (kept_run w.start w.nodes.items w.under_way.items w.log.moves c.args.self.now c.self.invariant c.self.view_is).0
+
+pub invariant_of-self : goal.invariant_of-self
+invariant_of-self g c =
+    let w = c.self.inside in
+    kept_as w.start w.nodes.items w.under_way.items c.make_room.new.under_way.items w.log.moves c.make_room.new.log.moves c.self.invariant
+    c.make_room.ensures.messages c.make_room.ensures.moves
+
+pub returns-in_err-make_room-clause-run : goal.returns-in_err-make_room-clause-run
+returns-in_err-make_room-clause-run g c = (invariant_of-self g c).run
+
+pub returns-in_err-make_room-clause-count : goal.returns-in_err-make_room-clause-count
+returns-in_err-make_room-clause-count g c = c.self.invariant.count
+
+pub index_mut-asked-requires : goal.index_mut-asked-requires
+index_mut-asked-requires g c = subst (λ (n : ℕ). c.in-Some.place < n) c.deref.ensures.len c.in-Some.ensures.some.1
+
+pub invariant_of-self-in_err-outcome : goal.invariant_of-self-in_err-outcome
+invariant_of-self-in_err-outcome g c =
+    let w = c.self.inside in
+    kept_back w.start w.nodes.items w.under_way.items c.make_room.new.under_way.items w.log.moves c.make_room.new.log.moves c.in-Some.place c.index_mut-asked.result.now c.ask.new.self
+    c.self.invariant c.make_room.ensures.messages c.make_room.ensures.moves c.index_mut-asked.ensures.value c.in_err-outcome.ensures.err
+
+pub returns-in_err-outcome-clause-count : goal.returns-in_err-outcome-clause-count
+returns-in_err-outcome-clause-count g c = count_with c.self.inside.nodes.items c.in-Some.place c.ask.new.self c.self.invariant.count
+
+pub returns-clause-tried : goal.returns-clause-tried
+returns-clause-tried g c =
+    let w = c.self.inside in
+    let outcome = c.in_ok-outcome.outcome in
+    moved w.start w.nodes.items w.log.moves c.make_room.new.log.moves c.keep.new.log.moves c.args.self.now c.in-Some.place c.ask.new.self
+    (Ask c.args.node c.args.client c.args.name c.args.mode) outcome.sends.items outcome.marks.items c.self.view_is c.make_room.ensures.moves c.keep.ensures.moves
+
+pub returns-clause-count : goal.returns-clause-count
+returns-clause-count g c = count_with c.self.inside.nodes.items c.in-Some.place c.ask.new.self c.self.invariant.count

@@ -1,4 +1,4 @@
-use Rattle.std.proofs.Common.{rules, ◌≡◌, ◌+◌, ◌<◌, ◌++◌, List, length, get_or, refl, sym, ap, ◌∙◌, subst, arith, inl}
+use Rattle.std.proofs.Common.{lit<, ℕ, ◌≡◌, ◌+◌, ◌<◌, ◌++◌, List, length, refl, sym, ap, ◌∙◌, subst, inl}
 use Rattle.std.proofs.lemmas.Bool.{false≢true}
 use Rattle.ra_stamp.specs.declared.message.Message.{Message}
 use Rattle.ra_node.specs.Events.Event.{Leave as GivenBack}
@@ -10,6 +10,8 @@ use Rattle.ra_world.specs.declared.step.Step.TheVariants.{Leave}
 use Rattle.ra_world.specs.declared.error.StepError.TheVariants.{Node}
 use Rattle.ra_world.specs.declared.error.NodeRefusal.TheVariants.{NotHeld}
 use Rattle.ra_world.proofs.StepTries.{shown, with_cause, short, same_nodes, at_node, leave_on, reads_same, memory_of_leave, few_carried, room_for, kept_by, here, run_of}
+use Rattle.ra_world.proofs.StepAnswers.{kept_run}
+use Rattle.ra_world.proofs.AtPlace.{place_in, number_above, number_of, count_with, kept_as, kept_back, moved, sends_fit_twice}
 use Rattle.ra_world.proofs.world.WorldOf.leave.Goals as goal
 
 pub returns-then-not-is_held_by-clause-tried : goal.returns-then-not-is_held_by-clause-tried
@@ -18,8 +20,8 @@ returns-then-not-is_held_by-clause-tried g c =
     let old = c.index-left.result.now in
     let place = c.in-Some.place in
     let number : place + 1 ≡ c.args.node = c.in-Some.ensures.some.0 in
-    let within : place < length w.nodes.items = search rules in
-    let at : old ≡ get_or w.nodes.items place old = search rules in
+    let within = place_in w.nodes.items c.deref.result.now place c.deref.ensures.value c.in-Some.ensures.some.1 in
+    let at = c.index-left.ensures in
     let free : (entry : Entry) → Holds (resource_at old c.args.name) c.args.client entry → ⊥ =
     λ entry holds. false≢true (sym c.if-not-is_held_by.true ∙ c.is_held_by.ensures.held.1 (entry, holds)) in (
       refl,
@@ -34,8 +36,8 @@ returns-in_err-make_room-clause-tried g c =
     let old = c.index-left.result.now in
     let place = c.in-Some.place in
     let number : place + 1 ≡ c.args.node = c.in-Some.ensures.some.0 in
-    let within : place < length w.nodes.items = search rules in
-    let at : old ≡ get_or w.nodes.items place old = search rules in
+    let within = place_in w.nodes.items c.deref.result.now place c.deref.ensures.value c.in-Some.ensures.some.1 in
+    let at = c.index-left.ensures in
     let may : (entry : Entry) × Holds (resource_at old c.args.name) c.args.client entry = c.is_held_by.ensures.held.0 c.if-not-is_held_by.false in
     short w.start w.nodes.items w.log.moves c.args.self.now _ (Leave c.args.node c.args.client c.args.name) c.from_residual.result c.self.view_is
     (ap (shown w.start w.nodes.items) c.make_room.ensures.moves)
@@ -50,9 +52,9 @@ returns-in_err-outcome-clause-tried g c =
     let old = c.index_mut-left.result.now in
     let place = c.in-Some.place in
     let number : place + 1 ≡ c.args.node = c.in-Some.ensures.some.0 in
-    let within : place < length w.nodes.items = search rules in
-    let at_first : first ≡ get_or w.nodes.items place first = search rules in
-    let at : old ≡ get_or w.nodes.items place old = search rules in
+    let within = place_in w.nodes.items c.deref.result.now place c.deref.ensures.value c.in-Some.ensures.some.1 in
+    let at_first = c.index-left.ensures in
+    let at = c.index_mut-left.ensures.value in
     let may_first : (entry : Entry) × Holds (resource_at first c.args.name) c.args.client entry = c.is_held_by.ensures.held.0 c.if-not-is_held_by.false in
     let may = subst (λ (s : NodeState). (entry : Entry) × Holds (resource_at s c.args.name) c.args.client entry) (sym (reads_same w.nodes.items place first old within at_first at)) may_first in
     let memory : c.in_err-outcome.field-0.0 ≡ refused.Memory = c.in_err-outcome.ensures.allowed.1 may in
@@ -74,12 +76,12 @@ invariant_of-self-2 g c =
     let place = c.in-Some.place in
     let outcome = c.in_ok-outcome.outcome in
     let number : place + 1 ≡ c.args.node = c.in-Some.ensures.some.0 in
-    let within : place < length w.nodes.items = search rules in
-    let at : old ≡ get_or w.nodes.items place old = search rules in
+    let within = place_in w.nodes.items c.deref.result.now place c.deref.ensures.value c.in-Some.ensures.some.1 in
+    let at = c.index_mut-left.ensures.value in
     kept_by c.kept_runs_go_on.ensures.event w.start w.nodes.items w.under_way.items w.under_way.items c.keep.new.under_way.items w.log.moves c.make_room.new.log.moves c.keep.new.log.moves
     (record { step = Leave c.args.node c.args.client c.args.name; sends = outcome.sends.items; marks = outcome.marks.items })
     place c.args.node (GivenBack c.args.client c.args.name) old c.leave.new.self c.self.invariant number within at
-    (omega (arith, number), omega (arith, number, within)) (here c.args.node (GivenBack c.args.client c.args.name))
+    (number_of w.nodes.items place c.args.node number within) (here c.args.node (GivenBack c.args.client c.args.name))
     c.in_ok-outcome.ensures.ok refl
     (c.keep.ensures.messages ∙ ap (λ (ms : List Message). ms ++ outcome.sends.items) c.make_room.ensures.messages)
     c.make_room.ensures.moves c.keep.ensures.moves
@@ -95,10 +97,75 @@ keep-requires g c =
     let old = c.index_mut-left.result.now in
     let place = c.in-Some.place in
     let outcome = c.in_ok-outcome.outcome in
-    let within : place < length w.nodes.items = search rules in
-    let at_first : first ≡ get_or w.nodes.items place first = search rules in
-    let at : old ≡ get_or w.nodes.items place old = search rules in
+    let within = place_in w.nodes.items c.deref.result.now place c.deref.ensures.value c.in-Some.ensures.some.1 in
+    let at_first = c.index-left.ensures in
+    let at = c.index_mut-left.ensures.value in
     let few = few_carried c.events_keep_a_node_consistent.ensures.room_by_event w.nodes.items place first old c.leave.new.self (GivenBack c.args.client c.args.name)
     outcome.sends.items outcome.marks.items
     (c.kept_runs_go_on.ensures.counts w.start w.nodes.items w.under_way.items w.log.moves place c.self.invariant within) within at_first at c.is_held_by.ensures.consistent c.in_ok-outcome.ensures.ok in
-    (omega arith, (omega (arith, few.0, c.in_ok-make_room.ensures.bag_room), room_for c.make_room.new.log (length outcome.marks.items) 3 c.in_ok-make_room.ensures.log_room few.1))
+    (lit< tt, (
+      sends_fit_twice w.nodes.items c.deref.result.now _ _ _ _ c.deref.ensures.value c.deref.ensures.len c.len.ensures few.0 c.in_ok-make_room.ensures.bag_room,
+      room_for c.make_room.new.log (length outcome.marks.items) 3 c.in_ok-make_room.ensures.log_room few.1,
+    ))
+
+pub returns-in_default-clause-tried : goal.returns-in_default-clause-tried
+returns-in_default-clause-tried g c =
+    let w = c.self.inside in
+    (refl, inl (number_above w.start w.nodes.items c.deref.result.now w.log.moves c.args.self.now c.args.node c.self.view_is c.deref.ensures.value (c.in_default.ensures.none.0 refl)))
+
+pub returns-in_default-clause-run : goal.returns-in_default-clause-run
+returns-in_default-clause-run g c =
+    let w = c.self.inside in
+    (kept_run w.start w.nodes.items w.under_way.items w.log.moves c.args.self.now c.self.invariant c.self.view_is).1
+
+pub returns-in_default-clause-count : goal.returns-in_default-clause-count
+returns-in_default-clause-count g c =
+    let w = c.self.inside in
+    (kept_run w.start w.nodes.items w.under_way.items w.log.moves c.args.self.now c.self.invariant c.self.view_is).0
+
+pub index-left-requires : goal.index-left-requires
+index-left-requires g c = subst (λ (n : ℕ). c.in-Some.place < n) c.deref.ensures.len c.in-Some.ensures.some.1
+
+pub returns-then-not-is_held_by-clause-run : goal.returns-then-not-is_held_by-clause-run
+returns-then-not-is_held_by-clause-run g c =
+    let w = c.self.inside in
+    (kept_run w.start w.nodes.items w.under_way.items w.log.moves c.args.self.now c.self.invariant c.self.view_is).1
+
+pub returns-then-not-is_held_by-clause-count : goal.returns-then-not-is_held_by-clause-count
+returns-then-not-is_held_by-clause-count g c =
+    let w = c.self.inside in
+    (kept_run w.start w.nodes.items w.under_way.items w.log.moves c.args.self.now c.self.invariant c.self.view_is).0
+
+pub invariant_of-self : goal.invariant_of-self
+invariant_of-self g c =
+    let w = c.self.inside in
+    kept_as w.start w.nodes.items w.under_way.items c.make_room.new.under_way.items w.log.moves c.make_room.new.log.moves c.self.invariant
+    c.make_room.ensures.messages c.make_room.ensures.moves
+
+pub returns-in_err-make_room-clause-run : goal.returns-in_err-make_room-clause-run
+returns-in_err-make_room-clause-run g c = (invariant_of-self g c).run
+
+pub returns-in_err-make_room-clause-count : goal.returns-in_err-make_room-clause-count
+returns-in_err-make_room-clause-count g c = c.self.invariant.count
+
+pub index_mut-left-requires : goal.index_mut-left-requires
+index_mut-left-requires g c = subst (λ (n : ℕ). c.in-Some.place < n) c.deref.ensures.len c.in-Some.ensures.some.1
+
+pub invariant_of-self-in_err-outcome : goal.invariant_of-self-in_err-outcome
+invariant_of-self-in_err-outcome g c =
+    let w = c.self.inside in
+    kept_back w.start w.nodes.items w.under_way.items c.make_room.new.under_way.items w.log.moves c.make_room.new.log.moves c.in-Some.place c.index_mut-left.result.now c.leave.new.self
+    c.self.invariant c.make_room.ensures.messages c.make_room.ensures.moves c.index_mut-left.ensures.value c.in_err-outcome.ensures.err
+
+pub returns-in_err-outcome-clause-count : goal.returns-in_err-outcome-clause-count
+returns-in_err-outcome-clause-count g c = count_with c.self.inside.nodes.items c.in-Some.place c.leave.new.self c.self.invariant.count
+
+pub returns-clause-tried : goal.returns-clause-tried
+returns-clause-tried g c =
+    let w = c.self.inside in
+    let outcome = c.in_ok-outcome.outcome in
+    moved w.start w.nodes.items w.log.moves c.make_room.new.log.moves c.keep.new.log.moves c.args.self.now c.in-Some.place c.leave.new.self
+    (Leave c.args.node c.args.client c.args.name) outcome.sends.items outcome.marks.items c.self.view_is c.make_room.ensures.moves c.keep.ensures.moves
+
+pub returns-clause-count : goal.returns-clause-count
+returns-clause-count g c = count_with c.self.inside.nodes.items c.in-Some.place c.leave.new.self c.self.invariant.count
