@@ -1,8 +1,9 @@
 -- What a function says of a script that it hands to another one.
-use Rattle.std.proofs.Common.{◌≡◌, ℕ, ◌<◌, ◌≤◌, Bool, Result, Ok, Err, IfOk, OnOk, arith, refl, sym, ap, subst, inl, inr}
+use Rattle.std.proofs.Common.{◌≡◌, ℕ, ◌+◌, ◌^◌, ◌<◌, ◌≤◌, Bool, Result, Ok, Err, IfOk, OnOk, arith, refl, sym, ap, subst, inl, inr}
 use Rattle.ra_schedule.specs.declared.choice.Policy.{Policy}
 use Rattle.ra_schedule.specs.declared.drive_script.Summary.{Summary}
 use Rattle.ra_schedule.specs.declared.error.DriveError.{DriveError}
+use Rattle.ra_schedule.specs.declared.error.DriveError.TheVariants.{TurnLimit, Memory}
 use Rattle.ra_schedule.specs.Script.{ScriptState}
 use Rattle.ra_schedule.specs.Drive.{Answers, IsInTime, IsSummary, IsWholeRun}
 use Rattle.ra_schedule.specs.Survey.{HasEnded}
@@ -21,6 +22,21 @@ one_refusal s d e f g = cc
 -- a turn within the limit leaves as many moves as turns
 pub still_within : (moves turns limit : ℕ) → moves ≡ turns → turns < limit → moves ≤ limit
 still_within moves turns limit is less = omega arith
+
+-- a turn within the limit can be counted
+pub countable_turn : (moves turns limit : ℕ) → moves ≡ turns → turns < limit → limit < 2 ^ 64 → moves + 1 < 2 ^ 64
+countable_turn moves turns limit is less fits = omega (arith, is, less, fits)
+
+-- after the last turn there are as many moves as the limit
+pub last_turn : (turns limit : ℕ) → limit ≤ turns → turns ≤ limit → turns ≡ limit
+last_turn turns limit over within = omega arith
+
+pub all_turns : (moves turns limit : ℕ) → moves ≡ turns → turns ≤ limit → moves ≤ limit
+all_turns moves turns limit is within = omega arith
+
+-- that a turn is left is not that memory ran out
+pub no_limit : {X : Type 0} → ◌≡◌ {A = Result X DriveError} (Err TurnLimit) (Err Memory) → ⊥
+no_limit is = absurd cc
 
 -- a refusal that is handed on says nothing of what is left
 pub no_work : {Y : Type 0} (P : Type 0) (fault : DriveError) (s : Result Y DriveError) → s ≡ Err fault → OnOk s P

@@ -9,6 +9,7 @@ mod Rising
 mod EnabledLists
 mod Naming
 mod Choosing
+mod Meanings
 mod PolicyGenerator
 mod Following
 mod ChoicesMade

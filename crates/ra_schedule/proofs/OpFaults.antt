@@ -29,6 +29,10 @@ other r s apart itself e = false≢true (sym apart ∙ subst (λ x. alike r x �
 pub other_fault : (d e : AddOpError) → nat_eq (number_of d) (number_of e) ≡ false → nat_eq (number_of d) (number_of d) ≡ true → d ≡ e → ⊥
 other_fault d e apart itself is = false≢true (sym apart ∙ subst (λ x. nat_eq (number_of d) (number_of x) ≡ true) is itself)
 
+-- what was done was refused for nothing
+pub no_fault : {T : Type 0} {x : T} {e : AddOpError} → Ok x ≡ Err e → ⊥
+no_fault is = absurd cc
+
 -- there is room, or not
 pub no_room : (count : ℕ) → 1024 ≤ count → count < 1024 → ⊥
 no_room count full room = omega arith

@@ -17,6 +17,10 @@ plan_pushed ops op plan fits before after x e =
     ]
 
 -- a client with one more operation, that fits
+pub op_pushed : (node : ℕ) (ops new : List Op) (old : ScriptClient) (op : Op) → record { node = node; ops = ops } ≡ old → new ≡ ops ++ op ∷ []
+    → ◌≡◌ {A = ScriptClient} (record { node = node; ops = new }) (record old { ops = old.ops ++ op ∷ [] })
+op_pushed node ops new old op is more = (λ k. record { node = node; ops = more k }) ∙ ap (λ (c : ScriptClient). record c { ops = c.ops ++ op ∷ [] }) is
+
 pub client_pushed : (nodes : ℕ) (old new : ScriptClient) (op : Op) → length old.ops < 1024 → Fits old.ops op → new.node ≡ old.node → new.ops ≡ old.ops ++ op ∷ []
     → IsScriptClient nodes old → IsScriptClient nodes new
 client_pushed nodes old new op room fits node-is ops-is client =

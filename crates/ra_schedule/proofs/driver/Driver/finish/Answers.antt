@@ -1,4 +1,4 @@
-use Rattle.std.proofs.Common.{◌≡◌, ◌<◌, ℕ, ◌+◌, ◌∙◌, Err, List, length, IfErr, refl, sym, ap, subst}
+use Rattle.std.proofs.Common.{◌≡◌, ◌<◌, ℕ, ◌+◌, ◌∙◌, Err, List, length, IfErr, refl, sym, ap, subst, inr}
 use Rattle.std.proofs.lemmas.Result.{err_from_is_err_and}
 use Rattle.ra_world.specs.World.{WorldState}
 use Rattle.ra_schedule.specs.declared.progress.Progress.{Progress}
@@ -6,7 +6,7 @@ use Rattle.ra_schedule.specs.declared.error.DriveError.TheVariants.{Memory}
 use Rattle.ra_schedule.specs.Progress.{Tracks, AreStuck}
 use Rattle.ra_schedule.specs.Driving.{AfterTurn, IsStopped, IsHeldUp}
 use Rattle.ra_schedule.proofs.Following.{stopped_here}
-use Rattle.ra_schedule.proofs.HandedOn.{no_ok, no_work, one_refusal, still_within}
+use Rattle.ra_schedule.proofs.HandedOn.{no_ok, no_limit, no_work, one_refusal, still_within, countable_turn, all_turns, last_turn}
 use Rattle.ra_schedule.proofs.driver.Driver.finish.Goals as goal
 
 pub loop-turn-init : goal.loop-turn-init
@@ -76,3 +76,42 @@ pub pick-requires-clause-stuck : goal.pick-requires-clause-stuck
 pick-requires-clause-stuck c =
     let (ready, turns, records) = c.loop-turn.invariant in
     subst (λ (clients : List Progress). AreStuck c.args.script.now clients c.loop-turn.self.first) (sym c.deref.ensures.value) ready.driven.stuck
+
+pub turn-requires-clause-ready : goal.turn-requires-clause-ready
+turn-requires-clause-ready c = c.loop-turn.invariant.0
+
+pub turn-requires-clause-countable : goal.turn-requires-clause-countable
+turn-requires-clause-countable c = countable_turn _ c.loop-turn._turn c.args.limit c.loop-turn.invariant.1 c.loop-turn-test.true c.ranges.limit.fits
+
+pub pick-requires-clause-draws : goal.pick-requires-clause-draws
+pick-requires-clause-draws c = c.loop-turn.invariant.0.driven.draws
+
+pub pick-requires-clause-drawn : goal.pick-requires-clause-drawn
+pick-requires-clause-drawn c = c.loop-turn.invariant.0.drawn
+
+pub returns-in-None-clause-ok : goal.returns-in-None-clause-ok
+returns-in-None-clause-ok c =
+    let (ready, turns, records) = c.loop-turn.invariant in (
+      record {
+        tracks = ready.driven.tracks;
+        follows = ready.follows;
+        ends = c.in-None.ensures.none refl;
+        steps = ready.driven.steps;
+        choices = ready.choices;
+      },
+      all_turns _ c.loop-turn._turn c.args.limit turns (c.loop-turn.auto._turn-end),
+    )
+
+pub returns-in-None-clause-records : goal.returns-in-None-clause-records
+returns-in-None-clause-records c = c.loop-turn.invariant.2
+
+pub returns-in-None-clause-memory : goal.returns-in-None-clause-memory
+returns-in-None-clause-memory c is = absurd (no_ok is)
+
+pub returns-in-Some-clause-err : goal.returns-in-Some-clause-err
+returns-in-Some-clause-err c =
+    let (ready, turns, records) = c.loop-turn.invariant in
+    inr (c.loop-turn.world.moves, ready.follows, (turns ∙ last_turn c.loop-turn._turn c.args.limit c.loop-turn-test.false c.loop-turn.auto._turn-end, (c.in-Some.field-0.choice, c.in-Some.ensures.some)))
+
+pub returns-in-Some-clause-memory : goal.returns-in-Some-clause-memory
+returns-in-Some-clause-memory c is = absurd (no_limit is)
