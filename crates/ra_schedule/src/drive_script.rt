@@ -139,8 +139,14 @@ fn drive_through(
     let Ok(mut world) = World::new(alloc, script.nodes(), 0) else {
         return Err(DriveError::Memory);
     };
-    let driver = drive_world(alloc, script, policy, limit, records, &mut world)?;
-    Ok(driven_of(script, world, driver))
+    match drive_world(alloc, script, policy, limit, records, &mut world) {
+        Ok(kept) => Ok(driven_of(script, world, kept)),
+        Err(fault) => {
+            // It is not returned. But a report owns little that is to be given back at this exit, and a world much.
+            let _report = world.into_report();
+            Err(fault)
+        }
+    }
 }
 
 /// Drives a cluster in which nothing has happened yet through a script, and records the steps and choices, or none.
