@@ -129,7 +129,7 @@ returns g c =
     let invariant = c.loop-turn.invariant in
     let old = c.args.source.now in
     let told : (c.loop-turn-test.source.reader.ghost_name ≡ old.reader.ghost_name) × (c.loop-turn-test.source.failed ≡ false)
-        × Reads (g.R.Read.remaining old.reader.now) (g.R.Read.remaining c.loop-turn-test.source.reader.now) c.args.limit bytes =
+    × Reads (g.R.Read.remaining old.reader.now) (g.R.Read.remaining c.loop-turn-test.source.reader.now) c.args.limit bytes =
     elim c.loop-turn-test.branch [
       | else-loop-turn-test w ↦
           rw w.source-is (invariant.same_reference, invariant.unfailed, reads_all _ _ _ bytes invariant.taken invariant.at_most (all_turns _ _ _ w.loop-turn-test.false invariant.count))

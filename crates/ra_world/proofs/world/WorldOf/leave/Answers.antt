@@ -102,11 +102,13 @@ keep-requires g c =
     let at = c.index_mut-left.ensures.value in
     let few = few_carried c.events_keep_a_node_consistent.ensures.room_by_event w.nodes.items place first old c.leave.new.self (GivenBack c.args.client c.args.name)
     outcome.sends.items outcome.marks.items
-    (c.kept_runs_go_on.ensures.counts w.start w.nodes.items w.under_way.items w.log.moves place c.self.invariant within) within at_first at c.is_held_by.ensures.consistent c.in_ok-outcome.ensures.ok in
-    (lit< tt, (
-      sends_fit_twice w.nodes.items c.deref.result.now _ _ _ _ c.deref.ensures.value c.deref.ensures.len c.len.ensures few.0 c.in_ok-make_room.ensures.bag_room,
-      room_for c.make_room.new.log (length outcome.marks.items) 3 c.in_ok-make_room.ensures.log_room few.1,
-    ))
+    (c.kept_runs_go_on.ensures.counts w.start w.nodes.items w.under_way.items w.log.moves place c.self.invariant within) within at_first at c.is_held_by.ensures.consistent c.in_ok-outcome.ensures.ok in (
+      lit< tt,
+      (
+        sends_fit_twice w.nodes.items c.deref.result.now _ _ _ _ c.deref.ensures.value c.deref.ensures.len c.len.ensures few.0 c.in_ok-make_room.ensures.bag_room,
+        room_for c.make_room.new.log (length outcome.marks.items) 3 c.in_ok-make_room.ensures.log_room few.1,
+      ),
+    )
 
 pub returns-in_default-clause-tried : goal.returns-in_default-clause-tried
 returns-in_default-clause-tried g c =
