@@ -181,3 +181,25 @@ oldest_message script Newest moves words count not free other some idle = absurd
 oldest_message script (Seeded seed) moves words count not free other some idle = absurd cc
 oldest_message script (Faulty seed faults) moves words count not free other some idle = absurd cc
 oldest_message script (Listed choices) moves words count not free other some idle = absurd (not choices refl)
+
+pub first_client : (script : ScriptState) (policy : Policy) (moves : List Move) (words client : ℕ)
+    → ((choices : Listing Choice) → policy ≡ Listed choices → ⊥) → None ≡ generator_at policy words
+    → IsFirstEnabled script moves client → Picks script policy moves (Client client)
+first_client script Oldest moves words client not free first = first
+first_client script Newest moves words client not free first = first
+first_client script (Seeded seed) moves words client not free first = absurd cc
+first_client script (Faulty seed faults) moves words client not free first = absurd cc
+first_client script (Listed choices) moves words client not free first = absurd (not choices refl)
+
+-- a policy that lists its choices makes the one at the place of the turn, and ends where there is none
+pub listed_choice : (script : ScriptState) (policy : Policy) (choices : Listing Choice) (moves : List Move) (place : ℕ) (choice : Choice) → policy ≡ Listed choices
+    → place ≡ length moves → Some choice ≡ slice_get choices.items place → Picks script policy moves choice
+listed_choice script policy choices moves place choice is turn at =
+    subst (λ (p : Policy). Picks script p moves choice) (sym is) (sym (at ∙ ap (slice_get choices.items) turn))
+
+pub listed_ends : (script : ScriptState) (policy : Policy) (choices : Listing Choice) (moves : List Move) (place : ℕ) → policy ≡ Listed choices
+    → place ≡ length moves → None ≡ slice_get choices.items place → Ends script policy moves
+listed_ends script policy choices moves place is turn none choice picks =
+    let picked = subst (λ (p : Policy). Picks script p moves choice) is picks in
+    let clash : None ≡ Some choice = none ∙ ap (slice_get choices.items) turn ∙ picked in
+    absurd cc

@@ -1,7 +1,7 @@
 -- The last client of a script.
 use Rattle.std.proofs.Common.{◌≡◌, refl, true, false, ◌-◌, ◌<◌, ℕ, suc, List, [], ◌∷◌, ◌++◌, length, get_or, set, take, sym, ap, ◌∙◌, subst, length-set, arith}
 use Rattle.std.proofs.lemmas.Bool.{false≢true}
-use Rattle.std.proofs.lemmas.List.{same_from_push, drop_all, set_split}
+use Rattle.std.proofs.lemmas.List.{same_from_push, drop_all, set_split, set-get_or}
 use Rattle.std.proofs.lemmas.List.Elements.{All-set}
 use Rattle.ra_stamp.proofs.Places.{split_at}
 use Rattle.ra_schedule.specs.declared.script.Op.{Op}
@@ -62,3 +62,10 @@ adds_op old nodes clients n last new op len some is was new-is =
       ap (λ (s : ScriptState). s.clients) (sym was) ∙ ends_with clients n last len some is,
       ap (λ (xs : List ScriptClient). record { nodes = nodes; clients = xs }) after-is ∙ ap (λ (s : ScriptState). record s { clients = after }) was,
     )
+
+-- a script with its last client put where it is
+pub last_kept : (nodes : ℕ) (clients : List ScriptClient) (n : ℕ) (last new : ScriptClient) (old : ScriptState) → last ≡ get_or clients (n - 1) last
+    → record { nodes = nodes; clients = clients } ≡ old → new ≡ last → ◌≡◌ {A = ScriptState} (record { nodes = nodes; clients = set clients (n - 1) new }) old
+last_kept nodes clients n last new old at is same =
+    let clients_are : set clients (n - 1) new ≡ clients = ap (set clients (n - 1)) (same ∙ at) ∙ set-get_or clients (n - 1) last in
+    (λ k. record { nodes = nodes; clients = clients_are k }) ∙ is

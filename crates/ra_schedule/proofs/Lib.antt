@@ -10,6 +10,7 @@ mod EnabledLists
 mod Naming
 mod Choosing
 mod Meanings
+mod MovedOn
 mod PolicyGenerator
 mod Following
 mod ChoicesMade

@@ -1,5 +1,5 @@
 -- What a choice stands for, or why it can't be made.
-use Rattle.std.proofs.Common.{◌≡◌, ◌≢◌, ◌⊎◌, ℕ, zero, suc, ◌+◌, ◌-◌, ◌<◌, ◌≤◌, false, Option, Some, None, Result, Ok, Err, List, [], length, slice_get, get_or, refl, sym, ap, ◌∙◌, subst, arith, inl, inr}
+use Rattle.std.proofs.Common.{◌≡◌, ◌≢◌, ℕ, zero, suc, ◌+◌, ◌-◌, ◌<◌, ◌≤◌, Option, Some, None, Result, Ok, Err, List, [], length, slice_get, get_or, refl, sym, ap, ◌∙◌, subst, arith, inl, inr}
 use Rattle.std.specs.Prelude.{IfOk, IfErr, IfSome, IsNone}
 use Rattle.std.specs.Option.{ok_or}
 use Rattle.std.proofs.lemmas.Option.{slice_get_past, slice_get-get_or}
@@ -11,7 +11,7 @@ use Rattle.ra_world.specs.World.{WorldState}
 use Rattle.ra_schedule.specs.declared.choice.Choice.{Choice}
 use Rattle.ra_schedule.specs.declared.choice.Choice.TheVariants.{Client, Message, Lost, Repeated}
 use Rattle.ra_schedule.specs.declared.error.DriveError.{DriveError}
-use Rattle.ra_schedule.specs.declared.error.DriveError.TheVariants.{BadPlace, NotEnabled}
+use Rattle.ra_schedule.specs.declared.error.DriveError.TheVariants.{BadPlace, NotEnabled, Memory}
 use Rattle.ra_schedule.specs.declared.progress.Progress.{Progress}
 use Rattle.ra_schedule.specs.Script.{ScriptClient, ScriptState, client_at}
 use Rattle.ra_schedule.specs.Schedule.{Enables, IsEnabled, IsAtPlace, StandsFor}
@@ -115,3 +115,13 @@ disabled_fault script moves choice client (Some step) r is r_is none there =
 disabled_fault script moves choice client None r is r_is none there =
     subst (λ (m : Result Step DriveError). IfErr m (HasFault script moves choice)) (sym r_is)
     (subst (λ (c : Choice). HasFault script moves c NotEnabled) (sym is) (inr (refl, (there, none refl))))
+
+-- a fault of a choice is not that memory ran out
+pub not_memory : (script : ScriptState) (moves : List Move) (choice : Choice) (m : Result Step DriveError) (fault : DriveError) → m ≡ Err fault
+    → IfErr m (HasFault script moves choice) → fault ≡ Memory → ⊥
+not_memory script moves choice (Ok step) fault is bad memory = absurd cc
+not_memory script moves choice (Err e) fault is bad memory =
+    elim bad [
+      | inl place ↦ let why = place.0 in absurd cc
+      | inr enabled ↦ let why = enabled.0 in absurd cc
+    ]

@@ -1,5 +1,5 @@
 use borrow.Author.Count.{falls}
-use Rattle.std.proofs.Common.{◌≡◌, ℕ, ◌+◌, Option, List, sym, ap, subst, ◌∙◌, arith}
+use Rattle.std.proofs.Common.{ℕ, ◌+◌, Option, List, sym, ap, subst, ◌∙◌}
 use Rattle.std.proofs.lemmas.Result.{err_from_is_err_and}
 use Rattle.ra_schedule.specs.Finding.{NoneBefore}
 use Rattle.ra_schedule.specs.Telling.{Told}

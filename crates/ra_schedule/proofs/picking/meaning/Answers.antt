@@ -1,4 +1,3 @@
-use Rattle.std.proofs.Common.{◌<◌, length}
 use Rattle.ra_schedule.proofs.Meanings.{delivered, lost, repeated, none_delivered, none_lost, none_repeated, some_number, place_of_client, progress_of, nobody_above, somebody, nobody, number_zero, enabled_stands, disabled_fault}
 use Rattle.ra_schedule.proofs.picking.meaning.Goals as goal
 use Rattle.ra_schedule.proofs.picking.meaning.Goals.{then-client-eq0-via-then-client-eq0, then-client-eq0-via-else-client-eq0+then-client-clients}

@@ -1,8 +1,10 @@
-use Rattle.std.proofs.Common.{subst, inl, inr, Result, IfOk, IfErr}
+use Rattle.std.proofs.Common.{subst, refl, Result, Err, IfOk}
 use Rattle.ra_world.specs.declared.step.Step.{Step}
 use Rattle.ra_schedule.specs.declared.error.DriveError.{DriveError}
 use Rattle.ra_schedule.specs.Schedule.{StandsFor}
-use Rattle.ra_schedule.specs.Driving.{HasFault}
+use Rattle.ra_schedule.specs.declared.error.DriveError.TheVariants.{Memory}
+use Rattle.ra_schedule.proofs.HandedOn.{one_refusal}
+use Rattle.ra_schedule.proofs.Meanings.{not_memory}
 use Rattle.ra_schedule.proofs.driver.Driver.follow.Goals as goal
 
 pub returns-in-Ok-clause-memory : goal.returns-in-Ok-clause-memory
@@ -13,8 +15,5 @@ returns-in-Ok-clause-memory c is = (
 
 pub returns-in-Err-clause-memory : goal.returns-in-Err-clause-memory
 returns-in-Err-clause-memory c is =
-    elim (subst (λ (m : Result Step DriveError). IfErr m (HasFault c.args.script.now c.args.world.now.moves c.args.picked.choice)) c.in-Err.is
-    c.requires.meaning.err) [
-      | inl bad ↦ let why = bad.0 in absurd cc
-      | inr bad ↦ let why = bad.0 in absurd cc
-    ]
+    absurd (not_memory c.args.script.now c.args.world.now.moves c.args.picked.choice c.args.picked.meaning c.in-Err.fault c.in-Err.is c.requires.meaning.err
+    (one_refusal {X = Unit {0}} (Err c.in-Err.fault) c.in-Err.fault Memory refl is))

@@ -1,12 +1,12 @@
 use Rattle.std.proofs.Common.{◌≡◌, ◌-◌, ◌<◌, ◌≤◌, ◌++◌, ◌∷◌, ℕ, [], List, length, take, refl, sym, ap, ◌∙◌, subst}
 use Rattle.std.specs.Prelude.{vec_len}
-use Rattle.std.proofs.lemmas.Result.{on_ok_weaker}
+use Rattle.std.proofs.lemmas.Result.{on_ok_weaker, on_err_weaker}
 use Rattle.ra_stamp.specs.declared.mode.Mode.{Mode}
 use Rattle.ra_schedule.specs.declared.script.Op.{Op}
 use Rattle.ra_schedule.specs.declared.script.Op.TheVariants.{Lock, Unlock}
 use Rattle.ra_schedule.specs.Script.{ScriptState, IsHeldAfter, Fits}
 use Rattle.ra_schedule.proofs.OpFaults.{other, other_fault}
-use Rattle.ra_schedule.proofs.Last.{ends_with, with_last, same_ops, no_last, none_there, no_last_has, adds_op}
+use Rattle.ra_schedule.proofs.Last.{ends_with, with_last, same_ops, no_last, none_there, no_last_has, adds_op, last_kept}
 use Rattle.ra_schedule.proofs.script.Script.add_op.Goals as goal
 
 pub invariant_of-self-2 : goal.invariant_of-self-2
@@ -24,6 +24,13 @@ returns-clause-ok c =
     (adds_op c.args.self.now c.self.inside.nodes c.self.inside.clients.items (vec_len c.self.inside.clients) c.in-Some.last.now c.add_op.new.self c.args.op
     c.self.inside.clients.ok.0 (c.in-Some.ensures.variant.0 refl) c.in-Some.ensures.value c.self.view_is)
     c.add_op.ensures.ok
+
+pub returns-clause-err : goal.returns-clause-err
+returns-clause-err c =
+    on_err_weaker c.add_op.result
+    (last_kept c.self.inside.nodes c.self.inside.clients.items (vec_len c.self.inside.clients) c.in-Some.last.now c.add_op.new.self c.args.self.now
+    c.in-Some.ensures.value c.self.view_is)
+    c.add_op.ensures.err
 
 pub returns-clause-not_held : goal.returns-clause-not_held
 returns-clause-not_held c =
