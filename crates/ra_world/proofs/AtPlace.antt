@@ -69,3 +69,12 @@ sends_fit_twice nodes lent len room sends spare same is of few has =
 -- what has room still has it if there is no less
 pub sends_fit_still : (sends room spare : ℕ) → sends ≤ room → room ≤ spare → sends ≤ spare
 sends_fit_still sends room spare few more = omega arith
+
+-- the world after one more move that changed no node
+pub moved_elsewhere : (start : ℕ) (nodes : List NodeState) (moves before after : List Move) (w : WorldState) (step : Step) (sends : List Message) (marks : List Mark)
+    → shown start nodes moves ≡ w → before ≡ moves → after ≡ before ++ record { step = step; sends = sends; marks = marks } ∷ []
+    → shown start nodes after ≡ with_move w step sends marks
+moved_elsewhere start nodes moves before after w step sends marks is same more =
+    let move : Move = record { step = step; sends = sends; marks = marks } in
+    let moves_are : after ≡ moves ++ move ∷ [] = more ∙ ap (λ (ms : List Move). ms ++ move ∷ []) same in
+    ap (shown start nodes) moves_are ∙ ap (λ (v : WorldState). with_move v step sends marks) is

@@ -1,4 +1,4 @@
-use Rattle.std.proofs.Common.{◌≡◌, ◌++◌, ◌∷◌, [], List, Contains, refl, sym, ap, ◌∙◌, subst, arith, inl, inr}
+use Rattle.std.proofs.Common.{lit<, zero-le, length, ◌≤◌, ◌≡◌, ◌++◌, ◌∷◌, [], List, Contains, refl, sym, ap, ◌∙◌, subst, arith, inl, inr}
 use Rattle.std.proofs.lemmas.List.{append-nil}
 use Rattle.ra_stamp.specs.declared.message.Message.{Message}
 use Rattle.ra_stamp.specs.Sequence.{Listed}
@@ -6,8 +6,11 @@ use Rattle.ra_bag.specs.Bag.{TakesFirst}
 use Rattle.ra_world.specs.declared.step.Step.TheVariants.{Lose}
 use Rattle.ra_world.specs.declared.error.StepError.TheVariants.{NotUnderWay}
 use Rattle.ra_world.specs.Traffic.{Move}
+use Rattle.ra_stamp.specs.declared.entry.Mark.{Mark}
+use Rattle.ra_world.specs.Log.{HasRoom}
 use Rattle.ra_world.specs.Keeping.{Keeps}
 use Rattle.ra_world.proofs.StepTries.{shown, with_cause, short, took_first, one_more}
+use Rattle.ra_world.proofs.AtPlace.{kept_as, moved_elsewhere}
 use Rattle.ra_world.proofs.world.WorldOf.lose.Goals as goal
 
 pub returns-in_default-clause-tried : goal.returns-in_default-clause-tried
@@ -47,3 +50,52 @@ invariant_of-self-2 g c =
 
 pub returns-clause-run : goal.returns-clause-run
 returns-clause-run g c = (invariant_of-self-2 g c).run
+
+pub invariant_of-self : goal.invariant_of-self
+invariant_of-self g c =
+    let w = c.self.inside in
+    kept_as w.start w.nodes.items w.under_way.items _ w.log.moves w.log.moves c.self.invariant (ap (λ (b : Listed Message). b.items) c.in_default.ensures.same) refl
+
+pub returns-in_default-clause-run : goal.returns-in_default-clause-run
+returns-in_default-clause-run g c = c.self.invariant.run
+
+pub returns-in_default-clause-count : goal.returns-in_default-clause-count
+returns-in_default-clause-count g c = c.self.invariant.count
+
+pub invariant_of-self-in_err-make_room : goal.invariant_of-self-in_err-make_room
+invariant_of-self-in_err-make_room g c =
+    let w = c.self.inside in
+    kept_as w.start w.nodes.items w.under_way.items c.make_room.new.under_way.items w.log.moves c.make_room.new.log.moves c.self.invariant
+    (c.make_room.ensures.messages ∙ ap (λ (b : Listed Message). b.items) c.in-Some.ensures.same) c.make_room.ensures.moves
+
+pub returns-in_err-make_room-clause-run : goal.returns-in_err-make_room-clause-run
+returns-in_err-make_room-clause-run g c = (invariant_of-self-in_err-make_room g c).run
+
+pub returns-in_err-make_room-clause-count : goal.returns-in_err-make_room-clause-count
+returns-in_err-make_room-clause-count g c = c.self.invariant.count
+
+pub returns-clause-tried : goal.returns-clause-tried
+returns-clause-tried g c =
+    let w = c.self.inside in
+    let outcome = c.nothing-outcome.result in
+    moved_elsewhere w.start w.nodes.items w.log.moves c.make_room.new.log.moves c.keep.new.log.moves c.args.self.now (Lose c.args.message.now)
+    outcome.sends.items outcome.marks.items c.self.view_is c.make_room.ensures.moves c.keep.ensures.moves
+
+pub returns-clause-count : goal.returns-clause-count
+returns-clause-count g c = c.self.invariant.count
+
+pub take-requires : goal.take-requires
+take-requires g c = (
+  lit< tt,
+  subst (λ (ms : List Message). Contains ms c.args.message.now) (sym (c.make_room.ensures.messages ∙ ap (λ (b : Listed Message). b.items) c.in-Some.ensures.same))
+      (c.in-Some.ensures.found.0 refl),
+)
+
+pub keep-requires : goal.keep-requires
+keep-requires g c = (
+  lit< tt,
+  (
+    subst (λ (ms : List Message). length ms ≤ c.take.new.under_way.spare) (sym c.nothing-outcome.ensures.0) zero-le,
+    subst (λ (ms : List Mark). HasRoom c.make_room.new.log (length ms)) (sym c.nothing-outcome.ensures.1) c.in_ok-make_room.ensures.log_room,
+  ),
+)
