@@ -1,7 +1,10 @@
 -- What a book answers to bytes.
-use Rattle.std.proofs.Common.{◌≡◌, ◌≢◌, ◌↔◌, ◌⊎◌, ℕ, ◌<◌, ◌≤◌, ◌^◌, Some, None, List, Result, Ok, Err, refl, sym, ap, ◌∙◌, subst, inl, inr, arith}
+use Rattle.std.proofs.Common.{◌≡◌, ◌≢◌, ◌↔◌, ◌⊎◌, ℕ, ◌<◌, ◌≤◌, ◌^◌, Bool, true, false, not, eqb, Some, None, List, Result, Ok, Err, refl, sym, ap, ◌∙◌, subst, inl, inr, arith}
 use Rattle.std.specs.Prelude.{IfOk, IfErr, IsErrAnd, IsErrOf, IsOkUnless, IsSome}
-use Rattle.ra_stamp.specs.Message.{from_of}
+use Rattle.std.proofs.lemmas.Bool.{false≢true, eqb-true, eqb-false, eq-eqb}
+use Rattle.ra_stamp.specs.Message.{from_of, to_of}
+use Rattle.ra_stamp.specs.NodeId.{IsNodeNumber}
+use Rattle.ra_stamp.specs.declared.message.Message.{Message}
 use Rattle.ra_frame.specs.declared.error.FrameError.{FrameError}
 use Rattle.ra_frame.specs.declared.frame.Frame.{Frame as OneFrame}
 use Rattle.ra_frame.specs.Faults.{first_fault}
@@ -40,6 +43,36 @@ module _ (me nodes clock : ℕ) (bytes : List ℕ) where
             → IsHeard me nodes clock bytes r
         clock_full e comes (Ok v) h = absurd h
         clock_full e comes (Err x) h = not_heard x (subst (NotHeard me nodes clock bytes) (sym (h ∙ comes.0)) (f, is, comes.1))
+
+-- ---- The nodes of a message
+
+pub to_another : (to me : ℕ) (message : Message) (ne : Bool) → ne ≡ not (eqb to me) → ne ≡ true → to ≡ to_of message → to_of message ≢ me
+to_another to me message ne is on at same =
+    let e : eqb to me ≡ true = eq-eqb to me (at ∙ same) in
+    false≢true (sym (ap not e) ∙ sym is ∙ on)
+
+pub to_me : (to me : ℕ) (message : Message) (ne : Bool) → ne ≡ not (eqb to me) → ne ≡ false → to ≡ to_of message → to_of message ≡ me
+to_me to me message ne is off at = sym at ∙ eqb-true to me (of_not (eqb to me) (sym is ∙ off))
+  where
+    of_not : (b : Bool) → not b ≡ false → b ≡ true
+    of_not true e = refl
+    of_not false e = sym e
+
+pub from_me : (from me : ℕ) (message : Message) (eq : Bool) → eq ≡ eqb from me → eq ≡ true → from ≡ from_of message → from_of message ≡ me
+from_me from me message eq is on at = sym at ∙ eqb-true from me (sym is ∙ on)
+
+pub is_for : (me nodes : ℕ) (message : Message) (to from number : ℕ) (ne eq : Bool) → ne ≡ not (eqb to me) → ne ≡ false → to ≡ to_of message
+    → eq ≡ eqb from me → eq ≡ false → from ≡ from_of message → number ≡ from → IsNodeNumber number → number ≤ nodes → IsForNode me nodes message
+is_for me nodes message to from number ne eq ne_is same to_is eq_is other from_is number_is valid low =
+    let sender : number ≡ from_of message = number_is ∙ from_is in
+    record {
+      to = to_me to me message ne ne_is same to_is;
+      from = record {
+        first = subst (λ (n : ℕ). 1 ≤ n) sender valid.0;
+        last = subst (λ (n : ℕ). n ≤ nodes) sender low;
+        other = λ e. eqb-false from me (sym eq_is ∙ other) (from_is ∙ e);
+      };
+    }
 
 -- ---- An answer
 
