@@ -1,12 +1,15 @@
 -- A book with one more event, from what is kept of it.
-use Rattle.std.proofs.Common.{◌≡◌, ℕ, List, [], ◌∷◌, ◌++◌, All, Result, Ok, Err, refl, sym, ap, ◌∙◌, subst}
-use Rattle.std.specs.Prelude.{IfOk, OnErr, IsErrAnd, IsOkUnless, MatchResult}
+use Rattle.std.proofs.Common.{◌≡◌, ℕ, ◌+◌, ◌<◌, ◌≤◌, false, Option, List, [], ◌∷◌, ◌++◌, length, take, get_or, All, Result, Ok, Err, refl, sym, ap, ◌∙◌, subst, append_assoc, arith}
+use Rattle.std.specs.Prelude.{IfOk, OnErr, IsErrAnd, IsOkUnless, MatchOption, MatchResult}
+use Rattle.std.specs.Result.{result_ok}
+use Rattle.std.proofs.lemmas.List.{map_more}
 use Rattle.ra_stamp.specs.declared.entry.Mark.{Mark}
 use Rattle.ra_stamp.specs.declared.message.Message.{Message}
 use Rattle.ra_frame.specs.declared.frame.Frame.{Frame}
 use Rattle.ra_frame.specs.Fits.{Fits}
 use Rattle.ra_frame.specs.FrameText.{IsFrameText}
 use Rattle.ra_automaton.specs.State.{IsForNode}
+use Rattle.ra_node.specs.declared.outcome.Outcome.{Outcome}
 use Rattle.ra_node.specs.Node.{NodeState, IsConsistentNode}
 use Rattle.ra_node.specs.Events.{NodeEvent, IsForThisNode}
 use Rattle.ra_history.specs.declared.error.BookError.{BookError}
@@ -165,3 +168,41 @@ pub added_frame : (old new : BookState) (bytes : List ℕ) (frame : Frame) → I
     → IfOk r (λ posted. (frame : Frame) × IsFrameText bytes frame × Adds old (Got frame) posted.frames.items posted.marks.items new)
 added_frame old new bytes frame text (Ok posted) added = (frame, text, added.0)
 added_frame old new bytes frame text (Err e) added = tt
+
+-- ---- Frames that are put one after the other
+
+abbrev sent_of : Frame → Sent
+sent_of frame = record { frame = frame; lost = false }
+
+pub one_sent : (old now new : List Sent) (frames : List Frame) (i : ℕ) (frame : Frame) → i < length frames → frame ≡ get_or frames i frame
+    → now ≡ old ++ as_sent (take i frames) → new ≡ now ++ record { frame = frame; lost = false } ∷ [] → new ≡ old ++ as_sent (take (i + 1) frames)
+one_sent old now new frames i frame within at before is =
+    let more : as_sent (take (i + 1) frames) ≡ as_sent (take i frames) ++ sent_of frame ∷ [] =
+    map_more sent_of frames i frame within ∙ ap (λ (f : Frame). as_sent (take i frames) ++ sent_of f ∷ []) (sym at)
+    in
+    is ∙ ap (λ (ss : List Sent). ss ++ sent_of frame ∷ []) before ∙ append_assoc old (as_sent (take i frames)) (sent_of frame ∷ [])
+    ∙ ap (λ (ss : List Sent). old ++ ss) (sym more)
+
+pub one_longer : (old now new i : ℕ) → now ≡ old + i → new ≡ now + 1 → new ≡ old + (i + 1)
+one_longer old now new i before is = omega (arith, before, is)
+
+pub room_left : (old now count i capacity capacity' : ℕ) → now ≡ old + i → capacity' ≡ capacity → old + count ≤ capacity → i < count → now < capacity'
+room_left old now count i capacity capacity' before same room more = omega (arith, before, same, room, more)
+
+pub all_put : (old now count i : ℕ) → now ≡ old + i → i ≤ count → count ≤ i → now ≡ old + count
+all_put old now count i before low high = omega (arith, before, low, high)
+
+-- ---- What comes of an event at the node
+
+pub happened : {E : Type 0} (old new : NodeState) (kind k : BookKind) (r : Result Outcome E) (found : Option Outcome) → found ≡ result_ok r → kind ≡ k
+    → IfOk r (λ outcome. NodeEvent old (node_event k) outcome.sends.items outcome.marks.items new) → OnErr r (new ≡ old)
+    → MatchOption found (new ≡ old) (λ outcome. NodeEvent old (node_event kind) outcome.sends.items outcome.marks.items new)
+happened {E} old new kind k r found found_is kind_is ok err =
+    subst (λ (f : Option Outcome). MatchOption f (new ≡ old) (λ outcome. NodeEvent old (node_event kind) outcome.sends.items outcome.marks.items new)) (sym found_is)
+    (subst (λ (x : BookKind). MatchOption (result_ok r) (new ≡ old) (λ outcome. NodeEvent old (node_event x) outcome.sends.items outcome.marks.items new)) (sym kind_is)
+    (by_result r ok err))
+  where
+    by_result : (r : Result Outcome E) → IfOk r (λ outcome. NodeEvent old (node_event k) outcome.sends.items outcome.marks.items new) → OnErr r (new ≡ old)
+        → MatchOption (result_ok r) (new ≡ old) (λ outcome. NodeEvent old (node_event k) outcome.sends.items outcome.marks.items new)
+    by_result (Ok outcome) ok err = ok
+    by_result (Err e) ok err = err

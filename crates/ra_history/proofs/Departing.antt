@@ -1,6 +1,6 @@
 -- What is kept for leaves, after each event.
 use Rattle.std.proofs.Common.{◌≡◌, ℕ, ◌+◌, ◌*◌, ◌≤◌, List, [], ◌∷◌, ◌++◌, length, All, Some, refl, ap, ◌∙◌, subst, sym, arith, suc-mul}
-use Rattle.std.specs.Prelude.{Result, Ok, Err, IsOk, IsErrOf, IsErrAnd, IsOkUnless}
+use Rattle.std.specs.Prelude.{Result, Ok, Err, IfOk, IsOk, IsErrOf, IsErrAnd, IsOkUnless}
 use Rattle.std.proofs.lemmas.List.{length-append}
 use Rattle.std.proofs.lemmas.List.Elements.{All-nil, All-push, All-pop}
 use Rattle.ra_stamp.specs.declared.entry.Mark.{Mark}
@@ -143,3 +143,21 @@ pub sent_anew : (nodes : ℕ) (node : NodeState) (spare len len' capacity capaci
     → IsReserved nodes node spare len capacity departures → len' ≡ 0 → length departures * (2 * nodes) ≤ capacity' → IsReserved nodes node spare len' capacity' departures
 sent_anew nodes node spare len len' capacity capacity' departures was none room =
     record { many = was.many; each = was.each; room = record { events = was.room.events; sent = omega (arith, none, room) } }
+
+-- ---- Room that is made
+
+-- no room is made where that is refused
+pub not_made : {T E : Type 0} (Q : E → Type 0) (P : T → Type 0) (r : Result T E) → IsErrAnd r Q → IfOk r P
+not_made Q P (Ok v) is = absurd is
+not_made Q P (Err e) is = tt
+
+pub made : {T E : Type 0} (P : Type 0) (r : Result T E) → P → IfOk r (λ _. P)
+made P (Ok v) is = is
+made P (Err e) is = tt
+
+pub as_before : (n : ℕ) → n ≤ n
+as_before n = omega arith
+
+-- room for as many as were counted
+pub room_counted : (len count sends leaves each capacity : ℕ) → count ≡ sends + leaves * each → len + count ≤ capacity → len + sends + leaves * each ≤ capacity
+room_counted len count sends leaves each capacity is room = omega (arith, is, room)

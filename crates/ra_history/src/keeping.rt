@@ -12,7 +12,7 @@ ghost use Rattle.ra_history.specs.declared.event.BookKind.{BookKind};
 ghost use Rattle.ra_history.specs.History as history;
 ghost use Rattle.ra_history.specs.History.{node_event, frames_at};
 ghost use Rattle.ra_history.specs.Book.{as_sent};
-ghost use Rattle.ra_history.specs.Departures.{HasRoomFor, IsReserved, HoldsIfGave};
+ghost use Rattle.ra_history.specs.Departures.{HasRoomFor, IsDeparture, IsReserved, HoldsIfGave};
 ghost use Rattle.ra_history.specs.Keeping as spec;
 ghost use Rattle.ra_history.specs.Keeping.{KeptHistoriesGoOn, Happens, Stays, IsFlagged, Ascends, sends_by};
 
@@ -120,14 +120,35 @@ fn add_ask(
         departures.new.items }
 {
     events_count_clients();
-    let departure = Departure::new(alloc, nodes)?;
-    if departures.reserve(1).is_err() {
-        return Err(BookError::Memory);
-    }
+    let departure = departure_for(alloc, nodes, departures)?;
     let leaves = departures.len() + 1;
-    let posted = add_beside(alloc, nodes, node, events, sent, leaves, event)?;
-    departures.push_reserved(departure);
-    Ok(posted)
+    match add_beside(alloc, nodes, node, events, sent, leaves, event) {
+        Ok(posted) => {
+            departures.push_reserved(departure);
+            Ok(posted)
+        }
+        Err(refused) => Err(refused),
+    }
+}
+
+/// Makes what a leave needs, and room for it among these.
+///
+/// # Errors
+///
+/// `Memory`: memory ran out.
+fn departure_for(
+    alloc: Global,
+    nodes: u16,
+    departures: &mut Vec<Departure>,
+) -> Result<Departure, Memory>
+    ensures same { departures.new.items ≡ departures.old.items }
+    ensures made { IfOk result (IsDeparture nodes) }
+    ensures room { IfOk result (λ _. vec_len departures.new + 1 ≤ vec_capacity departures.new) }
+{
+    if departures.reserve(1).is_err() {
+        return Err(Memory);
+    }
+    Departure::new(alloc, nodes)
 }
 
 /// Makes the coming of a frame happen, as `add` does.
@@ -295,6 +316,17 @@ fn make_room(
 {
     events.reserve(leaves as u64 + 1)?;
     sent.reserve(most_sent(nodes, sends, leaves)?)?;
+    frames_for(alloc, sends)
+}
+
+/// Makes an empty list of frames, with room for this many.
+///
+/// # Errors
+///
+/// `Memory`: memory ran out.
+fn frames_for(alloc: Global, sends: u64) -> Result<Frames, Memory>
+    ensures { IfOk result (λ frames. (frames.items ≡ []) × (sends ≤ frames.spare)) }
+{
     let mut frames = Frames::new(alloc);
     frames.reserve(sends)?;
     Ok(frames)
