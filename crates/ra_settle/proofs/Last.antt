@@ -1,9 +1,11 @@
 -- Lists, and their last item.
-use Rattle.std.proofs.Common.{◌≡◌, ℕ, ◌<◌, Bool, true, false, Result, Ok, Err, List, [], ◌∷◌, ◌++◌, length, get_or, refl, subst, ◌∙◌, arith}
-use Rattle.std.specs.Prelude.{All, AllPairs, MatchBool, is_ok, is_err, if◌then◌else◌}
+use Rattle.std.proofs.Common.{◌≡◌, ℕ, ◌+◌, ◌<◌, ◌≤◌, Bool, Option, true, false, Result, Ok, Err, List, [], ◌∷◌, ◌++◌, length, get_or, refl, sym, ap, subst, ◌∙◌, arith}
+use Rattle.std.specs.Prelude.{All, AllPairs, IfOk, IfSome, MatchBool, OnOk, is_err}
+use Rattle.std.specs.Result.{result_ok}
 use Rattle.std.specs.List.{Any}
 use Rattle.std.proofs.lemmas.List.{get_or_append_left, get_or_push, length_push}
 use Rattle.std.proofs.lemmas.List.Elements.{All-push}
+use Rattle.ra_history.specs.Book.{BookState, HasHistory, opening_book}
 
 module _ {X : Type 0} where
   -- what is true of all is true of those before the last, and of the last
@@ -35,7 +37,23 @@ module _ {X : Type 0} where
   with_last P xs y true here all = All-push P xs y all here
   with_last P xs y false here any = any_before (λ x. P x → ⊥) xs y any
 
--- a push that did not fail
-pub pushed : {X T E : Type 0} (r : Result T E) (xs ys : List X) (x : X) → ys ≡ (if is_ok r then xs ++ x ∷ [] else xs) → is_err r ≡ false → ys ≡ xs ++ x ∷ []
-pushed (Ok done) xs ys x is fine = is
-pushed (Err failed) xs ys x is fine = absurd cc
+-- room that was made
+pub room_for_one : {T E : Type 0} (r : Result T E) (len capacity : ℕ) → is_err r ≡ false → OnOk r (len + 1 ≤ capacity) → len < capacity
+room_for_one (Ok done) len capacity fine room = omega (arith, room)
+room_for_one (Err failed) len capacity fine room = absurd cc
+
+pub room_for_all : {T E : Type 0} (r : Result T E) (len count capacity : ℕ) → is_err r ≡ false → OnOk r (len + count ≤ capacity) → count ≤ capacity
+room_for_all (Ok done) len count capacity fine room = omega (arith, room)
+room_for_all (Err failed) len count capacity fine room = absurd cc
+
+-- a book that is made
+pub opened_book : {E : Type 0} (node nodes start count : ℕ) (r : Result BookState E) (found : Option BookState) → found ≡ result_ok r → count ≡ nodes
+    → IfOk r (λ book. book ≡ opening_book node count start) → IfOk r HasHistory
+    → IfSome found (λ book. (book ≡ opening_book node nodes start) × HasHistory book)
+opened_book node nodes start count r found found_is same ok history =
+    subst (λ (f : Option BookState). IfSome f (λ book. (book ≡ opening_book node nodes start) × HasHistory book)) (sym found_is) (by_result r ok history)
+  where
+    by_result : {E : Type 0} (r : Result BookState E) → IfOk r (λ book. book ≡ opening_book node count start) → IfOk r HasHistory
+        → IfSome (result_ok r) (λ book. (book ≡ opening_book node nodes start) × HasHistory book)
+    by_result (Ok book) ok history = (ok ∙ ap (λ (n : ℕ). opening_book node n start) same, history)
+    by_result (Err e) ok history = tt

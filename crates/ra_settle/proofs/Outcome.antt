@@ -1,5 +1,5 @@
 -- What comes of the books that were gathered from a text.
-use Rattle.std.proofs.Common.{◌≡◌, ℕ, Bool, true, List, [], ◌∷◌, length, length-append, Result, Ok, Err, inr, ap, subst, sym, ◌∙◌, arith}
+use Rattle.std.proofs.Common.{ℕ, Bool, true, List, [], ◌∷◌, length, length-append, Result, Ok, Err, inr, ap, subst, sym, ◌∙◌, arith}
 use Rattle.std.proofs.lemmas.Bool.{false≢true}
 use Rattle.std.specs.Prelude.{All, MatchResult}
 use Rattle.ra_history.specs.Book.{BookState}
@@ -10,13 +10,13 @@ use Rattle.ra_settle.specs.declared.error.TextCause.TheVariants as cause
 use Rattle.ra_settle.specs.declared.gathering.Gathered.{Gathered}
 use Rattle.ra_settle.specs.declared.settling.SettledText.{SettledText}
 use Rattle.ra_settle.specs.Texts.{AreWhole, IsRead}
-use Rattle.ra_settle.specs.Gathering.{HasGathered, IsAllArranged, IsGathered, IsUnfit, LacksSome, books_of}
+use Rattle.ra_settle.specs.Gathering.{HasGathered, IsAllArranged, IsGathered, IsMadeOf, IsUnfit, LacksSome, books_of}
 use Rattle.ra_settle.specs.Verdicts.{IsFirstAgain, IsFirstUnsent, IsSettledBy, IsSettledText, IsUnsettled, IsWrong}
 use Rattle.ra_settle.proofs.Order.{all_read, missing, whole}
 
-module _ (g : Gathered) (books : List BookState) (nodes : ℕ) (same : books ≡ books_of g) (count : nodes ≡ g.last.nodes) where
+module _ (g : Gathered) (books : List BookState) (nodes : ℕ) (came : List Came) (made : IsMadeOf g books nodes came) where
   arranged : (ordered : List BookState) → IsAllArranged books nodes ordered → IsAllArranged (books_of g) g.last.nodes ordered
-  arranged ordered h = subst (λ n. IsAllArranged (books_of g) n ordered) count (subst (λ (bs : List BookState). IsAllArranged bs nodes ordered) same h)
+  arranged ordered h = subst (λ n. IsAllArranged (books_of g) n ordered) made.count (subst (λ (bs : List BookState). IsAllArranged bs nodes ordered) made.books_are h)
 
   pub whole_of : (lines : List (List ℕ)) (ordered : List BookState) → IsGathered lines g → IsAllArranged books nodes ordered → AreWhole lines (books_of g) ordered
   whole_of lines ordered is h = whole lines g.earlier.items g.last is.right ordered (arranged ordered h)
@@ -34,11 +34,10 @@ module _ (g : Gathered) (books : List BookState) (nodes : ℕ) (same : books ≡
     (λ none. omega (arith, ap length none, length-append g.earlier.items (g.last ∷ []))),
     h.next_is,
     missing h.lines g.earlier.items g.last h.gathered.right
-        (subst (LacksSome (books_of g)) count (subst (λ (bs : List BookState). LacksSome bs nodes) same few)),
+        (subst (LacksSome (books_of g)) made.count (subst (λ (bs : List BookState). LacksSome bs nodes) made.books_are few)),
   )
 
-  module _ (text : List ℕ) (next : ℕ) (h : HasGathered text g next) (ordered : List BookState) (all : IsAllArranged books nodes ordered) (came : List Came)
-      (came_is : came ≡ g.came.items) (repeats : Bool) where
+  module _ (text : List ℕ) (next : ℕ) (h : HasGathered text g next) (ordered : List BookState) (all : IsAllArranged books nodes ordered) (repeats : Bool) where
     unfit : (why : SettleTextError) → IsUnfit repeats ordered came why → IsUnsettled repeats text why
     unfit fault.Memory u = tt
     unfit (fault.Invalid number cause.Line) u = absurd u
@@ -50,7 +49,7 @@ module _ (g : Gathered) (books : List BookState) (nodes : ℕ) (same : books ≡
       ordered,
       h.is_text,
       whole_of h.lines ordered h.gathered all,
-      subst (λ (cs : List Came). IsFirstUnsent ordered cs number) (came_is ∙ h.gathered.came_is) u,
+      subst (λ (cs : List Came). IsFirstUnsent ordered cs number) (made.came_are ∙ h.gathered.came_is) u,
     )
     unfit (fault.Invalid number cause.Twice) u = (
       h.lines,
@@ -60,7 +59,7 @@ module _ (g : Gathered) (books : List BookState) (nodes : ℕ) (same : books ≡
       whole_of h.lines ordered h.gathered all,
       u.0,
       u.1,
-      subst (λ (cs : List Came). IsFirstAgain cs number) (came_is ∙ h.gathered.came_is) u.2,
+      subst (λ (cs : List Came). IsFirstAgain cs number) (made.came_are ∙ h.gathered.came_is) u.2,
     )
 
     pub result_of : (r : Result SettledText SettleTextError) → MatchResult r (IsSettledBy repeats ordered) (IsUnfit repeats ordered came)

@@ -100,6 +100,12 @@ pub record HasGathered (text : List ℕ) (g : Gathered) (next : ℕ) : Type 0 wh
   pub gathered : IsGathered lines g
   pub next_is : next ≡ length lines + 1
 
+-- these are the books that were gathered, of so many nodes, and what came to them
+pub record IsMadeOf (g : Gathered) (books : List BookState) (nodes : ℕ) (came : List Came) : Type 0 where
+  pub books_are : books ≡ books_of g
+  pub count : nodes ≡ g.last.nodes
+  pub came_are : came ≡ g.came.items
+
 -- ---- The order of the nodes
 
 -- a node of these many has no book

@@ -1,11 +1,19 @@
 //! Books in the order of their nodes.
-ghost use Rattle.std.specs.Prelude.{◌≡◌, ◌≢◌, ◌<◌, All, length, slice_index_or, IfOk, MatchOption};
+ghost use Rattle.std.specs.Prelude.{◌≡◌, ◌≢◌, ◌<◌, All, length, slice_index_or, MatchOption, MatchResult};
 ghost use Rattle.ra_history.specs.Book.{BookState};
 ghost use Rattle.ra_settle.specs.Gathering.{IsAllArranged, IsArranged, LacksNode, LacksSome};
 
 use ra_history::Book;
-use ra_stamp::Memory;
 use std::alloc::Global;
+
+/// Why books are not put in order.
+#[derive(Clone, Copy)]
+pub enum Unarranged {
+    /// They are not as many as the nodes, or one of the nodes has none.
+    Missing,
+    /// Memory ran out.
+    Memory,
+}
 
 /// Returns where the book of the node of this number is, or `None` if it has none. It does not allocate.
 fn place_of(books: &[Book], node: usize) -> Option<usize>
@@ -20,45 +28,44 @@ fn place_of(books: &[Book], node: usize) -> Option<usize>
     None
 }
 
-/// Returns the books of the nodes 1 to `nodes`, in this order, or `None` if one of the nodes has none. There are at most 64, so
-/// that they are looked through for each.
+/// Takes the books of the nodes 1 to `nodes` out of these, and returns them in this order. There are at most 64, so that they are
+/// looked through for each.
 ///
 /// # Errors
 ///
-/// `Memory`: memory ran out.
-fn arranged(alloc: Global, books: Vec<Book>, nodes: usize) -> Result<Option<Vec<Book>>, Memory>
-    ensures { IfOk result (λ found. MatchOption found (LacksNode books.items nodes)
-        (λ ordered. IsArranged books.items nodes ordered.items)) }
+/// `Missing`: one of the nodes has none. `Memory`.
+fn arranged(alloc: Global, left: &mut Vec<Book>, nodes: usize) -> Result<Vec<Book>, Unarranged>
+    ensures { MatchResult result (λ ordered. IsArranged left.old.items nodes ordered.items)
+        (λ why. why ≡ Unarranged.Missing → LacksNode left.old.items nodes) }
 {
-    let mut left = books;
     let mut ordered = Vec::new(alloc);
-    for before in 0..nodes {
-        let Some(place) = place_of(&left, before + 1) else {
-            return Ok(None);
-        };
-        let book = left.remove(place);
-        if ordered.push(book).is_err() {
-            return Err(Memory);
-        }
+    if ordered.reserve(nodes).is_err() {
+        return Err(Unarranged::Memory);
     }
-    Ok(Some(ordered))
+    for before in 0..nodes {
+        let Some(place) = place_of(left, before + 1) else {
+            return Err(Unarranged::Missing);
+        };
+        ordered.push_reserved(left.remove(place));
+    }
+    Ok(ordered)
 }
 
-/// Returns the books in the order of their nodes, 1 to `nodes`, or `None` if they are not as many or one of the nodes has none.
+/// Takes the books out of these, and returns them in the order of their nodes, 1 to `nodes`.
 ///
 /// # Errors
 ///
-/// `Memory`: memory ran out.
+/// `Missing`: they are not as many, or one of the nodes has none. `Memory`.
 pub fn all_arranged(
     alloc: Global,
-    books: Vec<Book>,
+    books: &mut Vec<Book>,
     nodes: usize,
-) -> Result<Option<Vec<Book>>, Memory>
-    ensures { IfOk result (λ found. MatchOption found (LacksSome books.items nodes)
-        (λ ordered. IsAllArranged books.items nodes ordered.items)) }
+) -> Result<Vec<Book>, Unarranged>
+    ensures { MatchResult result (λ ordered. IsAllArranged books.old.items nodes ordered.items)
+        (λ why. why ≡ Unarranged.Missing → LacksSome books.old.items nodes) }
 {
     if books.len() != nodes {
-        return Ok(None);
+        return Err(Unarranged::Missing);
     }
     arranged(alloc, books, nodes)
 }

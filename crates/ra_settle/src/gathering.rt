@@ -1,7 +1,8 @@
 //! The books of a text, as they are gathered line by line.
-ghost use Rattle.std.specs.Prelude.{◌↔◌, ◌≤◌, ℕ, List, All, length, IsTrue, MatchBool};
+ghost use Rattle.std.specs.Prelude.{◌≡◌, ◌↔◌, ◌≤◌, ℕ, List, All, length, IfSome, IsTrue, MatchBool};
 ghost use Rattle.std.specs.List.{Any};
 ghost use Rattle.ra_book.specs.BookText.{IsFirst};
+ghost use Rattle.ra_history.specs.Book.{HasHistory, opening_book};
 ghost use Rattle.ra_settle.specs.Texts.{IsBeside};
 ghost use Rattle.ra_settle.specs.Gathering.{TakesEvent, TakesFirst, TakesLine, books_of};
 
@@ -30,6 +31,14 @@ pub enum LineFault {
     Wrong(TextCause),
     /// Memory ran out.
     Memory,
+}
+
+/// Makes the book that this first line begins, or returns `None` if memory runs out.
+pub fn opened(alloc: Global, first: &First) -> Option<Book>
+    ensures { IfSome result (λ book. (book ≡ opening_book first.now.node first.now.nodes first.now.start) × HasHistory book) }
+{
+    // It is one of the nodes, so that only memory can be lacking.
+    Book::new(alloc, first.node, first.nodes.get(), first.start).ok()
 }
 
 /// Returns whether a book is of another node than this first line, of as many nodes and from the same start. It does not
@@ -78,14 +87,14 @@ impl Gathered {
         if !self.is_beside(first) {
             return Err(LineFault::Wrong(TextCause::Books));
         }
-        let Ok(book) = Book::new(alloc, first.node, first.nodes.get(), first.start) else {
-            // It is one of the nodes, so that only memory can be lacking.
+        if self.earlier.reserve(1).is_err() {
+            return Err(LineFault::Memory);
+        }
+        let Some(book) = opened(alloc, first) else {
             return Err(LineFault::Memory);
         };
         let earlier = replace(&mut self.last, book);
-        if self.earlier.push(earlier).is_err() {
-            return Err(LineFault::Memory);
-        }
+        self.earlier.push_reserved(earlier);
         Ok(())
     }
 

@@ -8,10 +8,9 @@ ghost use Rattle.ra_settle.specs.declared.error.TextCause.{TextCause};
 ghost use Rattle.ra_settle.specs.declared.gathering.LineFault.{LineFault};
 
 use crate::came::CameList;
-use crate::gathering::{Gathered, LineFault};
+use crate::gathering::{Gathered, LineFault, opened};
 use crate::{SettleTextError, TextCause};
 use ra_book::{First, MAX_LINE};
-use ra_history::Book;
 use ra_text::cut;
 use std::alloc::Global;
 
@@ -40,14 +39,13 @@ fn begin(alloc: Global, line: &[u8]) -> Result<Gathered, SettleTextError>
             cause: TextCause::Line,
         });
     };
-    match Book::new(alloc, first.node, first.nodes.get(), first.start) {
-        Ok(last) => Ok(Gathered {
+    match opened(alloc, &first) {
+        Some(last) => Ok(Gathered {
             earlier: Vec::new(alloc),
             last,
             came: CameList::new(alloc),
         }),
-        // It is one of the nodes, so that only memory can be lacking.
-        Err(_) => Err(SettleTextError::Memory),
+        None => Err(SettleTextError::Memory),
     }
 }
 

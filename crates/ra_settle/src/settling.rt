@@ -1,11 +1,11 @@
-ghost use Rattle.std.specs.Prelude.{ℕ, Bool, false, List, All, IfErr, IfOk, MatchResult};
+ghost use Rattle.std.specs.Prelude.{◌≡◌, ◌∷◌, ◌++◌, [], ℕ, Bool, false, List, All, IfErr, IfOk, IfSome, MatchResult};
 ghost use Rattle.ra_history.specs.Book.{BookState};
 ghost use Rattle.ra_history.specs.Settled.{HasUnsent, IsCluster};
 ghost use Rattle.ra_settle.specs.Texts.{IsRead};
-ghost use Rattle.ra_settle.specs.Gathering.{HasGathered, IsGathered, IsTwiceBy, IsUnfit};
+ghost use Rattle.ra_settle.specs.Gathering.{HasGathered, IsGathered, IsMadeOf, IsTwiceBy, IsUnfit};
 ghost use Rattle.ra_settle.specs.Verdicts.{IsRunBy, IsSettledBy, IsSettledText, IsUnsettled};
 
-use crate::arranging::all_arranged;
+use crate::arranging::{Unarranged, all_arranged};
 use crate::came::Came;
 use crate::gathering::Gathered;
 use crate::reading::read_books;
@@ -73,22 +73,22 @@ fn settle_by(alloc: Global, books: &[Book], repeats: bool) -> Result<Settled, Se
     }
 }
 
-/// Settles the books of a cluster, with what came to them in the order of the text.
+/// Settles the books of a cluster, with what came to them in the order of the text. It may flag their frames as lost.
 ///
 /// # Errors
 ///
 /// `Invalid` with `NotSent` or `Twice`, at the first such line. `Memory`.
 fn settle_ordered(
     alloc: Global,
-    mut books: Vec<Book>,
+    books: &mut [Book],
     came: &[Came],
     repeats: bool,
 ) -> Result<SettledText, SettleTextError>
-    requires cluster { IsCluster books.items }
-    requires each { All IsRead books.items }
-    ensures { MatchResult result (IsSettledBy repeats books.items) (IsUnfit repeats books.items came.now) }
+    requires cluster { IsCluster books.old }
+    requires each { All IsRead books.old }
+    ensures { MatchResult result (IsSettledBy repeats books.old) (IsUnfit repeats books.old came.now) }
 {
-    match settle_by(alloc, &books, repeats) {
+    match settle_by(alloc, books, repeats) {
         Ok(settled) => {
             let first = &books[0];
             Ok(SettledText {
@@ -97,10 +97,54 @@ fn settle_ordered(
                 settled,
             })
         }
-        Err(SettleError::NotSent) => Err(unsent(books.as_mut_slice(), came)),
+        Err(SettleError::NotSent) => Err(unsent(books, came)),
         Err(SettleError::Twice) => Err(again(alloc, came)),
         Err(_) => Err(SettleTextError::Memory),
     }
+}
+
+/// Settles the books that were gathered from a text, in which the line after the last one would have this number, with what came to
+/// them. They are lent, so that each is dropped at one exit.
+///
+/// # Errors
+///
+/// Those of `settle_gathered`.
+fn settle_books(
+    alloc: Global,
+    books: &mut Vec<Book>,
+    nodes: usize,
+    came: &[Came],
+    next: u64,
+    repeats: bool,
+) -> Result<SettledText, SettleTextError>
+    requires { (gathered : Gathered) × IsMadeOf gathered books.old.items nodes came.now
+        × ((lines : List (List ℕ)) × IsGathered lines gathered) }
+    ensures { (text : List ℕ) (gathered : Gathered) → IsMadeOf gathered books.old.items nodes came.now
+        → HasGathered text gathered next → MatchResult result (IsSettledText repeats text) (IsUnsettled repeats text) }
+{
+    match all_arranged(alloc, books, nodes) {
+        Ok(ordered) => {
+            let mut ordered = ordered;
+            settle_ordered(alloc, ordered.as_mut_slice(), came, repeats)
+        }
+        Err(Unarranged::Missing) => Err(SettleTextError::Invalid {
+            line: next,
+            cause: TextCause::Books,
+        }),
+        Err(Unarranged::Memory) => Err(SettleTextError::Memory),
+    }
+}
+
+/// Puts the last book after those before it, or returns `None` if memory runs out.
+fn with_last(earlier: Vec<Book>, last: Book) -> Option<Vec<Book>>
+    ensures { IfSome result (λ books. books.items ≡ earlier.items ++ last ∷ []) }
+{
+    let mut books = earlier;
+    if books.reserve(1).is_err() {
+        return None;
+    }
+    books.push_reserved(last);
+    Some(books)
 }
 
 /// Settles the books that were gathered from a text, in which the line after the last one would have this number.
@@ -124,17 +168,12 @@ fn settle_gathered(
         came,
     } = gathered;
     let nodes = usize::from(last.nodes());
-    let mut books = earlier;
-    if books.push(last).is_err() {
-        return Err(SettleTextError::Memory);
-    }
-    match all_arranged(alloc, books, nodes) {
-        Ok(Some(ordered)) => settle_ordered(alloc, ordered, came.as_slice(), repeats),
-        Ok(None) => Err(SettleTextError::Invalid {
-            line: next,
-            cause: TextCause::Books,
-        }),
-        Err(_) => Err(SettleTextError::Memory),
+    match with_last(earlier, last) {
+        Some(books) => {
+            let mut books = books;
+            settle_books(alloc, &mut books, nodes, came.as_slice(), next, repeats)
+        }
+        None => Err(SettleTextError::Memory),
     }
 }
 

@@ -3,4 +3,4 @@ use Rattle.ra_settle.proofs.Order.{all_found}
 use Rattle.ra_settle.proofs.arranging.all_arranged.Goals as goal
 
 pub returns : goal.returns
-returns c = all_found (λ v. v.items) c.args.books.items c.args.nodes c.arranged.result (omega arith) c.arranged.ensures
+returns c = all_found (λ v. v.items) c.args.books.now.items c.args.nodes c.arranged.result (omega arith) c.arranged.ensures

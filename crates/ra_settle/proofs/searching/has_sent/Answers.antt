@@ -1,6 +1,7 @@
 use Rattle.std.proofs.Common.{Err, true, ap, refl, ◌∙◌}
 use Rattle.std.proofs.lemmas.Bool.{false≢true}
-use Rattle.ra_settle.proofs.Sent.{first_is_sent, not_among}
+use Rattle.ra_settle.specs.Gathering.{sender_of}
+use Rattle.ra_settle.proofs.Sent.{first_is_sent, lost_is_same, not_among}
 use Rattle.ra_settle.proofs.searching.has_sent.Goals as goal
 
 pub returns-in-Ok-clause-sent : goal.returns-in-Ok-clause-sent
@@ -20,3 +21,15 @@ returns-in-Err-NotSent-clause-sent c = (
   λ has. absurd (not_among c.args.book.now.sent c.args.frame.now
       (c.mark_lost.ensures.not_sent.0 (c.in-Err-NotSent.is ∙ ap Err c.in-Err-NotSent.field-0-is)) has),
 )
+
+pub returns-in-Ok-clause-same : goal.returns-in-Ok-clause-same
+returns-in-Ok-clause-same c =
+    let ok = c.in-Ok.ensures.ok in
+    let frames = lost_is_same c.args.book.now.sent c.mark_lost.new.self.sent c.args.frame.now ok.1 in
+    ap sender_of ok.0 ∙ (λ i. record { me = c.args.book.now.me; frames = frames i })
+
+pub returns-in-Err-AlreadyLost-clause-same : goal.returns-in-Err-AlreadyLost-clause-same
+returns-in-Err-AlreadyLost-clause-same c = ap sender_of c.in-Err-AlreadyLost.ensures.err
+
+pub returns-in-Err-NotSent-clause-same : goal.returns-in-Err-NotSent-clause-same
+returns-in-Err-NotSent-clause-same c = ap sender_of c.in-Err-NotSent.ensures.err

@@ -1,4 +1,4 @@
-use Rattle.std.proofs.Common.{Bool, List, subst, sym, ◌∙◌}
+use Rattle.std.proofs.Common.{Bool, subst, sym, ap, ◌∙◌}
 use Rattle.ra_history.specs.Book.{BookState}
 use Rattle.ra_settle.specs.Gathering.{IsUnfit}
 use Rattle.ra_settle.proofs.Sent.{first_book}
@@ -6,18 +6,19 @@ use Rattle.ra_settle.proofs.settling.settle_ordered.Goals as goal
 
 pub returns-in-Ok : goal.returns-in-Ok
 returns-in-Ok c =
-    let first = first_book c.args.books.items c.index-first.result.now c.requires.cluster c.index-first.ensures in
+    let books = c.args.books.now in
+    let book = c.index-books-0.result in
+    let first = first_book books book c.requires.cluster c.index-books-0.is in
     record {
-      nodes_is = c.nodes.ensures.value ∙ first.0;
-      start_is = c.start.ensures.value ∙ first.1;
-      run_is = rw c.deref.ensures.value at c.in-Ok.ensures;
+      nodes_is = c.nodes.ensures.value ∙ ap (λ (b : BookState). b.nodes) (sym c.index-books-0.is) ∙ first.0;
+      start_is = c.start.ensures.value ∙ ap (λ (b : BookState). b.start) (sym c.index-books-0.is) ∙ first.1;
+      run_is = c.in-Ok.ensures;
     }
+
+pub returns-in-Err-NotSent : goal.returns-in-Err-NotSent
+returns-in-Err-NotSent c = c.unsent.ensures c.args.repeats
 
 pub returns-in-Err-Twice : goal.returns-in-Err-Twice
 returns-in-Err-Twice c =
-    let (may_not, sent) = rw c.deref.ensures.value at c.in-Err-Twice.ensures c.in-Err-Twice.field-0-is in
-    subst (λ (b : Bool). IsUnfit b c.args.books.items c.args.came.now c.again.result) (sym may_not) (c.again.ensures c.args.books.items sent)
-
-pub returns-in-Err-NotSent : goal.returns-in-Err-NotSent
-returns-in-Err-NotSent c =
-    subst (λ (books : List BookState). IsUnfit c.args.repeats books c.args.came.now c.unsent.result) c.as_mut_slice.ensures.value (c.unsent.ensures c.args.repeats)
+    let (may_not, sent) = c.in-Err-Twice.ensures c.in-Err-Twice.field-0-is in
+    subst (λ (b : Bool). IsUnfit b c.args.books.now c.args.came.now c.again.result) (sym may_not) (c.again.ensures c.args.books.now sent)
