@@ -178,6 +178,10 @@ all_merged books taken placed cluster merged none =
         some_left (e ∷ events) m low none_at = none_at (get_or (e ∷ events) m e) (slice_get-get_or (e ∷ events) m e low)
     all_taken k b within at (inr all) = all
 
+-- a place among the books is one of those counted
+pub within_taken : (place books count len : ℕ) → len ≡ count → count ≡ books → place < books → place < len
+within_taken place books count len is same low = omega (arith, is, same, low)
+
 -- ---- How many events are left
 
 abbrev pub left : List BookState → List ℕ → ℕ

@@ -1,7 +1,8 @@
-use Rattle.std.proofs.Common.{ℕ, List, [], None, ap, subst, sym, length}
+use Rattle.std.proofs.Common.{ℕ, List, [], None, vec_len, ap, subst, sym, ◌∙◌, length}
 use Rattle.ra_history.specs.EventMerge.{IsEarliest, all_placed_at}
 use Rattle.ra_history.specs.Settled.{IsSettledOrder}
-use Rattle.ra_history.proofs.Merging.{nothing_merged, placed_more, all_merged}
+use Rattle.ra_history.proofs.Merging.{nothing_merged, placed_more, all_merged, within_taken}
+use Rattle.ra_history.proofs.Departing.{not_made}
 use Rattle.ra_history.proofs.event_merge.events_in_order.Goals as goal
 
 pub loop-turn-init : goal.loop-turn-init
@@ -24,3 +25,20 @@ returns c =
     let books = c.args.books.now in
     let none = subst (λ (ts : List ℕ). IsEarliest books ts (length books) None) c.deref.ensures.value c.in_default.ensures.earliest in
     subst (IsSettledOrder books) (sym c.loop-turn.invariant.1) (all_merged books c.loop-turn.taken.items c.loop-turn.invariant.0 c.requires c.loop-turn.invariant.2 none)
+
+pub earliest-requires : goal.earliest-requires
+earliest-requires c = ap length c.deref.ensures.value ∙ c.loop-turn.invariant.2.long
+
+pub bounds-books-turn : goal.bounds-books-turn
+bounds-books-turn c = c.in-Some.ensures.earliest.0
+
+pub index_mut-requires : goal.index_mut-requires
+index_mut-requires c =
+    within_taken c.in-Some.turn.place (length c.args.books.now) (length c.loop-turn.taken.items) (vec_len c.loop-turn.taken) c.loop-turn.taken.ok.0
+    c.loop-turn.invariant.2.long c.in-Some.ensures.earliest.0
+
+pub returns-in_err-taken : goal.returns-in_err-taken
+returns-in_err-taken c = not_made _ _ c.from_residual.result c.from_residual.ensures.1
+
+pub returns-in_err-push : goal.returns-in_err-push
+returns-in_err-push c = not_made _ _ c.from_residual-in_err-push.result c.from_residual-in_err-push.ensures.1
