@@ -244,7 +244,7 @@ impl Site {
     /// lock, and does not allocate. The cost is linear in the number of clients that wait.
     pub fn stop<R: Wait>(&self, rt: &R, stop: Stop) {
         let (cause, waiters) = self.desk.lock(rt).fail(self.alloc, stop);
-        for waiter in waiters {
+        for waiter in &waiters {
             waiter.ticket.tell(rt, Err(cause));
         }
     }
