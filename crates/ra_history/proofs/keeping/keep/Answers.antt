@@ -1,13 +1,10 @@
-use Rattle.std.proofs.Common.{◌≡◌, ◌≤◌, ℕ, ◌+◌, List, ◌++◌, length, vec_len, vec_capacity, refl, sym, ap, ◌∙◌, subst}
+use Rattle.std.proofs.Common.{◌≡◌, ◌≤◌, ℕ, ◌+◌, List, ◌++◌, length, vec_len, vec_capacity, sym, ap, ◌∙◌, subst}
 use Rattle.std.proofs.lemmas.List.{length-map}
 use Rattle.ra_frame.specs.declared.frame.Frame.{Frame}
 use Rattle.ra_stamp.specs.declared.message.Message.{Message}
 use Rattle.ra_history.specs.History.{frames_at}
 use Rattle.ra_history.specs.Book.{as_sent}
 use Rattle.ra_history.proofs.keeping.keep.Goals as goal
-
-pub unwrap-requires : goal.unwrap-requires
-unwrap-requires c = c.push.ensures.succeeds c.requires.event_room
 
 pub put_frames-requires : goal.put_frames-requires
 put_frames-requires c = subst (λ (ms : List Message). length ms ≤ c.args.frames.spare) (sym c.as_slice.ensures) c.requires.frame_room
@@ -21,20 +18,22 @@ put_sent-requires c =
     let long : length c.as_slice-2.result.now ≡ length sends = ap length frames ∙ length-map sends (λ (m : Message). record { clock = c.args.event.clock; message = m }) in
     subst (λ (n : ℕ). vec_len c.args.sent.now + n ≤ vec_capacity c.args.sent.now) (sym long) c.requires.sent_room
 
-pub returns : goal.returns
-returns c =
+pub returns-clause-frames : goal.returns-clause-frames
+returns-clause-frames c = c.put_frames.ensures ∙ (λ i. c.requires.none i ++ frames_at c.args.event.clock (c.as_slice.ensures i))
+
+pub returns-clause-sent : goal.returns-clause-sent
+returns-clause-sent c =
     let sends = c.args.outcome.sends.items in
     let kept : c.put_frames.new.frames.items ≡ frames_at c.args.event.clock sends =
     c.put_frames.ensures ∙ (λ i. c.requires.none i ++ frames_at c.args.event.clock (c.as_slice.ensures i))
     in
-    let frames : c.as_slice-2.result.now ≡ frames_at c.args.event.clock sends = c.as_slice-2.ensures ∙ kept in
-    let long : length c.as_slice-2.result.now ≡ length sends = ap length frames ∙ length-map sends (λ (m : Message). record { clock = c.args.event.clock; message = m }) in
-    record {
-      events = rw c.unwrap.ensures at c.push.ensures.ok;
-      sent = c.put_sent.ensures.items ∙ ap (λ (fs : List Frame). c.args.sent.now.items ++ as_sent fs) frames;
-      frames = kept;
-      marks = refl;
-      spare = c.push.ensures.spare c.requires.event_room;
-      len = c.put_sent.ensures.len ∙ ap (λ (n : ℕ). vec_len c.args.sent.now + n) long;
-      capacity = c.put_sent.ensures.capacity;
-    }
+    c.put_sent.ensures.items ∙ ap (λ (fs : List Frame). c.args.sent.now.items ++ as_sent fs) (c.as_slice-2.ensures ∙ kept)
+
+pub returns-clause-len : goal.returns-clause-len
+returns-clause-len c =
+    let sends = c.args.outcome.sends.items in
+    let kept : c.put_frames.new.frames.items ≡ frames_at c.args.event.clock sends =
+    c.put_frames.ensures ∙ (λ i. c.requires.none i ++ frames_at c.args.event.clock (c.as_slice.ensures i))
+    in
+    let long = ap length (c.as_slice-2.ensures ∙ kept) ∙ length-map sends (λ (m : Message). record { clock = c.args.event.clock; message = m }) in
+    c.put_sent.ensures.len ∙ ap (λ (n : ℕ). vec_len c.args.sent.now + n) long
