@@ -126,7 +126,7 @@ impl PartialEq for Name {
 
     ghost laws = { Prim.search (comparing, rules) };
 
-    // Whole arrays compare faster than the bytes of a name, and zeros stand after these.
+    // Whole arrays compare faster than the bytes of a name, and after these bytes there are zeros.
     #[inline(always)]
     fn eq(&self, other: &Name) -> bool {
         self.len == other.len && self.bytes == other.bytes

@@ -24,7 +24,7 @@ impl NodeId {
     /// The greatest number that a node may have.
     pub const MAX: u16 = 64;
 
-    /// Returns the node with this number, or `None` where it is not 1 to 64. It does not allocate.
+    /// Returns the node with this number, or `None` if it is not 1 to 64. It does not allocate.
     pub fn new(number: u16) -> Option<NodeId>
         ensures valid { IsSome result ↔ IsNodeNumber number }
         ensures value { IfSome result (λ node. node ≡ number) }

@@ -51,7 +51,7 @@ impl<T: Copy> Sequence<T> {
         self.items.as_slice()
     }
 
-    /// Adds an item at the end, in amortized constant time. Where there is spare room it cannot fail.
+    /// Adds an item at the end, in amortized constant time. If there is spare room, it cannot fail.
     ///
     /// # Errors
     ///
