@@ -84,8 +84,8 @@ fn greatest_mode(format: Format, kind: u8) -> u8
     }
 }
 
-/// Tests fields in their order: each row says how many bytes there must be, what must hold of them, and the fault where
-/// it does not.
+/// Tests fields in their order: each row says how many bytes there must be, what must hold of them, and the fault if it
+/// does not hold.
 macro_rules! first_failing {
     ($bytes:ident; $($end:expr, $is_right:expr => $fault:ident;)*) => {{
         $(
@@ -140,7 +140,7 @@ fn name_fault(format: Format, bytes: &[u8]) -> Option<FrameError>
 }
 
 /// Returns the fault of the first field after the version that is short or not right, in the order of the fields, or
-/// `None` where all are right. It does not allocate.
+/// `None` if all are right. It does not allocate.
 fn first_fault(format: Format, bytes: &[u8]) -> Option<FrameError>
     ensures { result ≡ spec.first_fault_of format bytes.now }
 {
@@ -153,7 +153,7 @@ fn first_fault(format: Format, bytes: &[u8]) -> Option<FrameError>
     name_fault(format, bytes)
 }
 
-/// Returns the node whose number stands at a place. It does not allocate.
+/// Returns the node whose number is at a place. It does not allocate.
 fn node_at(format: Format, bytes: &[u8], place: usize) -> NodeId
     requires there { place + node_width format ≤ length bytes.now }
     requires valid { IsNodeNumber (spec.node_at format bytes.now place) }
@@ -162,7 +162,7 @@ fn node_at(format: Format, bytes: &[u8], place: usize) -> NodeId
     NodeId::new(node_number_at(format, bytes, place)).unwrap()
 }
 
-/// Returns the name, which stands after its length. It does not allocate.
+/// Returns the name, which is after its length. It does not allocate.
 fn name_at(format: Format, bytes: &[u8]) -> Name
     requires { IsChecked format bytes.now }
     ensures { result ≡ name_in format bytes.now }
