@@ -344,7 +344,7 @@ impl Automaton {
         contains(self.awaited, node)
     }
 
-    /// Returns the number of the request of a node whose REPLY is deferred, or `None` where it is not. It does not
+    /// Returns the number of the request of a node whose REPLY is deferred, or `None` if it is not. It does not
     /// allocate.
     pub fn deferred(&self, node: NodeId) -> Option<u64>
         ensures value { result ≡ finmap.get self.now.deferred node }

@@ -4,9 +4,9 @@
 //! idle node and 20 for each phase and own mode of another; for a REPLY there are 6.
 //!
 //! What the rows come to is proved. Each row of a REQUEST is what `answer_of` computes from whether the modes
-//! conflict and how the stamps compare, and `IsAnswer` says what that tells. On it, and on the clauses on REPLYs,
-//! stand the contracts of `Automaton::answer` and `Automaton::effect`, and on these the clause `ok` of
-//! `Automaton::receive`: its `ReceiveStep` has the three rules, `Defers` and `RepliesAtOnce` for a REQUEST, and
+//! conflict and how the stamps compare, and `IsAnswer` says what that tells. The contracts of `Automaton::answer` and
+//! `Automaton::effect` depend on it and on the clauses on REPLYs. The clause `ok` of `Automaton::receive` depends on
+//! these contracts: its `ReceiveStep` has the three rules, `Defers` and `RepliesAtOnce` for a REQUEST, and
 //! `TakesReply` for a REPLY.
 ghost use Rattle.std.specs.Prelude.{◌≡◌, ◌↔◌, true, false, IsTrue};
 ghost use Rattle.ra_stamp.specs.Stamp.{IsEarlier};

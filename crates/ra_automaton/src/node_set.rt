@@ -1,4 +1,4 @@
-//! Sets of nodes as words: a node is in where its bit is set.
+//! Sets of nodes as words: a node is in the set if its bit is set.
 ghost use Rattle.std.specs.Prelude.{◌≡◌, ◌-◌, ◌^◌, ◌<◌, ◌↔◌, IsTrue};
 ghost use Rattle.std.specs.FinSet as set;
 ghost use Rattle.ra_stamp.specs.NodeId.{IsNodeNumber};
@@ -63,6 +63,6 @@ pub fn all_but(me: NodeId, nodes: u16) -> u64
     requires { IsNodeNumber nodes }
     ensures { set_of result ≡ set.from_list (others_of me nodes) }
 {
-    // All bits are set at first, and none above the nodes is left: where there are 64 nodes, 1 could not be shifted up so far.
+    // All bits are set at first, and none above the nodes is left: if there are 64 nodes, 1 could not be shifted up so far.
     remove(u64::MAX >> (64 - nodes), me)
 }

@@ -1,4 +1,4 @@
-//! The numbers with which nodes are deferred: a word says who is, and the number of node i stands at place i - 1.
+//! The numbers with which nodes are deferred: a word says which nodes are, and the number of node i is at place i - 1.
 ghost use Rattle.std.specs.Prelude.{◌≡◌, ◌≤◌, IsTrue, length, IfOk};
 ghost use Rattle.std.specs.FinSet as set;
 ghost use Rattle.std.specs.FinMap as finmap;
@@ -15,7 +15,7 @@ pub fn zeros(alloc: Global, count: usize) -> Result<Vec<u64>, Memory>
     Ok(vec![in alloc; 0; count]?)
 }
 
-/// Returns the number with which a node is deferred, or `None` where it is not.
+/// Returns the number with which a node is deferred, or `None` if it is not.
 #[inline(always)]
 pub fn number_of(word: u64, numbers: &[u64], node: NodeId) -> Option<u64>
     requires { IsTrue (set.contains (set_of word) node) → node ≤ length numbers.now }
