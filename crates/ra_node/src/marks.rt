@@ -5,7 +5,7 @@ ghost use Rattle.ra_node.specs.Turns.{request_marks};
 use ra_stamp::{Entry, Mark, Marks, Memory};
 use std::alloc::Global;
 
-/// Adds a mark where there is room for it.
+/// Adds a mark if there is room for it.
 pub fn push_reserved(marks: &mut Marks, mark: Mark)
     requires { 1 ≤ marks.old.spare }
     ensures items { marks.new.items ≡ marks.old.items ++ mark ∷ [] }

@@ -11,19 +11,19 @@ use std::alloc::Global;
 use std::collections::VecDeque;
 use std::marker::Model;
 
-/// Where no more clients than these are queued, they are looked through.
+/// If no more clients than these are queued, they are looked through.
 const MAX_LINEAR_SCAN: usize = 16;
 
 /// A queue of clients, the first one next. Contracts see the list.
 ///
-/// A long queue knows its clients, so that one is found by a hash and not by looking at each. They are learned where a client
-/// comes to a long queue, and known until the queue has run empty, so that they are not learned again and again where its length
-/// goes up and down. A queue for which there was no memory to know them does the same in more time.
+/// A long queue knows its clients, so that one is found by a hash and not by looking at each. They are learned when a client
+/// comes to a long queue, and known until the queue has run empty. So they are not learned again and again when its length goes
+/// up and down. A queue for which there was no memory to know them does the same in more time.
 #[derive(Drop)]
 pub struct Queue {
     clients: VecDeque<Queued>,
-    /// The same clients as keys, in any order, or none where they are not known. A set would bring more code to prove into each crate
-    /// above, which has maps already.
+    /// The same clients as keys, in any order, or none if they are not known. A set would bring more code to prove into each
+    /// crate above, which has maps already.
     known: IndexMap<u32, ()>,
 }
 
@@ -58,7 +58,7 @@ impl Queue {
         self.clients.len()
     }
 
-    /// Returns whether a client is queued, in expected constant time, or in time linear in the length of the queue where there was
+    /// Returns whether a client is queued, in expected constant time, or in time linear in the length of the queue if there was
     /// no memory to know its clients.
     pub fn has(&self, client: u32) -> bool
         ensures { IsTrue result ↔ Any (λ queued. queued.client ≡ client) self.now }
@@ -69,7 +69,7 @@ impl Queue {
         self.known.contains_key(&client)
     }
 
-    /// Returns the first client, or `None` where no client is queued.
+    /// Returns the first client, or `None` if no client is queued.
     pub fn front(&self) -> Option<Queued>
         ensures some { IfSome result (λ first. take 1 self.now ≡ first ∷ []) }
         ensures none { IsNone result → self.now ≡ [] }
@@ -77,7 +77,7 @@ impl Queue {
         self.clients.front().copied()
     }
 
-    /// Puts a client after all others, in amortized constant time on average, or in time linear in the length of the queue where
+    /// Puts a client after all others, in amortized constant time on average, or in time linear in the length of the queue if
     /// there was no memory to know its clients.
     ///
     /// # Errors
@@ -103,7 +103,7 @@ impl Queue {
     }
 }
 
-/// Learns the last client, which was put after the others, or all where they are many and were not known.
+/// Learns the last client, which was put after the others, or all if they are many and were not known.
 fn learn_last(known: &mut IndexMap<u32, ()>, clients: &VecDeque<Queued>, last: &Queued)
     ensures { (before : List Queued) → clients.now.items ≡ before ++ last.now ∷ []
         → IsKnown (keys known.old) before → IsKnown (keys known.new) clients.now.items }
@@ -115,7 +115,7 @@ fn learn_last(known: &mut IndexMap<u32, ()>, clients: &VecDeque<Queued>, last: &
     }
 }
 
-/// Learns all clients, of which none is known, or none where memory runs out.
+/// Learns all clients, of which none is known, or none if memory runs out.
 fn learn_all(known: &mut IndexMap<u32, ()>, clients: &VecDeque<Queued>)
     requires { keys known.old ≡ [] }
     ensures { IsKnown (keys known.new) clients.now.items }
@@ -128,7 +128,7 @@ fn learn_all(known: &mut IndexMap<u32, ()>, clients: &VecDeque<Queued>)
     }
 }
 
-/// Learns one client more, or forgets all where memory runs out.
+/// Learns one client more, or forgets all if memory runs out.
 fn learn(known: &mut IndexMap<u32, ()>, client: u32)
     ensures { (before : List Queued) (last : Queued) → last.client ≡ client
         → IsKnown (keys known.old) before → keys known.old ≢ [] → IsKnown (keys known.new) (before ++ last ∷ []) }

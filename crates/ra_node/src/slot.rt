@@ -53,7 +53,7 @@ impl Slot {
         ensures { result ≡ unmet me nodes name start }
     {
         let Ok(automaton) = Automaton::new(alloc, me, nodes, name, start) else {
-            // The node is one of so many, and no memory is needed.
+            // The node is one of 1 to `nodes`, and no memory is needed.
             unreachable!()
         };
         Slot {
@@ -105,7 +105,7 @@ impl Slot {
     }
 
     /// Returns whether the client may ask here, unless memory runs out, in expected constant time, or in time linear in the length of the
-    /// queue where there was no memory to know its clients.
+    /// queue if there was no memory to know its clients.
     ///
     /// # Errors
     ///
@@ -172,7 +172,7 @@ impl Slot {
         };
         let requested = self.next_entry(client, mode);
         let Ok(reaction) = self.automaton.request(alloc, mode) else {
-            // Only `Memory` can come where the node is idle and a number is left.
+            // Only `Memory` can come if the node is idle and a number is left.
             return Err(AskError::Memory);
         };
         self.client = Some(client);
@@ -198,7 +198,7 @@ impl Slot {
         Ok(nothing(alloc))
     }
 
-    /// Leaves for the client that holds, and the next one asks in the same event. No client may stand here twice. What is
+    /// Leaves for the client that holds, and the next one asks in the same event. No client may be here twice. What is
     /// sent and marked is put into an empty outcome. It does not allocate if that has room to leave.
     ///
     /// # Errors
@@ -255,7 +255,7 @@ impl Slot {
             return Err(LeaveError::Memory);
         };
         let Ok(reaction) = self.automaton.leave_into(alloc, sends) else {
-            // Only `Memory` can come where a client holds.
+            // Only `Memory` can come if a client holds.
             return Err(LeaveError::Memory);
         };
         self.client = None;
@@ -265,7 +265,7 @@ impl Slot {
         })
     }
 
-    /// Leaves by the request that is granted, and `next`, the first of the queue, asks. No client may stand here twice.
+    /// Leaves by the request that is granted, and `next`, the first of the queue, asks. No client may be here twice.
     ///
     /// # Errors
     ///
@@ -304,7 +304,7 @@ impl Slot {
     }
 
     /// Leaves for the client that holds and asks for `next`, the first of the queue, in one reaction: the deferred REPLYs
-    /// come first. A number must be left, and no client may stand here twice. The messages are put into an empty list.
+    /// come first. A number must be left, and no client may be here twice. The messages are put into an empty list.
     ///
     /// # Errors
     ///
@@ -330,7 +330,7 @@ impl Slot {
             .automaton
             .leave_and_request_into(alloc, next.mode, sends);
         let Ok(handed) = left else {
-            // Only `Memory` can come where a client holds.
+            // Only `Memory` can come if a client holds.
             return Err(LeaveError::Memory);
         };
         self.queue.pop_front();
