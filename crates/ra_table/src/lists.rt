@@ -63,7 +63,7 @@ pub fn has_earlier(list: &[Entry], entry: &Entry) -> bool
     false
 }
 
-/// Returns where the entry stands in the list.
+/// Returns the place of the entry in the list.
 pub fn place_of(list: &[Entry], entry: &Entry) -> Option<usize>
     ensures absent { IsNone result ↔ ¬ (Contains list.now entry.now) }
     ensures found { IfSome result (λ place. (place < length list.now)
