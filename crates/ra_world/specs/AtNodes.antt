@@ -1,4 +1,4 @@
--- The lock table of a run, seen from the nodes: who waits and who holds in it.
+-- The lock table of a run, seen from the nodes: which entries wait in it and which hold.
 use Rattle.std.specs.Prelude.{◌≡◌, ◌↔◌, ℕ, ◌≤◌, List, All, Contains}
 use Rattle.ra_stamp.specs.declared.entry.Entry.{Entry}
 use Rattle.ra_node.specs.Resource.{use_of}

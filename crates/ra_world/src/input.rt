@@ -54,7 +54,7 @@ fn read_from<R: Read>(
         × Consumes (R.remaining source.old.reader.now) (R.remaining source.new.reader.now) taken }
     ensures failed { IsErrOf result ReadFault.Read → (taken : List ℕ) × (length taken < limit)
         × Consumes (R.remaining source.old.reader.now) (R.remaining source.new.reader.now) taken }
-    // Who answers that it failed has seen it fail.
+    // A call that answers that the reader failed has seen it fail.
     ensures fault { IsErrOf result ReadFault.Read ↔ (source.new.failed ≡ true) }
 {
     let mut bytes = Vec::with_capacity(alloc, limit.min(FIRST_ROOM))?;

@@ -11,13 +11,13 @@ use ra_stamp::{GhostList, Mark, Marks, Memory, Sequence};
 use std::alloc::Global;
 use std::marker::Model;
 
-/// What came of the steps so far. The steps themselves are counted and not kept, and their marks are kept where `KEEPS_MARKS` is 1.
+/// What came of the steps so far. The steps themselves are counted and not kept, and their marks are kept if `KEEPS_MARKS` is 1.
 /// Contracts see the moves, and the room for more marks.
 #[derive(Drop)]
 pub struct Log<const KEEPS_MARKS: u8> {
     /// How many steps there were.
     steps: u64,
-    /// All marks of the steps, in order, where they are kept, and else none.
+    /// All marks of the steps, in order, if they are kept, and otherwise none.
     marks: Marks,
     /// How many messages the steps sent.
     sent: u128,
@@ -101,7 +101,7 @@ impl<const KEEPS_MARKS: u8> Log<KEEPS_MARKS> {
         self.repeated
     }
 
-    /// Returns the marks of the steps, in order, where they are kept.
+    /// Returns the marks of the steps, in order, if they are kept.
     pub fn marks(&self) -> &Marks
         ensures { KEEPS_MARKS ≡ 1 → result.now.items ≡ marks_of self.now.moves }
     {
@@ -115,12 +115,12 @@ impl<const KEEPS_MARKS: u8> Log<KEEPS_MARKS> {
         self.marks
     }
 
-    /// Makes room for one step with this many marks. The cost is linear in the marks that are kept where the room has to
-    /// grow, which, as it doubles, is amortized constant for each mark added.
+    /// Makes room for one step with this many marks. If the room has to grow, the cost is linear in the marks that are kept.
+    /// As the room doubles, that is amortized constant for each mark added.
     ///
     /// # Errors
     ///
-    /// `Memory`, also where there were 2^64-1 steps: the steps are as before. For no mark it is answered only there.
+    /// `Memory`, also if there were 2^64-1 steps: the steps are as before. For no mark it is answered only then.
     pub fn reserve(&mut self, marks: u64) -> Result<(), Memory>
         ensures same { self.new.moves ≡ self.old.moves }
         ensures ok { OnOk result (HasRoom self.new marks) }
@@ -169,7 +169,7 @@ fn repeats_of(step: &Step) -> u64
     }
 }
 
-/// Makes room for more marks, where they are kept.
+/// Makes room for more marks, if they are kept.
 ///
 /// # Errors
 ///
@@ -185,7 +185,7 @@ fn reserve_marks<const KEEPS_MARKS: u8>(kept: &mut Marks, marks: u64) -> Result<
     kept.reserve(marks)
 }
 
-/// Adds the marks of a step to those that are kept, where any are, for which there is room.
+/// Adds the marks of a step to those that are kept, if any are. There is room for them.
 fn keep_marks<const KEEPS_MARKS: u8>(kept: &mut Marks, marks: &[Mark])
     requires { KEEPS_MARKS ≡ 1 → length marks.now ≤ kept.old.spare }
     ensures { KEEPS_MARKS ≡ 1 → kept.new.items ≡ kept.old.items ++ marks.now }

@@ -27,7 +27,7 @@ pub fn opening_nodes(alloc: Global, count: u16, start: u64) -> Result<Vec<Node>,
     Ok(nodes)
 }
 
-/// Returns the place of a node, or `None` where there is no such node.
+/// Returns the place of a node, or `None` if there is no such node.
 pub fn place_of(nodes: &[Node], node: NodeId) -> Option<usize>
     ensures some { IfSome result (λ place. (place + 1 ≡ node) × (place < length nodes.now)) }
     ensures none { IsNone result ↔ (length nodes.now < node) }

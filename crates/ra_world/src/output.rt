@@ -33,7 +33,7 @@ fn write_to<W: Write>(target: &mut Target<'_, W>, bytes: &[u8]) -> Result<(), Wr
     ensures err { OnErr result ((prefix : List ℕ) × (rest : List ℕ)
         × (bytes.now ≡ prefix ++ rest) × (rest ≢ [])
         × Appends (W.contents target.old.writer.now) (W.contents target.new.writer.now) prefix) }
-    // Who answers that it failed has seen it fail.
+    // A call that answers a fault has seen it.
     ensures fault { IsErr result ↔ (target.new.failed ≡ true) }
 {
     let mut rest = bytes;

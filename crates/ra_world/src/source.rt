@@ -5,8 +5,8 @@ ghost use Rattle.std.specs.Io.KnownBytes.{Consumes, IsAtEnd, Keeps};
 use crate::ReadFault;
 use std::io::Read;
 
-/// A reader, and whether it failed. Only this file asks the reader, so that who reads from a source can't ask it again once it
-/// failed.
+/// A reader, and whether it failed. Only this file asks the reader, so that a function that reads from a source can't ask it
+/// again once it failed.
 #[derive(Drop)]
 pub struct Source<'a, R> {
     reader: &'a mut R,

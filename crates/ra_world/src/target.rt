@@ -5,8 +5,8 @@ ghost use Rattle.std.specs.Io.KnownBytes.{Appends, Keeps};
 use crate::WriteFault;
 use std::io::Write;
 
-/// A writer, and whether it failed or took nothing. Only this file asks the writer, so that who writes to a target can't ask it
-/// again then.
+/// A writer, and whether it failed or took nothing. Only this file asks the writer, so that a function that writes to
+/// a target can't ask it again then.
 #[derive(Drop)]
 pub struct Target<'a, W> {
     writer: &'a mut W,
