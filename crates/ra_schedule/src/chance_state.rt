@@ -9,7 +9,7 @@ use crate::rosters::{Roster, members_at, node_at, rosters_of};
 use crate::{Policy, Script};
 use ra_stamp::{Mark, Memory};
 use ra_world::{Step, World};
-// The traits by which a generator is seeded and gives its words stand there, as in Rust.
+// As in Rust, the traits by which a generator is seeded and gives its words are in that crate.
 use rand_core::SeedableRng;
 use rand_pcg::Lcg128Xsl64;
 use std::alloc::Global;
@@ -26,7 +26,7 @@ pub struct Draws {
 }
 
 impl Draws {
-    /// Makes what the random choice begins with, or `None` where the policy has no seed: then nothing is kept, and no memory taken.
+    /// Makes what the random choice begins with, or `None` if the policy has no seed: then nothing is kept, and no memory taken.
     ///
     /// # Errors
     ///
@@ -75,7 +75,7 @@ impl Draws {
     }
 }
 
-/// Notes a step that was made with these marks, where the choice is random.
+/// Notes a step that was made with these marks, if the choice is random.
 pub fn note_step_in(
     draws: &mut Option<Draws>,
     script: &Script,
@@ -94,7 +94,7 @@ pub fn note_step_in(
     }
 }
 
-/// Returns the generator that a policy begins with, where it has one.
+/// Returns the generator that a policy begins with, if it has one.
 fn generator_of(policy: &Policy) -> Option<Lcg128Xsl64>
     ensures { result ≡ generator_at policy.now 0 }
 {

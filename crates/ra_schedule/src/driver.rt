@@ -23,9 +23,9 @@ use std::alloc::Global;
 /// What is kept from turn to turn besides the cluster.
 #[derive(Drop)]
 pub struct Driver {
-    /// Where each client stands.
+    /// How far each client is.
     pub clients: Vec<Progress>,
-    /// What the random choice is made by, where there is one.
+    /// What the random choice is made by, if there is one.
     draws: Option<Draws>,
     /// Each client before this place waits or has nothing left to do, so that most turns need not look at all clients.
     first: u32,
@@ -38,7 +38,7 @@ pub struct Driver {
 }
 
 impl Driver {
-    /// Makes what is kept at first, where nothing has happened yet in the cluster.
+    /// Makes what is kept at first, when nothing has happened yet in the cluster.
     ///
     /// # Errors
     ///
@@ -108,7 +108,7 @@ impl Driver {
         }
     }
 
-    /// Makes a turn, and returns true, or false where no choice is left.
+    /// Makes a turn, and returns true, or false if no choice is left.
     ///
     /// # Errors
     ///
@@ -125,7 +125,7 @@ impl Driver {
         ensures ok { IfOk result (AfterTurn script.now policy.now world.old self.old world.new self.new) }
         ensures err { IfErr result (IsRefused script.now policy.now world.old.moves) }
         ensures same { OnErr result (world.new ≡ world.old) }
-        // Where the choice can't be made, that is the answer, and not that memory ran out.
+        // If the choice can't be made, that is the answer, and not that memory ran out.
         ensures memory { IsErrOf result DriveError.Memory → MayGoOn script.now policy.now world.old.moves }
     {
         self.first = first_free(script, &self.clients, self.first);
@@ -143,7 +143,7 @@ impl Driver {
         Ok(true)
     }
 
-    /// Does what a choice stands for, where it can be made.
+    /// Does what a choice stands for, if it can be made.
     ///
     /// # Errors
     ///
@@ -161,7 +161,7 @@ impl Driver {
         ensures ok { OnOk result (HasMade script.now picked.choice world.old self.old world.new self.new) }
         ensures err { IfErr result (CannotBeMade script.now world.old.moves picked.choice) }
         ensures same { OnErr result (world.new ≡ world.old) }
-        // Where the choice can't be made, that is the answer, and not that memory ran out.
+        // If the choice can't be made, that is the answer, and not that memory ran out.
         ensures memory { IsErrOf result DriveError.Memory
             → (step : Step) × StandsFor script.now world.old.moves picked.choice step }
     {
@@ -231,7 +231,7 @@ fn keep(
     Ok(())
 }
 
-/// Returns the place of the message that a choice names, or 0 where it names a client.
+/// Returns the place of the message that a choice names, or 0 if it names a client.
 pub fn place_in(choice: Choice) -> u64
     ensures { (place : ℕ) → (choice ≡ Choice.Message place) ⊎ (choice ≡ Choice.Lost place) ⊎ (choice ≡ Choice.Repeated place)
         → result ≡ place }
@@ -242,7 +242,7 @@ pub fn place_in(choice: Choice) -> u64
     }
 }
 
-/// Makes a step that the run goes on with, notes where the clients stand then, and returns its marks. A message that it takes is
+/// Makes a step that the run goes on with, notes how far the clients are then, and returns its marks. A message that it takes is
 /// looked for at the place `near` first.
 ///
 /// # Errors

@@ -112,7 +112,7 @@ impl Enabled {
         }
     }
 
-    /// Looks again whether a client is enabled, where there is such a client.
+    /// Looks again whether a client is enabled, if there is such a client.
     fn look_at(&mut self, script: &Script, world: &World, clients: &[Progress], client: u32)
         requires tracked { Tracks script.now world.now clients.now }
         requires alike { length self.old.flags.items ≡ length script.now.clients }
@@ -145,7 +145,7 @@ impl Enabled {
     }
 }
 
-/// Returns 1 for true, and else 0.
+/// Returns 1 for true, and otherwise 0.
 fn one_if(flag: bool) -> u32
     ensures { result ≡ if flag then 1 else 0 }
 {

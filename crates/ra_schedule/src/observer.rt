@@ -1,4 +1,4 @@
-//! Who is told how far many seeds have come.
+//! Observers, which are told how far many seeds have come.
 ghost use Rattle.std.specs.Prelude.{[], ◌∷◌, List, Option, None};
 ghost use Rattle.ra_schedule.specs.Telling.{Told, Tells};
 

@@ -32,7 +32,7 @@ fn step_of(node: NodeId, client: u32, op: Op) -> Step
     }
 }
 
-/// Returns the step of a client that stands here, where it is enabled, or `None`.
+/// Returns the step of a client with this progress if it is enabled, or `None`.
 pub fn enabled_step(script: &Script, world: &World, client: u32, progress: Progress) -> Option<Step>
     requires count { world.now.count ≡ script.now.nodes }
     requires start { world.now.start ≡ 0 }

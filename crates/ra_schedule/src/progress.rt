@@ -1,4 +1,4 @@
-//! Where the clients stand.
+//! How far the clients are.
 ghost use Rattle.std.specs.Prelude.{◌≡◌, ◌≢◌, ◌+◌, ◌<◌, ◌≤◌, ◌⊎◌, ◌||◌, ℕ, length, replicate, false, slice_index_or, IsTrue, IfOk};
 ghost use Rattle.ra_schedule.specs.Schedule.{Enters};
 ghost use Rattle.ra_schedule.specs.Progress.{IsAfterStep, IsAfterMarks, OfEach, AreCountable, IsStuck, AreStuck, NoneEnters};
@@ -8,7 +8,7 @@ use ra_stamp::{Mark, Memory};
 use ra_world::Step;
 use std::alloc::Global;
 
-/// Where a client stands in its list.
+/// How far a client is in its list.
 #[derive(Clone, Copy)]
 pub struct Progress {
     /// How many of its operations are done, the one that it waits for among them.
@@ -42,8 +42,8 @@ fn is_free(script: &Script, client: u32, progress: Progress) -> bool
     !progress.waiting && script.op(client, progress.done).is_some()
 }
 
-/// Returns the place of the first client that does not wait and has something left to do, or the number of clients, where there
-/// is none before the place `first`.
+/// Returns the place of the first client that does not wait and has something left to do, or the number of clients if there is
+/// none. There must be none before the place `first`.
 pub fn first_free(script: &Script, clients: &[Progress], first: u32) -> u32
     requires alike { length clients.now ≡ length script.now.clients }
     requires stuck { AreStuck script.now clients.now first }
@@ -69,7 +69,7 @@ pub fn first_entered(marks: &[Mark], first: u32) -> u32
     place
 }
 
-/// Returns the place of the client that entered by the mark, or `first` where it says so of nobody.
+/// Returns the place of the client that entered by the mark, or `first` if it says so of nobody.
 fn place_entered(mark: &Mark, first: u32) -> u32
     ensures { (k : ℕ) → k < result → Enters (k + 1) mark.now → ⊥ }
 {
@@ -123,7 +123,7 @@ fn stop_waiting(list: &mut [Progress], client: u32)
     }
 }
 
-/// Notes marks: who entered waits no longer.
+/// Notes marks: a client that entered waits no longer.
 pub fn note_marks(list: &mut [Progress], marks: &[Mark])
     ensures { OfEach (λ client old new. IsAfterMarks client marks.now old new) list.old list.new }
 {

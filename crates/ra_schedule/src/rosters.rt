@@ -66,7 +66,7 @@ pub fn rosters_of(alloc: Global, script: &Script) -> Result<Vec<Roster>, Memory>
     Ok(rosters)
 }
 
-/// Returns the clients of a node, or none where there is no such node.
+/// Returns the clients of a node, or none if there is no such node.
 pub fn members_at(rosters: &[Roster], node: Option<NodeId>) -> &[u32]
     ensures { (client number : ℕ) → node ≡ Some number → Contains (slice_index_or rosters.now (number - 1) []) client
         → Contains result.now client }
@@ -80,7 +80,7 @@ pub fn members_at(rosters: &[Roster], node: Option<NodeId>) -> &[u32]
     }
 }
 
-/// Returns the node at which a step happens, or `None` where it is a loss or a repeat.
+/// Returns the node at which a step happens, or `None` if it is a loss or a repeat.
 pub fn node_at(step: &Step) -> Option<NodeId>
     ensures { result ≡ node_at step.now }
 {

@@ -59,8 +59,8 @@ impl Client {
 }
 
 /// What clients do at the nodes of a cluster. Contracts see how many nodes there are, and for each client its node and its
-/// operations. There are at most 64 clients, each at a node that there is, with at most 1,024 operations; and none locks a
-/// name that it has, or unlocks one that it has not. A client may have names at the end.
+/// operations. There are at most 64 clients, each at one of the nodes, with at most 1,024 operations. None locks a name
+/// that it has, or unlocks one that it has not. A client may have names at the end.
 #[derive(Drop)]
 pub struct Script {
     nodes: u16,
@@ -195,7 +195,7 @@ impl Script {
         self.clients.len() as u32
     }
 
-    /// Returns the node of the client with this number, counted from 1, or `None` where there is no such client. It does not
+    /// Returns the node of the client with this number, counted from 1, or `None` if there is no such client. It does not
     /// allocate.
     pub fn node_of(&self, client: u32) -> Option<NodeId>
         ensures value { result ≡ option_map (λ c. c.node) (client_at self.now client) }
@@ -205,7 +205,7 @@ impl Script {
         Some(client.node)
     }
 
-    /// Returns how many operations the client with this number has, at most 1,024, or `None` where there is no such client.
+    /// Returns how many operations the client with this number has, at most 1,024, or `None` if there is no such client.
     /// It does not allocate.
     pub fn ops_of(&self, client: u32) -> Option<u64>
         ensures value { result ≡ option_map (λ c. length c.ops) (client_at self.now client) }
@@ -215,8 +215,8 @@ impl Script {
         Some(client.ops.len() as u64)
     }
 
-    /// Returns the operation of the client with this number that stands at this place, counted from 0, or `None` where there
-    /// is no such client or no operation. It does not allocate.
+    /// Returns the operation at this place, counted from 0, of the client with this number, or `None` if there is no such
+    /// client or no operation. It does not allocate.
     pub fn op(&self, client: u32, place: u64) -> Option<Op>
         ensures value { result ≡ op_at self.now client place }
         ensures script { IsScript self.now }
@@ -237,7 +237,7 @@ impl Script {
         clients.get(client as usize - 1)
     }
 
-    /// Returns the node with this number, or `None` where there is none, or no room for one more client.
+    /// Returns the node with this number, or `None` if there is none, or no room for one more client.
     fn node_for_client(&self, node: u16) -> Option<NodeId>
         ensures value { IfSome result (λ member. member ≡ node) }
         ensures room { IsSome result

@@ -13,7 +13,7 @@ use ra_world::World;
 use rand_core::utils::NextWord;
 use rand_pcg::Lcg128Xsl64;
 
-/// Draws a word and returns the choice that it names. Where there is no choice, it draws none and returns `None`.
+/// Draws a word and returns the choice that it names. If there is no choice, it draws none and returns `None`.
 fn draw(
     generator: &mut Lcg128Xsl64,
     script: &Script,
