@@ -22,7 +22,7 @@ fn part_of(shown: &[u8], most: usize) -> (usize, bool)
 }
 
 /// Takes what the reader shows of the line, at most `most` bytes. Returns how many they are, and whether the last of them is
-/// the line feed of the line. There are none where the reader shows nothing or none may be taken.
+/// the line feed of the line. There are none if the reader shows nothing or none may be taken.
 ///
 /// # Errors
 ///
@@ -45,7 +45,7 @@ fn take_part<B: BufRead>(
     Ok((count, is_over))
 }
 
-/// Returns with what these bytes end, or `None` where the line goes on.
+/// Returns with what these bytes end, or `None` if the line goes on.
 fn end_of(bytes: &LineBytes, is_over: bool) -> Option<LineEnd>
     requires { length bytes.now.items ≤ 128 }
     ensures ends { (left : ℕ) (old new : Option (List ℕ)) → TakesBytes left old new bytes.now.items
@@ -61,7 +61,7 @@ fn end_of(bytes: &LineBytes, is_over: bool) -> Option<LineEnd>
     }
 }
 
-/// Takes one more byte of a line. Returns with what the line ends, or `None` where it goes on.
+/// Takes one more byte of a line. Returns with what the line ends, or `None` if it goes on.
 ///
 /// # Errors
 ///
@@ -87,7 +87,7 @@ fn take_byte<R: Read>(
     Ok(end_of(bytes, byte == b'\n'))
 }
 
-/// Takes some more bytes of a line. Returns with what the line ends, or `None` where it goes on.
+/// Takes some more bytes of a line. Returns with what the line ends, or `None` if it goes on.
 ///
 /// # Errors
 ///

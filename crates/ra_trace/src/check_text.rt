@@ -28,7 +28,7 @@ enum Next {
     Wrong(Cause),
 }
 
-/// Returns that this line is not one that may stand there.
+/// Returns that this line is not one that may be there.
 fn wrong_at(line: u64) -> Verdict
     ensures { result ≡ Verdict.Invalid line Cause.Line }
 {
@@ -58,7 +58,7 @@ fn ending<R: Read>(
     }
 }
 
-/// Takes the first line, and answers the checker that stands after it, or `None` where none comes that may begin a trace.
+/// Takes the first line, and answers the checker after it, or `None` if none comes that may begin a trace.
 ///
 /// # Errors
 ///
@@ -117,7 +117,7 @@ fn take_next<R: Read, S: LineSource<R>>(
     }
 }
 
-/// Returns the verdict of a text whose first line these bytes are, and after it the checker stands.
+/// Returns the verdict of a text whose first line is these bytes, from the checker after that line.
 ///
 /// # Errors
 ///
@@ -153,7 +153,7 @@ fn verdict_behind<R: Read, S: LineSource<R>>(
     }
 }
 
-/// Returns the verdict of a text of at most `limit` bytes, line by line: at the first wrong line, or where the text is at its end.
+/// Returns the verdict of a text of at most `limit` bytes, line by line: at the first wrong line, or at the end of the text.
 ///
 /// # Errors
 ///

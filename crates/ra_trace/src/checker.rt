@@ -37,7 +37,7 @@ impl Checker {
     ghost use Rattle.ra_trace.specs.Checking.{due_of, IsOpening, StandsBehind, Tried};
     ghost use Rattle.ra_trace.specs.Reading.{HasBegun};
 
-    /// Makes the checker that stands after this line, or answers `None` where it is no first line of its version.
+    /// Makes the checker after this line, or answers `None` if it is not a first line of its version.
     ///
     /// # Errors
     ///
@@ -68,7 +68,7 @@ impl Checker {
         }
     }
 
-    /// Makes the checker that stands after the first line of a trace of this many nodes.
+    /// Makes the checker after the first line of a trace of this many nodes.
     ///
     /// # Errors
     ///
@@ -102,7 +102,7 @@ impl Checker {
         }
     }
 
-    /// Takes the next line, and answers why it is wrong, or `None` where it is right. It steps the world and the lock table
+    /// Takes the next line, and answers why it is wrong, or `None` if it is right. It steps the world and the lock table
     /// itself, and believes neither steps nor marks. After a wrong line, or without memory, nothing is promised of the checker.
     /// The cost is that of one step of the world or of the lock table.
     ///
@@ -121,7 +121,7 @@ impl Checker {
         }
     }
 
-    /// Returns the verdict of a text of which nothing is left behind the last line. It does not allocate.
+    /// Returns the verdict of a text of which nothing is left after the last line. It does not allocate.
     pub fn totals(&self) -> Verdict
         ensures { result
             ≡ Verdict.Valid (requests_in (marks_of self.now.world.moves)) (length (sent_by self.now.world.moves)) }
@@ -206,7 +206,7 @@ impl Checker {
     }
 }
 
-/// Returns why a mark that is not due is wrong: for the lock table, or else since it is not due.
+/// Returns why a mark that is not due is wrong: the lock table refuses it, or otherwise it is not due.
 fn cause_of(table: &Table, mark: &Mark) -> Cause
     ensures { ((result ≡ Cause.Marks) × AllowsMark table.now mark.now)
         ⊎ ((result ≡ Cause.Table) × (AllowsMark table.now mark.now → ⊥)) }

@@ -6,7 +6,7 @@ ghost use Rattle.ra_trace.specs.Forms as spec;
 
 use ra_stamp::{Mode, Name, NodeId};
 
-/// Returns what stands before and after the first such byte, or `None` where there is none. It does not allocate.
+/// Returns what is before and after the first such byte, or `None` if there is none. It does not allocate.
 pub fn cut(byte: u8, text: &[u8]) -> Option<(&[u8], &[u8])>
     ensures { MatchOption result (spec.cut byte text.now ≡ None)
         (λ parts. spec.cut byte text.now ≡ Some (parts.0.now, parts.1.now)) }
@@ -41,7 +41,7 @@ fn is_decimal(digits: &[u8]) -> bool
     digits.len() == 1 || digits[0] != b'0'
 }
 
-/// Returns the number of a decimal with no leading zeros, where it is in a range, both ends included. It does not allocate.
+/// Returns the number of a decimal without leading zeros, if it is in a range, both ends included. It does not allocate.
 #[tactic(auto, using(crate::proofs::Decimals::decimal_is_utf8))]
 fn number_within(low: u64, high: u64, digits: &[u8]) -> Option<u64>
     ensures { result ≡ spec.number_within low high digits.now }

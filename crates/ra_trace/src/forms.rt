@@ -8,7 +8,7 @@ use crate::version::Version;
 use ra_stamp::{Entry, Mark, Message, Mode, Name, NodeId, Stamp};
 use ra_world::Step;
 
-/// Returns what stands after these words, or `None` where the text doesn't begin with them. It does not allocate.
+/// Returns what is after these words, or `None` if the text doesn't begin with them. It does not allocate.
 pub fn behind<'a>(words: &[u8], text: &'a [u8]) -> Option<&'a [u8]>
     ensures { MatchOption result (spec.behind words.now text.now ≡ None)
         (λ rest. spec.behind words.now text.now ≡ Some rest.now) }
@@ -16,7 +16,7 @@ pub fn behind<'a>(words: &[u8], text: &'a [u8]) -> Option<&'a [u8]>
     text.strip_prefix(words)
 }
 
-/// Reads a node before a space, and returns what stands after it.
+/// Reads a node before a space, and returns what is after it.
 fn node_before(text: &[u8]) -> Option<(NodeId, &[u8])>
     ensures { MatchOption result (spec.before spec.node_of text.now ≡ None)
         (λ prefix. spec.before spec.node_of text.now ≡ Some (prefix.0, prefix.1.now)) }
@@ -26,7 +26,7 @@ fn node_before(text: &[u8]) -> Option<(NodeId, &[u8])>
     Some((node, rest))
 }
 
-/// Reads a client before a space, and returns what stands after it.
+/// Reads a client before a space, and returns what is after it.
 fn client_before(text: &[u8]) -> Option<(u32, &[u8])>
     ensures { MatchOption result (spec.before spec.client_of text.now ≡ None)
         (λ prefix. spec.before spec.client_of text.now ≡ Some (prefix.0, prefix.1.now)) }
@@ -272,7 +272,7 @@ fn mark_line(change: Change, text: &[u8]) -> Option<Line>
 }
 
 impl Kind {
-    /// Reads what stands after the first words of such a line.
+    /// Reads what is after the first words of such a line.
     fn read(self, rest: &[u8]) -> Option<Line>
         ensures { result ≡ spec.read_as self rest.now }
     {
@@ -306,8 +306,8 @@ const FORMS: [(&[u8], Kind); 14] = [
     (b"end", Kind::Last),
 ];
 
-/// Returns the line that a text with no line feed is, or `None` where it is not one. Whether its version allows it is not asked. It does
-/// not allocate, and the cost is linear in the text.
+/// Returns the line that a text with no line feed is, or `None` if it is not one. Whether its version allows it is not asked. It
+/// does not allocate, and the cost is linear in the text.
 pub fn line_of(text: &[u8]) -> Option<Line>
     ensures { result ≡ spec.line_in text.now }
 {

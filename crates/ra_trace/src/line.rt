@@ -27,9 +27,9 @@ pub enum Line {
 }
 
 impl Line {
-    /// Returns the line that a text is without its line feed, or `None` if it has no form of a line, with each field in the range of version
-    /// 2. Whether the trace's version allows it, and whether it may come at this point, is not asked. It does not allocate, and the cost is
-    /// linear in the text.
+    /// Returns the line that a text is without its line feed, or `None` if it has no form of a line, with each field in the range
+    /// of version 2. Whether the trace's version allows it, and whether it may come at this point, is not asked. It does not
+    /// allocate, and the cost is linear in the text.
     pub fn parse(text: &[u8]) -> Option<Line>
         ensures line { IfSome result (λ line. IsReadable line × (text.now ++ codes "\n" ≡ line_text line)) }
         ensures none { result ≡ None → (line : Line) → IsReadable line → text.now ++ codes "\n" ≡ line_text line → ⊥ }

@@ -112,7 +112,7 @@ impl Log {
     }
 }
 
-/// Returns what these bytes are, which are no line: nothing more, or a wrong line.
+/// Returns what these bytes are, which are not a line: nothing more, or a wrong line.
 fn missing(bytes: &LineBytes) -> NextMark
     ensures { IsMissing bytes.now.items result }
 {
@@ -148,7 +148,7 @@ fn take_next<R: Read, S: LineSource<R>>(
     }
 }
 
-/// Returns the verdict of a text of at most `limit` bytes, line by line: at the first wrong line, or where the text is at its end.
+/// Returns the verdict of a text of at most `limit` bytes, line by line: at the first wrong line, or at the end of the text.
 ///
 /// # Errors
 ///

@@ -36,7 +36,7 @@ fn seq_fits(seq: u64)
     let _ = seq;
 }
 
-/// So the fields of an entry are in their ranges, where it has a number.
+/// So the fields of an entry are in their ranges, if it has a number.
 fn entry_fits(entry: &Entry)
     ensures { EntryFits entry.now }
 {
@@ -46,7 +46,7 @@ fn entry_fits(entry: &Entry)
     seq_fits(entry.stamp.seq);
 }
 
-/// So the fields of a mark are in their ranges, where its entry has a number.
+/// So the fields of a mark are in their ranges, if its entry has a number.
 pub fn mark_fits(mark: &Mark)
     ensures { MarkFits mark.now }
 {
@@ -57,7 +57,7 @@ pub fn mark_fits(mark: &Mark)
     }
 }
 
-/// So the fields of a message are in their ranges, where it has a number.
+/// So the fields of a message are in their ranges, if it has a number.
 fn message_fits(message: &Message)
     ensures { MessageFits message.now }
 {
@@ -88,7 +88,7 @@ fn message_fits(message: &Message)
     }
 }
 
-/// So the fields of a step are in their ranges, where its message, if it has one, has a number.
+/// So the fields of a step are in their ranges, if it has no message or its message has a number.
 pub fn step_fits(step: &Step)
     ensures { StepFits step.now }
 {

@@ -77,7 +77,7 @@ pub fn read_line<R: Read>(
     Ok(LineEnd::Length)
 }
 
-/// Reads the next line, or answers `None` where what comes next is none: a line of another form, one of 128 bytes or more, or one
+/// Reads the next line, or answers `None` if what comes next is not one: a line of another form, one of 128 bytes or more, or one
 /// that the end of the input cuts off. The bytes that were read are in the place of those that were there. A text may still have
 /// `left` bytes. It does not allocate, and the cost is linear in what it reads.
 ///

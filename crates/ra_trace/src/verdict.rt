@@ -4,8 +4,8 @@ use thiserror::Error;
 /// Why a line of a trace is wrong.
 #[derive(Clone, Copy, Debug, PartialEq, Eq, Error)]
 pub enum Cause {
-    /// It has none of the forms of a line of the trace's version, each field in its range, or no line feed, or stands where it
-    /// may not: the first line is another one or stands again, or something is left behind the last one.
+    /// It has none of the forms of a line of the trace's version, each field in its range, or no line feed, or is where it may
+    /// not be: the first line is another one or comes again, or something is left after the last one.
     Line,
     /// The world refuses an ask or a release.
     Refused,

@@ -189,7 +189,7 @@ fn trace_step(
     ensures traced { (n start : ℕ) (steps : List Step) → place < length steps → step.now ≡ slice_index_or steps place step.now
         → HasTraced n start (take place steps) world.old (string_bytes text.old)
         → Traces n start (take (place + 1) steps) steps world.new (string_bytes text.new) result }
-    // Where the step is refused, that is the answer, and not that memory ran out.
+    // If the step is refused, that is the answer, and not that memory ran out.
     ensures memory { IsErrOf result WriteTraceError.Memory
         → GoesOn world.old.count world.old.start world.old.moves step.now }
 {
@@ -228,7 +228,7 @@ fn trace_steps(
     Ok(())
 }
 
-/// Adds the trace of a run to a text in which nothing stands yet. The world is the one before its first step.
+/// Adds the trace of a run to an empty text. The world is the one before its first step.
 ///
 /// # Errors
 ///
@@ -258,7 +258,7 @@ fn trace_run(
 ///
 /// # Errors
 ///
-/// The first that holds, except that `Memory` may come before a step is refused, where the steps before it stand:
+/// The first that holds, except that `Memory` may come before the run gets to a step that is refused:
 ///
 /// 1. `Run`: the number of nodes is not 1 to 64, or a step is refused, the first such one, with its place, counted from 1, and
 ///    the cause. It is never that memory ran out.
@@ -298,7 +298,7 @@ pub fn trace_text(
 ///
 /// # Errors
 ///
-/// The first that holds, except that `Memory` may come before a step is refused, where the steps before it stand:
+/// The first that holds, except that `Memory` may come before the run gets to a step that is refused:
 ///
 /// 1. `Run`: the number of nodes is not 1 to 64, or a step is refused, the first such one, with its place, counted from 1, and
 ///    the cause. It is never that memory ran out.
@@ -322,7 +322,7 @@ pub fn write_trace<W: Write>(
     ensures refused { (place : ℕ) (cause : StepError)
         → IsErrOf result (WriteTraceError.Run (RunError.Refused place cause))
         → IsNodeNumber nodes × IsRefusedAt nodes start steps.now.items place cause }
-    // Where memory runs out in the run, it does here.
+    // If memory runs out in the run, the answer is `Memory`.
     ensures never { ¬ IsErrOf result (WriteTraceError.Run RunError.Memory) }
     // Memory may run out at each step and before the first, but a wrong number of nodes comes before.
     ensures memory { IsErrOf result WriteTraceError.Memory → IsNodeNumber nodes }
