@@ -279,7 +279,7 @@ impl Book {
         self.start
     }
 
-    /// Returns the clock of the last event, or 0 where there was none. It does not allocate.
+    /// Returns the clock of the last event, or 0 if there was none. It does not allocate.
     pub fn clock(&self) -> u64
         ensures value { result ≡ clock_of (whole_events self.now) }
         ensures history { HasHistory self.now }
@@ -371,7 +371,7 @@ impl Book {
         Ok(mem::replace(&mut self.sent, sent))
     }
 
-    /// Returns the fault, or `None` where there is none. It does not allocate.
+    /// Returns the fault, or `None` if there is none. It does not allocate.
     pub fn fault(&self) -> Option<Stop>
         ensures value { result ≡ self.now.fault }
         ensures history { HasHistory self.now }

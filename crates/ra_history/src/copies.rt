@@ -20,8 +20,8 @@ use ra_world::{Step, Steps};
 use std::alloc::Global;
 use std::collections::BTreeSet;
 
-/// Puts the step of an event, and then a repeat if a frame comes by it that comes by a later event again, after these, which are
-/// in reverse order. The set has the frames that come by the later events.
+/// Puts the step of an event after these steps, and then a repeat if the event gets a frame that a later event gets again. The
+/// steps are in reverse order. The set has the frames that come by the later events.
 fn push_back(
     back: &mut Vec<Step>,
     later: &mut BTreeSet<FrameKey>,
@@ -98,10 +98,11 @@ fn run_with_copies(alloc: Global, books: &[Book]) -> Result<Settled, SettleError
 }
 
 /// Settles the books of a cluster, none of whose frames is flagged lost, into one run of it, also if frames came more than
-/// once: the events of all books by clock, and those of one clock by node; and directly before each by which a frame comes that
-/// comes again later, a repeat of its message. So a frame that comes n times is repeated n - 1 times. Two frames are two also if
-/// they carry one message, with two clocks. Books settle, unless memory runs out, exactly if each frame that came was sent. With n
-/// events and frames sent and k books the cost is that of the run, plus n log n and k n; memory is linear in n.
+/// once. The run has the events of all books by clock, and those of one clock by node. If an event gets a frame that comes
+/// again later, a repeat of the frame's message is directly before that event. So a frame that comes n times is repeated n - 1
+/// times. Two frames are two also if they carry one message, with two clocks. Books settle, unless memory runs out, exactly if
+/// each frame that came was sent. With n events and frames sent and k books the cost is that of the run, plus n log n and k n;
+/// memory is linear in n.
 ///
 /// # Errors
 ///

@@ -25,7 +25,7 @@ struct Turn {
     event: BookEvent,
 }
 
-/// Where the next event of a book stands, and its clock.
+/// The place of a book, and the clock of its next event.
 #[derive(Clone, Copy)]
 struct Head {
     place: usize,
@@ -76,8 +76,8 @@ fn none_taken(alloc: Global, count: usize) -> Result<Vec<u64>, Memory>
     }
 }
 
-/// Returns the next event of all books, where this many of each are taken already: the one with the least clock, and of those the
-/// one at the least node. Returns `None` where all are taken. Of the other events it reads the clock alone.
+/// Returns the next event of all books, when this many of each are taken already: the one with the least clock, and of those the
+/// one at the least node. Returns `None` if all are taken. Of the other events it reads the clock alone.
 fn earliest(books: &[Book], taken: &[u64]) -> Option<Turn>
     requires { length taken.now ≡ length books.now }
     ensures earliest { IsEarliest books.now taken.now (length books.now) result }
@@ -89,7 +89,7 @@ fn earliest(books: &[Book], taken: &[u64]) -> Option<Turn>
     }
 }
 
-/// Returns the next event of the book at a place, or `None` where all of it are taken.
+/// Returns the next event of the book at a place, or `None` if all of its events are taken.
 fn turn_at(books: &[Book], taken: &[u64], place: usize) -> Option<Turn>
     requires within { place < length books.now }
     requires long { length taken.now ≡ length books.now }
@@ -103,7 +103,7 @@ fn turn_at(books: &[Book], taken: &[u64], place: usize) -> Option<Turn>
     }
 }
 
-/// Returns where the next event of all books stands, and its clock, or `None` where all are taken.
+/// Returns the place of the book that has the next event of all books, and the clock of that event, or `None` if all are taken.
 fn first_head(books: &[Book], taken: &[u64]) -> Option<Head>
     requires { length taken.now ≡ length books.now }
     ensures { IsHeadOfEarliest books.now taken.now (length books.now) result }
@@ -133,7 +133,7 @@ fn lesser_of(first: Option<Head>, other: Head) -> Head
     }
 }
 
-/// Returns the clock of the event of a book after as many as are taken, or `None` where all are.
+/// Returns the clock of the event of a book after as many as are taken, or `None` if all are.
 fn next_clock(book: &Book, taken: u64) -> Option<u64>
     ensures { result ≡ option_map (λ e. e.clock) (slice_get book.now.events taken) }
 {
@@ -143,7 +143,7 @@ fn next_clock(book: &Book, taken: u64) -> Option<u64>
     }
 }
 
-/// Returns the event of a book after as many as are taken, or `None` where all are.
+/// Returns the event of a book after as many as are taken, or `None` if all are.
 fn next_of(book: &Book, taken: u64) -> Option<BookEvent>
     ensures value { result ≡ slice_get book.now.events taken }
     ensures fits { IsSome result → taken + 1 < 2 ^ 64 }

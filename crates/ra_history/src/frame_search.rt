@@ -6,7 +6,7 @@ ghost use Rattle.ra_history.specs.Keeping.{Ascends, StandsFirst};
 use crate::Sent;
 use ra_frame::Frame;
 
-/// Returns where the first sent frame that is equal to this one stands, or `None`. The cost is logarithmic in the number of the
+/// Returns the place of the first sent frame that is equal to this one, or `None`. The cost is logarithmic in the number of the
 /// sent frames, and linear in how many of them have its clock, which are those of one event.
 pub fn place_of(sent: &[Sent], frame: &Frame) -> Option<usize>
     requires { Ascends sent.now }

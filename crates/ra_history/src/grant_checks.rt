@@ -1,4 +1,4 @@
-//! That each grant is of a request that was granted, and stands once.
+//! That each grant is of a request that was granted, and occurs once.
 ghost use Rattle.std.specs.Prelude.{◌≡◌, ◌≢◌, All, map, AllPairs, Contains, IfOk, MatchResult};
 ghost use Rattle.ra_stamp.specs.declared.entry.Mark.{Mark};
 ghost use Rattle.ra_history.specs.SettlingParts.{RefusesGrants, RefusesRepeats};

@@ -6,8 +6,8 @@ use crate::{BookError, BookKind};
 use ra_frame::{Frame, decode};
 use ra_stamp::NodeId;
 
-/// Returns the frame that the bytes are the text of, which is for this one of this many nodes, from another one, and the clock
-/// that its coming has after this clock.
+/// Returns the frame whose text the bytes are, and the clock that its coming has after this clock. The frame is for this one of
+/// this many nodes, and from another one.
 ///
 /// # Errors
 ///

@@ -364,7 +364,7 @@ pub fn sent_for(alloc: Global, nodes: u16, leaves: usize) -> Result<Vec<Sent>, M
 ///
 /// # Errors
 ///
-/// `Memory`: so many have no place in any memory.
+/// `Memory`: no memory has room for this many.
 fn most_sent(nodes: u16, sends: u64, leaves: usize) -> Result<usize, Memory>
     ensures { IfOk result (λ count. count ≡ sends + leaves * (2 * nodes)) }
 {

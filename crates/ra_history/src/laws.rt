@@ -25,7 +25,7 @@ pub fn histories_go_on()
         → IsHistory me n start
         (events ++ record { clock = clock_after (clock_of events) kind; kind = kind } ∷ [])
         (sent ++ as_sent (frames_at (clock_after (clock_of events) kind) sends)) new }
-    // What is known to be lost is no matter of the history.
+    // What is known to be lost does not matter to the history.
     ensures flags { (me n start : ℕ) (events : List BookEvent) (sent sent' : List Sent) (node : NodeState)
         → IsHistory me n start events sent node → map (λ s. s.frame) sent' ≡ map (λ s. s.frame) sent
         → IsHistory me n start events sent' node }

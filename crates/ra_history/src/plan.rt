@@ -94,7 +94,7 @@ fn follows_ops(script: &Script, client: u32, marks: &[Mark]) -> bool
     script.op(client, place).is_none()
 }
 
-/// Returns whether a mark is the next one of an operation at a node, where `requested` says whether it is requested already.
+/// Returns whether a mark is the next one of an operation at a node. `requested` says whether it is requested already.
 fn is_next(node: NodeId, op: &Op, requested: bool, mark: &Mark) -> bool
     ensures { IsTrue result ↔ IsNextMark node op.now requested mark.now }
 {

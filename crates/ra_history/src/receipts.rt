@@ -14,8 +14,8 @@ use std::alloc::Global;
 use std::collections::BTreeSet;
 
 /// Checks that each frame that came was sent and not lost, and that no message came twice. The frames that a book sent ascend by
-/// clock, so that the cost of each that came is logarithmic, and linear in the number of nodes; and with the messages in a set, the
-/// cost of each is logarithmic.
+/// clock, so that the cost of each that came is logarithmic, and linear in the number of nodes. The messages are in a set, so
+/// that the cost of each is logarithmic.
 ///
 /// # Errors
 ///
@@ -94,7 +94,7 @@ fn came_once(alloc: Global, books: &[Book]) -> Result<bool, Memory>
 }
 
 /// Puts the messages that came by these events into the set, up to the first that is there already. Returns whether there is
-/// none.
+/// no such message.
 fn put_messages(came: &mut BTreeSet<MessageKey>, events: &[BookEvent]) -> Result<bool, Memory>
     ensures { (list : List Message) → HasEach came.old list → IfOk result (λ once. MatchBool once
         (HasEach came.new (list ++ messages_among events.now)) (Repeats (list ++ messages_among events.now))) }

@@ -21,7 +21,7 @@ use ra_world::{RunError, Steps, run};
 use std::alloc::Global;
 
 /// Returns whether the books are those of nodes 1 to n, in order, each of n nodes and all from one start, and nothing was
-/// taken from them. No books are no cluster. It does not allocate, and the cost is linear in the number of books.
+/// taken from them. An empty list is not a cluster. It does not allocate, and the cost is linear in the number of books.
 pub fn is_cluster(books: &[Book]) -> bool
     ensures { IsTrue result ↔ IsCluster books.now }
 {
@@ -53,11 +53,10 @@ fn is_member(book: &Book, place: usize, count: usize, start: u64) -> bool
 
 /// Settles the books of a cluster into one run of it: the events of all books by clock, and those of one clock by node, and then
 /// the loss of each frame that is flagged lost, by node and then in order of sending. So what [`run`] says of its steps holds of
-/// what happened at the nodes. Books settle, unless memory runs out, exactly where none of the first four errors below holds. With n
+/// what happened at the nodes. Books settle, unless memory runs out, exactly if none of the first four errors below holds. With n
 /// events and frames sent, m grants and k books the cost is that of the run, plus n log n, m log m and k n. That of the
-/// run is linear in n, on average. Where there was no memory to know the clients of a long queue, each ask looks through its
-/// name's queue, too; and where there was none to know where each message under way stands, each frame that came looks through
-/// those under way.
+/// run is linear in n, on average. If there was no memory to know the clients of a long queue, each ask looks through its name's
+/// queue, too. If there was none to know where each message under way is, each frame that came looks through those under way.
 ///
 /// # Errors
 ///
@@ -81,16 +80,16 @@ pub fn settle(alloc: Global, books: &[Book], grants: &[Grant]) -> Result<Settled
     ensures fit { OnOk result (BooksFit books.now) }
     ensures granted { OnOk result (All (λ grant. IsGranted books.now grant.entry) grants.now) }
     ensures once { OnOk result (AllPairs (λ a b. a ≢ b) grants.now) }
-    // Each refusal comes where its cause stands.
+    // Each refusal comes only if its cause holds.
     ensures not_sent { IsErrOf result SettleError.NotSent → HasUnsent books.now }
     ensures twice { IsErrOf result SettleError.Twice → HasTwice books.now × (HasUnsent books.now → ⊥) }
     ensures missing { IsErrOf result SettleError.GrantMissing → BooksFit books.now
         × Any (λ grant. IsGranted books.now grant.entry → ⊥) grants.now }
     ensures grant_twice { IsErrOf result SettleError.GrantTwice → BooksFit books.now × Repeats grants.now
         × All (λ grant. IsGranted books.now grant.entry) grants.now }
-    // `Memory` comes only where each frame that came was sent: to find that out takes no memory.
+    // `Memory` comes only if each frame that came was sent: to find that out takes no memory.
     ensures memory { IsErrOf result SettleError.Memory → HasUnsent books.now → ⊥ }
-    // And where the cause of a refusal stands it comes, except that `Memory` may come before it.
+    // And if the cause of a refusal holds, it comes, except that `Memory` may come before it.
     ensures found_unsent { HasUnsent books.now → IsErrOf result SettleError.NotSent }
     ensures found_twice { HasTwice books.now → (HasUnsent books.now → ⊥)
         → IsErrOf result SettleError.Twice ⊎ IsErrOf result SettleError.Memory }
@@ -156,8 +155,8 @@ pub fn run_steps(alloc: Global, books: &[Book], steps: Steps) -> Result<Settled,
     }
 }
 
-/// Returns why books do not settle where their run is refused. That of books which fit together is refused where memory ran out
-/// alone, so that `settle` never has `NotSent` from here.
+/// Returns why books do not settle if their run is refused. The run of books that fit together is refused only if memory ran
+/// out, so that `settle` never has `NotSent` from here.
 fn refusal_of(refused: RunError) -> SettleError
     ensures memory { refused ≡ RunError.Memory → result ≡ SettleError.Memory }
     ensures not_sent { refused ≢ RunError.Memory → result ≡ SettleError.NotSent }

@@ -44,8 +44,8 @@ pub fn books_that_fit_together_settle()
     frames_of_books_are_from_their_nodes();
 }
 
-/// Books settle with copies if each frame that came was sent, however often it came: the events in the settled order, with a
-/// repeat before each by which a frame comes that comes again later, are a run, and it is a settled run with copies.
+/// Books settle with copies if each frame that came was sent, however often it came. The run has the events in the settled
+/// order, with a repeat before each event that gets a frame that comes again later. It is a settled run with copies.
 pub fn books_settle_with_copies()
     ensures { BooksSettleWithCopies }
 {
