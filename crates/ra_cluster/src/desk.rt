@@ -1,4 +1,4 @@
-//! What lies under the lock of a site: the book, and the clients that wait.
+//! What is under the lock of a site: the book, and the clients that wait.
 ghost use Rattle.std.specs.Prelude.{◌≡◌, ◌≢◌, ◌↔◌, ◌<◌, true, All, IfOk, IfSome, IsErrOf, OnErr, vec_len};
 ghost use Rattle.ra_frame.specs.Fits.{Fits};
 ghost use Rattle.ra_history.specs.History.{clock_of};
@@ -129,7 +129,7 @@ impl Desk {
         Ok(self.stepped(posted))
     }
 
-    /// Gives the book a fault, if it has none. Returns the cause that the book has then, and the clients that waited, who
+    /// Gives the book a fault, if it has none. Returns the cause that the book has then, and the clients that waited. They
     /// are to be told of it.
     pub fn fail(&mut self, alloc: Global, stop: Stop) -> (Stop, Vec<Waiter>) {
         self.book.fail(stop);
@@ -137,9 +137,9 @@ impl Desk {
         (cause, mem::replace(&mut self.waiters, Vec::new(alloc)))
     }
 
-    /// Hands over the events after one with the clock `after`, or from the node's first one on if it is 0, and the frames that
-    /// the book has, in a time that does not grow with the history. A node that is not audited hands over nothing, so that its
-    /// book stays whole. Frames for which there is no memory are left for the next round.
+    /// Hands over the frames that the book has, and the events after one with the clock `after`, or from the node's first one
+    /// on if `after` is 0. That takes a time that does not grow with the history. A node that is not audited hands over nothing,
+    /// so that its book stays whole. Frames for which there is no memory are left for the next round.
     ///
     /// # Errors
     ///

@@ -88,7 +88,7 @@ fn ends_holding(script: &Script, client: u32) -> bool
     false
 }
 
-/// Returns the name that the client's operation at this place locks, or `None` where it locks none.
+/// Returns the name that the client's operation at this place locks, or `None` if it locks none.
 fn locked_at(script: &Script, client: u32, place: u64) -> Option<Name>
     ensures some { IfSome result (λ name. Locks (op_at script.now client place) name) }
     ensures none { IsNone result → (name : List ℕ) → Locks (op_at script.now client place) name → ⊥ }

@@ -19,8 +19,8 @@ use thiserror::Error;
 /// told apart by the variant, and not by what they print.
 #[derive(Clone, Copy, Debug, PartialEq, Eq, Error)]
 pub enum SiteError {
-    /// The book of the node refused it, and is as before. Where the cause is `Failed` the node was stopped before; after any other one
-    /// it goes on.
+    /// The book of the node refused it, and is as before. If the cause is `Failed`, the node was stopped before; after any other
+    /// one it goes on.
     #[error(transparent)]
     Refused(BookError),
     /// The node is stopped, for this cause, and takes no call any more.
@@ -48,9 +48,9 @@ enum Halt {
 /// A client that waits has a ticket of its own. When an event lets it in, its thread is told by this ticket after the lock
 /// is given back, and no other thread is woken. A stop wakes all.
 ///
-/// Each such call costs what the book's call costs and the sending of the frames; if its event lets a client in, time
-/// linear in the number of clients that wait at the node; and for each frame that the post does not take, what
-/// [`Book::mark_lost`] costs.
+/// Each such call costs what the book's call costs and the sending of the frames. If its event lets a client in, it also
+/// takes time linear in the number of clients that wait at the node. For each frame that the post does not take, it also
+/// costs what [`Book::mark_lost`] costs.
 #[derive(Drop)]
 pub struct Site {
     node: NodeId,
@@ -125,7 +125,7 @@ impl Site {
 
     /// Asks for a name for a client, and waits until the client holds it. Nothing bounds the wait. Clients that hold names
     /// while they ask for others may wait for each other forever, unless all take their names in one order. A client that
-    /// queues behind another of its node gets its number when its turn comes. If the last one, 2^64-1, is used by then, its
+    /// queues after another of its node gets its number when its turn comes. If the last one, 2^64-1, is used by then, its
     /// turn never comes, and it waits until somebody stops the node.
     ///
     /// # Errors
@@ -182,11 +182,11 @@ impl Site {
     ///
     /// # Errors
     ///
-    /// The first that holds, and nothing was given back. Where the book took the leave the answer is `Ok`, even if the node is
+    /// The first that holds, and nothing was given back. If the book took the leave, the answer is `Ok`, even if the node is
     /// stopped by then.
     ///
-    /// 1. `Stopped`: the gate answered `false`. The cause is the one that the node keeps, of an earlier stop where there was one.
-    /// 2. `Refused`: the book refused it, as [`Book::leave`] says, with `Failed` where the node was stopped before.
+    /// 1. `Stopped`: the gate answered `false`. The cause is the one that the node keeps, of an earlier stop if there was one.
+    /// 2. `Refused`: the book refused it, as [`Book::leave`] says, with `Failed` if the node was stopped before.
     pub fn unlock<R: Wait, G: Gate>(
         &self,
         rt: &R,
@@ -249,8 +249,8 @@ impl Site {
         }
     }
 
-    /// Returns the cause for which the node is stopped, or `None` where it goes on. As of each of these readers, it is so when the
-    /// lock is had for it; it waits for the lock, and does not allocate.
+    /// Returns the cause for which the node is stopped, or `None` if it goes on. Like each of these readers, it tells what is so
+    /// when it has the lock. It waits for the lock, and does not allocate.
     pub fn fault<R: Wait>(&self, rt: &R) -> Option<Stop> {
         self.desk.lock(rt).book.fault()
     }
@@ -315,7 +315,7 @@ impl Site {
         book
     }
 
-    /// Does the same for a site that is one of this many, from this start. No contract tells what lies under a lock, so the book is
+    /// Does the same for a site that is one of this many, from this start. No contract tells what is under a lock, so the book is
     /// looked at. If it is not whole, or were it another one, as it never is, an empty book of the node is returned, which is
     /// stopped: for the cause of the book, or `Refused` if it has none.
     pub(crate) fn close_as(self, alloc: Global, nodes: u16, start: u64) -> Book
@@ -341,7 +341,7 @@ impl Site {
         )
     }
 
-    /// Returns whether a book is whole, and that of this node of so many, from this start.
+    /// Returns whether a book is whole, and that of this node, of this many nodes, from this start.
     fn is_whole_of(book: &Book, me: NodeId, nodes: u16, start: u64) -> bool
         ensures { IsTrue result → (book.now.me ≡ me) × (book.now.nodes ≡ nodes) × (book.now.start ≡ start) × IsWhole book.now }
     {
@@ -496,7 +496,7 @@ impl Site {
 
     /// Returns the cause for which the node is stopped.
     fn cause<R: Wait>(&self, rt: &R) -> Stop {
-        // It is stopped where it is among the sites, as it should be.
+        // It is stopped if it is among the sites, as it should be.
         self.fault(rt).unwrap_or(Stop::Gate)
     }
 

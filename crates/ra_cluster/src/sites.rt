@@ -33,7 +33,7 @@ fn are_in_order(sites: &[Site]) -> bool
 ///
 /// # Errors
 ///
-/// `Memory`, also where there cannot be so many nodes.
+/// `Memory`, also if there cannot be this many nodes.
 pub fn make_sites(alloc: Global, nodes: u16, start: u64, audited: bool) -> Result<Vec<Site>, Memory>
     ensures { IfOk result (λ sites. sites.items ≡ range_with_len 1 nodes) }
 {
