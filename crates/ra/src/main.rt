@@ -36,7 +36,7 @@ fn main(rt: HostRuntime) -> ExitCode {
     if input.is_terminal() {
         write_waiting_note(words.as_slice(), &mut notes);
     }
-    // It is read in small pieces, which would else be a call of the system each.
+    // It is read in small pieces, which would otherwise be a call of the system each.
     let mut reader = match BufReader::new(alloc, EndReader::new(input)) {
         Ok(reader) => SeenReader::new(alloc, reader),
         Err(_) => {
