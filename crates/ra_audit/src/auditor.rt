@@ -151,8 +151,8 @@ impl Auditor {
     /// Puts each event that can be put into the run, and tells the observer its marks: an ask or a leave at once after
     /// the node's earlier events, and a frame that came once all events of its sender up to the frame's clock are in the run.
     ///
-    /// The cost of each event is that of a step of a [`MarklessWorld`]. In a round each event is looked at once; and each
-    /// time a node can't go on, each node is looked at once.
+    /// The cost of each event is that of a step of a [`MarklessWorld`]. In a round each event is looked at once, and each
+    /// node is looked at once each time a node can't go on.
     ///
     /// # Errors
     ///

@@ -70,7 +70,7 @@ fn unsent_of(nodes: &[Progress], progress: &Progress, known: u64) -> Option<Audi
 }
 
 /// Returns whether a frame that came at this clock of its node may have been sent by an event that is still to be put into the
-/// run; other events are not frames.
+/// run. Other events are not frames.
 fn may_come(nodes: &[Progress], kind: &BookKind, came: u64, known: u64) -> bool
     requires { (count : ℕ) × (map (λ p. p.node) nodes.now ≡ range_with_len 1 count) }
     ensures may { IsTrue result → MayCome nodes.now (known < came) kind.now }

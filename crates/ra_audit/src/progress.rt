@@ -12,8 +12,8 @@ use std::marker::Model;
 use std::mem;
 use std::sync::Wait;
 
-/// A node's events that are in the run, of which only proofs know, those after them that can't be put into it yet, and those after
-/// these that its book handed over and that were not taken yet.
+/// The events of a node, in three parts, one after the other: those that are in the run, of which only proofs know; those that
+/// can't be put into the run yet; and those that its book handed over and that were not taken yet.
 #[derive(Drop)]
 pub struct Progress {
     node: NodeId,
@@ -140,7 +140,7 @@ impl Progress {
 
 impl Progress {
     /// Has the site of the node hand over what has happened since the last time, and takes it. What it handed over before and was
-    /// not taken for want of memory comes first.
+    /// not taken for lack of memory comes first.
     ///
     /// # Errors
     ///

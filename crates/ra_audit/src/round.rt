@@ -14,8 +14,8 @@ use std::alloc::Global;
 use std::sync::Wait;
 
 impl Auditor {
-    /// Takes what has happened at each node since the round before, from node 1 up, and then puts all that it can into the run
-    /// of the auditor, and tells the observer its marks, as [`Auditor::advance`] does. The cluster goes on meanwhile: a round
+    /// Takes what has happened at each node since the round before, from node 1 up. Then it puts all that it can into the run of
+    /// the auditor, and tells the observer its marks, as [`Auditor::advance`] does. The cluster goes on meanwhile: a round
     /// has one node's lock at a time, for a time that does not grow with the history, and puts with no lock held. A frame whose
     /// sender was looked at too early in the round is put in the next one.
     ///
