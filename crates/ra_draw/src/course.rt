@@ -1,5 +1,5 @@
-//! What of a run is drawn, made by a world of its own from the lines of its trace: these have no line for a message that is sent, and
-//! only the nodes know which ones a step sends.
+//! What of a run is drawn, made by a world of its own from the lines of its trace. These have no line for a message that is sent,
+//! and only the nodes know which ones a step sends.
 use crate::deferrals::Deferrals;
 use crate::part::Part;
 use crate::seat::Seat;
@@ -90,7 +90,7 @@ impl Course {
         }
     }
 
-    /// Begins the row of a step, where it is in the part.
+    /// Begins the row of a step, if the step is in the part.
     fn begin_row(&mut self, line: u64, step: &Step, is_drawn: bool) -> Result<(), Memory> {
         self.now.line = line;
         if is_drawn {
@@ -151,8 +151,8 @@ impl Course {
         self.deferrals.begin(request, self.now)
     }
 
-    /// Notes which deferral a step begins, and which ones it ends. A delivered REQUEST without a REPLY is deferred, and who leaves sends what
-    /// was deferred.
+    /// Notes which deferral a step begins, and which ones it ends. A delivered REQUEST without a REPLY is deferred, and a client
+    /// that leaves sends what was deferred.
     fn note_deferrals(&mut self, step: &Step, sends: &[Message]) -> Result<(), Memory> {
         match step {
             Step::Deliver(message) => {
@@ -201,7 +201,7 @@ impl Course {
         }
     }
 
-    /// Takes a line, which is drawn or stands before what is.
+    /// Takes a line, which is drawn or comes before the lines that are.
     fn take(
         &mut self,
         alloc: Global,

@@ -16,7 +16,7 @@ use std::io::{Read, Write};
 /// The most bytes that a text may have.
 pub const MAX_TEXT: usize = 16_777_216;
 
-/// The most lines that are drawn, since who reads a trace can count them. A line has at most 126 arrows.
+/// The most lines that are drawn, since a reader of a trace can count them. A line has at most 126 arrows.
 const MAX_LINES: u64 = 4096;
 
 /// Returns how many line feeds a byte is.
@@ -58,7 +58,8 @@ fn verdict_on(alloc: Global, text: &[u8]) -> Result<Verdict, DrawError>
     }
 }
 
-/// Returns the picture of a part of a text that is a trace or a mark log, as the totals say, where it has no more lines than are drawn.
+/// Returns the picture of a part of a text that is a trace or a mark log, as the totals say, if it has no more lines than are
+/// drawn.
 ///
 /// # Errors
 ///
@@ -79,7 +80,7 @@ pub fn picture_within(
     Ok(picture_of(alloc, trace, part, totals)?)
 }
 
-/// Draws a part of a text that was read, where it is a trace.
+/// Draws a part of a text that was read, if the text is a trace.
 ///
 /// # Errors
 ///
@@ -111,12 +112,17 @@ fn draw_text<W: Write>(
     Ok(verdict)
 }
 
-/// Reads a text, and where it is the trace of a run of either version, writes a picture of a part of it: a space-time diagram in one SVG
-/// file, with no script in it, time downwards. It has a lane for each node, an arrow for each message from its sending to its delivery, a
-/// cross where one is lost, a loop where one is repeated, and beside the lanes bars for clients that wait and that are inside. A message
-/// that is under way at the end of the part has a dotted way, and one that is sent before the part and not taken in it none. Returns the
-/// verdict on the text, as `check` does; where it is no trace, nothing is written. No read or write that failed is tried again. Time and
-/// memory are linear in the text and in what `World::step` takes for its steps, and in the columns of bars beside a node.
+/// Reads a text. If it is the trace of a run of either version, writes a picture of a part of it: a space-time diagram in one SVG
+/// file, with no script in it, time downwards. The picture has:
+///
+/// - a lane for each node;
+/// - an arrow for each message from its sending to its delivery, a cross where one is lost, and a loop where one is repeated;
+/// - beside the lanes, bars for clients that wait and that are inside.
+///
+/// A message that is under way at the end of the part has a dotted way. One that is sent before the part and not taken in it has
+/// none. Returns the verdict on the text, as `check` does. If it is no trace, nothing is written. No read or write that failed is
+/// tried again. Time and memory are linear in the text and in what `World::step` takes for its steps, and in the columns of bars
+/// beside a node.
 ///
 /// # Errors
 ///
@@ -135,7 +141,7 @@ pub fn draw<R: Read, W: Write>(
     writer: &mut W,
     part: Part,
 ) -> Result<Verdict, DrawError>
-    // The verdict is that of the whole input. A picture is written exactly where it is a trace, and nothing else is.
+    // The verdict is that of the whole input. A picture is written exactly if it is a trace, and nothing else is.
     ensures ok { IfOk result (λ verdict. (input : List ℕ) × IsInput (R.remaining reader.old) (R.remaining reader.new) input
         × IsVerdict input verdict × Draws part input (W.contents writer.old) (W.contents writer.new) verdict) }
     ensures invalid { (line : ℕ) (why : Cause) → result ≡ Ok (Verdict.Invalid line why) → writer.new ≡ writer.old }

@@ -37,7 +37,7 @@ text{font-family:sans-serif;font-size:11px;fill:#222}
 </style>
 ";
 
-/// What the shapes mean. A letter takes at most some seven pixels.
+/// What the shapes mean. A letter takes at most about seven pixels.
 pub const LEGEND: &str = "<g>
 <line x1=\"16\" y1=\"54\" x2=\"40\" y2=\"54\" class=\"arrow request\"/><text x=\"48\" y=\"58\">request: number, name, mode</text>
 <line x1=\"256\" y1=\"54\" x2=\"280\" y2=\"54\" class=\"arrow reply\"/><text x=\"288\" y=\"58\">reply: number, name</text>

@@ -65,10 +65,10 @@ fn draw_log<W: Write>(
     Ok(verdict)
 }
 
-/// Reads a text, and if it is a mark log, writes a picture of a part of it, as `draw` does for a trace: a row for each mark, a lane for each
-/// node up to the highest one that asks in or before the part, and the bars beside the lanes. A log has no messages. Returns the verdict on
-/// the text, as `check_marks` does; if it is no mark log, nothing is written. No read or write that failed is tried again. Time and memory are
-/// linear in the text, and in the columns of bars beside a node.
+/// Reads a text. If it is a mark log, writes a picture of a part of it, as `draw` does for a trace. The picture has a row for
+/// each mark, a lane for each node up to the highest one that asks in or before the part, and the bars beside the lanes. A log
+/// has no messages. Returns the verdict on the text, as `check_marks` does. If it is no mark log, nothing is written. No read or
+/// write that failed is tried again. Time and memory are linear in the text, and in the columns of bars beside a node.
 ///
 /// # Errors
 ///
@@ -79,7 +79,7 @@ pub fn draw_marks<R: Read, W: Write>(
     writer: &mut W,
     part: Part,
 ) -> Result<MarksVerdict, DrawError>
-    // The verdict is that of the whole input. A picture is written exactly where it is a mark log, and nothing else is.
+    // The verdict is that of the whole input. A picture is written exactly if it is a mark log, and nothing else is.
     ensures ok { IfOk result (λ verdict. (input : List ℕ) × IsInput (R.remaining reader.old) (R.remaining reader.new) input
         × IsMarksVerdict input verdict × DrawsMarks part input (W.contents writer.old) (W.contents writer.new) verdict) }
     ensures invalid { (line : ℕ) (why : MarkCause) → result ≡ Ok (MarksVerdict.Invalid line why) → writer.new ≡ writer.old }

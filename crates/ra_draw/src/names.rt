@@ -53,7 +53,7 @@ fn same_after(one: &[u8], other: &[u8]) -> usize {
     most
 }
 
-/// Returns so many letters, or none if they are too few to be left out.
+/// Returns this many letters, or 0 if they are too few to be left out.
 fn worth(letters: usize) -> usize {
     if letters < WORTH { 0 } else { letters }
 }

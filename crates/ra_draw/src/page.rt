@@ -1,4 +1,4 @@
-//! Where everything stands on the page. Lengths are in pixels, and none comes near its greatest: so they are added without a refusal.
+//! Where everything is on the page. Lengths are in pixels, and none comes near its greatest: so they are added without a refusal.
 use crate::course::Course;
 use crate::names::{Cut, cut_of};
 use crate::stays::Stay;
@@ -10,10 +10,10 @@ use std::alloc::Global;
 /// Where the rows begin.
 pub const TOP: u64 = 186;
 
-/// What stands to the left of all else: the numbers of lines.
+/// The width to the left of everything else, for the numbers of lines.
 const LEFT: u64 = 64;
 
-/// What stands to the right of a label.
+/// The width to the right of a label.
 const RIGHT: u64 = 24;
 
 /// The least width of a page, which is that of the legend.
@@ -22,10 +22,10 @@ const LEGEND: u64 = 860;
 /// The width of a column of bars.
 pub const COLUMN: u64 = 24;
 
-/// What stands between a lane and its bars: the lines of deferrals.
+/// The width between a lane and its bars, for the lines of deferrals.
 const BESIDE: u64 = 28;
 
-/// How many rows stand between two that name the nodes again.
+/// How many rows are between two that name the nodes again.
 const BAND: u32 = 40;
 
 /// The height of what names the nodes again.
@@ -67,7 +67,7 @@ struct Lane {
 }
 
 impl Lane {
-    /// Returns the first column of a client that is free for a bar from this row on, or `None` where none is.
+    /// Returns the first column of a client that is free for a bar from this row on, or `None` if no column is.
     fn free_place(&self, client: u32, first: u32) -> Option<u32> {
         for place in self.places.get(&client)? {
             let column = self.columns.get(*place as usize)?;
@@ -103,19 +103,19 @@ impl Lane {
         Ok(place)
     }
 
-    /// Returns how wide its bars are, with what stands between them and it.
+    /// Returns how wide its bars are, with what is between them and it.
     fn gutter(&self) -> u64 {
         u64::from(short(self.columns.len())) * COLUMN + BESIDE
     }
 }
 
-/// A stay, and where its bar stands.
+/// A stay, and where its bar is.
 #[derive(Clone, Copy)]
 pub struct Bar {
     pub stay: Stay,
     /// The place of its column.
     pub column: u32,
-    /// The last row that it has, which is that after the part where it is not over.
+    /// The last row that it has, which is the one after the part if it is not over.
     pub end: u32,
 }
 
@@ -178,7 +178,7 @@ impl Page {
         Ok(())
     }
 
-    /// Gives a stay a column beside its node, where it reaches into the part.
+    /// Gives a stay a column beside its node, if it reaches into the part.
     fn add_bar(&mut self, alloc: Global, stay: &Stay) -> Result<(), Memory> {
         let end = match stay.left {
             Some(left) => left.row,
@@ -210,7 +210,7 @@ impl Page {
         }
     }
 
-    /// Returns what stands between a lane and the bars of the next one.
+    /// Returns the width between a lane and the bars of the next one.
     fn gap(&self) -> u64 {
         match self.nodes {
             0..=3 => 210.max(self.label),
@@ -285,7 +285,7 @@ impl Page {
         }
     }
 
-    /// Returns how wide the bars of a node are, with what stands between them and the lane.
+    /// Returns how wide the bars of a node are, with what is between them and the lane.
     pub fn gutter(&self, node: NodeId) -> u64 {
         match self.lanes.get(place_of(node)) {
             Some(lane) => lane.gutter(),

@@ -1,8 +1,8 @@
 ghost use Rattle.std.specs.Prelude.{◌≡◌};
 ghost use Rattle.ra_draw.specs.Lines as spec;
 
-/// The lines of a trace that are to be drawn, counted from 1, both ends among them. A 0 before them is as a 1, and what is behind the
-/// last line is as that one.
+/// The lines of a trace that are to be drawn, counted from 1, both ends among them. A 0 before them is as a 1, and a number after
+/// the last line is as that one.
 #[derive(Clone, Copy, Debug, PartialEq, Eq)]
 pub struct Part {
     /// The first one.

@@ -5,7 +5,7 @@ use ra_stamp::{Memory, Name, NodeId};
 use ra_text::cut;
 use std::alloc::Global;
 
-/// What stands in a place of a pattern.
+/// What is put in a place of a pattern.
 #[derive(Clone, Copy)]
 pub enum Piece<'a> {
     Number(u64),
@@ -16,11 +16,11 @@ pub enum Piece<'a> {
     Short(&'a Name, Cut),
 }
 
-/// A text that is written from its start to its end. Where memory runs out nothing more is written, and `finish` says so: so what is
+/// A text that is written from its start to its end. If memory runs out nothing more is written, and `finish` says so: so what is
 /// written with it gives no error of its own.
 ///
-/// No text that is written has a letter that XML reads otherwise: words are those of this crate, names have letters, digits, `_`, `-`
-/// and `.`, and all else is a number.
+/// No text that is written has a letter that XML reads otherwise: words are those of this crate, names have letters, digits, `_`,
+/// `-` and `.`, and everything else is a number.
 #[derive(Drop)]
 pub struct Pen {
     text: Vec<u8>,
@@ -70,7 +70,7 @@ impl Pen {
         }
     }
 
-    /// Adds a pattern, in which these pieces stand in the places of `$`.
+    /// Adds a pattern, in which these pieces take the places of `$`.
     pub fn write(&mut self, pattern: &str, pieces: &[Piece]) {
         let mut rest = pattern.as_bytes();
         for piece in pieces {

@@ -22,7 +22,7 @@ pub enum Totals {
     Marks { requests: u64, grants: u64 },
 }
 
-/// What stands in the headline: how many nodes, requests and messages there are, and which lines are drawn.
+/// What the headline says: how many nodes, requests and messages there are, and which lines are drawn.
 #[derive(Clone, Copy)]
 struct Headline {
     nodes: u16,
@@ -166,7 +166,7 @@ fn draw_text(
     draw_part(alloc, sheet, &mut course, start, text, headline);
 }
 
-/// Returns the number of nodes and that with which each resource begins, where this is the first line of a trace.
+/// Returns the number of nodes and that with which each resource begins, if this is the first line of a trace.
 fn opening_of(line: &Line) -> Option<(u16, u64)> {
     match line {
         Line::First { nodes, start, .. } => Some((nodes.get(), *start)),
@@ -174,7 +174,7 @@ fn opening_of(line: &Line) -> Option<(u16, u64)> {
     }
 }
 
-/// Returns the headline of a trace or a log of so many nodes.
+/// Returns the headline of a trace or a log of this many nodes.
 fn headline_of(nodes: u16, part: Part, totals: Totals) -> Headline {
     match totals {
         Totals::Trace { requests, messages } => Headline {
@@ -225,7 +225,7 @@ fn push(text: &mut Vec<u8>, more: &[u8]) -> Result<(), Memory>
     Ok(())
 }
 
-/// Returns the picture of a part of a trace that has so many requests and messages.
+/// Returns the picture of a part of a trace that has this many requests and messages.
 pub fn picture_of(
     alloc: Global,
     trace: &[u8],

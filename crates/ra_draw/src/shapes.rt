@@ -17,7 +17,7 @@ const NEAREST: u64 = 11;
 
 const FARTHEST: u64 = 23;
 
-/// The texts of a page: the shapes, and the labels, which stand before them all.
+/// The texts of a page: the shapes, and the labels, which are in front of them all.
 #[derive(Drop)]
 pub struct Sheet {
     pub shapes: Pen,
@@ -97,7 +97,7 @@ impl Sheet {
         );
     }
 
-    /// Names the client of a column, where its number is short.
+    /// Names the client of a column, if its number is short.
     fn name_client(&mut self, x: u64, client: u32) {
         if client < 1000 {
             self.labels.write(
@@ -259,8 +259,8 @@ impl Sheet {
         }
     }
 
-    /// Begins the label of a message beside the lane of the node to which it goes, on the side from which it does not come, where there is
-    /// room on this page.
+    /// Begins the label of a message beside the lane of the node to which it goes, on the side from which it does not come, if
+    /// there is room on this page.
     fn begin_head(&mut self, page: &Page, message: &Message, from: Point, head: Point) {
         let y = head.y.saturating_add(3);
         if from.x < head.x {
@@ -273,7 +273,7 @@ impl Sheet {
         }
     }
 
-    /// Labels a message at the node to which it goes, where there is room on this page.
+    /// Labels a message at the node to which it goes, if there is room on this page.
     fn label_head(
         &mut self,
         page: &Page,
@@ -456,7 +456,7 @@ impl Sheet {
         }
     }
 
-    /// Draws the line of a deferral, at the left of the lane, so far from it: from where the REQUEST came to where the REPLY is sent.
+    /// Draws the line of a deferral, this far to the left of the lane, from where the REQUEST came to where the REPLY is sent.
     fn draw_debt(&mut self, page: &Page, deferral: &Deferral, beside: u64) {
         let from = page.at(deferral.request.to(), deferral.came.row);
         let (down, back) = match deferral.ended {
@@ -592,7 +592,7 @@ impl Sheet {
         }
     }
 
-    /// Returns the shapes, and the labels behind them.
+    /// Returns the shapes, and the labels after them.
     pub fn finish(self) -> Result<Vec<u8>, Memory> {
         let Sheet { mut shapes, labels } = self;
         shapes.append(&labels);

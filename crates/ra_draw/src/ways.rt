@@ -3,7 +3,7 @@ use indexmap::IndexMap;
 use ra_stamp::{Memory, Message};
 use std::alloc::Global;
 
-/// A moment of a run: the line of its step in the trace, and the row of the page on which that stands, or 0 before the part that is
+/// A moment of a run: the line of its step in the trace, and the row of the page on which that is, or 0 before the part that is
 /// drawn.
 #[derive(Clone, Copy)]
 pub struct Moment {
@@ -15,7 +15,7 @@ pub struct Moment {
 #[derive(Clone, Copy)]
 pub struct Start {
     pub moment: Moment,
-    /// It is a copy that a repeat made, and else it was sent.
+    /// It is a copy that a repeat made. Otherwise it was sent.
     pub copied: bool,
 }
 

@@ -21,7 +21,7 @@ pub fn kind_of(message: &Message) -> &'static str {
     }
 }
 
-/// Returns the ending of a word for so many things.
+/// Returns the ending of a word for this many things.
 pub fn ending_of(count: u64) -> &'static str {
     if count == 1 { "" } else { "s" }
 }
