@@ -48,8 +48,8 @@ fn decimal_value(digits: &[u8]) -> u32
     value
 }
 
-/// Returns the choice that a word spells, or `None` where it spells none: `c`, `m` or `l`, and a decimal of 1 to 9 digits with no
-/// zeros before it. It does not allocate.
+/// Returns the choice that a word spells, or `None` if it spells none: `c`, `m` or `l`, and a decimal of 1 to 9 digits without
+/// leading zeros. It does not allocate.
 fn choice_of(word: &[u8]) -> Option<Choice>
     ensures { result ≡ spec.choice_of word.now }
 {
@@ -90,7 +90,7 @@ fn push_choice(choices: &mut Choices, word: &str) -> Result<(), ChoicesError>
 ///
 /// # Errors
 ///
-/// `Choice`: a word of it is none. `Memory`, which may come before it.
+/// `Choice`: a word of it is no choice. `Memory`, which may come before it.
 fn push_choices(choices: &mut Choices, text: &str) -> Result<(), ChoicesError>
     requires empty { choices.old.items ≡ [] }
     ensures ok { OnOk result (spec.choices_of text.now ≡ Some choices.new.items) }
@@ -107,8 +107,8 @@ fn push_choices(choices: &mut Choices, text: &str) -> Result<(), ChoicesError>
 }
 
 /// Reads a list of choices: words with one space between them, and none at the ends. The empty text is the empty list. A word is
-/// `c`, `m` or `l` and a decimal of 1 to 9 digits with no zeros before it: `cK` is the next operation of client K, `mI` delivers the
-/// message at place I, and `lI` loses it. The cost is linear in the text.
+/// `c`, `m` or `l` and a decimal of 1 to 9 digits without leading zeros. `cK` is the next operation of client K, `mI` delivers
+/// the message at place I, and `lI` loses it. The cost is linear in the text.
 ///
 /// # Errors
 ///
@@ -121,7 +121,7 @@ pub fn read_choices(alloc: Global, text: &str) -> Result<Choices, ChoicesError>
     ensures refused { IfErr result (λ fault. ((fault ≡ ChoicesError.Choice) × (spec.choices_of text.now ≡ None))
         ⊎ (fault ≡ ChoicesError.Memory)) }
 
-    // It is read as choices only where it is how they are written, and where it is, only `Memory` can come.
+    // It is read as choices only if it is how they are written, and if it is, only `Memory` can come.
     ensures lists { IfOk result (λ choices. Lists text.now choices.items) }
     ensures only { (choices : List Choice) → Lists text.now choices
         → MatchResult result (λ read. read.items ≡ choices) (λ fault. fault ≡ ChoicesError.Memory) }

@@ -26,7 +26,7 @@ pub struct DocumentRef<'a> {
 }
 
 impl ClientRef<'_> {
-    /// Returns the number of its node, where it is 1 to `most`. It does not allocate.
+    /// Returns the number of its node, if it is 1 to `most`. It does not allocate.
     pub fn node_up_to(&self, most: u16) -> Option<u16>
         ensures { result ≡ (if is_up_to most self.now.node then Some (natural self.now.node) else None) }
     {
@@ -35,7 +35,7 @@ impl ClientRef<'_> {
 }
 
 impl DocumentRef<'_> {
-    /// Returns the number of nodes, where it is 1 to `most`. It does not allocate.
+    /// Returns the number of nodes, if it is 1 to `most`. It does not allocate.
     pub fn nodes_up_to(&self, most: u16) -> Option<u16>
         ensures { result ≡ (if is_up_to most self.now.nodes then Some (natural self.now.nodes) else None) }
     {
@@ -43,7 +43,7 @@ impl DocumentRef<'_> {
     }
 }
 
-/// Returns the number, where it is 1 to `most`. It does not allocate.
+/// Returns the number, if it is 1 to `most`. It does not allocate.
 fn number_up_to(number: i64, most: u16) -> Option<u16>
     ensures { result ≡ (if is_up_to most number then Some (natural number) else None) }
 {

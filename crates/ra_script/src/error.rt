@@ -21,7 +21,7 @@ pub enum ScriptError {
     Shape,
     /// The number of nodes is not 1 to 64.
     Nodes,
-    /// There are not 1 to 64 clients, or one is at no node that there is.
+    /// There are not 1 to 64 clients, or one is at a node that does not exist.
     Clients,
     /// A string is no operation.
     Op,

@@ -31,9 +31,9 @@ pub fn read_scripts_come_to_rest()
     policies_bring_scripts_to_rest();
 }
 
-/// The choices of a script's run have words, unless a message is repeated: a client's number is at most 64, and places are
+/// The choices of a script's run have words, unless a message is repeated. A client's number is at most 64, and places are
 /// below 8,323,072, since each message that is put under way can be taken in a turn of its own. So under a policy that
-/// repeats no message, no script is refused for want of a word.
+/// repeats no message, no script is refused for lack of a word.
 pub fn choices_have_words_unless_messages_are_repeated()
     ensures have_text { (script : ScriptState) (policy : Policy) (choices : List Choice) (moves : List Move) → IsScript script
         → Follows script policy moves → AreChoicesBy script policy choices moves → repeated_by moves ≡ []

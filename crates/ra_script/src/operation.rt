@@ -8,8 +8,8 @@ use ra_schedule::Op;
 use ra_stamp::{Mode, Name};
 use ra_text::cut;
 
-/// Returns the operation that a string spells, or `None` where it spells none: a word, one space and a name, where the word of a
-/// mode, `X`, `S`, `IS`, `IX` or `SIX`, locks the name in that mode, and `U` unlocks it. It does not allocate.
+/// Returns the operation that a string spells, or `None` if it spells none: a word, one space and a name. The word of a mode,
+/// `X`, `S`, `IS`, `IX` or `SIX`, locks the name in that mode, and `U` unlocks it. It does not allocate.
 pub fn operation(string: &str) -> Option<Op>
     ensures spelled { IfSome result (λ op. (string.now ≡ spelling op) × IsName (name_in op)) }
     ensures all { (op : Op) → string.now ≡ spelling op → IsName (name_in op) → IsSome result }
@@ -17,8 +17,8 @@ pub fn operation(string: &str) -> Option<Op>
     operation_of(string.as_bytes())
 }
 
-/// Returns the operation of the word before the first space and the name after it, or `None` where they say none. It does not
-/// allocate. So `SIXX r` is none, and neither is `S IX r`: no name has a space.
+/// Returns the operation of the word before the first space and the name after it, or `None` if they say none. It does not
+/// allocate. So `SIXX r` is no operation, and neither is `S IX r`: no name has a space.
 fn operation_of(text: &[u8]) -> Option<Op>
     ensures { result ≡ spec.op_of text.now }
 {
@@ -27,7 +27,7 @@ fn operation_of(text: &[u8]) -> Option<Op>
     operation_with(word, name)
 }
 
-/// Returns what stands before and after the first space, or `None` where there is none. It does not allocate.
+/// Returns what is before and after the first space, or `None` if there is no space. It does not allocate.
 fn word_and_name(text: &[u8]) -> Option<(&[u8], &[u8])>
     ensures { MatchOption result (spec.cut text.now ≡ None) (λ parts. spec.cut text.now ≡ Some (parts.0.now, parts.1.now)) }
 {
@@ -38,14 +38,14 @@ fn word_and_name(text: &[u8]) -> Option<(&[u8], &[u8])>
     }
 }
 
-/// Returns the name that these bytes are, or `None` where they are none. It does not allocate.
+/// Returns the name that these bytes are, or `None` if they are no name. It does not allocate.
 fn name_of(bytes: &[u8]) -> Option<Name>
     ensures { result ≡ spec.name_of bytes.now }
 {
     Name::new(bytes).ok()
 }
 
-/// Returns the operation of a word and a name, or `None` where the word is not one of the six. It does not allocate.
+/// Returns the operation of a word and a name, or `None` if the word is not one of the six. It does not allocate.
 fn operation_with(word: &[u8], name: Name) -> Option<Op>
     ensures { result ≡ spec.op_with word.now name }
 {

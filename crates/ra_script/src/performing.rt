@@ -183,7 +183,7 @@ fn read_printed<R: Read>(
     ensures refused { IfErr result (λ fault.
         IfSome (R.remaining reader.old) (λ input. RefusesAs format policy.now input fault)) }
 
-    // Where the reader tells nothing of its input, there still is one of which this holds.
+    // If the reader tells nothing of its input, there still is one of which this holds.
     ensures performed { IfOk result (λ printed. (input : List ℕ)
         × IsPerformedAs format policy.now input (string_bytes printed.text) printed.finished) }
     ensures cause { IfErr result (λ fault. (input : List ℕ) × RefusesAs format policy.now input fault) }

@@ -180,9 +180,9 @@ fn script_with(alloc: Global, nodes: u16, clients: &[ClientRef<'_>]) -> Result<S
     Ok(script)
 }
 
-/// Reads the text of a script: a TOML document with the keys `nodes`, an integer, and `client`, an array of tables. Each of
-/// these has the keys `node`, an integer, and `ops`, an array of strings: the word of a mode (`X`, `S`, `IS`, `IX` or `SIX`), one
-/// space and a name lock the name in that mode, and `U NAME` unlocks it. Clients are numbered from 1 by place, and may have names at
+/// Reads the text of a script: a TOML document with the keys `nodes`, an integer, and `client`, an array of tables. Each of these
+/// has the keys `node`, an integer, and `ops`, an array of strings. The word of a mode (`X`, `S`, `IS`, `IX` or `SIX`), one space
+/// and a name lock the name in that mode, and `U NAME` unlocks it. Clients are numbered from 1 by place, and may have names at
 /// the end. The cost is that of the parser, and for each client at most the square of its operations.
 ///
 /// # Errors
@@ -194,9 +194,9 @@ fn script_with(alloc: Global, nodes: u16, clients: &[ClientRef<'_>]) -> Result<S
 /// 3. `Shape`: a key is missing, unknown or of another type, anywhere in the document.
 /// 4. `Nodes`: the number of nodes is not 1 to 64.
 /// 5. `Clients`: there are not 1 to 64 clients, or one of them is at none of the nodes.
-/// 6. For the first client with a fault, `Limit` where it has more than 1,024 operations, and else for its first operation with
-///    one: `Op` where it has none of the six forms, `NotHeld` where it unlocks a name that the client does not have then, and
-///    `AlreadyHeld` where it locks a name that the client has.
+/// 6. For the first client with a fault, `Limit` if it has more than 1,024 operations. Otherwise, for its first operation with a
+///    fault: `Op` if it has none of the six forms, `NotHeld` if it unlocks a name that the client does not have then, and
+///    `AlreadyHeld` if it locks a name that the client has.
 /// 7. `Memory`: memory ran out.
 pub fn read_script(alloc: Global, text: &[u8]) -> Result<Script, ScriptError>
     ensures ok { IfOk result (λ script. spec.script_of text.now ≡ Ok script) }
@@ -206,7 +206,7 @@ pub fn read_script(alloc: Global, text: &[u8]) -> Result<Script, ScriptError>
     ensures memory { IsErrOf result ScriptError.Memory → IsText text.now }
     ensures script { IfOk result IsScript }
 
-    // It is read as a script only where it is a document of that script, and where it is, only `Memory` can come.
+    // It is read as a script only if it is a document of that script, and if it is, only `Memory` can come.
     ensures means { IfOk result (Means text.now) }
     ensures only { (script : ScriptState) → Means text.now script
         → MatchResult result (λ read. read ≡ script) (λ fault. fault ≡ ScriptError.Memory) }

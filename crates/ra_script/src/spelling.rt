@@ -45,7 +45,7 @@ fn push_lettered(alloc: Global, text: &mut String, letter: &str, number: u64) ->
     Ok(())
 }
 
-/// Adds the word of a choice, or nothing where it is a repeat.
+/// Adds the word of a choice, or nothing if it is a repeat.
 fn push_word(alloc: Global, text: &mut String, choice: &Choice) -> Result<(), Memory>
     ensures { OnOk result (string_bytes text.new ≡ string_bytes text.old ++ spec.spelled choice.now) }
 {
@@ -57,7 +57,7 @@ fn push_word(alloc: Global, text: &mut String, choice: &Choice) -> Result<(), Me
     }
 }
 
-/// Adds the word of the choice at this place to those of the choices before, after a space where there are any.
+/// Adds the word of the choice at this place to those of the choices before, after a space if there are any.
 fn push_next(alloc: Global, text: &mut String, place: usize, choice: &Choice) -> Result<(), Memory>
     ensures { (before : List Choice) → length before ≡ place → string_bytes text.old ≡ spec.spelled_all before
         → OnOk result (string_bytes text.new ≡ spec.spelled_all (before ++ choice.now ∷ [])) }
