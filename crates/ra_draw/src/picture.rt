@@ -210,7 +210,7 @@ fn draw_inner(alloc: Global, sheet: &mut Sheet, text: &[u8], part: Part, totals:
     }
 }
 
-/// Returns what stands in the picture of a part of a text, its attributes first.
+/// Returns what is in the picture of a part of a text, its attributes first.
 fn inner_of(alloc: Global, text: &[u8], part: Part, totals: Totals) -> Result<Vec<u8>, Memory> {
     let mut sheet = Sheet::new(alloc);
     draw_inner(alloc, &mut sheet, text, part, totals);

@@ -12,7 +12,7 @@ pub struct Before {
     name: Name,
     /// The requests that wait and hold there, in the order of the requests.
     pub claims: Vec<Claim>,
-    /// The greatest number that was granted, and its line. Both are 0 where none was.
+    /// The greatest number that was granted, and its line. Both are 0 if no number was.
     pub granted: u64,
     pub granted_at: u64,
 }
@@ -40,7 +40,7 @@ pub fn mark_in(text: &[u8]) -> Option<Mark> {
     }
 }
 
-/// Returns the last line before the one with the number `line` that is this mark, or 0 where none is.
+/// Returns the last line before the one with the number `line` that is this mark, or 0 if no line is.
 pub fn last_line_with(line: u64, text: &[u8], mark: &Mark) -> u64 {
     let mut last = 0;
     let mut rest = text;
@@ -57,7 +57,7 @@ pub fn last_line_with(line: u64, text: &[u8], mark: &Mark) -> u64 {
 }
 
 impl Before {
-    /// Takes a mark on the name, which stands in the line with the number `line`.
+    /// Takes a mark on the name, which is in the line with the number `line`.
     fn take_mark(&mut self, note: &mut Note, line: u64, mark: &Mark) {
         let noted = note_mark(&mut self.claims, mark, line);
         note.refuse_if(!noted);
@@ -78,8 +78,8 @@ impl Before {
         }
     }
 
-    /// Returns what stands before the line with the number `line` of a text that goes up to its line feed, or `None` where the text does not
-    /// begin with its first line. The cost is the number of lines times that of the requests that wait and hold at once.
+    /// Returns what comes before the line with the number `line` of a text that goes up to its line feed, or `None` if the text
+    /// does not begin with its first line. The cost is the number of lines times that of the requests that wait and hold at once.
     pub fn at_line(
         alloc: Global,
         note: &mut Note,

@@ -7,7 +7,7 @@ use std::alloc::Global;
 #[derive(Clone, Copy)]
 pub struct Claim {
     pub entry: Entry,
-    /// Whether it was granted. Else it waits.
+    /// Whether it was granted. Otherwise it waits.
     pub holds: bool,
     /// The place of the mark since which it does so, counted from 1.
     pub since: u64,
@@ -22,7 +22,7 @@ impl Claim {
     }
 }
 
-/// Returns where the claim of an entry stands, or the number of claims.
+/// Returns the place of the claim of an entry, or the number of claims.
 fn place_of(claims: &[Claim], entry: &Entry) -> usize {
     for (place, claim) in claims.iter().enumerate() {
         if claim.entry == *entry {
@@ -60,8 +60,8 @@ pub fn note_mark(claims: &mut Vec<Claim>, mark: &Mark, since: u64) -> bool {
     }
 }
 
-/// Returns what waits and holds after these marks, in the order of the requests. Where memory ran out the note keeps that. The cost is the
-/// number of marks times that of the requests that wait and hold at once.
+/// Returns what waits and holds after these marks, in the order of the requests. If memory ran out, the note records it. The cost
+/// is the number of marks times that of the requests that wait and hold at once.
 pub fn claims_after(alloc: Global, note: &mut Note, marks: &[Mark]) -> Vec<Claim> {
     let mut claims = Vec::new(alloc);
     for (before, mark) in marks.iter().enumerate() {

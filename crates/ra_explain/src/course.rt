@@ -35,8 +35,7 @@ fn opening_in(text: &[u8]) -> Option<(u16, u64)> {
     }
 }
 
-/// Returns whether what follows the first line of a text goes up to the line with the number `line`, with one line feed behind that, at the
-/// end.
+/// Returns whether what follows the first line of a text goes up to the line with the number `line`, with one line feed after it, at the end.
 fn goes_to(line: u64, text: &[u8]) -> bool {
     let mut rest = text;
     for _ in 2..line {
@@ -49,7 +48,7 @@ fn goes_to(line: u64, text: &[u8]) -> bool {
 }
 
 impl Course {
-    /// Begins one with the world of the first line, or returns `None` if memory runs out for it, which the note keeps.
+    /// Begins one with the world of the first line, or returns `None` if memory runs out for it, which the note records.
     fn open(alloc: Global, note: &mut Note, nodes: u16, start: u64) -> Option<Course> {
         match MarklessWorld::new(alloc, nodes, start) {
             Ok(world) => Some(Course {
@@ -66,7 +65,7 @@ impl Course {
         }
     }
 
-    /// Makes a step. Where memory runs out the note keeps that.
+    /// Makes a step. If memory runs out, the note records it.
     fn make(&mut self, alloc: Global, note: &mut Note, step: &Step) {
         match self.world.step(alloc, step) {
             Ok(outcome) => {
@@ -101,8 +100,9 @@ impl Course {
         }
     }
 
-    /// Returns the run before the line with the number `line` of a trace, or `None` where the text does not begin with the first line and end
-    /// with that one, or there is no memory for the world. The cost is linear in the text, and that of the steps in it.
+    /// Returns the run before the line with the number `line` of a trace. Returns `None` if the text does not begin with the
+    /// first line and end with that one, or there is no memory for the world. The cost is linear in the text, and that of the
+    /// steps in it.
     pub fn at_line(alloc: Global, note: &mut Note, line: u64, text: &[u8]) -> Option<Course> {
         let (first, behind) = next_line(text)?;
         let (nodes, start) = opening_in(first)?;

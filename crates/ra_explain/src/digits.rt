@@ -25,7 +25,7 @@ fn digit_value(digit: u8) -> u8 {
     }
 }
 
-/// Returns the byte of a frame at this place, or 0 where there is none.
+/// Returns the byte of a frame at this place, or 0 if there is none.
 pub fn byte_at(digits: &[u8], place: usize) -> u8 {
     match part(digits, place, 1) {
         [high, low] => digit_value(*high)

@@ -26,7 +26,7 @@ impl Held {
         }
     }
 
-    /// Takes the next operation, which is at this place. Where memory runs out the note keeps that.
+    /// Takes the next operation, which is at this place. If memory runs out, the note records it.
     pub fn take(&mut self, note: &mut Note, op: Op, place: u64) {
         match op {
             Op::Lock(name, mode) => {
@@ -58,8 +58,8 @@ impl Held {
     }
 }
 
-/// Returns what a client holds at its end. Where memory ran out the note keeps that. The cost is the number of its operations times that of
-/// the names that it holds at once.
+/// Returns what a client holds at its end. If memory ran out, the note records it. The cost is the number of its operations
+/// times that of the names that it holds at once.
 pub fn held_at_end(alloc: Global, note: &mut Note, script: &Script, client: u32) -> Held {
     let mut held = Held::new(alloc);
     for place in 0..script.ops_of(client).unwrap_or(0) {

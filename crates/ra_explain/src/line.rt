@@ -1,4 +1,4 @@
-//! What stands in the first wrong line of a trace or of a mark log.
+//! What is in the first wrong line of a trace or of a mark log.
 use crate::due::push_due;
 use crate::line_text::{push_mark_text, push_trace_text};
 use crate::not_under_way::push_not_under_way;
@@ -28,7 +28,7 @@ fn push_line(note: &mut Note, line: u64, tail: &Tail<'_>) {
     note.push(": ");
 }
 
-/// Adds why the line with the number `line` is wrong, which is `text` where nothing more precise is found.
+/// Adds why the line with the number `line` is wrong, which is `text` if nothing more precise is found.
 fn push_cause(
     alloc: Global,
     note: &mut Note,
@@ -55,14 +55,14 @@ fn push_cause(
     }
 }
 
-/// Returns what is said of the first wrong line of a text, the one with the number `line`, counted from 1: which it is, the line itself,
-/// and what is wrong with it, which is `text` where nothing more precise is found. `version` is that which the first line of a trace names,
-/// as far as it is known ([`version_of`](crate::version_of)). `read` are the last bytes that were read, up to the end of that line. Where
-/// they begin with the line before, what stands after `end` is known as such; and where they are all that were read, it is said what is in
-/// the way of a mark, which mark is due, why a node refuses a step, and why a message is not under way. `feeds` is how many line feeds were
-/// read in all: as many as `line` where the line was read to its line feed, and fewer where it has none or the text ends before it. The cost
-/// is the number of lines times that of the requests that wait and hold the line's name at once, or for a step and the mark that is due that
-/// of the steps before it.
+/// Returns what is said of the first wrong line of a text, the one with the number `line`, counted from 1: which it is, the line
+/// itself, and what is wrong with it. The last is `text` if nothing more precise is found. `version` is that which the first line
+/// of a trace names, as far as it is known ([`version_of`](crate::version_of)). `read` are the last bytes that were read, up to
+/// the end of that line. If they begin with the line before, what comes after `end` is known as such. If they are all that were
+/// read, it is said what is in the way of a mark, which mark is due, why a node refuses a step, and why a message is not under
+/// way. `feeds` is how many line feeds were read in all: as many as `line` if the line was read to its line feed, and fewer if it
+/// has none or the text ends before it. The cost is the number of lines times that of the requests that wait and hold the line's
+/// name at once. For a step and the mark that is due, it is the cost of the steps before it.
 ///
 /// # Errors
 ///

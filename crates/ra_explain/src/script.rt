@@ -4,7 +4,7 @@ use ra_script::{MAX_TURNS, ScriptError, read_script};
 use ra_text::Note;
 use std::alloc::Global;
 
-/// Returns the script of a text, or `None` where it is none. Where memory ran out the note keeps that.
+/// Returns the script of a text, or `None` if it is no script. If memory ran out, the note records it.
 pub fn script_in(alloc: Global, note: &mut Note, text: &[u8]) -> Option<Script> {
     match read_script(alloc, text) {
         Ok(script) => Some(script),
@@ -15,7 +15,7 @@ pub fn script_in(alloc: Global, note: &mut Note, text: &[u8]) -> Option<Script> 
     }
 }
 
-/// Returns what comes of a script by a policy, or `None` where that is refused. Where memory ran out the note keeps that.
+/// Returns what comes of a script by a policy, or `None` if that is refused. If memory ran out, the note records it.
 pub fn run_of(alloc: Global, note: &mut Note, script: &Script, policy: &Policy) -> Option<Summary> {
     match summarize(alloc, script, policy, MAX_TURNS) {
         Ok(summary) => Some(summary),

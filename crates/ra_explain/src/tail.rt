@@ -4,7 +4,7 @@ use ra_text::cut;
 /// The line of a text at which the reading ended.
 #[derive(Clone, Copy)]
 pub struct Tail<'a> {
-    /// Its bytes, without its line feed. There are none where the text ends before it.
+    /// Its bytes, without its line feed. There are none if the text ends before it.
     pub line: &'a [u8],
     /// Whether its line feed was read.
     pub has_feed: bool,
@@ -24,8 +24,8 @@ fn last_line(bytes: &[u8]) -> &[u8] {
     line
 }
 
-/// Returns the line at which the reading of a text ended, where these bytes were read last. `has_feed` says that the last of them is its
-/// line feed.
+/// Returns the line at which the reading of a text ended, if these bytes were read last. `has_feed` says that the last of them is
+/// its line feed.
 pub fn tail_of(bytes: &[u8], has_feed: bool) -> Tail<'_> {
     let shown = match bytes.split_last() {
         Some((_, rest)) if has_feed => rest,

@@ -134,8 +134,8 @@ fn push_run(alloc: Global, note: &mut Note, script: &Script, policy: &Policy) {
 }
 
 /// Returns a note on what is left to do when a policy has driven the script in a text. For each client that waits or is
-/// queued, the note says for what, and who is in its way. Returns `None` if the run is finished or refused. It costs as
-/// much as the run.
+/// queued, the note says for what, and which clients are in its way. Returns `None` if the run is finished or refused.
+/// It costs as much as the run.
 ///
 /// # Errors
 ///
