@@ -26,7 +26,7 @@ AnswersBook (line ∷ lines) text =
     (node : ℕ) × (nodes : ℕ) × (start : ℕ) × (new : Timed) × (rest : List ℕ) × IsFirst line node nodes start
     × (text ≡ codes "ok\n" ++ rest) × AnswersAll (opening node nodes start) lines rest new
 
--- what was read is no book: its first line is none, or it ends before its first line feed
+-- what was read is no book: its first line is not that of a book, or it ends before its first line feed
 abbrev pub IsNoBook : Option (List ℕ) → Option (List ℕ) → Type 0
 IsNoBook old new =
     ((line : List ℕ) × HasRead old new (line ∷ []) [] × ((node nodes start : ℕ) → IsFirst line node nodes start → ⊥))

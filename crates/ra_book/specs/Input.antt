@@ -26,7 +26,7 @@ abbrev pub IsPiece : List ℕ → Bool → List ℕ → Type 0
 IsPiece bytes true part = (bytes ≡ part ++ 10 ∷ []) × HasNoFeed part
 IsPiece bytes false part = (bytes ≡ part) × HasNoFeed part
 
--- so many of the bytes that are shown are kept, and they are all unless the line is over
+-- this many of the bytes that are shown are kept, and they are all unless the line is over
 pub record KeepsShown (shown : List ℕ) (old new : Line) (taken : Taken) : Type 0 where
   pub part : List ℕ
   pub within : taken.count ≤ length shown

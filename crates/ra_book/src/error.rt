@@ -4,7 +4,7 @@ use thiserror::Error;
 #[derive(Clone, Copy, Debug, PartialEq, Eq, Error)]
 #[error("{:?}", self)]
 pub enum BookFault {
-    /// The first line is none of a book, or the input ends before it does. This was answered.
+    /// The first line is not that of a book, or the input ends before it does. This was answered.
     Line,
     /// The reader failed.
     Read,

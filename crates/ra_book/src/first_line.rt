@@ -46,8 +46,8 @@ fn first_in(rest: &[u8]) -> Option<First>
 }
 
 impl First {
-    /// Returns what a line of at most 256 bytes says as the first one of a book, without its line feed, or `None` if it is
-    /// none. It does not allocate, and the cost is linear in the line.
+    /// Returns what a line of at most 256 bytes says as the first one of a book, without its line feed, or `None` if it is not
+    /// one. It does not allocate, and the cost is linear in the line.
     pub fn parse(line: &[u8]) -> Option<First>
         requires { length line.now ≤ 256 }
         ensures { MatchOption result ((node nodes start : ℕ) → IsFirst line.now node nodes start → ⊥)

@@ -72,8 +72,8 @@ fn next_byte<R: Read>(reader: &mut R) -> Result<Option<u8>, ReadFailed>
     }
 }
 
-/// Takes one byte from a reader that shows none. By the contract of `BufRead`, that nothing is shown does not mean the end; that a read gives
-/// nothing does.
+/// Takes one byte from a reader that shows none. By the contract of `BufRead`, a reader that shows nothing need not be at its
+/// end; one that gives nothing is.
 ///
 /// # Errors
 ///

@@ -29,7 +29,7 @@ fn opened_by(alloc: Global, line: &Line) -> Option<TimedNode>
     opened(alloc, line.bytes.as_slice())
 }
 
-/// Puts out that a first line is none.
+/// Puts out that a first line is not that of a book.
 fn put_no_book<W: Write>(writer: &mut W, out: &mut Output)
     ensures { Puts (W.contents writer.old) (W.contents writer.new) out.old out.new (refused_line Refusal.Line) }
 {
@@ -67,7 +67,8 @@ fn open_by<W: Write>(
 ///
 /// # Errors
 ///
-/// `Line`: it is none, or the input ends before it. This was put out. `Read`: the reader failed. `Write`: the writer failed.
+/// `Line`: it is not that of a book, or the input ends before it. This was put out. `Read`: the reader failed. `Write`: the
+/// writer failed.
 fn take_first<B: BufRead, W: Write>(
     alloc: Global,
     reader: &mut B,
@@ -140,10 +141,10 @@ fn take_book<B: BufRead, W: Write>(
     }
 }
 
-/// Reads a book, hands each event to its node, and writes the answer to each line: `ok` to the first line; to an event a line
-/// `send TO HEX` for each frame, the lines of its marks, and `ok`; or `refused` and a word, after which the node is as before.
-/// What is answered is written and passed on before more input is waited for; while the reader shows more, it need not be. A last
-/// line without a line feed is not answered.
+/// Reads a book, hands each event to its node, and writes the answer to each line. The answer is `ok` to the first line. To an
+/// event it is a line `send TO HEX` for each frame, the lines of its marks, and `ok`. Or it is `refused` and a word, after which
+/// the node is as before. What is answered is written and passed on before more input is waited for; while the reader shows more,
+/// it need not be. A last line without a line feed is not answered.
 ///
 /// It keeps the node and its clock, at most 256 bytes of a line, and up to 16,384 bytes of answers. A line that is refused for lack of
 /// memory can come again. It reads at most 2^64 - 1 lines, and as many pieces of each.
@@ -152,7 +153,7 @@ fn take_book<B: BufRead, W: Write>(
 ///
 /// The first that comes:
 ///
-/// 1. `Line`: the first line is none of a book, or the input ends before it does. The answer is `refused Line`.
+/// 1. `Line`: the first line is not that of a book, or the input ends before it does. The answer is `refused Line`.
 /// 2. `Read`: the reader failed. It is not tried again, and all answers were written.
 /// 3. `Write`: the writer failed, and a prefix of the answers was written. Nothing is written after that.
 pub fn answer_book<B: BufRead, W: Write>(

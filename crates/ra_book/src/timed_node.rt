@@ -34,8 +34,8 @@ impl Model for TimedNode {
 impl TimedNode {
     ghost use Rattle.ra_book.specs.Timed.{CanCome, FitAt, opening};
 
-    /// Makes a node that has met nothing, `node` of `nodes`, where the highest number of each resource begins at `start`. Returns `None`
-    /// if `node` is above `nodes`. It does not allocate.
+    /// Makes a node that has met nothing, `node` of `nodes`. The highest number of each resource begins at `start`. Returns
+    /// `None` if `node` is above `nodes`. It does not allocate.
     pub fn new(alloc: Global, node: NodeId, nodes: NodeId, start: u64) -> Option<TimedNode>
         ensures { MatchOption result (node ≤ nodes → ⊥) (λ made. made ≡ opening node nodes start) }
     {
