@@ -83,9 +83,9 @@ pub record ReadsBooks (old new : Option (List ℕ)) (input : List ℕ) : Type 0 
   pub short : length input ≤ 2 ^ 30
 
 -- Status 0: the input is a text of books that settle, and exactly the report or the trace of their run was written.
--- Status 3: it is none, and exactly the line that says where and why was written. Status 2: it is too long, or memory
--- ran out, and the line that says so was written. Status 1: the reader failed, and the line that says so was written; or
--- the writer failed, and only a prefix of what is printed was written.
+-- Status 3: it is no such text, and exactly the line that says where and why was written. Status 2: it is too long, or
+-- memory ran out, and the line that says so was written. Status 1: the reader failed, and the line that says so was
+-- written; or the writer failed, and only a prefix of what is printed was written.
 pub record ServesSettle (asked : SettleTask) (old new before after : Option (List ℕ)) (status : ℕ) : Type 0 where
   pub range : status ≤ 3
   pub done : status ≡ 0

@@ -17,7 +17,7 @@ use ra_world::{read_up_to, write_out};
 use std::alloc::Global;
 use std::io::{Read, Write};
 
-/// Returns the node, where there are that many nodes and it is one of them. It does not allocate.
+/// Returns the node, if there are that many nodes and it is one of them. It does not allocate.
 ///
 /// # Errors
 ///
@@ -164,7 +164,7 @@ fn reaction_to(
 ///
 /// # Errors
 ///
-/// Those of `frame_in` and `reaction_to`, and then `ClockFull`, where the node's clock would pass 2^62, and `Memory`.
+/// Those of `frame_in` and `reaction_to`, and then `ClockFull`, if the node's clock would pass 2^62, and `Memory`.
 fn answer_to(alloc: Global, me: NodeId, nodes: u16, input: &[u8]) -> Result<Vec<u8>, AnswerError>
     requires { IsMember me nodes }
     ensures ok { IfOk result (λ output. IsAnswered me nodes input.now output.items) }
@@ -210,12 +210,12 @@ fn answer_line<R: Read, W: Write>(
 ///
 /// # Errors
 ///
-/// The first that holds, except that `Memory` may come before any that stands after `BadNode`:
+/// The first that holds, except that `Memory` may come before any that is after `BadNode`:
 ///
 /// 1. `BadCount`: there are not 1 to 64 nodes.
 /// 2. `BadNode`: the node is not 1 to `nodes`.
 /// 3. `Read`: the reader failed, before its end and before it gave 258 bytes.
-/// 4. `Line`: more than 256 bytes stand before a line feed, or bytes after it.
+/// 4. `Line`: more than 256 bytes come before a line feed, or bytes after it.
 /// 5. `Hex`: the line is no even number of hexadecimal digits.
 /// 6. `Frame`: the bytes are no frame.
 /// 7. `WrongNode`: the message is for another node.
@@ -240,7 +240,7 @@ pub fn answer<R: Read, W: Write>(
 
     ensures refused { IfErr result (λ fault.
         IfSome (R.remaining reader.old) (λ input. Refuses node nodes input fault)) }
-    // Where the reader tells nothing of its input, a refusal still has a cause, and the node is one of the nodes.
+    // If the reader tells nothing of its input, a refusal still has a cause, and the node is one of the nodes.
     ensures cause { IfErr result (λ fault. (input : List ℕ) × Refuses node nodes input fault) }
     ensures member { OnOk result (IsMember node nodes) }
 

@@ -42,8 +42,8 @@ pub enum Task<'a> {
         choices: &'a str,
         format: Format,
     },
-    /// The command `sim` with many seeds: the faults of chance, where it has any, what is looked for among the runs, if
-    /// anything is, and the first and the last seed, both included.
+    /// The command `sim` with many seeds: the faults of chance, if it has any, what is looked for among the runs, if anything is,
+    /// and the first and the last seed, both included.
     Survey {
         faults: Option<Faults>,
         find: Option<Search>,
@@ -75,7 +75,7 @@ pub enum CommandFault {
     Memory,
 }
 
-/// Returns the text after an option and `=` in a word, or `None` where it is no such word. No option has an `=` in it. It does not
+/// Returns the text after an option and `=` in a word, or `None` if it is no such word. No option has an `=` in it. It does not
 /// allocate.
 fn text_in<'a>(word: &'a str, option: &str) -> Option<&'a str>
     ensures { IfSome result (λ text. word.now ≡ option.now ++ 61 ∷ text.now) }
@@ -133,7 +133,7 @@ fn number_or_zero(words: &[String], option: &str) -> u16
     }
 }
 
-/// Returns the faults of chance that the words of the command `sim` give, or `None` where there are no such.
+/// Returns the faults of chance that the words of the command `sim` give, or `None` if they give no such faults.
 fn faults_of(words: &[String]) -> Option<Faults>
     ensures { IfSome result (λ faults. GivesNothingBut (map string_bytes words.now) (codes "--lose") 0
         → GivesNothingBut (map string_bytes words.now) (codes "--repeat") 0 → (faults.lose ≡ 0) × (faults.repeat ≡ 0)) }
@@ -180,8 +180,8 @@ pub fn policy_name(words: &[String], sim: &ArgMatches) -> Option<PolicyName>
     Some(policy_called(word, seed, faults))
 }
 
-/// Returns the first and the last seed of a text, as of `1..1000`, or `None` where it is none, or the first is above the last. It does not
-/// allocate.
+/// Returns the first and the last seed of a text, for example of `1..1000`, or `None` if it is no such text, or the first is
+/// above the last. It does not allocate.
 fn seeds_of(text: &str) -> Option<(u64, u64)>
     ensures { IfSome result (λ seeds. seeds.0 ≤ seeds.1) }
 {
@@ -207,8 +207,8 @@ pub fn has_word(words: &[String], sought: &str) -> bool
     false
 }
 
-/// Returns what is to be printed of a run, or `None` where the words ask for two things, or for the choices where some may be repeats,
-/// for which there is no word. It does not allocate.
+/// Returns what is to be printed of a run. Returns `None` if the words ask for two things, or for the choices when some may be
+/// repeats, for which there is no word. It does not allocate.
 pub fn format_of(policy: &PolicyName, words: &[String], sim: &ArgMatches) -> Option<Format>
     ensures { IfSome result (λ format. ¬ Any (λ word. string_bytes word ≡ codes "--as-choices") words.now
         → format ≢ Format.Choices) }
@@ -262,8 +262,8 @@ fn found_format(format: Format) -> Format
     }
 }
 
-/// Returns what is looked for among the runs of many seeds, if an end is given, or `None` if there is none and yet a format of one run. It
-/// does not allocate.
+/// Returns what is looked for among the runs of many seeds, if an end is given. Returns `None` if a format of one run is asked
+/// for, but no end is. It does not allocate.
 fn search_of(ending: Option<Ending>, format: Format) -> Option<Option<Search>>
     ensures { IfSome result (λ find. format ≢ Format.Choices → IfSome find (λ search. search.format ≢ Format.Choices)) }
 {
@@ -458,7 +458,7 @@ fn are_sim_words(words: &[String]) -> bool
     }
 }
 
-/// Returns the task of the words, of which the first is the program's name. It is a text of help, or the version, only where one of
+/// Returns the task of the words, of which the first is the program's name. It is a text of help, or the version, only if one of
 /// them asks for it. The name and `sim` alone are never refused.
 ///
 /// # Errors
@@ -493,7 +493,7 @@ pub fn parse<'a>(alloc: Global, words: &'a [String]) -> Result<Task<'a>, Command
     }
 }
 
-/// Returns the text of help, or the version, for which the words ask, where that is why the parser stopped.
+/// Returns the text of help, or the version, for which the words ask, if that is why the parser stopped.
 ///
 /// # Errors
 ///
@@ -511,7 +511,7 @@ fn help_of<'a>(
     ensures choices { IfOk result (λ task. GivesNoChoices (map string_bytes words.now) → HasNoChoices task) }
 {
     match error.kind() {
-        // No contract of the parser's says that it gives these only to those who ask.
+        // No contract of the parser's says that it gives these only to words that ask for them.
         ErrorKind::DisplayHelp | ErrorKind::DisplayVersion if asks_for_help(words) => {
             match format!(in alloc; "{error}") {
                 Ok(text) => Ok(Task::Help(text)),

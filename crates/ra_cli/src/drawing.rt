@@ -37,7 +37,7 @@ fn denied(line: Result<String, Memory>, remark: Remark) -> Result<Option<Denial>
     }
 }
 
-/// Draws a part of the reader's trace, or says why it is none.
+/// Draws a part of the reader's trace, or says why its text is no trace.
 ///
 /// # Errors
 ///
@@ -61,7 +61,7 @@ fn draw_trace<R: Read, W: Write>(
     }
 }
 
-/// Draws a part of the reader's mark log, or says why it is none.
+/// Draws a part of the reader's mark log, or says why its text is no mark log.
 ///
 /// # Errors
 ///

@@ -23,7 +23,7 @@ fn has_no_feed(line: &[u8]) -> bool
     line.iter().all(|&byte| byte != b'\n')
 }
 
-/// Returns the input's one line without its line feed, or `None` where the input is none. It does not allocate.
+/// Returns the input's one line without its line feed, or `None` if the input is no line. It does not allocate.
 pub fn line_of(input: &[u8]) -> Option<&[u8]>
     ensures none { IfNone result ((line : List ℕ) → IsLine input.now line → ⊥) }
     ensures some { IfSome result (λ line. IsLine input.now line.now) }

@@ -12,10 +12,10 @@ ghost use Rattle.ra_cli.specs.Tasks.{IsCauseFor, IsLeftBy};
 use ra_schedule::{scripts_come_to_rest, seeds_finish_ordered_scripts};
 use ra_script::{choices_have_words_unless_messages_are_repeated, read_scripts_come_to_rest};
 
-/// A script whose clients take names in ascending order and give them all back is finished by `ra sim`: status 3 can't
-/// come, by one policy or under each of many seeds, unless a message is lost or repeated or the choices are listed. If no
-/// choices are given either, it is refused for want of memory only, unless the reader or the writer fails. And whatever
-/// the script, no turn is refused.
+/// Let the clients of a script take names in ascending order and give them all back, let no message be lost or repeated,
+/// and let the choices not be listed. Then `ra sim` finishes the script: status 3 can't come, by one policy or under each
+/// of many seeds. If no choices are given either, the script is refused for lack of memory only, unless the reader or the
+/// writer fails. And whatever the script, no turn is refused.
 pub fn orderly_scripts_are_finished()
     ensures finished { (asked : Task) (input : List ℕ) (new before after : Option (List ℕ)) → IsOrderly input → RunsFaithfully asked
         → ¬ IsLeftBy asked (Some input) new before after }

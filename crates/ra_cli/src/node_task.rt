@@ -30,8 +30,8 @@ fn say_unread<W: Write>(writer: &mut W) -> Outcome
     Outcome::new(1, Some(Remark::Unread))
 }
 
-/// Answers the lines of the reader's book as the node that its first line names, and returns what came of it: status 0 at
-/// the end of the input, 2 if its first line is none of a book, and 1 if the reader or the writer failed.
+/// Answers the lines of the reader's book as the node that its first line names, and returns what came of it. The status
+/// is 0 at the end of the input, 2 if its first line is not that of a book, and 1 if the reader or the writer failed.
 pub fn be_a_node<R: BufRead, W: Write>(alloc: Global, reader: &mut R, writer: &mut W) -> Outcome
     ensures range { result.status ≤ 2 }
     ensures serves { ServesNode (R.remaining reader.old) (R.remaining reader.new)

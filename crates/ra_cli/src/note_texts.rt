@@ -32,7 +32,7 @@ pub const BOOKS_TOO_LONG: &str = "standard input has more than 1073741824 bytes"
 pub const TOO_LONG: &str =
     "standard input has more than 4096 lines to draw: choose a part with --from and --to";
 
-/// What is said of the first line of a book if it is none.
+/// What is said of the first line of a book if it is not one.
 pub const NO_BOOK: &str =
     "not the first line of a book: expected book 1 NODE NODES START, with NODE 1 to NODES, NODES 1 to 64 and START 0 to 2^64 - 1, separated by single spaces and ended by a line feed alone";
 

@@ -5,11 +5,11 @@ use crate::refusal::Refusal;
 use ra_settle::TextCause;
 use ra_trace::{Cause, MarkCause, MarksVerdict, Verdict};
 
-/// The run ended with something left to do, the trace or the log is none, or the books do not settle.
+/// The run ended with something left to do, the text is no trace or no mark log, or the books do not settle.
 pub const UNFINISHED: u8 = 3;
 
-/// What there is to say to a person of what came of a command. A note is made of it when all else is done, so that it takes no part in what
-/// is printed.
+/// What there is to say to a person of what came of a command. A note is made of it when everything else is done, so that it
+/// takes no part in what is printed.
 #[derive(Drop)]
 pub enum Remark {
     /// It was refused.
@@ -67,7 +67,7 @@ impl Outcome {
     }
 }
 
-/// Returns what there is to say of a verdict, which is nothing where the text is a trace.
+/// Returns what there is to say of a verdict, which is nothing if the text is a trace.
 pub fn remark_of(verdict: &Verdict) -> Option<Remark> {
     match *verdict {
         Verdict::Valid { .. } => None,
@@ -75,7 +75,7 @@ pub fn remark_of(verdict: &Verdict) -> Option<Remark> {
     }
 }
 
-/// Returns what there is to say of a verdict on a mark log, which is nothing where it is a run of the lock table.
+/// Returns what there is to say of a verdict on a mark log, which is nothing if it is a run of the lock table.
 pub fn marks_remark_of(verdict: &MarksVerdict) -> Option<Remark> {
     match *verdict {
         MarksVerdict::Valid { .. } => None,

@@ -1,4 +1,4 @@
-//! Where in what was read stands what a note is about, and who waits for whom.
+//! The place in what was read that a note is about, and which client waits for which.
 use crate::AnswerError;
 use crate::command_line::{Task, choices_word, parse, text_of};
 use crate::error::RunScriptError;
@@ -20,7 +20,7 @@ use ra_text::cut;
 use ra_trace::Version;
 use std::alloc::Global;
 
-/// What is said of a place, or nothing, where there is nothing to say or no memory for it: then the cause alone is named.
+/// What is said of a place, or nothing, if there is nothing to say or no memory for it: then the cause alone is named.
 type Said = Result<Option<String>, Memory>;
 
 /// Returns what is said of a script that is not performed.
@@ -62,7 +62,7 @@ fn answer_place(alloc: Global, words: &[String], input: &[u8], why: AnswerError)
     }
 }
 
-/// Returns the policy that words name, of many seeds with the last one that was tried, or `None` where they name none.
+/// Returns the policy that words name, of many seeds with the last one that was tried, or `None` if they name none.
 fn policy_in(alloc: Global, words: &[String], last_seed: Option<u64>) -> Option<Policy> {
     let task = parse(alloc, words).ok()?;
     match &task {
@@ -102,7 +102,7 @@ fn through_line(text: &[u8], line: u64) -> (&[u8], u64) {
     (text.get(..read).unwrap_or(text), line)
 }
 
-/// Returns the version that a trace names, where its first line is remembered.
+/// Returns the version that a trace names, if its first line is remembered.
 fn version_in(seen: &Seen) -> Option<Version> {
     version_of(seen.bytes()?)
 }
@@ -134,7 +134,7 @@ fn last_line_place(
 
 /// Returns what is said of a wrong line.
 fn line_place(alloc: Global, seen: &Seen, line: u64, cause: LineCause, text: &str) -> Said {
-    // Only its first byte is read of a line behind the last one of a trace.
+    // Only its first byte is read of a line after the last one of a trace.
     if let (true, Some(shown)) = (seen.is_after_end(), seen.shown_line()) {
         return last_line_place(alloc, seen, shown, line, cause, text);
     }

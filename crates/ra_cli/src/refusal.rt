@@ -1,5 +1,5 @@
-//! The line that is printed of each refusal, as a constant: so it is printed whatever is lacking. The words stand here and where each error
-//! says how it prints, since no contract says what a derived `Display` writes.
+//! The line that is printed of each refusal, as a constant: so it is printed whatever is lacking. The words are here and where
+//! each error says how it prints, since no contract says what a derived `Display` writes.
 ghost use Rattle.std.specs.Prelude.{◌≡◌};
 ghost use Rattle.ra_cli.specs.Refusals as spec;
 

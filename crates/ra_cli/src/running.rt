@@ -32,7 +32,7 @@ const MAX_INPUT: usize = 65_537;
 pub fn script_from<R: Read>(alloc: Global, reader: &mut R) -> Result<Script, RunScriptError>
     ensures ok { IfOk result (λ script. IfSome (R.remaining reader.old) (λ input.
         (script_of input ≡ Ok script) × Consumes (R.remaining reader.old) (R.remaining reader.new) input)) }
-    // Where the reader tells nothing of its input, there still is one of which this holds.
+    // If the reader tells nothing of its input, there still is one of which this holds.
     ensures read { IfOk result (λ script. (input : List ℕ) × (script_of input ≡ Ok script)) }
     ensures refused { IfErr result (λ fault.
         IfSome (R.remaining reader.old) (λ input. RefusesRun input fault)) }

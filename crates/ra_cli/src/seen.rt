@@ -19,7 +19,7 @@ pub struct Seen {
     is_whole: bool,
     /// Whether they were looked at before they were taken, no more than a line at once.
     is_by_lines: bool,
-    /// The last line, and what the reader showed behind what was taken of it.
+    /// The last line, and what the reader showed after what was taken of it.
     line: ArrayVec<u8, MAX_LINE>,
     /// How many bytes of the line were taken.
     taken: usize,
@@ -70,8 +70,8 @@ impl Seen {
         &line[..self.taken.min(line.len())]
     }
 
-    /// Returns what was taken of the last line, at most 128 bytes, and its line feed if it came, or `None` where it was not read line by line,
-    /// as a trace is. It does not allocate.
+    /// Returns what was taken of the last line, at most 128 bytes, and its line feed if it came. Returns `None` if the input was
+    /// not read line by line, as a trace is. It does not allocate.
     pub fn line(&self) -> Option<&[u8]> {
         if self.is_by_lines {
             Some(self.taken_line())
@@ -80,8 +80,8 @@ impl Seen {
         }
     }
 
-    /// Returns the last line as far as the reader showed it, at most 128 bytes, with its line feed where that was taken; or `None` where it
-    /// was not read line by line, as a trace is. It does not allocate.
+    /// Returns the last line as far as the reader showed it, at most 128 bytes, with its line feed if that was taken. Returns
+    /// `None` if the input was not read line by line, as a trace is. It does not allocate.
     pub fn shown_line(&self) -> Option<&[u8]> {
         if !self.is_by_lines {
             return None;
@@ -110,7 +110,7 @@ impl Seen {
 
     /// Remembers the bytes that were read.
     fn keep(&mut self, bytes: &[u8]) {
-        // What comes after bytes for which there was no memory would stand at a wrong place.
+        // What comes after bytes for which there was no memory would be at a wrong place.
         self.is_whole = self.is_whole && has_kept(&mut self.bytes, bytes);
     }
 
@@ -126,7 +126,7 @@ impl Seen {
         self.line.try_extend_from_slice(shown).ok();
     }
 
-    /// Returns what was shown behind a line that was taken whole, where that goes on behind these bytes, which are read next.
+    /// Returns what was shown after a line that was taken whole, if that goes on after these bytes, which are read next.
     fn shown_behind(&self, read: &[u8]) -> Option<ArrayVec<u8, MAX_LINE>> {
         let shown = self.line.as_slice().get(self.taken..)?;
         if !self.is_over() || shown.len() <= read.len() || !shown.starts_with(read) {
@@ -137,8 +137,8 @@ impl Seen {
         Some(line)
     }
 
-    /// Remembers what is read next without being looked at, as the one byte that is asked for behind the last line of a trace. What was
-    /// shown there stays known.
+    /// Remembers what is read next without being looked at, such as the one byte that is asked for after the last line of a
+    /// trace. What was shown there stays known.
     fn show_read(&mut self, read: &[u8]) {
         match self.shown_behind(read) {
             Some(line) => {
@@ -150,7 +150,7 @@ impl Seen {
         }
     }
 
-    /// Remembers that so many bytes are taken that were looked at.
+    /// Remembers that `count` bytes that were looked at are taken.
     fn pass(&mut self, count: usize) {
         self.is_by_lines = true;
         self.is_whole = self.is_whole
@@ -161,7 +161,7 @@ impl Seen {
         self.take(count);
     }
 
-    /// Remembers that so many bytes of what was shown are taken.
+    /// Remembers that `count` bytes of what was shown are taken.
     fn take(&mut self, count: usize) {
         self.taken = self.taken.saturating_add(count).min(self.line.len());
         if count > 0 && self.is_over() {

@@ -7,7 +7,7 @@ use std::io::{ErrorKind, Write};
 /// How a writer failed.
 #[derive(Clone, Copy)]
 pub enum OutputFault {
-    /// Nobody reads on, as of a pipe whose other end is closed.
+    /// It is no longer read, for example a pipe whose other end is closed.
     Unread,
     /// No space is left where it writes to.
     Full,
@@ -39,7 +39,7 @@ impl<W> SeenWriter<W> {
         SeenWriter { inner, fault: None }
     }
 
-    /// Returns how the writer failed last, or `None` where it did not.
+    /// Returns how the writer failed last, or `None` if it did not.
     pub fn fault(&self) -> Option<OutputFault> {
         self.fault
     }

@@ -61,7 +61,7 @@ const BROKEN: u8 = 1;
 /// The words or the input were refused, memory ran out, or threads did not bring a script to its end.
 const REFUSED: u8 = 2;
 
-/// Writes a text and returns the status, or that of a fault where the writer fails. It does not allocate.
+/// Writes a text and returns the status, or that of a fault if the writer fails. It does not allocate.
 pub fn written<W: Write>(writer: &mut W, text: &[u8], status: u8) -> u8
     requires { status ≤ 3 }
     ensures range { result ≤ 3 }
@@ -102,8 +102,8 @@ fn is_of_the_reader(refusal: Refusal) -> bool
     )
 }
 
-/// Prints the line of a refusal and returns what came of it, with status 1 where the reader or the writer failed, and else 2. After a
-/// fault of the writer it prints nothing. It does not allocate.
+/// Prints the line of a refusal and returns what came of it, with status 1 if the reader or the writer failed, and otherwise 2.
+/// After a fault of the writer it prints nothing. It does not allocate.
 pub fn refuse<W: Write>(writer: &mut W, refusal: Refusal) -> Outcome
     ensures range { result.status ≤ 2 }
     ensures not_done { 1 ≤ result.status }
@@ -124,8 +124,7 @@ pub fn refuse<W: Write>(writer: &mut W, refusal: Refusal) -> Outcome
     }
 }
 
-/// Prints why there are no words of a command line, and returns the status, 2, or 1 where the writer fails. It does not
-/// allocate.
+/// Prints why there are no words of a command line, and returns the status, 2, or 1 if the writer fails. It does not allocate.
 pub fn refuse_words<W: Write>(writer: &mut W, fault: CommandFault) -> u8
     ensures { ((result ≡ 2) × Appends (W.contents writer.old) (W.contents writer.new) (refused_line (command_word fault)))
         ⊎ ((result ≡ 1) × (prefix : List ℕ) × (rest : List ℕ) × (refused_line (command_word fault) ≡ prefix ++ rest) × (rest ≢ [])
@@ -138,8 +137,8 @@ pub fn refuse_words<W: Write>(writer: &mut W, fault: CommandFault) -> u8
     }
 }
 
-/// Does as [`refuse_words`], and then writes a line for a person to `notes`, and one where `writer` failed, but for a pipe that nobody
-/// reads on. That `notes` fails changes nothing else.
+/// Does as [`refuse_words`], and then writes a line for a person to `notes`. It writes another if `writer` failed, unless that
+/// is a pipe that is no longer read. That `notes` fails changes nothing else.
 pub fn refuse_words_with_note<W: Write, N: Write>(
     writer: &mut SeenWriter<W>,
     fault: CommandFault,
@@ -178,7 +177,7 @@ fn respond<R: Read, W: Write>(
     }
 }
 
-/// Returns the policy of a name. The choices are read whatever the name, so that who wrote a wrong word is told.
+/// Returns the policy of a name. The choices are read whatever the name, so that a user is told of a wrong word.
 ///
 /// # Errors
 ///
@@ -233,7 +232,7 @@ fn simulate<R: Read, W: Write>(
     }
 }
 
-/// Returns what there is to say of seeds where a run was stuck, or none was finished.
+/// Returns what there is to say of seeds if a run was stuck, or none was finished.
 fn remark_on(find: Option<Search>) -> Remark {
     match find {
         Some(
@@ -512,11 +511,17 @@ fn outcome_of<T: Threads + Wait + Sync, R: BufRead, W: Write, O: Observer>(
     }
 }
 
-/// Does what the words ask for, of which the first is the program's name, and returns the exit status: 0 done, 1 a fault of
-/// the input or the output, 2 refused, 3 a run that ended with something left to do, a trace or a log that is not one, or books that do
-/// not settle. A refusal is printed as one line, `refused` and its word; `ra node` answers refused lines and goes on. No read or write that failed is tried again,
-/// and after a fault of the output nothing more is written. It waits for nobody but the reader and the writer, and with the command
-/// `cluster` for the threads that it starts. The reader has a buffer for the commands `check` and `node`, which take of it what they read.
+/// Does what the words ask for, of which the first is the program's name, and returns the exit status:
+///
+/// - 0: done.
+/// - 1: a fault of the input or the output.
+/// - 2: refused.
+/// - 3: a run that ended with something left to do, a trace or a log that is not one, or books that do not settle.
+///
+/// A refusal is printed as one line, `refused` and its word; `ra node` answers refused lines and goes on. No read or write that
+/// failed is tried again, and after a fault of the output nothing more is written. It waits for nobody but the reader and the
+/// writer, and with the command `cluster` for the threads that it starts. The reader has a buffer for the commands `check` and
+/// `node`, which take of it what they read.
 pub fn serve<T: Threads + Wait + Sync, R: BufRead, W: Write>(
     rt: &T,
     alloc: Global,
@@ -530,13 +535,18 @@ pub fn serve<T: Threads + Wait + Sync, R: BufRead, W: Write>(
     outcome_of(rt, alloc, words, reader, writer, &mut ()).status
 }
 
-/// Does as [`serve`], and then writes a line for a person to `notes`, where something was refused, a text is no trace or a log is none,
-/// books do not settle, or a run ended with something left to do: what is wrong, where in what was read, and what would be right; and one
-/// for each option that says nothing, where the policy `listed` has no choices, where a finished run leaves names locked, and for the
-/// seed of a run that was found; and one where `writer` failed, but for a pipe that nobody reads on. While many seeds take long, it
-/// writes there how far it is. Each line begins with `ra: `. Nothing of it goes to `writer`, and it is left out where memory or `notes`
-/// fails, which changes nothing else. To find the place in a script it is read once more, for who waits for whom it is run once more, and
-/// for the mark that is due, or an ask or a release that is refused, the steps of a trace are made once more.
+/// Does as [`serve`], and then writes lines for a person to `notes`:
+///
+/// - If something was refused, a text is no trace, a log is no mark log, books do not settle, or a run ended with something left
+///   to do, a line says what is wrong, where in what was read, and what would be right.
+/// - There is a line for each option that has no effect, if the policy `listed` has no choices, if a finished run leaves names
+///   locked, and for the seed of a run that was found.
+/// - There is a line if `writer` failed, unless that is a pipe that is no longer read.
+///
+/// While many seeds take long, it writes there how far it is. Each line begins with `ra: `. Nothing of it goes to `writer`, and
+/// it is left out if memory or `notes` fails, which changes nothing else. To find the place in a script it is read once more. To
+/// find which client waits for which it is run once more. For the mark that is due, or an ask or a release that is refused, the
+/// steps of a trace are made once more.
 pub fn serve_with_notes<T: Threads + Wait + Sync, R: BufRead, W: Write, N: Write>(
     rt: &T,
     alloc: Global,

@@ -17,7 +17,7 @@ struct Opening {
     first: First,
 }
 
-/// Returns what a line says as the first one of a book, or `None` if it is none. It does not allocate.
+/// Returns what a line says as the first one of a book, or `None` if it is not one. It does not allocate.
 fn first_in(line: &[u8]) -> Option<First> {
     if line.len() > MAX_LINE {
         return None;
@@ -71,7 +71,7 @@ fn opening_of(openings: &[Opening], node: u16) -> Option<Opening> {
     None
 }
 
-/// Adds a line, and in which book it is and which frame comes by it, if so.
+/// Adds a line, in which book it is, and which frame comes by it, if one does.
 fn push_line(note: &mut Note, shown: &[u8], openings: &[Opening]) {
     note.push(", ");
     note.quoted(shown);

@@ -44,7 +44,7 @@ fn are_texts(one: &String, other: &String, first: &str, second: &str) -> bool
     is_text(one, first) && is_text(other, second)
 }
 
-/// Returns what one option of `settle` asks for, or `None` if it is none. It does not allocate.
+/// Returns what one option of `settle` asks for, or `None` if it is no such option. It does not allocate.
 fn one_option(one: &String) -> Option<SettleTask>
     ensures { MatchOption result (AreNoOptions (string_bytes one.now ∷ [])) (AreOptionsFor (string_bytes one.now ∷ [])) }
 {
@@ -63,7 +63,7 @@ fn one_option(one: &String) -> Option<SettleTask>
     None
 }
 
-/// Returns what two options of `settle` ask for, or `None` if they are not two of it. It does not allocate.
+/// Returns what two options of `settle` ask for, or `None` if they are not two of its options. It does not allocate.
 fn two_options(one: &String, other: &String) -> Option<SettleTask>
     ensures { MatchOption result (AreNoOptions (string_bytes one.now ∷ string_bytes other.now ∷ []))
         (AreOptionsFor (string_bytes one.now ∷ string_bytes other.now ∷ [])) }

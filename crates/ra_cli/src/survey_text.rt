@@ -23,7 +23,7 @@ fn push_first(text: &mut String, first: u64) -> Result<(), Memory>
     Ok(())
 }
 
-/// Adds the line of an end, where a seed came to it.
+/// Adds the line of an end, if a seed came to it.
 ///
 /// # Errors
 ///
@@ -39,7 +39,7 @@ fn push_tally(text: &mut String, word: &str, tally: Option<Tally>) -> Result<(),
     push_first(text, first)
 }
 
-/// Adds the line of a figure, where there is any.
+/// Adds the line of a figure, if there is any.
 ///
 /// # Errors
 ///
@@ -57,8 +57,8 @@ fn push_spread(text: &mut String, word: &str, spread: Option<Spread>) -> Result<
     Ok(())
 }
 
-/// Returns the lines of a survey: one for each end that came, with how many seeds came to it and the first of them, and one with the
-/// least and the most of each of two figures, the turns that were made and the messages that were sent.
+/// Returns the lines of a survey. There is one for each end that came, with how many seeds came to it and the first of them. Then
+/// there is one for each of two figures, the turns that were made and the messages that were sent, with its least and its most.
 ///
 /// # Errors
 ///

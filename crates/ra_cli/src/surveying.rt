@@ -57,8 +57,8 @@ fn none_line(alloc: Global) -> Result<String, Memory>
     Ok(text)
 }
 
-/// Returns what is to be printed of the run by the first seed by which a script comes to the end that is looked for, and whether that run
-/// is finished; or a line that says that there is none, and whether that is as it should be.
+/// Returns what is to be printed of the run by the first seed by which a script comes to the end that is looked for, and whether
+/// that run is finished. If there is no such run, returns a line that says so, and whether that is as it should be.
 ///
 /// # Errors
 ///
@@ -125,11 +125,12 @@ fn told_of<O: Observer>(
     found_of(alloc, script, faults, search, first, last, observer)
 }
 
-/// Reads the text of a script, drives a cluster through it by chance, with faults or without, under each seed from the first to the last,
-/// both of them included, each in at most 16,777,216 turns, and writes what came of them; or, if an end is looked for, goes up to the
-/// first seed whose run comes to it, and writes its trace or its choices, or `none`. Returns whether each run is finished, or the run that
-/// was found, or if there is none whether it is runs that are stuck that were looked for. The observer is told of each seed. It takes at
-/// most 65,537 bytes from the reader, and no read or write that failed is tried again.
+/// Reads the text of a script, and drives a cluster through it by chance, with faults or without, under each seed from the first
+/// to the last, both of them included, each in at most 16,777,216 turns. Writes what came of them, and returns whether each run
+/// is finished. If an end is looked for, it goes up to the first seed whose run comes to it, writes its trace or its choices, and
+/// returns whether that run is finished. If there is no such run, it writes `none`, and returns whether it is runs that are stuck
+/// that were looked for. The observer is told of each seed. It takes at most 65,537 bytes from the reader, and no read or write
+/// that failed is tried again.
 ///
 /// # Errors
 ///
