@@ -1,6 +1,6 @@
-//! Two nodes lock a name between them. This program is their host: it lets the events happen, the asks and leaves of its
-//! clients and the frames that come; it prints the marks, carries the messages as the bytes of frames, and keeps the event
-//! clock of each node. Where it has a list of frames under way, another host has sockets or channels.
+//! Two nodes lock a name between them. This program is their host. It lets the events happen: the asks and leaves of its
+//! clients and the frames that come. It prints the marks, carries the messages as the bytes of frames, and keeps the event
+//! clock of each node. In place of its list of frames under way, another host has sockets or channels.
 #![tactic(auto)]
 
 use anyhow::{Context, Result, ensure};
@@ -39,17 +39,17 @@ struct Site {
 }
 
 impl Site {
-    /// Makes one of two nodes. Its first request on a name has the number 1, where no greater one has come.
+    /// Makes one of two nodes. Its first request on a name has the number 1, if no greater number has come.
     fn new(alloc: Global, me: NodeId) -> Result<Site> {
         let node = Node::new(alloc, me, 2, 0)?;
         Ok(Site { node, clock: 0 })
     }
 
-    /// Lets an event happen. It sets the clock to one more, or to one more than that of a frame that comes, where that is
+    /// Lets an event happen. It sets the clock to one more, or to one more than that of a frame that comes, if that is
     /// greater.
     fn step(&mut self, alloc: Global, event: Event) -> Result<Outcome> {
         let clock = max(self.clock, event.clock());
-        // Before the event, so that the node is as it was where no clock is left.
+        // Before the event, so that the node is as it was if no clock is left.
         ensure!(clock < Frame::MAX_CLOCK, "the clock is at its end");
         let outcome = match event {
             Event::Ask { client, name } => self.node.ask(alloc, client, name, Mode::Exclusive)?,
