@@ -2,15 +2,15 @@
 use std::io;
 use std::io::{BufRead, Read, Write};
 
-/// Gives so many bytes at a time. After so many reads it fails once, and then goes on. What it shows as a buffer is what it would
-/// give, and counts as a read.
+/// Gives at most `size` bytes at a time. After `before_fault` reads it fails once, and then goes on. What it shows as a buffer is
+/// what it would give, and counts as a read.
 #[derive(Clone, Copy)]
 pub struct FailingReader<'a> {
     /// What is left to be read.
     pub bytes: &'a [u8],
     /// How many bytes a read gives at most.
     pub size: usize,
-    /// How many reads are left before the fault, where there is to be one.
+    /// How many reads are left before the fault, if there is to be one.
     pub before_fault: Option<usize>,
     pub fault: io::ErrorKind,
 }
@@ -20,7 +20,7 @@ impl FailingReader<'_> {
     ///
     /// # Errors
     ///
-    /// The fault, where it is its turn.
+    /// The fault, if it is its turn.
     fn count_read(&mut self) -> io::Result<()> {
         match self.before_fault {
             Some(0) => {
@@ -55,21 +55,21 @@ impl BufRead for FailingReader<'_> {
     }
 }
 
-/// Takes one byte at a time, and looks whether it is the one that comes next in a text. After so many writes it fails once, or
-/// takes nothing once where there is no fault, and then goes on.
+/// Takes one byte at a time, and looks whether it is the one that comes next in a text. After `before_fault` writes it fails
+/// once, or takes nothing once if there is no fault, and then goes on.
 #[derive(Clone, Copy)]
 pub struct FailingWriter<'a> {
     /// What is left of the text.
     pub left: &'a [u8],
     /// Whether a byte came that was not the next one.
     pub differs: bool,
-    /// How many writes are left before the fault, where there is to be one.
+    /// How many writes are left before the fault, if there is to be one.
     pub before_fault: Option<usize>,
     pub fault: Option<io::ErrorKind>,
 }
 
 impl FailingWriter<'_> {
-    /// Returns whether so many bytes of this text were taken and nothing else.
+    /// Returns whether just `count` bytes of this text were taken and nothing else.
     pub fn has_taken(&self, text: &[u8], count: usize) -> bool {
         !self.differs && text.get(count..) == Some(self.left)
     }

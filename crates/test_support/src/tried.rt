@@ -1,7 +1,7 @@
-//! What becomes of calls where a growth may be refused.
+//! What becomes of calls if a growth may be refused.
 //!
-//! A test of growth makes each call, and makes it again where it answered that memory ran out and left all as it was. Where it met no
-//! refusal, as in the gate, it passes. Where it met one and found all as it should be, it fails with words of its own, by which
+//! A test of growth makes each call, and makes it again if it answered that memory ran out and left all as it was. If it met no
+//! refusal, as in the gate, it passes. If it met one and found all as it should be, it fails with words of its own. By these
 //! `tools/refuse-growth`, which has each allocation refused in turn, tells it from one that failed.
 
 /// What became of calls.
@@ -24,8 +24,8 @@ pub fn both(first: Tried, second: Tried) -> Tried {
     }
 }
 
-/// Returns what became of calls that were made twice, of which each answers, where the first of them is refused, whether memory
-/// ran out.
+/// Returns what became of calls that were made twice. Each time they answer whether memory ran out, if the first of them is
+/// refused.
 pub fn again(first: Result<Tried, bool>, second: Result<Tried, bool>) -> Tried {
     match (first, second) {
         (Ok(tried), _) => tried,
