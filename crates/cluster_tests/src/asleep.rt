@@ -1,4 +1,4 @@
-//! Several clients asleep at one node of a cluster: what a watchdog sees of them, and who wakes when.
+//! Several clients asleep at one node of a cluster: what a watchdog sees of them, and which client wakes when.
 use crate::clients::Act::{
     HaveEnded, LetsSleep, Locks, RefusesToLock, Sees, Starts, Stops, Unlocks,
 };

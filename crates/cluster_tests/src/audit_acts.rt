@@ -51,9 +51,9 @@ pub enum Act {
     Ends(Answer),
     /// The auditor has this run; marks are not counted.
     Shows(Shown),
-    /// So many events wait to be put into the run.
+    /// This many events wait to be put into the run.
     Waits(u128),
-    /// The site of this node shows this clock, and so many events.
+    /// The site of this node shows this clock, and this many events.
     HasAt(u16, u64, u64),
     /// All nodes are stopped for this cause.
     Stops(Stop),
@@ -230,12 +230,12 @@ pub fn shows(auditor: &Auditor, shown: Shown) -> bool {
         && auditor.under_way() == under_way
 }
 
-/// Returns whether so many events wait to be put into the run.
+/// Returns whether this many events wait to be put into the run.
 fn waits(auditor: &Auditor, events: u128) -> bool {
     auditor.waiting() == events
 }
 
-/// Returns whether the site of a node shows this clock, and so many events.
+/// Returns whether the site of a node shows this clock, and this many events.
 fn has_at<R: Wait>(
     rt: &R,
     cluster: &Cluster<OpenGate>,

@@ -1,5 +1,5 @@
-//! Frames of which one byte is another, or of which the last bytes are missing: whether a book takes them, and that it is as before
-//! where it does not.
+//! Frames of which one byte is another, or of which the last bytes are missing: whether a book takes them, and that it is as
+//! before if it does not.
 use crate::books::Call::Receive;
 use crate::books::{ASK, ASKS, ASKS_1, has, refusal};
 use crate::helpers::r;
@@ -26,7 +26,7 @@ const TAKEN_1: [u32; 23] = [
 const TAKEN_2: [u32; 25] = [
     // The version 2, the kind REQUEST, a sender 1 or 3, the receiver 2, and a mode.
     1, 1, 1, 2, 1, 1, 5,
-    // All else as in version 1.
+    // Everything else as in version 1.
     256, 256, 256, 256, 256, 256, 256, 255, 64, 256, 256, 256, 256, 256, 256, 255, 1, 65,
 ];
 
@@ -48,8 +48,8 @@ fn is_as_before(book: &Book, name: &Name) -> bool {
         && book.node().queued() == 0
 }
 
-/// Client 1 of a new book asks for a name exclusively, and the bytes come. Returns whether the book takes them, or why not; or `None`
-/// where it takes them without an event, or does not and is not as before.
+/// Client 1 of a new book asks for a name exclusively, and the bytes come. Returns whether the book takes them, or why not.
+/// Returns `None` if it takes them without an event, or does not take them and is not as before.
 fn outcome_at(
     alloc: Global,
     book: &mut Book,
@@ -85,7 +85,7 @@ fn outcome(alloc: Global, bytes: &[u8]) -> Option<Result<(), BookError>> {
     }
 }
 
-/// Returns with how many of the 256 bytes at the place the REQUEST is taken, or `None` where a book is not as it is to be.
+/// Returns with how many of the 256 bytes at the place the REQUEST is taken, or `None` if a book is not as it is to be.
 fn count_taken<const N: usize>(alloc: Global, text: &[u8; N], place: usize) -> Option<u32> {
     let mut count = 0u32;
     for byte in 0..=u8::MAX {

@@ -80,7 +80,7 @@ pub enum Act {
     HasGranted(u16, u32, u64),
     /// This many threads come to their end.
     HaveEnded(u64),
-    /// The threads yield some hundred times, so that clients that are about to sleep most likely do.
+    /// The threads yield a few hundred times, so that clients that are about to sleep most likely do.
     LetsSleep,
     /// The cluster is stopped.
     Stops,
@@ -233,7 +233,7 @@ fn carries<R: Wait>(rt: &R, alloc: Global, stage: &Stage, number: u16) -> bool {
     }
 }
 
-/// Yields some hundred times. Nothing tells that the others sleep then.
+/// Yields a few hundred times. Nothing tells that the others sleep then.
 fn lets_sleep() -> bool {
     for _ in 0..300u32 {
         thread::yield_now();

@@ -1,4 +1,4 @@
-//! Scripts that threads do behind gates that hold them up, and gates that stop them.
+//! Scripts that threads do with gates that hold them up, and gates that stop them.
 use crate::endings::{End, ends_behind};
 use crate::helpers::{Counting, comes_to};
 use crate::plans::{Client, READS_R, TWO_WRITERS, USES_A, USES_B, USES_R};
@@ -54,8 +54,8 @@ impl Meets {
         false
     }
 
-    /// Returns whether it was called so often for the steps of node 1 and node 2 and once for each client inside, and nobody waited in
-    /// vain, so that a cluster which goes on after the gate's `false` is found out too.
+    /// Returns whether it was called `one` and `two` times for the steps of node 1 and node 2 and once for each client inside,
+    /// and nobody waited in vain. So a cluster that goes on after the gate's `false` is found out too.
     fn has_seen(&self, one: u64, two: u64) -> bool {
         self.steps.0.load(Ordering::SeqCst) == one
             && self.steps.1.load(Ordering::SeqCst) == two

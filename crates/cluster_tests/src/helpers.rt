@@ -20,7 +20,7 @@ const MOST_LOOKS: u64 = 5_000_000;
 /// How often it looks for the end of a thread that may wait so itself, and answers then.
 const MOST_LOOKS_FOR_THE_END: u64 = 20_000_000;
 
-/// Looks so often whether the number is at least `least`, and returns whether it came to that.
+/// Looks this many times whether the number is at least `least`, and returns whether it came to that.
 fn comes_within(looks: u64, number: &AtomicU64, least: u64) -> bool {
     for _ in 0..looks {
         if number.load(Ordering::SeqCst) >= least {
@@ -36,7 +36,7 @@ pub fn comes_to(number: &AtomicU64, least: u64) -> bool {
     comes_within(MOST_LOOKS, number, least)
 }
 
-/// Returns what this gives, which a thread of its own does. Where the thread does not end, or none can be started, the test ends
+/// Returns what this gives, which a thread of its own does. If the thread does not end, or none can be started, the test ends
 /// after many looks.
 pub fn in_a_thread<R: Threads + Abort, T: Send, F: FnOnce() -> T + Send>(rt: &R, does: F) -> T
     requires { F.pre does }
@@ -231,7 +231,7 @@ pub fn settled(
     }
 }
 
-/// Counts the steps and lets so many of them pass, and lets either nobody or everybody be inside.
+/// Counts the steps and lets the first `most` of them pass, and lets either nobody or everybody be inside.
 #[derive(Drop)]
 pub struct Counting {
     /// How many steps came.
@@ -267,7 +267,7 @@ impl Gate for Counting {
     }
 }
 
-/// Has threads do a script behind a gate, and returns what came of it. If they do not end, the test ends after many looks.
+/// Has threads do a script with a gate, and returns what came of it. If they do not end, the test ends after many looks.
 pub fn ran<R: Threads + Wait + Abort + Sync, G: Gate>(
     rt: &R,
     alloc: Global,

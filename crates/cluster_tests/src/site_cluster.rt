@@ -13,7 +13,7 @@ use std::sync::{Mutex, Wait};
 /// What a client gets that locks a name on a thread of its own.
 pub type Answer = Option<Result<Grant, SiteError>>;
 
-/// A gate that counts the steps and lets some of them pass. A thread that steps at one node it keeps, under the lock of the node,
+/// A gate that counts the steps and lets some of them pass. It keeps a thread that steps at one node, under the lock of the node,
 /// until it is told to let go. Then it refuses the step.
 #[derive(Drop)]
 pub struct Keeps {

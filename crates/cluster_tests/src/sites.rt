@@ -14,7 +14,7 @@ use std::process::Abort;
 /// The last clock, after which there is none for an event.
 const LAST_CLOCK: u64 = 1 << 62;
 
-/// Returns whether the post of this many nodes has as many inboxes, or there is no post for so many.
+/// Returns whether the post of this many nodes has as many inboxes, or there is no such post.
 fn is_post(alloc: Global, nodes: u16, is_there: bool) -> bool {
     match Post::new(alloc, nodes) {
         Ok((_post, inboxes)) => is_there && inboxes.len() == usize::from(nodes),
@@ -22,7 +22,7 @@ fn is_post(alloc: Global, nodes: u16, is_there: bool) -> bool {
     }
 }
 
-/// How many nodes there are, and whether there is a post for so many.
+/// How many nodes there are, and whether there is a post for them.
 const COUNTS: &[(u16, bool)] = &[(0, false), (65, false), (1, true), (64, true)];
 
 #[test]

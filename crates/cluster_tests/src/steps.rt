@@ -350,7 +350,7 @@ fn uses_often<R: Wait>(
         }
         match all.unlock_at(rt, alloc, site, 1, name, &OpenGate) {
             Ok(()) => {}
-            // The node is stopped, so that nobody else need be.
+            // The node is stopped, so that no other node need be.
             Err(SiteError::Refused(BookError::Failed)) => return,
             Err(_) => {
                 stops_all(rt, all, Stop::Refused);

@@ -32,8 +32,8 @@ fn a_cluster_has_1_to_64_nodes(rt: HostRuntime) {
     }
 }
 
-/// Client 1 of node 1 of two holds the name while client 2 asks for it and is queued. A node and clients that there are not are refused.
-/// Then client 1 leaves, and client 2 is let in with the number after that of client 1.
+/// Client 1 of node 1 of two holds the name while client 2 asks for it and is queued. A node and clients that do not exist are
+/// refused. Then client 1 leaves, and client 2 is let in with the number after that of client 1.
 const HANDED_OVER: &Row = &Row {
     words: "client 1 hands the name over to client 2",
     nodes: 2,
