@@ -1,4 +1,4 @@
-//! How a test ends that finds something else than it should. It prints what was expected and what came.
+//! How a test ends that does not find what it should. It prints what was expected and what came.
 use std::fmt::Debug;
 use std::process::Abort;
 use test_support::Tried;
@@ -38,7 +38,7 @@ pub fn assert_grown(rt: &impl Abort, tried: Tried) {
     }
 }
 
-/// Returns what became of a call, where the second one is made only if the first ran out of memory and left all as it was.
+/// Returns what became of a call. The second one is made only if the first ran out of memory and left all as it was.
 pub fn at_once_or(is_done: bool, is_done_again: bool) -> Tried {
     if is_done {
         Tried::AtOnce

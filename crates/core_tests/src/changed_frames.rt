@@ -9,7 +9,8 @@ use std::process::Abort;
 /// A place in the REQUEST, the first and the last of some bytes, and why it is refused with one of them at the place.
 struct WrongBytes(usize, u8, u8, FrameError);
 
-/// Where the fields of a version stand, of the number of a node its last byte, and with which bytes its REQUEST is refused.
+/// For a version: the places of its fields (for the number of a node that of its last byte), and with which bytes its
+/// REQUEST is refused.
 struct Version {
     from: usize,
     to: usize,
@@ -98,7 +99,7 @@ const VERSION_2: Version = Version {
     ],
 };
 
-/// Returns why the REQUEST is refused with this byte at the place, or `None` where it is read.
+/// Returns why the REQUEST is refused with this byte at the place, or `None` if it is read.
 fn fault_of(version: &Version, place: usize, byte: u8) -> Option<FrameError> {
     for wrong in version.wrong {
         if wrong.0 == place && wrong.1 <= byte && byte <= wrong.2 {
@@ -108,7 +109,7 @@ fn fault_of(version: &Version, place: usize, byte: u8) -> Option<FrameError> {
     None
 }
 
-/// Returns the number 1 of eight bytes, the highest first, with this byte at the place, or 1 where they have no such place.
+/// Returns the number 1 of eight bytes, the highest first, with this byte at the place, or 1 if they have no such place.
 fn number(place: usize, byte: u8) -> u64 {
     let mut digits = [0, 0, 0, 0, 0, 0, 0, 1];
     if place < digits.len() {
@@ -117,7 +118,7 @@ fn number(place: usize, byte: u8) -> u64 {
     u64::from_be_bytes(digits)
 }
 
-/// Returns the node with the number of this byte where that stands at the place of the node, or else this one.
+/// Returns the node with the number of this byte if that is at the place of the node, or otherwise this one.
 fn node_of(place: usize, byte: u8, own_place: usize, own: u16) -> Option<NodeId> {
     NodeId::new(if place == own_place {
         u16::from(byte)
@@ -126,7 +127,7 @@ fn node_of(place: usize, byte: u8, own_place: usize, own: u16) -> Option<NodeId>
     })
 }
 
-/// Returns the name of this byte where that stands at the place of the name, or else this one.
+/// Returns the name of this byte if that is at the place of the name, or otherwise this one.
 fn name_of(name: Name, place: usize, byte: u8, own_place: usize) -> Option<Name> {
     if place == own_place {
         Name::new(&[byte]).ok()
@@ -149,7 +150,7 @@ fn mode_of(place: usize, byte: u8, own_place: usize) -> Mode {
     }
 }
 
-/// Returns the frame that the REQUEST is with this byte at the place, or `None` where a node or the name cannot be so.
+/// Returns the frame that the REQUEST is with this byte at the place, or `None` if a node or the name cannot be so.
 fn frame_of(version: &Version, name: Name, place: usize, byte: u8) -> Option<Frame> {
     let from = node_of(place, byte, version.from, 1);
     let to = node_of(place, byte, version.to, 2);

@@ -54,7 +54,7 @@ const CASES_2: &[Case] = &[
     Case(24, &[(3, 40), (6, 3)], FrameError::Short),
 ];
 
-/// Asserts that the first so many bytes are refused for this reason, in the row with this number.
+/// Asserts that the first `count` bytes are refused for this reason, in the row with this number.
 fn assert_refused(rt: &impl Abort, row: usize, bytes: &[u8], count: usize, fault: FrameError) {
     match bytes.get(..count) {
         Some(bytes) => assert_row(rt, row, &read(bytes).err(), &Some(fault)),

@@ -71,7 +71,7 @@ fn has_in_turn(bag: &Bag, count: u64, numbers: u64) -> bool {
 }
 
 /// Returns the number of the request at a place of a bag into which the numbers from 1 to 100 were put twice, after the
-/// first 70 was taken: all numbers after it are one place further to the front, and copies of the second 70 follow.
+/// first 70 was taken. All numbers after it are one place further to the front, and copies of the second 70 follow.
 fn number_at(place: u64) -> u64 {
     if place < 69 {
         return (place % 100).wrapping_add(1);

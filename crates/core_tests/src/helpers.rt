@@ -69,7 +69,7 @@ pub fn writer(node: u16, client: u32, seq: u64) -> Entry
     entry(node, client, r(), Exclusive, seq)
 }
 
-/// Asserts that each of so many rows is so, where so many are so up to the first that is not.
+/// Asserts that all of these rows are so. `so` is how many are so before the first that is not.
 pub fn assert_rows(rt: &impl Abort, so: usize, rows: usize) {
     assert!(rt; so == rows, "row {so}, counted from 0");
 }

@@ -11,7 +11,7 @@ use ra_node::{Node, Outcome};
 use ra_stamp::{Mark, Message, Mode, NodeId};
 use std::process::Abort;
 
-/// Asserts that a node takes a message, and sends and marks so many.
+/// Asserts that a node takes a message, and sends and marks this many.
 fn assert_taken_by(
     rt: &(impl Abort + AllocGlobal),
     at: At<'_>,
@@ -117,7 +117,7 @@ const MEMBERS: &[Member] = &[
     Member(1, 1),
 ];
 
-/// Returns where a test of a member is that is about another node.
+/// Returns the place of a test of a member, which is about another node.
 fn about<'a>(label: &'a str, other: u16) -> At<'a> {
     At(label, "the other node", usize::from(other))
 }
@@ -151,7 +151,7 @@ fn assert_sent(
     assert_same(rt, about(label, 0), &reaction.sends.len(), &count);
 }
 
-/// Asserts that a member awaits each other node that there is, and no other.
+/// Asserts that a member awaits each other node that exists, and no other.
 fn assert_awaits(rt: &impl Abort, automaton: &Automaton, member: &Member) {
     for other in 1..=64u16 {
         if let Some(node) = NodeId::new(other) {

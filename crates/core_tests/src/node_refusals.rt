@@ -18,7 +18,7 @@ const MADE: &[Made] = &[
     Made(4, 3, NewError::BadNode),
 ];
 
-/// Asserts that there is no node for each row, for its reason.
+/// Asserts that no row's node exists, each for its reason.
 fn assert_none(rt: &(impl Abort + AllocGlobal), rows: &[Made]) {
     for row in 0..rows.len() {
         let fault = match NodeId::new(rows[row].0) {
@@ -40,7 +40,7 @@ const SCENES: &[Scene] = &[Scene(
     3,
     0,
     &[
-        // The receiver comes first where the sender is wrong, too.
+        // The receiver comes first if the sender is wrong, too.
         RefusesMessage(Requests(1, 3, 7), ReceiveError::WrongNode),
         RefusesMessage(Requests(4, 1, 7), ReceiveError::WrongNode),
         RefusesMessage(Requests(2, 2, 7), ReceiveError::Stranger),

@@ -62,15 +62,15 @@ pub enum Step {
     IsHeld(u16, u32, Mode, u64),
     /// No request is granted.
     IsFree,
-    /// So many requests wait, and so many clients are queued.
+    /// This many requests wait, and this many clients are queued.
     HasCounts(u64, u128),
     /// This is the highest number that it has met.
     HasHighest(u64),
     /// This is the highest number that it has met on `q`.
     HasHighestOfOther(u64),
-    /// Writers ask, from client 1 up, and so many of them.
+    /// Writers ask, this many of them, from client 1 up.
     WritersAsk(u32),
-    /// Each of so many is told that it is busy, and no client before them or after them is.
+    /// Each of this many is told that it is busy, and no client before them or after them is.
     WritersAreBusy(u32),
     /// Each of this many holds at node 1 by its own number, leaves and may ask again, while the last one is still busy.
     WritersTakeTurns(u32),
@@ -210,7 +210,7 @@ pub fn fault_of_message(alloc: Global, node: &mut Node, message: &Message) -> Op
     receive(alloc, node, message).err()
 }
 
-/// Returns whether so many requests wait at the node, and so many clients are queued.
+/// Returns whether this many requests wait at the node, and this many clients are queued.
 pub fn has_counts(node: &Node, waiting: u64, queued: u128) -> bool {
     node.waiting() == waiting && node.queued() == queued
 }
@@ -227,7 +227,7 @@ fn assert_may_ask(
     assert_same(rt, at, &node.may_ask(client, &name), &expected);
 }
 
-/// So many writers ask for `r`, from client 1 up, and each is taken, or refused so.
+/// This many writers ask for `r`, from client 1 up, and each is taken, or refused so.
 fn writers_ask(
     rt: &(impl Abort + AllocGlobal),
     at: At<'_>,
@@ -241,7 +241,7 @@ fn writers_ask(
     }
 }
 
-/// Each of so many writers holds `r` by its own number, leaves and may ask again, while the last one is still busy.
+/// Each of this many writers holds `r` by its own number, leaves and may ask again, while the last one is still busy.
 fn writers_take_turns(rt: &(impl Abort + AllocGlobal), at: At<'_>, node: &mut Node, count: u32) {
     for client in 1..=count {
         let held = Some(entry(rt, 1, client, Exclusive, u64::from(client)));

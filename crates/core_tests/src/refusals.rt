@@ -10,10 +10,10 @@ use ra_stamp::{Mode, NodeId};
 use std::process::Abort;
 use test_support::printed;
 
-/// The number of a node, a number of nodes, and why there is no such node, or `None` where there is one.
+/// The number of a node, a number of nodes, and why there is no such node, or `None` if there is one.
 struct Made(u16, u16, Option<NewError>);
 
-/// Asserts that there is the node of each row, or there is none, for its reason.
+/// Asserts that the node of each row exists, or that it does not, for its reason.
 fn assert_made(rt: &(impl Abort + AllocGlobal), rows: &[Made]) {
     for row in 0..rows.len() {
         let fault = match NodeId::new(rows[row].0) {
@@ -49,7 +49,7 @@ fn messages_come_from_another_node_to_this_one(rt: HostRuntime) {
         RefusesToTake(Replies(2, 2, 1), ReceiveError::Stranger),
         RefusesToTake(Requests(4, 2, Shared, 1), ReceiveError::Stranger),
         RefusesToTake(Replies(4, 2, 1), ReceiveError::Stranger),
-        // The receiver comes first where the sender is wrong, too.
+        // The receiver comes first if the sender is wrong, too.
         RefusesToTake(Requests(4, 3, Shared, 1), ReceiveError::WrongNode),
         RefusesToTake(Replies(4, 3, 1), ReceiveError::WrongNode),
     ];

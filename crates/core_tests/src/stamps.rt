@@ -215,7 +215,7 @@ fn more_room_than_there_is_is_refused(rt: HostRuntime) {
     assert_listed(&rt, &messages, &[1]);
 }
 
-/// Adds a mark to a list, after room was made for so many.
+/// Adds a mark to a list, after room was made for this many.
 fn adds_mark(rt: &impl Abort, marks: &mut Marks, room: u64, mark: Mark) {
     assert_row(rt, 0, &marks.reserve(room), &Ok(()));
     assert_row(rt, 0, &marks.push(mark), &Ok(()));

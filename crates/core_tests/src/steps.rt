@@ -103,7 +103,7 @@ fn ends_of(wire: Wire) -> [u16; 2] {
     }
 }
 
-/// Returns the message, or `None` where a number is that of no node.
+/// Returns the message, or `None` if a number is not that of a node.
 pub fn message(name: Name, wire: Wire) -> Option<Message>
     ensures { IfSome result (λ message. name_of message ≡ name) }
 {
@@ -255,7 +255,7 @@ fn assert_shows(rt: &impl Abort, at: At<'_>, automaton: &Automaton, phase: Phase
     assert_same(rt, at, &came, &(phase, highest));
 }
 
-/// Returns with which number a node defers this one, or `None` where it does not.
+/// Returns with which number a node defers this one, or `None` if it does not.
 fn deferral(rt: &impl Abort, automaton: &Automaton, other: u16) -> Option<u64> {
     match NodeId::new(other) {
         Some(other) => automaton.deferred(other),
