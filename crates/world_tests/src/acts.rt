@@ -44,19 +44,19 @@ pub enum Act {
     AskIn(u16, u32, Mode),
     /// At a node, a client leaves a name of one letter.
     Leave(u16, u32, u8),
-    /// So many times the message that was sent first of those under way is delivered.
+    /// This many times the message that was sent first of those under way is delivered.
     Deliver(u32),
     /// The message that was sent first of those under way is lost.
     Lose,
     /// The message that was sent first of those under way is repeated.
     Repeat,
-    /// So many times client 1 of node 1 asks for the name `r`, so many messages are delivered, and it leaves.
+    /// This many times client 1 of node 1 asks for the name `r`, this many messages are delivered, and it leaves.
     Lock(u32, u32),
     /// Client 1 leaves the name `r` at node 1, with this one message and one mark, which is printed so.
     LeavesWith(Wire, &'static str),
     /// It accepts and makes this step.
     Makes(Wish),
-    /// So many times it accepts and makes this step.
+    /// This many times it accepts and makes this step.
     Often(Wish, u32),
     /// It makes this step, whose message is looked for at this place first.
     MakesNear(Wish, u64),
@@ -68,15 +68,15 @@ pub enum Act {
     Accepts(Wish),
     /// It does not accept this step.
     Rejects(Wish),
-    /// It has made so many steps.
+    /// It has made this many steps.
     HasSteps(u64),
     /// These messages are under way, and no others, in this order.
     UnderWay(&'static [Wire]),
     /// Its report has this text.
     Reports(&'static str),
-    /// It reports so many repeats.
+    /// It reports this many repeats.
     HasRepeats(u128),
-    /// It reports so many marks, requests and messages, and no other total.
+    /// It reports this many marks, requests and messages, and no other total.
     IsQuiet(u64, u128, u128),
 }
 
@@ -115,7 +115,7 @@ fn ends_of(wire: Wire) -> [u16; 2] {
     }
 }
 
-/// Returns the message, or `None` where a number is that of no node.
+/// Returns the message, or `None` if a number is not that of a node.
 fn message(wire: Wire) -> Option<Message> {
     let [from, to] = ends_of(wire);
     match (NodeId::new(from), NodeId::new(to)) {
@@ -124,7 +124,7 @@ fn message(wire: Wire) -> Option<Message> {
     }
 }
 
-/// Returns the step by which a client asks, or `None` where there is no such node or name.
+/// Returns the step by which a client asks, or `None` if there is no such node or name.
 fn ask_in(number: u16, client: u32, letter: u8, mode: Mode) -> Option<Step> {
     match (NodeId::new(number), Name::new(&[letter])) {
         (Some(node), Ok(name)) => Some(Step::Ask {
@@ -137,12 +137,12 @@ fn ask_in(number: u16, client: u32, letter: u8, mode: Mode) -> Option<Step> {
     }
 }
 
-/// Returns the step by which a client asks for a name exclusively, or `None` where there is no such node or name.
+/// Returns the step by which a client asks for a name exclusively, or `None` if there is no such node or name.
 pub fn ask(number: u16, client: u32, letter: u8) -> Option<Step> {
     ask_in(number, client, letter, Mode::Exclusive)
 }
 
-/// Returns the step by which a client leaves, or `None` where there is no such node or name.
+/// Returns the step by which a client leaves, or `None` if there is no such node or name.
 pub fn leave(number: u16, client: u32, letter: u8) -> Option<Step> {
     match (NodeId::new(number), Name::new(&[letter])) {
         (Some(node), Ok(name)) => Some(Step::Leave { node, client, name }),
@@ -150,7 +150,7 @@ pub fn leave(number: u16, client: u32, letter: u8) -> Option<Step> {
     }
 }
 
-/// Returns the step by which a message is delivered, or `None` where there is none.
+/// Returns the step by which a message is delivered, or `None` if there is none.
 pub fn deliver(message: Option<Message>) -> Option<Step> {
     match message {
         Some(message) => Some(Step::Deliver(message)),
@@ -158,7 +158,7 @@ pub fn deliver(message: Option<Message>) -> Option<Step> {
     }
 }
 
-/// Returns the step by which a message is lost, or `None` where there is none.
+/// Returns the step by which a message is lost, or `None` if there is none.
 pub fn lose(message: Option<Message>) -> Option<Step> {
     match message {
         Some(message) => Some(Step::Lose(message)),
@@ -166,7 +166,7 @@ pub fn lose(message: Option<Message>) -> Option<Step> {
     }
 }
 
-/// Returns the step by which a message is repeated, or `None` where there is none.
+/// Returns the step by which a message is repeated, or `None` if there is none.
 pub fn repeat(message: Option<Message>) -> Option<Step> {
     match message {
         Some(message) => Some(Step::Repeat(message)),
@@ -174,7 +174,7 @@ pub fn repeat(message: Option<Message>) -> Option<Step> {
     }
 }
 
-/// Returns the step, or `None` where a number is that of no node.
+/// Returns the step, or `None` if a number is not that of a node.
 pub fn step(wish: Wish) -> Option<Step> {
     match wish {
         Asks(number, client) => ask(number, client, b'r'),
@@ -185,7 +185,7 @@ pub fn step(wish: Wish) -> Option<Step> {
     }
 }
 
-/// Makes a world of so many nodes, whose numbers begin at `start`.
+/// Makes a world of this many nodes, whose numbers begin at `start`.
 pub fn new_world(alloc: Global, nodes: u16, start: u64) -> Option<World> {
     World::new(alloc, nodes, start).ok()
 }
@@ -216,7 +216,7 @@ fn accepts_and_makes(alloc: Global, world: &mut World, step: Option<Step>) -> bo
     }
 }
 
-/// Returns whether a world accepts and makes a step so many times.
+/// Returns whether a world accepts and makes a step this many times.
 fn makes_each(alloc: Global, world: &mut World, step: &Step, times: u32) -> bool {
     for _ in 0..times {
         if !world.accepts(step) || fault_of(alloc, world, step).is_some() {
@@ -226,7 +226,7 @@ fn makes_each(alloc: Global, world: &mut World, step: &Step, times: u32) -> bool
     true
 }
 
-/// Returns whether there is a step, and a world accepts and makes it so many times.
+/// Returns whether there is a step, and a world accepts and makes it this many times.
 fn makes_often(alloc: Global, world: &mut World, step: Option<Step>, times: u32) -> bool {
     match step {
         Some(step) => makes_each(alloc, world, &step, times),
@@ -274,7 +274,7 @@ fn accepts(world: &World, step: Option<Step>, wanted: bool) -> bool {
     }
 }
 
-/// Delivers the message that was sent first of those under way, so many times. Returns whether there is one each time.
+/// Delivers the message that was sent first of those under way, this many times. Returns whether there is one each time.
 fn delivers(alloc: Global, world: &mut World, times: u32) -> bool {
     for _ in 0..times {
         let first = world.message_at(0);
@@ -297,14 +297,15 @@ fn repeats(alloc: Global, world: &mut World) -> bool {
     makes(alloc, world, repeat(first))
 }
 
-/// Client 1 of node 1 asks for the name `r`, so many messages are delivered, and it leaves. Returns whether all of this happens.
+/// Client 1 of node 1 asks for the name `r`, this many messages are delivered, and it leaves. Returns whether all of this
+/// happens.
 fn locks(alloc: Global, world: &mut World, deliveries: u32) -> bool {
     makes(alloc, world, ask(1, 1, b'r'))
         && delivers(alloc, world, deliveries)
         && makes(alloc, world, leave(1, 1, b'r'))
 }
 
-/// Returns whether this happens so many times.
+/// Returns whether this happens this many times.
 fn locks_often(alloc: Global, world: &mut World, times: u32, deliveries: u32) -> bool {
     for _ in 0..times {
         if !locks(alloc, world, deliveries) {
@@ -349,7 +350,7 @@ fn leaves_with(alloc: Global, world: &mut World, wire: Wire, mark: &str) -> bool
     }
 }
 
-/// Returns whether there is this message, and it stands at this place of those under way.
+/// Returns whether there is this message, and it is at this place of those under way.
 fn is_at(world: &World, place: u64, expected: Option<Message>) -> bool {
     expected.is_some() && world.message_at(place) == expected
 }
@@ -381,7 +382,7 @@ fn reports(alloc: Global, world: &World, text: &str) -> bool {
     }
 }
 
-/// Returns whether a world reports so many repeats.
+/// Returns whether a world reports this many repeats.
 fn has_repeats(alloc: Global, world: &World, repeats: u128) -> bool {
     match report_of(alloc, world) {
         Some(report) => report.repeated == repeats,
@@ -389,12 +390,12 @@ fn has_repeats(alloc: Global, world: &World, repeats: u128) -> bool {
     }
 }
 
-/// Returns whether a report has so many marks, requests and messages, and no other total.
+/// Returns whether a report has this many marks, requests and messages, and no other total.
 fn is_quiet(report: &Report, marks: u64, requests: u128, sent: u128) -> bool {
     report.marks.len() == marks && is_quiet_after(report, requests, sent)
 }
 
-/// Returns whether a world reports so many marks, requests and messages, and no other total.
+/// Returns whether a world reports this many marks, requests and messages, and no other total.
 fn reports_quiet(alloc: Global, world: &World, marks: u64, requests: u128, sent: u128) -> bool {
     match report_of(alloc, world) {
         Some(report) => is_quiet(&report, marks, requests, sent),
@@ -402,7 +403,7 @@ fn reports_quiet(alloc: Global, world: &World, marks: u64, requests: u128, sent:
     }
 }
 
-/// Returns whether a world shows this, where it is something to be shown.
+/// Returns whether a world shows this, if it is something to be shown.
 fn shows(alloc: Global, world: &World, act: Act) -> bool {
     match act {
         Accepts(wish) => accepts(world, step(wish), true),

@@ -121,7 +121,7 @@ fn the_choices_of_a_run_are_those_of_a_model(rt: HostRuntime) {
     assert_rows(&rt, are_listed(rt.alloc(), ROWS), ROWS.len());
 }
 
-/// Returns the first seed of a range with which a script comes to this end within so many turns.
+/// Returns the first seed of a range with which a script comes to this end within this many turns.
 pub fn found<O: Observer>(
     alloc: Global,
     script: &Script,

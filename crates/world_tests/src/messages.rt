@@ -1,4 +1,4 @@
-//! Messages under way: in which order they stand, and that each is delivered or lost once.
+//! Messages under way: in which order they are, and that each is delivered or lost once.
 use crate::acts::{Act, Scene, Wire, Wish, follow};
 use Act::{Ask, Deliver, HasSteps, Lose, Refuses, Reports, UnderWay};
 use Wire::{Replies, Requests};
@@ -34,7 +34,7 @@ queued 0
         &[
             Ask(1, 1, b'r'),
             Deliver(1),
-            // The REQUEST to node 3 stands before the REPLY of node 2.
+            // The REQUEST to node 3 comes before the REPLY of node 2.
             UnderWay(&[Requests(3), Replies(2, 1, 1)]),
             HasSteps(2),
         ],

@@ -105,7 +105,7 @@ const PAIRS: &[Modes] = &[
     Modes("X at X", Exclusive, Exclusive, false),
 ];
 
-/// A client of each of two nodes asks. Where the modes go together both have the name, since both leave it with no message in
+/// A client of each of two nodes asks. If the modes go together both have the name, since both leave it with no message in
 /// between. Otherwise node 1, whose request comes first, defers its REPLY until its client leaves, so that node 2 has to wait.
 fn goes_together(rt: &(impl Abort + AllocGlobal), pair: &Modes) {
     let (first, second) = (AskIn(1, 1, pair.1), AskIn(2, 2, pair.2));

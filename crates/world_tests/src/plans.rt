@@ -23,7 +23,7 @@ pub enum Doing {
 pub enum Plan {
     /// It takes a client at this node.
     AddsClient(u16),
-    /// It takes so many clients at node 1.
+    /// It takes this many clients at node 1.
     AddsClients(u32),
     /// It takes a client at this node, which locks `r` in its mode and unlocks it.
     AddsLocker(u16, Mode),
@@ -33,15 +33,15 @@ pub enum Plan {
     RefusesClient(u16),
     /// The last client does this.
     Adds(Doing),
-    /// So many times, the last client locks `r` for itself alone and unlocks it.
+    /// This many times, the last client locks `r` for itself alone and unlocks it.
     AddsLocks(u32),
     /// The last client may not do this, for this cause.
     Refuses(Doing, AddOpError),
-    /// It has so many nodes.
+    /// It has this many nodes.
     HasNodes(u16),
-    /// It has so many clients.
+    /// It has this many clients.
     HasClients(u32),
-    /// A client is at this node, with so many operations.
+    /// A client is at this node, with this many operations.
     IsClient(u32, u16, u64),
     /// There is no client with this number.
     IsNoClient(u32),
@@ -51,11 +51,12 @@ pub enum Plan {
     DoesNothing(u32, u64),
     /// A policy makes this of it.
     Drives(Drive),
-    /// It takes one client after the other at node 1 that locks `r`, to 64. The first word of seed 0 names who asks first each time.
+    /// It takes one client after the other at node 1 that locks `r`, to 64. The first word of seed 0 names the client that asks
+    /// first each time.
     NamesTheFirst,
 }
 
-/// Returns the operation, or `None` where there is no such name.
+/// Returns the operation, or `None` if there is no such name.
 fn op(doing: Doing) -> Option<Op> {
     let letter = match doing {
         Locks(letter, _) | Unlocks(letter) => letter,
@@ -92,7 +93,7 @@ fn adds_lock(script: &mut Script, mode: Mode) -> bool {
     adds(script, Locks(b'r', mode)) && adds(script, Unlocks(b'r'))
 }
 
-/// Adds so many times that the last client locks `r` for itself alone and unlocks it. Returns whether there was room for that.
+/// Adds this many times that the last client locks `r` for itself alone and unlocks it. Returns whether there was room for that.
 pub fn adds_locks(script: &mut Script, times: u32) -> bool {
     for _ in 0..times {
         if !adds_lock(script, Mode::Exclusive) {
@@ -115,7 +116,7 @@ pub fn adds_client(alloc: Global, script: &mut Script, node: u16) -> bool {
     fault_of_client(alloc, script, node).is_none()
 }
 
-/// Adds so many clients at node 1. Returns whether there was room for them.
+/// Adds this many clients at node 1. Returns whether there was room for them.
 fn adds_clients(alloc: Global, script: &mut Script, count: u32) -> bool {
     for _ in 0..count {
         if !adds_client(alloc, script, 1) {
@@ -145,7 +146,8 @@ fn refuses_client(alloc: Global, script: &mut Script, node: u16) -> bool {
     fault_of_client(alloc, script, node) == Some(AddClientError::Clients)
 }
 
-/// Adds one client after the other that locks `r`, to 64. Returns whether the first word names who asks first each time.
+/// Adds one client after the other that locks `r`, to 64. Returns whether the first word names the client that asks first each
+/// time.
 fn names_the_first(alloc: Global, script: &mut Script) -> bool {
     for clients in 1..=64u64 {
         if !adds_client(alloc, script, 1) || !adds(script, Locks(b'r', Mode::Exclusive)) {
@@ -159,7 +161,7 @@ fn names_the_first(alloc: Global, script: &mut Script) -> bool {
     true
 }
 
-/// Returns whether the client with this number is at this node, with so many operations.
+/// Returns whether the client with this number is at this node, with this many operations.
 fn is_client(script: &Script, client: u32, node: u16, ops: u64) -> bool {
     match script.node_of(client) {
         Some(found) => found.get() == node && script.ops_of(client) == Some(ops),
@@ -177,7 +179,7 @@ fn has_op(script: &Script, client: u32, place: u64, expected: Option<Op>) -> boo
     expected.is_some() && script.op(client, place) == expected
 }
 
-/// Returns whether a script shows this, where it is something to be shown.
+/// Returns whether a script shows this, if it is something to be shown.
 fn shows(alloc: Global, script: &Script, plan: Plan) -> bool {
     match plan {
         HasNodes(nodes) => script.nodes() == nodes,

@@ -137,7 +137,7 @@ fn is_made_in_forty_turns(alloc: Global, script: &Script, policy: &Policy) -> bo
     }
 }
 
-/// Returns whether it does so where the steps are not kept.
+/// Returns whether it does so when the steps are not kept.
 fn is_summed_up_in_forty_turns(alloc: Global, script: &Script, policy: &Policy) -> bool {
     match summed(alloc, script, policy, 40) {
         Ok(summary) => summary.finished && summary.turns == 40,

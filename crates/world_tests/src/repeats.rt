@@ -135,7 +135,8 @@ fn messages_are_repeated(rt: HostRuntime) {
 }
 
 const COPIES: &[Scene] = &[
-    // The REQUEST to node 2 is repeated after that to node 3. Where the copy is looked at, the message goes that stands before it.
+    // The REQUEST to node 2 is repeated after that to node 3. If the copy is looked at, the message that is before it is the one
+    // that goes.
     Scene(
         "of equal messages the first goes",
         3,
@@ -221,7 +222,7 @@ queued 0
             HasRepeats(1),
         ],
     ),
-    // Where nothing was repeated two messages are sent for each request and other node; a copy may have one more sent.
+    // If nothing was repeated two messages are sent for each request and other node; a copy may have one more sent.
     Scene(
         "messages are counted where nothing was repeated, once",
         3,

@@ -1,4 +1,4 @@
-//! Runs of a list of steps: what is reported about them, and where they are refused.
+//! Runs of a list of steps: what is reported about them, and at which step they are refused.
 use crate::acts::{Wire, Wish, is_text, step};
 use crate::asserting::assert_so;
 use crate::helpers::assert_rows;

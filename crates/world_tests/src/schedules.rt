@@ -41,7 +41,7 @@ const SCENES: &[Scene] = &[
         2,
         &[AddsClient(1), Drives(EndsAtOnce(Seeded(7)))],
     ),
-    // With no turn to make, the end is reached where no client has an operation, and else a choice is left.
+    // With no turn to make, the end is reached if no client has an operation. Otherwise a choice is left.
     Scene(
         "no turn suffices where there is no operation, one client",
         2,

@@ -1,4 +1,4 @@
-//! How bytes are read up to a limit and written, also where a reader or a writer fails.
+//! How bytes are read up to a limit and written, also if a reader or a writer fails.
 use crate::asserting::assert_so;
 use crate::helpers::assert_rows;
 use ra_world::{ReadFault, WriteFault, read_up_to, write_out};
@@ -62,7 +62,7 @@ fn a_reader_that_failed_is_not_tried_again(rt: HostRuntime) {
     assert_so(&rt, "a reader of a broken pipe is not asked again", broken);
 }
 
-/// Returns whether a limit is read and no more, where one more read would fail.
+/// Returns whether a limit is read and no more, when one more read would fail.
 fn reads_to(alloc: Global, limit: usize) -> bool {
     let mut reader = failing_reader(limit, io::ErrorKind::BrokenPipe);
     match read_up_to(alloc, &mut reader, limit) {
@@ -71,7 +71,7 @@ fn reads_to(alloc: Global, limit: usize) -> bool {
     }
 }
 
-/// Returns whether these are so many of [`BYTES`] from the first on.
+/// Returns whether these are the first `taken` bytes of [`BYTES`].
 fn is_prefix(bytes: &[u8], taken: usize) -> bool {
     match BYTES.get(..taken) {
         Some(expected) => bytes == expected,
@@ -115,7 +115,7 @@ fn has_taken(before_fault: usize, fault: Option<io::ErrorKind>, written: bool) -
     answer.is_ok() == written && writer.has_taken(BYTES, before_fault)
 }
 
-/// Returns whether a writer that fails so is not written to again, wherever it fails, and takes all where it would fail after
+/// Returns whether a writer that fails so is not written to again, wherever it fails, and takes all if it would fail after
 /// that.
 fn is_not_written_again(fault: Option<io::ErrorKind>) -> bool {
     has_taken(0, fault, false)

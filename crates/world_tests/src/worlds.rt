@@ -1,4 +1,4 @@
-//! How a world goes on: which steps it accepts, who enters or waits, and how far it comes.
+//! How a world goes on: which steps it accepts, which clients enter or wait, and how far it comes.
 use crate::acts::{Act, Scene, Wire, Wish, follow};
 use Act::{Accepts, Ask, Deliver, HasSteps, IsQuiet, Leave, Lock, Rejects, Reports};
 use Wire::{Replies, Requests};
