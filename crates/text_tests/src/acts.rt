@@ -109,7 +109,7 @@ pub fn leave(node: u16, client: u32) -> Option<Step> {
     }
 }
 
-/// Returns the step about a message, where it is one.
+/// Returns the step about a message, if it is one.
 fn about(act: Act, message: Message) -> Option<Step> {
     match act {
         Deliver(_) => Some(Step::Deliver(message)),

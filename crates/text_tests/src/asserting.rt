@@ -1,4 +1,4 @@
-//! How a test ends that finds something else than it should. It prints what was expected and what came.
+//! How a test ends that does not find what it should. It prints what was expected and what came.
 use std::fmt::Debug;
 use std::process::Abort;
 use test_support::Tried;

@@ -9,7 +9,7 @@ use std::alloc::Global;
 use std::process::Abort;
 use test_support::FailingWriter;
 
-/// Makes a list of choices, or `None` where there is no memory for it.
+/// Makes a list of choices, or `None` if there is no memory for it.
 fn listed(alloc: Global, choices: &[Choice]) -> Option<Choices> {
     let mut list = Choices::new(alloc);
     for choice in choices {
@@ -65,8 +65,8 @@ fn repeats_and_ten_digits_have_no_text(rt: HostRuntime) {
     }
 }
 
-/// Performs a script by chance that repeats 400 of 1,000 messages, by a seed, and returns why its choices are not written, or `None` where
-/// they are.
+/// Performs a script by chance that repeats 400 of 1,000 messages, by a seed. Returns why its choices are not written, or `None`
+/// if they are.
 fn fault_by(alloc: Global, seed: u64, writer: &mut FailingWriter<'_>) -> Option<PerformError> {
     let faults = Faults::new(0, 400)?;
     let policy = Policy::Faulty { seed, faults };

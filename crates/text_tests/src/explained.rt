@@ -1,5 +1,5 @@
 //! What `ra_explain` tells a person, as far as no command shows it: of a line after others that are wrong or not known, of a run
-//! that no list of choices makes, and where there is nothing to say. Tables of `cases/` have the rest.
+//! that no list of choices makes, and when there is nothing to say. Tables of `cases/` have the rest.
 use crate::helpers::ONE_LOCK_SCRIPT;
 use crate::notes::Asked::{Choice, Digits, Field, Line, Order, Unfinished};
 use crate::notes::{Note, assert_said, assert_told, said_of_run};

@@ -94,8 +94,8 @@ fn lines_that_are_refused_for_memory_come_again(rt: HostRuntime) {
     assert_grown(&rt, tried_in(str::from_utf8(text).unwrap_or("")));
 }
 
-/// The lines of node 1 of 2, each with the number of frames that it sends and of marks that it makes: a request, the reply
-/// to it, one of the other node that is deferred, and a leave that answers it.
+/// The lines of node 1 of 2, each with the number of frames that it sends and of marks that it makes. They are a request,
+/// the reply to it, a request of the other node that is deferred, and a leave that answers it.
 const LINES: [(&str, u64, u64); 4] = [
     ("ask 7 door X", 1, 1),
     (

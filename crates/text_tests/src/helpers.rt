@@ -28,7 +28,7 @@ node = 1
 ops = ["X r", "U r"]
 "#;
 
-/// The trace of two clients who ask for one name at once, at two of three nodes.
+/// The trace of two clients that ask for one name at once, at two of three nodes.
 pub const TWO_LOCKS: &str = "trace 2 3 0
 ask 1 1 r X
 request 1 1 r X 1
@@ -85,11 +85,11 @@ pub fn all_kinds() -> Name {
 #[derive(Clone, Copy)]
 pub enum Part<'a> {
     Text(&'a str),
-    /// These bytes, so many times.
+    /// These bytes, this many times.
     Times(&'a [u8], usize),
 }
 
-/// Adds bytes to a text, so many times. Returns whether there was room.
+/// Adds bytes to a text, this many times. Returns whether there was room.
 fn adds_times(text: &mut Vec<u8>, bytes: &[u8], times: usize) -> bool {
     for _ in 0..times {
         if text.extend_from_slice(bytes).is_err() {
@@ -127,7 +127,7 @@ pub fn text_of(alloc: Global, parts: &[Part<'_>]) -> Option<Vec<u8>> {
     }
 }
 
-/// Asserts that each of so many rows is so, where so many are so up to the first that is not.
+/// Asserts that all of these rows are so. `so` is how many are so before the first that is not.
 pub fn assert_rows(rt: &impl Abort, so: usize, rows: usize) {
     assert!(rt; so == rows, "row {so}, counted from 0");
 }

@@ -16,7 +16,7 @@ use std::process::Abort;
 /// What is asked about.
 #[derive(Clone, Copy)]
 pub enum Asked {
-    /// The wrong line with this number, the last of these lines, of which so many are whole.
+    /// The wrong line with this number, the last of these lines, of which this many are whole.
     Line(u64, &'static str, u64, LineCause),
     /// The wrong line with this number, the last of these whole lines.
     Field(&'static str, u64, LineCause),

@@ -75,7 +75,7 @@ pub fn performed(
     }
 }
 
-/// Performs a script from the oldest message on, and returns the fault, or `None` where there is none.
+/// Performs a script from the oldest message on, and returns the fault, or `None` if there is none.
 fn fault_of(
     alloc: Global,
     reader: &mut FailingReader<'_>,
@@ -124,7 +124,7 @@ fn assert_prefix(
 }
 
 /// Asserts that it is so after each number of bytes, for a fault after which other writers would try again, and for a write that
-/// takes nothing; and that all is written byte by byte to a writer that would fail after it.
+/// takes nothing. Asserts, too, that all is written byte by byte to a writer that would fail after it.
 fn assert_unwritten(rt: &(impl Abort + AllocGlobal), format: Format, length: usize) {
     let text = text_of(format);
     assert_row(rt, length, &text.len(), &length);

@@ -1,4 +1,4 @@
-//! Pictures of traces: what stands in parts that no command draws, and readers and writers that fail. `cases/` has the rest.
+//! Pictures of traces: what is in parts that no command draws, and readers and writers that fail. `cases/` has the rest.
 use crate::asserting::assert_same;
 use crate::helpers::{ONE_LOCK, failing};
 use ra_draw::{DrawError, Part, draw, draw_marks};
@@ -9,7 +9,7 @@ use std::io::{Read, Write};
 use std::process::Abort;
 use test_support::FailingReader;
 
-/// A part of a trace, and how often words stand in its picture.
+/// A part of a trace, and how often some words occur in its picture.
 #[derive(Clone, Copy)]
 struct Row(&'static str, Part, &'static [(&'static str, u64)]);
 
@@ -18,7 +18,7 @@ const fn lines(from: u64, to: u64) -> Part {
     Part { from, to }
 }
 
-/// Returns how often words stand in a text.
+/// Returns how often the words occur in a text.
 fn count_in(text: &str, words: &str) -> u64 {
     let mut rest = text;
     let mut count = 0;
@@ -64,14 +64,14 @@ fn picture_of(alloc: Global, trace: &[u8], part: Part) -> Option<String> {
     }
 }
 
-/// Asserts that these words stand in a picture so often.
+/// Asserts that each of these words is in a picture as often as its row says.
 fn assert_has(rt: &impl Abort, picture: &str, words: &[(&str, u64)]) {
     for row in words {
         assert_same(rt, row.0, &count_in(picture, row.0), &row.1);
     }
 }
 
-/// What stands in each picture, which is one element without a script or another file.
+/// What is in each picture, which is one element without a script or another file.
 const IN_EACH: &[(&str, u64)] = &[
     ("<svg", 1),
     ("</svg>", 1),

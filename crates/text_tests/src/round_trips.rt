@@ -1,5 +1,5 @@
 //! Steps, and the traces that are written of them. `cases/traces.toml` has the same traces as texts that are read: a text is
-//! the trace of one run at most, so where it is valid, its lines are read as the steps that it is written for.
+//! the trace of one run at most, so if it is valid, its lines are read as the steps that it is written for.
 use crate::acts::{Act, LOSES_REPLY, LOST_REPLY, ONE_LOCKS, Wire, Written, assert_written};
 use crate::helpers::{ONE_LOCK, REPEATED_REQUEST};
 use Act::{Ask, AskForAllKinds, AskIn, Deliver, Leave, Lose, Repeat};

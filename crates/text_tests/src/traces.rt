@@ -11,7 +11,7 @@ use ra_world::{NodeRefusal, RunError, StepError};
 use std::io;
 use std::process::Abort;
 
-/// What would happen among so many nodes, and why it is no run.
+/// What would happen among this many nodes, and why it is no run.
 struct Refused(u16, &'static [Act], RunError);
 
 /// Asserts that nothing is written of what would happen, as it is no run.
@@ -24,7 +24,7 @@ fn assert_no_runs(rt: &(impl Abort + AllocGlobal), rows: &[Refused]) {
     }
 }
 
-/// What happens in the trace of two clients who ask at once.
+/// What happens in the trace of two clients that ask at once.
 const TWO_LOCK: &[Act] = &[
     Ask(1, 1),
     Ask(2, 2),
@@ -79,7 +79,7 @@ const NO_RUNS: &[Refused] = &[
             cause: StepError::NotUnderWay,
         },
     ),
-    // A message can't be repeated where it and its copy are lost.
+    // A message can't be repeated if it and its copy are lost.
     Refused(
         2,
         &[
@@ -110,7 +110,7 @@ fn nothing_is_written_where_the_steps_are_no_run(rt: HostRuntime) {
     assert_no_runs(&rt, NO_RUNS);
 }
 
-/// Asserts that just the prefix with so many bytes is written to a writer that fails so then.
+/// Asserts that just the first `before_fault` bytes are written to a writer that fails so after them.
 fn assert_prefix(
     rt: &(impl Abort + AllocGlobal),
     before_fault: usize,
