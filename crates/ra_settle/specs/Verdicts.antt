@@ -89,7 +89,7 @@ pub record IsFirstAgain (came : List Came) (number : ℕ) : Type 0 where
   pub again : Contains (messages_of before) this.frame.message
   pub once : AllPairs (λ a b. a ≢ b) (messages_of before)
 
--- What is wrong with a text, and at which line: the first that there is, in this order. A line is wrong, or there is none;
+-- What is wrong with a text, and at which line: the first of these, in this order. A line is wrong, or there is none;
 -- after the last line a book is missing; a frame comes that was not sent; a message comes again, if no message may.
 abbrev pub IsWrong : (repeats : Bool) → List ℕ → ℕ → TextCause → Type 0
 IsWrong repeats text number cause.Line = (HasNoFeed text × (number ≡ 1)) ⊎ IsWrongAt text number cause.Line

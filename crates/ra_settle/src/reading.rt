@@ -14,7 +14,7 @@ use ra_book::{First, MAX_LINE};
 use ra_text::cut;
 use std::alloc::Global;
 
-/// Returns what the first line of a text says, or `None` if it is none of a book.
+/// Returns what the first line of a text says, or `None` if it is not that of a book.
 fn first_in(line: &[u8]) -> Option<First>
     ensures { MatchOption result ((node nodes start : ℕ) → IsFirst line.now node nodes start → ⊥)
         (λ first. IsFirst line.now first.node first.nodes first.start) }
@@ -29,7 +29,7 @@ fn first_in(line: &[u8]) -> Option<First>
 ///
 /// # Errors
 ///
-/// `Invalid` at line 1 with `Line`: it is none of a book. `Memory`.
+/// `Invalid` at line 1 with `Line`: it is not that of a book. `Memory`.
 fn begin(alloc: Global, line: &[u8]) -> Result<Gathered, SettleTextError>
     ensures { MatchResult result (HasBegun line.now) (IsNoBeginning line.now) }
 {
