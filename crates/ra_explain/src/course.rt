@@ -35,7 +35,8 @@ fn opening_in(text: &[u8]) -> Option<(u16, u64)> {
     }
 }
 
-/// Returns whether what follows the first line of a text goes up to the line with the number `line`, with one line feed after it, at the end.
+/// Returns whether what follows the first line of a text goes up to the line with the number `line`, with one line feed after it, at
+/// the end.
 fn goes_to(line: u64, text: &[u8]) -> bool {
     let mut rest = text;
     for _ in 2..line {
@@ -77,7 +78,7 @@ impl Course {
         }
     }
 
-    /// Takes a line behind the first one that is not wrong.
+    /// Takes a line after the first one that is not wrong.
     fn take(&mut self, alloc: Global, note: &mut Note, line: &Line) {
         match line {
             Line::Stepped(step) => self.make(alloc, note, step),
@@ -86,7 +87,7 @@ impl Course {
         }
     }
 
-    /// Takes the lines of a text behind the first one and before the one with the number `line`.
+    /// Takes the lines of a text after the first one and before the one with the number `line`.
     fn follow(&mut self, alloc: Global, note: &mut Note, line: u64, text: &[u8]) {
         let mut rest = text;
         for _ in 2..line {
