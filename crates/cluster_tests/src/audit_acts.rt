@@ -5,10 +5,12 @@ use crate::helpers::{in_a_thread, r, request};
 use crate::shown::{Ended, have_ended};
 use crate::site_cluster;
 use crate::site_cluster::{make_cluster, send};
-use Act::{Asks, Audits, AuditsAnew, Comes, Ends, Enters, HasAt, Leaves, Shows, Stops, Waits};
+use Act::{
+    Asks, Audits, AuditsAnew, Comes, Ends, Enters, HasAt, IsRefused, Leaves, Shows, Stops, Waits,
+};
 use Answer::{Finds, Fine, NeverSent, NotAudited, OtherCluster, OutOfTurn};
 use ra_audit::{Auditor, FinishError, RoundError, TakeError, Told};
-use ra_cluster::{CallError, Cluster, NewPostError, OpenGate, Site, SiteError, Stop};
+use ra_cluster::{BookError, CallError, Cluster, NewPostError, OpenGate, Site, SiteError, Stop};
 use ra_stamp::{Message, Mode, Name, NodeId};
 use std::alloc::Global;
 use std::process::Abort;
@@ -41,6 +43,8 @@ pub enum Act {
     Leaves,
     /// The post is closed, and client 1 of this node asks in this mode. Its REQUEST is lost, which stops all nodes.
     Asks(u16, Mode),
+    /// Client 1 of this node asks for the name, and is refused for this cause.
+    IsRefused(u16, BookError),
     /// A REQUEST of an exclusive request with number 1 comes, in a frame with this clock, as if the first node had sent it to the second.
     Comes(u64, u16, u16),
     /// A round answers this.
@@ -181,6 +185,19 @@ fn asks<R: Wait>(
         == Err(CallError::Site(SiteError::Stopped(Stop::Send)))
 }
 
+/// Has client 1 of a node ask for the name. Returns whether it is refused for this cause.
+fn is_refused<R: Wait>(
+    rt: &R,
+    alloc: Global,
+    cluster: &Cluster<OpenGate>,
+    name: &Name,
+    number: u16,
+    cause: BookError,
+) -> bool {
+    lock(rt, alloc, cluster, number, 1, name, Mode::Exclusive)
+        == Err(CallError::Site(SiteError::Refused(cause)))
+}
+
 /// Has a message come to a site by the post of this cluster, which is not its own, in a frame with this clock. What the site answers
 /// goes to the sites of others. Returns whether the frame was sent.
 fn carries<R: Wait>(
@@ -261,6 +278,7 @@ fn happens<R: Wait>(
         Enters => lock(rt, alloc, cluster, 1, 1, &name, Mode::Exclusive).is_ok(),
         Leaves => unlock(rt, alloc, cluster, 1, 1, &name).is_ok(),
         Asks(node, mode) => asks(rt, alloc, cluster, &name, node, mode),
+        IsRefused(node, cause) => is_refused(rt, alloc, cluster, &name, node, cause),
         Comes(clock, from, to) => comes(rt, alloc, cluster, clock, from, to, name),
         AuditsAnew(answer) => audits_anew(rt, alloc, cluster, name, answer),
         HasAt(node, clock, events) => has_at(rt, cluster, node, clock, events),

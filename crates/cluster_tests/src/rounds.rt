@@ -1,6 +1,6 @@
 //! Rounds of the audit of a cluster: what they take, what they answer, and what is left in the books.
 use crate::audit_acts::Act::{
-    Asks, Audits, AuditsAnew, Comes, Ends, Enters, HasAt, Leaves, Shows, Stops, Waits,
+    Asks, Audits, AuditsAnew, Comes, Ends, Enters, HasAt, IsRefused, Leaves, Shows, Stops, Waits,
 };
 use crate::audit_acts::Answer::{Finds, Fine, NeverSent, NotAudited, OtherCluster, OutOfTurn};
 use crate::audit_acts::{
@@ -12,7 +12,7 @@ use crate::cluster_calls::{books_at_the_end, lock, unlock};
 use crate::helpers::{in_a_thread, r};
 use crate::shown::{Ended, have_ended};
 use ra_audit::Auditor;
-use ra_cluster::{Cluster, OpenGate, Stop};
+use ra_cluster::{BookError, Cluster, OpenGate, Stop};
 use ra_stamp::{Mode, Name};
 use std::alloc::Global;
 use std::process::Abort;
@@ -24,6 +24,9 @@ const LOST: Ended = Ended(Some(Stop::Send), 0);
 
 /// The book of a node from which a round took all events, and which was not stopped before it was closed.
 const TAKEN: Ended = Ended(Some(Stop::Refused), 0);
+
+/// The last clock.
+const LAST_CLOCK: u64 = 1 << 62;
 
 /// The book of a node from which no round took anything.
 const WHOLE: Ended = Ended(None, 2);
@@ -246,6 +249,17 @@ const BOOKS: &[Row] = &[
             Ends(Fine),
         ],
         ended: &[Ended(Some(Stop::Gate), 0)],
+    },
+    Row {
+        words: "a lock is refused, since no clock is left for it",
+        made: TWO_NODES,
+        acts: &[
+            Comes(LAST_CLOCK - 1, 1, 2),
+            HasAt(2, LAST_CLOCK, 1),
+            IsRefused(2, BookError::ClockFull),
+            HasAt(2, LAST_CLOCK, 1),
+        ],
+        ended: &[Ended(None, 0), Ended(None, 1)],
     },
     Row {
         words: "without a round the books are whole",
