@@ -206,3 +206,26 @@ ask_no_receive line client name digits mode g h =
 pub release_no_receive : (line : List ℕ) (client : ℕ) (name digits : List ℕ) → HasForm line (Release client name) → HasForm line (Receive digits) → ⊥
 release_no_receive line client name digits g h =
     clash (codes "release ") (release_tail (client, name)) (form_text (Receive digits)) (release_text client name ∙ (sym g.2 ∙ h.2)) refl
+
+-- ---- A first line
+
+pub first_once : (line : List ℕ) (node other nodes nodes' start start' : ℕ) → IsFirst line node nodes start → IsFirst line other nodes' start'
+    → (node ≡ other) × (nodes ≡ nodes') × (start ≡ start')
+first_once line node other nodes nodes' start start' g h =
+    let one : ℕ × (ℕ × ℕ) = (node, (nodes, start)) in
+    let two : ℕ × (ℕ × ℕ) = (other, (nodes', start')) in
+    let tails : first_tail one ≡ first_tail two =
+    after (codes "book 1 ") (first_tail one) (first_tail two) line (book_text node nodes start ∙ sym g.text_is) (book_text other nodes' start' ∙ sym h.text_is) in
+    let left : IsNodeNumber node = (g.member.0, (let few = g.count.1 in omega (arith, g.member.1, few))) in
+    let right : IsNodeNumber other = (h.member.0, (let few = h.count.1 in omega (arith, h.member.1, few))) in
+    let same : one ≡ two = same_Some _ _ (sym (reads_first.each one (left, (g.count, g.begins)))
+    ∙ (ap first_of tails ∙ reads_first.each two (right, (h.count, h.begins)))) in
+    (ap (λ (f : ℕ × (ℕ × ℕ)). f.0) same, ap (λ (f : ℕ × (ℕ × ℕ)). f.1.0) same, ap (λ (f : ℕ × (ℕ × ℕ)). f.1.1) same)
+
+pub first_no_form : (line : List ℕ) (node nodes start : ℕ) (form : Form) → IsFirst line node nodes start → HasForm line form → ⊥
+first_no_form line node nodes start (Ask client name mode) g h =
+    clash (codes "book 1 ") (first_tail (node, (nodes, start))) (form_text (Ask client name mode)) (book_text node nodes start ∙ (sym g.text_is ∙ h.2)) refl
+first_no_form line node nodes start (Release client name) g h =
+    clash (codes "book 1 ") (first_tail (node, (nodes, start))) (form_text (Release client name)) (book_text node nodes start ∙ (sym g.text_is ∙ h.2)) refl
+first_no_form line node nodes start (Receive digits) g h =
+    clash (codes "book 1 ") (first_tail (node, (nodes, start))) (form_text (Receive digits)) (book_text node nodes start ∙ (sym g.text_is ∙ h.2)) refl

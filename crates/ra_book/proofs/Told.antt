@@ -1,5 +1,5 @@
 -- What the lines of a book determine.
-use Rattle.std.proofs.Common.{◌≡◌, ℕ, ◌≤◌, ◌^◌, List, [], ◌∷◌, ◌++◌, map, Ok, inl, inr, refl, sym, ap, subst, ◌∙◌, flat_map, codes, append_assoc}
+use Rattle.std.proofs.Common.{◌≡◌, ℕ, ◌≤◌, ◌^◌, List, [], ◌∷◌, ◌++◌, map, Some, None, Ok, inl, inr, refl, sym, ap, subst, ◌∙◌, flat_map, codes, append_assoc}
 use Rattle.std.proofs.lemmas.List.{append-nil}
 use Rattle.hex.specs.Hex.{decode_of}
 use Rattle.ra_stamp.specs.Message.{to_of}
@@ -9,6 +9,7 @@ use Rattle.ra_frame.specs.declared.frame.Frame.{Frame}
 use Rattle.ra_frame.specs.declared.format.Format.{Format}
 use Rattle.ra_frame.specs.declared.format.Format.TheVariants.{V2}
 use Rattle.ra_frame.specs.FrameText.{IsFrameText, IsFrameTextOf}
+use Rattle.ra_frame.specs.Faults.{first_fault}
 use Rattle.ra_world.specs.Lines.{mark_line}
 use Rattle.ra_node.specs.Node.{NodeState, opening_node}
 use Rattle.ra_node.specs.Events.{Event, NodeEvent, IsForThisNode}
@@ -19,7 +20,10 @@ use Rattle.ra_history.specs.declared.sent.Sent.{Sent}
 use Rattle.ra_automaton.specs.State.{IsForNode}
 use Rattle.ra_history.specs.History.{IsHistory, node_event, clock_after, clock_from, clock_of, frames_at}
 use Rattle.ra_history.specs.Book.{as_sent}
-use Rattle.ra_book.specs.BookText.{IsEvent}
+use Rattle.ra_book.specs.declared.refusal.Refusal.{Refusal}
+use Rattle.ra_book.specs.declared.refusal.Refusal.TheVariants as refusal
+use Rattle.ra_book.specs.BookText.{Form, HasForm, IsEvent, IsFrameOf, IsUnread}
+use Rattle.ra_book.specs.BookText.Form.{Ask, Release, Receive}
 use Rattle.ra_book.specs.Answers.{AreSends, Accepts, AnswersAll, send_line}
 use Rattle.ra_book.specs.Laws.{AcceptsAll, IsPart, AreEvents}
 use Rattle.ra_book.specs.Timed.{Timed, opening}
@@ -32,7 +36,7 @@ abbrev pub OneText : Type 0
 OneText = (format : Format) (a b : List ℕ) (frame : Frame) → IsFrameTextOf format a frame → IsFrameTextOf format b frame → a ≡ b
 
 -- a line is one event
-one_event : OneFrame → (line : List ℕ) (a b : BookKind) → IsEvent line a → IsEvent line b → a ≡ b
+pub one_event : OneFrame → (line : List ℕ) (a b : BookKind) → IsEvent line a → IsEvent line b → a ≡ b
 one_event law line (Asked c n m) (Asked d o p) g h = ask_once line c d n o m p g h
 one_event law line (Asked c n m) (Gave d o) g h = absurd (ask_no_release line c d n o m g h)
 one_event law line (Asked c n m) (Got f) g (digits, form, frame) = absurd (ask_no_receive line c n digits m g form)
@@ -45,6 +49,40 @@ one_event law line (Got f) (Got e) (digits, form, (bytes, has, is)) (digits', fo
     let same : Ok bytes ≡ Ok bytes' = sym has ∙ (ap decode_of (receive_once line digits digits' form form') ∙ has') in
     let one : bytes ≡ bytes' = cc in
     ap Got (law bytes' f e (subst (λ (bs : List ℕ). IsFrameText bs f) one is) is')
+
+-- the event of a line that has digits is a frame that they stand for
+its_digits : (line : List ℕ) (kind : BookKind) (digits : List ℕ) → IsEvent line kind → HasForm line (Receive digits) → (frame : Frame) × IsFrameOf digits frame
+its_digits line (Asked c n m) digits g form = absurd (ask_no_receive line c n digits m g form)
+its_digits line (Gave c n) digits g form = absurd (release_no_receive line c n digits g form)
+its_digits line (Got f) digits (own, form', frame) form = (f, subst (λ (ds : List ℕ). IsFrameOf ds f) (receive_once line own digits form' form) frame)
+
+its_form : (line : List ℕ) (kind : BookKind) → IsEvent line kind → (form : Form) × HasForm line form
+its_form line (Asked c n m) h = (Ask c n m, h)
+its_form line (Gave c n) h = (Release c n, h)
+its_form line (Got f) (digits, form, frame) = (Receive digits, form)
+
+abbrev pub NoFault : Type 0
+NoFault = (bytes : List ℕ) (frame : Frame) → IsFrameText bytes frame → first_fault bytes ≡ None
+
+-- a line that is an event is not unread
+pub event_is_read : NoFault → (line : List ℕ) (kind : BookKind) (why : Refusal) → IsEvent line kind → IsUnread line why → ⊥
+event_is_read law line kind refusal.Line h none = let (form, has) = its_form line kind h in none form has
+event_is_read law line kind refusal.Hex h (digits, form, none) =
+    let (frame, (bytes, has, text)) = its_digits line kind digits h form in
+    none bytes has
+event_is_read law line kind (refusal.Frame fault) h (digits, form, (others, has', wrong)) =
+    let (frame, (bytes, has, text)) = its_digits line kind digits h form in
+    let same : Ok bytes ≡ Ok others = sym has ∙ has' in
+    let one : bytes ≡ others = cc in
+    let both : None ≡ Some fault = sym (law bytes frame text) ∙ (ap first_fault one ∙ wrong) in
+    absurd cc
+event_is_read law line kind refusal.Busy h none = absurd none
+event_is_read law line kind refusal.Exhausted h none = absurd none
+event_is_read law line kind refusal.NotHeld h none = absurd none
+event_is_read law line kind refusal.WrongNode h none = absurd none
+event_is_read law line kind refusal.Stranger h none = absurd none
+event_is_read law line kind refusal.ClockFull h none = absurd none
+event_is_read law line kind refusal.Memory h none = absurd none
 
 -- what is sent has one text
 one_sends : OneText → (clock : ℕ) (sends : List Message) (a b : List ℕ) → AreSends clock sends a → AreSends clock sends b → a ≡ b

@@ -1,9 +1,12 @@
-//! What is true of books, for hosts. The function does nothing, and its contract is the law.
+//! What is true of books, for hosts. Each function does nothing, and its contract is the law.
 ghost use Rattle.std.specs.Prelude.{◌≡◌, ℕ, List, map};
+ghost use Rattle.ra_history.specs.declared.event.BookKind.{BookKind};
 ghost use Rattle.ra_history.specs.declared.event.BookEvent.{BookEvent};
 ghost use Rattle.ra_history.specs.declared.sent.Sent.{Sent};
 ghost use Rattle.ra_history.specs.History.{IsHistory, clock_of};
 ghost use Rattle.ra_book.specs.Answers.{AnswersAll};
+ghost use Rattle.ra_book.specs.BookText.{Form, HasForm, IsEvent, IsFirst, IsUnread};
+ghost use Rattle.ra_book.specs.declared.refusal.Refusal.{Refusal};
 ghost use Rattle.ra_book.specs.Laws.{AcceptsAll, IsPart, AreEvents};
 ghost use Rattle.ra_book.specs.Timed.{Timed, opening};
 
@@ -30,5 +33,19 @@ pub fn books_determine_nodes()
     events_leave_other_names();
     histories_go_on();
     one_spelling();
+    round_trip();
+}
+
+/// No line can be read in two ways: it is the first line of one book, or one event, or neither.
+pub fn lines_are_read_in_one_way()
+    ensures first { (line : List ℕ) (node other nodes nodes' start start' : ℕ)
+        → IsFirst line node nodes start → IsFirst line other nodes' start'
+        → (node ≡ other) × (nodes ≡ nodes') × (start ≡ start') }
+    ensures event { (line : List ℕ) (a b : BookKind) → IsEvent line a → IsEvent line b → a ≡ b }
+    // A first line has none of the forms of events, and an event is not refused as a line.
+    ensures apart { (line : List ℕ) (node nodes start : ℕ) (form : Form)
+        → IsFirst line node nodes start → HasForm line form → ⊥ }
+    ensures is_read { (line : List ℕ) (kind : BookKind) (why : Refusal) → IsEvent line kind → IsUnread line why → ⊥ }
+{
     round_trip();
 }

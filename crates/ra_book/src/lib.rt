@@ -22,7 +22,7 @@ mod writing;
 pub use error::BookFault;
 pub use event_line::{MAX_LINE, event_of};
 pub use first_line::First;
-pub use laws::books_determine_nodes;
+pub use laws::{books_determine_nodes, lines_are_read_in_one_way};
 pub use refusal::Refusal;
 pub use serving::answer_book;
 pub use timed_node::TimedNode;
