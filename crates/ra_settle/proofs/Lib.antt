@@ -6,3 +6,10 @@ mod Sent
 mod Taken
 mod Outcome
 mod Settlements
+mod Pieces
+mod OneReading
+mod OneHistory
+mod OneBooks
+mod OneCame
+mod OneVerdict
+mod Exact

@@ -108,6 +108,21 @@ abbrev pub IsUnsettled : (repeats : Bool) → List ℕ → SettleTextError → T
 IsUnsettled repeats text (Invalid number why) = IsWrong repeats text number why
 IsUnsettled repeats text Memory = Unit {0}
 
+-- ---- A text of books that fit
+
+-- the books fit: each frame that came was sent, and unless messages may come again, no message came twice
+abbrev pub FitBy : (repeats : Bool) → List BookState → Type 0
+FitBy repeats ordered = MatchBool repeats (HasUnsent ordered → ⊥) (BooksFit ordered)
+
+-- the text is that of all books of a cluster, each a history, and they fit
+pub record HasFittingBooks (repeats : Bool) (text : List ℕ) : Type 0 where
+  pub lines : List (List ℕ)
+  pub books : List BookState
+  pub ordered : List BookState
+  pub is_text : IsText text lines
+  pub whole : AreWhole lines books ordered
+  pub fit : FitBy repeats ordered
+
 -- ---- A text that settles
 
 -- the steps and the report are those of the settled run of these books, which fit together, with the main theorem

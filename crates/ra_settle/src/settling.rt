@@ -1,13 +1,15 @@
-ghost use Rattle.std.specs.Prelude.{◌≡◌, ◌∷◌, ◌++◌, [], ℕ, Bool, false, List, All, IfErr, IfOk, IfSome, MatchResult};
+ghost use Rattle.std.specs.Prelude.{◌≡◌, ◌⊎◌, ◌∷◌, ◌++◌, [], ℕ, Bool, false, List, All, IfErr, IfOk, IfSome, IsErrOf, IsOkUnless, MatchResult, OnOk};
 ghost use Rattle.ra_history.specs.Book.{BookState};
 ghost use Rattle.ra_history.specs.Settled.{HasUnsent, IsCluster};
 ghost use Rattle.ra_settle.specs.Texts.{IsRead};
 ghost use Rattle.ra_settle.specs.Gathering.{HasGathered, IsGathered, IsMadeOf, IsTwiceBy, IsUnfit};
-ghost use Rattle.ra_settle.specs.Verdicts.{IsRunBy, IsSettledBy, IsSettledText, IsUnsettled};
+ghost use Rattle.ra_settle.specs.Verdicts.{HasFittingBooks, IsRunBy, IsSettledBy, IsSettledText, IsUnsettled, IsWrong};
+ghost use Rattle.ra_settle.specs.declared.error.TextCause.{TextCause};
 
 use crate::arranging::{Unarranged, all_arranged};
 use crate::came::Came;
 use crate::gathering::Gathered;
+use crate::laws::each_text_of_books_has_one_verdict;
 use crate::reading::read_books;
 use crate::searching::{first_again, first_unsent};
 use crate::{SettleTextError, TextCause};
@@ -177,6 +179,20 @@ fn settle_gathered(
     }
 }
 
+/// Reads the books of all nodes, and settles them.
+///
+/// # Errors
+///
+/// Those of [`settle_text`].
+fn settle_lines(alloc: Global, text: &[u8], repeats: bool) -> Result<SettledText, SettleTextError>
+    ensures { MatchResult result (IsSettledText repeats text.now) (IsUnsettled repeats text.now) }
+{
+    match read_books(alloc, text) {
+        Ok((gathered, next)) => settle_gathered(alloc, gathered, next, repeats),
+        Err(fault) => Err(fault),
+    }
+}
+
 /// Reads the books of all nodes, one after the other in one text, and settles them into one run. Each begins with its first line,
 /// and they may be in any order of the nodes. A last line without a line feed is passed over. With `repeats` a message may come
 /// more than once: a frame that comes n times is repeated n - 1 times in the run, as [`settle_with_copies`] says.
@@ -204,9 +220,12 @@ pub fn settle_text(
     ensures settled { IfOk result (IsSettledText repeats text.now) }
     // A refusal comes only for its cause, at its line.
     ensures refused { IfErr result (IsUnsettled repeats text.now) }
+    // It is Ok exactly if the books fit, and if a cause holds, its refusal comes, except that `Memory` may come instead.
+    ensures fit { OnOk result (HasFittingBooks repeats text.now) }
+    ensures settles { HasFittingBooks repeats text.now → IsOkUnless result SettleTextError.Memory }
+    ensures found { (line : ℕ) (cause : TextCause) → IsWrong repeats text.now line cause
+        → IsErrOf result (SettleTextError.Invalid line cause) ⊎ IsErrOf result SettleTextError.Memory }
 {
-    match read_books(alloc, text) {
-        Ok((gathered, next)) => settle_gathered(alloc, gathered, next, repeats),
-        Err(fault) => Err(fault),
-    }
+    each_text_of_books_has_one_verdict();
+    settle_lines(alloc, text, repeats)
 }
