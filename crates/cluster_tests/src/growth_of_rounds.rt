@@ -43,7 +43,10 @@ fn is_of_memory(refused: RoundError) -> bool {
     match refused {
         RoundError::Memory => true,
         RoundError::NotTaken { node: _, cause } => cause == TakeError::Memory,
-        RoundError::NotAudited | RoundError::OtherCluster | RoundError::Fault(_) => false,
+        RoundError::NotAudited
+        | RoundError::OtherCluster
+        | RoundError::Fault(_)
+        | RoundError::NotLost(_) => false,
     }
 }
 
@@ -72,7 +75,7 @@ fn try_once<R: Wait>(
         Act::Ends => match last_round(rt, alloc, cluster, auditor) {
             Ok(()) => Ok(()),
             Err(FinishError::Round(refused)) => Err(is_of_memory(refused)),
-            Err(FinishError::NeverSent(_)) => Err(false),
+            Err(FinishError::NeverSent(_) | FinishError::LostUnsent(_)) => Err(false),
         },
     }
 }

@@ -12,8 +12,9 @@ use Rattle.ra_audit.specs.declared.audit_error.AuditFault.{AuditFault}
 use Rattle.ra_cluster.specs.declared.take_error.TakeError.{TakeError}
 use Rattle.ra_cluster.specs.declared.take_error.TakeError.TheVariants.{NoNode}
 use Rattle.ra_history.specs.declared.event.BookEvent.{BookEvent}
-use Rattle.ra_audit.specs.Audit.{ProgressState, AuditState, NoneIsReady, MayBePut, IsAudited, Advances, Audits, TakenGoOn, TakesMore, TakesHanded, TakesAllAt, NoneIsKept, GoesOnFrom, taken_of, handed_over}
+use Rattle.ra_audit.specs.Audit.{ProgressState, AuditState, NoneIsReady, NoneIsReached, MayBePut, IsAudited, HasLost, Advances, PutsLosses, Audits, TakenGoOn, TakesMore, TakesHanded, TakesAllAt, NoneIsKept, GoesOnFrom, taken_of, handed_over}
 use Rattle.ra_world.specs.World.{WorldState}
+use Rattle.ra_audit.proofs.AuditLosses.{puts_none}
 
 -- ---- One node
 
@@ -165,21 +166,24 @@ length_of w nodes a = sym (length-map nodes (λ (p : ProgressState). p.node)) �
 
 -- ---- A round
 
--- of which only the first part was done
-pub audits_nothing : (old new : AuditState) (told : List Mark) → TakesMore old new → Audits old told new told
-audits_nothing old new told takes = record {
-  audited = takes.audited;
-  count = ap (λ (a : AuditState). a.world.count) takes.rest;
-  start = ap (λ (a : AuditState). a.world.start) takes.rest;
+-- in which nothing was done
+pub audits_nothing : (old : AuditState) (told : List Mark) → IsAudited old.world old.nodes → HasLost old.world.moves old.lost → Audits old told old told
+audits_nothing old told audited lost = record {
+  audited = audited;
+  count = refl;
+  start = refl;
   moves = [];
-  goes_on = ap (λ (a : AuditState). a.world.moves) takes.rest ∙ sym (append-nil old.world.moves);
+  goes_on = sym (append-nil old.world.moves);
   told_are = sym (append-nil told);
-  taken = takes.taken;
+  taken = go_nowhere old.nodes;
+  losses = puts_none old.nodes old.losing old.lost;
+  lost = lost;
 }
 
 pub audits_all : (old mid new : AuditState) (told told' : List Mark) → TakesMore old mid
-    → Advances mid.world mid.nodes told new.world new.nodes told' → Audits old told new told'
-audits_all old mid new told told' takes advances = record {
+    → Advances mid.world mid.nodes told new.world new.nodes told' → PutsLosses new.nodes mid.losing mid.lost new.losing new.lost → HasLost new.world.moves new.lost
+    → Audits old told new told'
+audits_all old mid new told told' takes advances losses lost = record {
   audited = advances.audited;
   count = advances.count ∙ ap (λ (a : AuditState). a.world.count) takes.rest;
   start = advances.start ∙ ap (λ (a : AuditState). a.world.start) takes.rest;
@@ -190,6 +194,8 @@ audits_all old mid new told told' takes advances = record {
       go_further old.nodes mid.nodes new.nodes takes.taken
       (go_as_before mid.nodes new.nodes
       (advances.audited.numbers ∙ ap (λ (n : ℕ). range_with_len 1 n) advances.count ∙ sym takes.audited.numbers) advances.taken advances.kept);
+  losses = subst (λ (a : AuditState). PutsLosses new.nodes a.losing a.lost new.losing new.lost) takes.rest losses;
+  lost = lost;
 }
 
 -- what holds if all that can be put was put
@@ -209,6 +215,8 @@ audits_noted old new noted told told' fault same a = subst (λ (x : AuditState).
   goes_on = a.goes_on;
   told_are = a.told_are;
   taken = a.taken;
+  losses = a.losses;
+  lost = a.lost;
 })
 
 -- ---- With none
@@ -218,6 +226,9 @@ audits_as old new noted told told' same = subst (λ (x : AuditState). Audits old
 
 pub none_ready_as : (new noted : AuditState) → noted ≡ new → NoneIsReady new.nodes → NoneIsReady noted.nodes
 none_ready_as new noted same = subst (λ (a : AuditState). NoneIsReady a.nodes) (sym same)
+
+pub none_reached_as : (new noted : AuditState) → noted ≡ new → NoneIsReached new.nodes new.losing → NoneIsReached noted.nodes noted.losing
+none_reached_as new noted same = subst (λ (a : AuditState). NoneIsReached a.nodes a.losing) (sym same)
 
 pub may_be_put_as : (clocks known : List ℕ) (new noted : AuditState) → clocks ≡ known → noted ≡ new → All (MayBePut clocks new.nodes) new.nodes
     → All (MayBePut known noted.nodes) noted.nodes

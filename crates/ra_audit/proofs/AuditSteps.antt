@@ -45,7 +45,7 @@ number_of nodes n k d numbers low =
 
 -- ---- One more move
 
-happened_more : (i : ℕ) (moves : List Move) (m : Move) → map (λ h. h.event) (happened_at i (moves ++ m ∷ [])) ≡ map (λ h. h.event) (happened_at i moves) ++ events_at i m.step
+pub happened_more : (i : ℕ) (moves : List Move) (m : Move) → map (λ h. h.event) (happened_at i (moves ++ m ∷ [])) ≡ map (λ h. h.event) (happened_at i moves) ++ events_at i m.step
 happened_more i moves m =
     events_by i (moves ++ m ∷ [])
     ∙ ap (flat_map (events_at i)) (map-append (λ (m : Move). m.step) moves (m ∷ []))
@@ -56,11 +56,11 @@ marks_append : (a b : List Move) → marks_of (a ++ b) ≡ marks_of a ++ marks_o
 marks_append [] b = refl
 marks_append (m ∷ a) b = ap (λ (ms : List Mark). m.marks ++ ms) (marks_append a b) ∙ sym (append_assoc m.marks (marks_of a) (marks_of b))
 
-repeated_more : (moves : List Move) (m : Move) → repeated_by (moves ++ m ∷ []) ≡ repeated_by moves ++ repeated_in m.step
+pub repeated_more : (moves : List Move) (m : Move) → repeated_by (moves ++ m ∷ []) ≡ repeated_by moves ++ repeated_in m.step
 repeated_more [] m = append-nil (repeated_in m.step)
 repeated_more (x ∷ moves) m = ap (λ (ms : List Message). repeated_in x.step ++ ms) (repeated_more moves m) ∙ sym (append_assoc (repeated_in x.step) (repeated_by moves) (repeated_in m.step))
 
-lost_more : (moves : List Move) (m : Move) → lost_by (moves ++ m ∷ []) ≡ lost_by moves ++ lost_in m.step
+pub lost_more : (moves : List Move) (m : Move) → lost_by (moves ++ m ∷ []) ≡ lost_by moves ++ lost_in m.step
 lost_more [] m = append-nil (lost_in m.step)
 lost_more (x ∷ moves) m = ap (λ (ms : List Message). lost_in x.step ++ ms) (lost_more moves m) ∙ sym (append_assoc (lost_in x.step) (lost_by moves) (lost_in m.step))
 
@@ -115,7 +115,6 @@ module _ (w : WorldState) (nodes : List ProgressState) (place : ℕ) (p q : Prog
               subst (HasSettled (w.moves ++ m ∷ [])) (sym is) (elsewhere (get_or nodes k d) apart (a.events k d low'))
         ];
     unrepeated = repeated_more w.moves m ∙ (λ j. a.unrepeated j ++ repeated_in_event p.node e.kind j);
-    unlost = lost_more w.moves m ∙ (λ j. a.unlost j ++ lost_in_event p.node e.kind j);
   }
 
   pub advances_one : (told told' : List Mark) → told' ≡ told ++ marks → Advances w nodes told (with_move w (step_at p.node e.kind) sends marks) (set nodes place q) told'
@@ -156,6 +155,16 @@ advances_then w v u nodes nodes' nodes'' told told' told'' a b = record {
   taken = b.taken ∙ a.taken;
   kept = b.kept ∙ a.kept;
 }
+
+-- the step of an event loses nothing
+pub nothing_lost_by : (w new : WorldState) (step : Step) (node : ℕ) (e : BookEvent) (sends : List Message) (marks : List Mark) → step ≡ step_at node e.kind → new ≡ with_move w step sends marks
+    → lost_by new.moves ≡ lost_by w.moves
+nothing_lost_by w new step node e sends marks step_is new_is =
+    let m : Move = record { step = step; sends = sends; marks = marks } in
+    ap (λ (v : WorldState). lost_by v.moves) new_is
+    ∙ lost_more w.moves m
+    ∙ ap (λ (ms : List Message). lost_by w.moves ++ ms) (ap lost_in step_is ∙ lost_in_event node e.kind)
+    ∙ append-nil (lost_by w.moves)
 
 -- ---- Which events can be put
 
@@ -319,7 +328,6 @@ taken_audited w nodes nodes' node after events answer a takes = of answer takes.
           numbers = map-set_same (λ (p : ProgressState). p.node) nodes (node - 1) (with_more p events) p (ap (λ (x : ProgressState). x.node) (sym at)) ∙ a.numbers;
           events = All-set (HasSettled w.moves) nodes (node - 1) (with_more p events) (subst (HasSettled w.moves) at (a.events (node - 1) p within)) a.events;
           unrepeated = a.unrepeated;
-          unlost = a.unlost;
         })
 
 pub handed_audited : (w : WorldState) (nodes nodes' : List ProgressState) (node : ℕ) (answer : Result (Unit {0}) TakeError) → IsAudited w nodes → TakesHanded nodes node answer nodes' → IsAudited w nodes'
@@ -343,7 +351,6 @@ handed_audited w nodes nodes' node answer a (inr some) =
       numbers = map-set_same (λ (p : ProgressState). p.node) nodes (node - 1) q p (from.node ∙ ap (λ (x : ProgressState). x.node) (sym at)) ∙ a.numbers;
       events = All-set (HasSettled w.moves) nodes (node - 1) q new a.events;
       unrepeated = a.unrepeated;
-      unlost = a.unlost;
     })
 
 -- ---- The first moment
@@ -363,7 +370,6 @@ audited_at_first n start w count run is nodes nodes_are =
       numbers = fresh_numbers (range_with_len 1 n);
       events = All-map (HasSettled []) fresh_progress (range_with_len 1 n) (λ k d low. refl);
       unrepeated = refl;
-      unlost = refl;
     }))
 
 pub fresh_more : (n : ℕ) (nodes : List ProgressState) → nodes ≡ map fresh_progress (range_with_len 1 n) → nodes ++ fresh_progress (n + 1) ∷ [] ≡ map fresh_progress (range_with_len 1 (n + 1))

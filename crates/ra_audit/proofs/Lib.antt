@@ -5,3 +5,4 @@ mod RunTheorems
 mod LeastWaiting
 mod UnsentFrames
 mod AuditRounds
+mod AuditLosses

@@ -1,12 +1,13 @@
 -- An auditor as contracts see it: what has happened so far at running nodes, put into one run of the cluster.
-use Rattle.std.specs.Prelude.{◌≡◌, ◌≢◌, ◌↔◌, ◌⊎◌, ℕ, true, ◌-◌, ◌<◌, ◌≤◌, ◌^◌, Option, Some, Result, IsErrOf, OnOk, OnErr, List, [], ◌∷◌, ◌++◌, length, map, All, slice_get, slice_index_or, slice_set}
+use Rattle.std.specs.Prelude.{◌≡◌, ◌≢◌, ◌↔◌, ◌⊎◌, ℕ, true, ◌-◌, ◌<◌, ◌≤◌, ◌^◌, Option, Some, Result, IsErrOf, OnOk, OnErr, List, [], ◌∷◌, ◌++◌, length, map, All, Contains, slice_get, slice_index_or, slice_set}
 use Rattle.std.specs.List.{Any, range_with_len}
+use Rattle.std.specs.List.Sorted.{IsPermutation}
 use Rattle.ra_stamp.specs.declared.entry.Mark.{Mark}
 use Rattle.ra_stamp.specs.NodeId.{IsNodeNumber}
 use Rattle.ra_stamp.specs.Message.{from_of, to_of}
 use Rattle.ra_table.specs.Table.{LockTable, TableRun, MayEnter}
 use Rattle.ra_table.specs.Laws.{IsConflictFree}
-use Rattle.ra_world.specs.Traffic.{Move, lost_by, repeated_by}
+use Rattle.ra_world.specs.Traffic.{Move, IsUnderWay, lost_by, repeated_by}
 use Rattle.ra_world.specs.Run.{IsRun, GoesOn, happened_at, marks_of}
 use Rattle.ra_world.specs.Quiet.{IsQuiet, IsBlocked, MeetsMessageCount}
 use Rattle.ra_world.specs.World.{WorldState}
@@ -45,11 +46,14 @@ handed_over p = taken_of p ++ p.kept
 abbrev pub fresh_progress : ℕ → ProgressState
 fresh_progress node = record { node = node; settled = []; waiting = []; kept = [] }
 
--- the run so far, as a world that made its steps; how far each node's events are in it; and what did not fit, if
--- anything did not
+-- The run so far, as a world that made its steps; and how far each node's events are in it. Of the frames that were noted
+-- as lost: those whose loss is still to be put into the run, and those whose loss is in it, in its order. And what did not
+-- fit, if anything did not.
 pub record AuditState : Type 0 where
   pub world : WorldState
   pub nodes : List ProgressState
+  pub losing : List Frame
+  pub lost : List Frame
   pub fault : Option AuditFault
 
 -- ---- What was taken
@@ -78,25 +82,30 @@ AreNextAt node clock (event ∷ events) = IsNextAt node clock event × AreNextAt
 abbrev pub HasSettled : List Move → ProgressState → Type 0
 HasSettled moves p = map (λ h. h.event) (happened_at p.node moves) ≡ map (λ e. node_event e.kind) p.settled
 
--- The moves are a run of these nodes in which nothing was repeated or lost. What happened in it at each node are the
--- settled events, which are the first of those that were taken from the node.
+-- The moves are a run of these nodes in which nothing was repeated. What happened in it at each node are the settled
+-- events, which are the first of those that were taken from the node.
 pub record IsAudited (world : WorldState) (nodes : List ProgressState) : Type 0 where
   pub count : IsNodeNumber world.count
   pub run : IsRun world.count world.start world.moves
   pub numbers : map (λ p. p.node) nodes ≡ range_with_len 1 world.count
   pub events : All (HasSettled world.moves) nodes
   pub unrepeated : repeated_by world.moves ≡ []
-  pub unlost : lost_by world.moves ≡ []
+
+-- the messages that these moves lost are those of these frames, in order, and no others
+abbrev pub HasLost : List Move → List Frame → Type 0
+HasLost moves lost = lost_by moves ≡ map (λ frame. frame.message) lost
 
 -- ---- Which event can be put into the run
 
--- An ask or a leave can be put at once. A frame that came can be put once all events of its sender up to its clock are
--- in the run.
+-- the run has come to the frame: all events of its sender up to the frame's clock are in the run
+abbrev pub IsReached : List ProgressState → Frame → Type 0
+IsReached nodes frame = All (λ p. p.node ≡ from_of frame.message → frame.clock ≤ clock_of p.settled) nodes
+
+-- An ask or a leave can be put at once, and a frame that came once the run has come to it.
 abbrev pub IsDue : List ProgressState → BookKind → Type 0
 IsDue nodes (Asked client name mode) = Unit {0}
 IsDue nodes (Gave client name) = Unit {0}
-IsDue nodes (Got frame) =
-    All (λ p. p.node ≡ from_of frame.message → frame.clock ≤ clock_of p.settled) nodes
+IsDue nodes (Got frame) = IsReached nodes frame
 
 -- the next event of the node, after those in the run, can be put into it
 abbrev pub IsReady : List ProgressState → ProgressState → Type 0
@@ -109,11 +118,24 @@ NoneIsReady nodes = All (λ p. IsReady nodes p → ⊥) nodes
 
 -- The event is the next one of its node, and could be put, but the run does not go on with it. If it is a frame, all
 -- that its sender sent up to the frame's clock is in the run, and the message is not under way: it was never sent, or
--- it came before.
+-- it came or was lost before.
 pub record IsMisfit (world : WorldState) (nodes : List ProgressState) (fault : AuditFault) : Type 0 where
   pub at_node : Any (λ p. (p.node ≡ fault.node) × (slice_get p.waiting 0 ≡ Some fault.event)) nodes
   pub due : IsDue nodes fault.event.kind
   pub no_step : GoesOn world.count world.start world.moves (step_at fault.node fault.event.kind) → ⊥
+
+-- ---- Which loss can be put into the run
+
+-- the run has come to none of the frames whose loss is still to be put into it
+abbrev pub NoneIsReached : List ProgressState → List Frame → Type 0
+NoneIsReached nodes losing = All (λ frame. IsReached nodes frame → ⊥) losing
+
+-- The loss of the frame is still to be put, and all that its sender sent up to the frame's clock is in the run. But its
+-- message is not under way: it came, its loss is in the run already, or it was never sent.
+pub record IsNotLost (world : WorldState) (nodes : List ProgressState) (losing : List Frame) (frame : Frame) : Type 0 where
+  pub is_losing : Contains losing frame
+  pub reached : IsReached nodes frame
+  pub not_under_way : IsUnderWay world.moves frame.message → ⊥
 
 -- ---- What a round does
 
@@ -160,8 +182,16 @@ pub record TakesMore (old new : AuditState) : Type 0 where
   pub rest : new ≡ record old { nodes = new.nodes }
   pub audited : IsAudited new.world new.nodes
 
+-- Some of the losses that were still to be put are in the run now, or none more: each only after the run has come to its
+-- frame. The others are still to be put, in any order. So no frame is forgotten, and none is lost more often than noted.
+pub record PutsLosses (nodes : List ProgressState) (losing lost losing' lost' : List Frame) : Type 0 where
+  pub put : List Frame
+  pub lost_are : lost' ≡ lost ++ put
+  pub same : IsPermutation losing (put ++ losing')
+  pub reached : All (IsReached nodes) put
+
 -- A round of the audit of a cluster: further events were taken of its nodes, and the run went on by some moves, whose marks
--- were told in their order.
+-- were told in their order, and by some of the losses that were still to be put.
 pub record Audits (old : AuditState) (told : List Mark) (new : AuditState) (told' : List Mark) : Type 0 where
   pub audited : IsAudited new.world new.nodes
   pub count : new.world.count ≡ old.world.count
@@ -170,6 +200,8 @@ pub record Audits (old : AuditState) (told : List Mark) (new : AuditState) (told
   pub goes_on : new.world.moves ≡ old.world.moves ++ moves
   pub told_are : told' ≡ told ++ marks_of moves
   pub taken : TakenGoOn old.nodes new.nodes
+  pub losses : PutsLosses new.nodes old.losing old.lost new.losing new.lost
+  pub lost : HasLost new.world.moves new.lost
 
 -- ---- What holds of the run
 
@@ -233,6 +265,12 @@ pub record IsNeverSent (nodes : List ProgressState) (fault : AuditFault) : Type 
   pub frame : Frame
   pub came : fault.event.kind ≡ Got frame
   pub no_event : All (λ p. p.node ≡ from_of frame.message → All (λ e. e.clock ≢ frame.clock) (taken_of p)) nodes
+
+-- The frame is still to be lost, and the events of its sender that are in the run end before the frame's clock. If they are
+-- all events of the sender, the frame was never sent.
+pub record IsAhead (nodes : List ProgressState) (losing : List Frame) (frame : Frame) : Type 0 where
+  pub is_losing : Contains losing frame
+  pub ahead : All (λ p. p.node ≡ from_of frame.message → clock_of p.settled < frame.clock) nodes
 
 -- ---- What waits after a round
 

@@ -1,7 +1,8 @@
--- How an auditor keeps what it knows of a node. No public contract speaks of it.
-use Rattle.std.specs.Prelude.{◌≡◌, ◌≢◌, ◌⊎◌, ℕ, ◌<◌, ◌≤◌, ◌++◌, List, Option, Some, None, All, slice_get}
+-- How an auditor keeps what it knows of a node, and of frames that were lost. No public contract speaks of it.
+use Rattle.std.specs.Prelude.{◌≡◌, ◌≢◌, ◌⊎◌, ℕ, ◌<◌, ◌≤◌, ◌++◌, List, Option, Some, None, All, length, take, drop, slice_get}
 use Rattle.std.specs.List.{Any}
 use Rattle.ra_audit.specs.declared.progress.Progress.TheInside.{Inside}
+use Rattle.ra_audit.specs.declared.losses.Losses.TheInside.{Inside as LossesInside}
 use Rattle.ra_stamp.specs.Message.{from_of}
 use Rattle.ra_frame.specs.declared.frame.Frame.{Frame}
 use Rattle.ra_audit.specs.declared.audit_error.AuditFault.{AuditFault}
@@ -9,7 +10,7 @@ use Rattle.ra_history.specs.declared.event.BookKind.{BookKind}
 use Rattle.ra_history.specs.declared.event.BookKind.TheVariants.{Got}
 use Rattle.ra_history.specs.declared.event.BookEvent.{BookEvent}
 use Rattle.ra_history.specs.History.{clock_of}
-use Rattle.ra_audit.specs.Audit.{ProgressState, AreNextAt, NoneWaits, taken_of}
+use Rattle.ra_audit.specs.Audit.{ProgressState, AreNextAt, IsReached, NoneIsReached, NoneWaits, taken_of}
 
 -- what the fields represent
 abbrev pub progress_of : Inside → ProgressState
@@ -43,3 +44,41 @@ HasNone clock NoneComes s = All (λ e. e.clock ≢ clock) (taken_of s) × ((cloc
 abbrev pub IsOfNone : List ProgressState → Type 0 → BookKind → Type 0
 IsOfNone nodes NoneComes kind = (frame : Frame) × (kind ≡ Got frame)
     × All (λ s. s.node ≡ from_of frame.message → HasNone frame.clock NoneComes s) nodes
+
+-- ---- Losses
+
+-- of the frames that were noted as lost, those whose loss is still to be put into the run, and those whose loss is in it
+pub record LossState : Type 0 where
+  pub losing : List Frame
+  pub lost : List Frame
+
+-- what the fields represent
+abbrev pub losses_of : LossesInside → LossState
+losses_of l = record { losing = l.losing.items; lost = l.lost.items }
+
+-- the count is that of the losses in the run
+abbrev pub IsKeptLosses : LossesInside → Type 0
+IsKeptLosses l = l.count ≡ length l.lost.items
+
+-- the first of the frames that are still to be lost is lost now
+pub record LosesFirst (old new : LossState) : Type 0 where
+  pub losing : new.losing ≡ drop 1 old.losing
+  pub lost : new.lost ≡ old.lost ++ take 1 old.losing
+
+-- it is the last one now
+pub record DefersFirst (old new : LossState) : Type 0 where
+  pub losing : new.losing ≡ drop 1 old.losing ++ take 1 old.losing
+  pub lost : new.lost ≡ old.lost
+
+-- the first one is lost if the run has come to it, and otherwise it is the last one now
+abbrev pub LooksAtFirst : List ProgressState → LossState → LossState → Type 0
+LooksAtFirst nodes old new = (LosesFirst old new × All (IsReached nodes) (take 1 old.losing))
+    ⊎ (DefersFirst old new × NoneIsReached nodes (take 1 old.losing))
+
+-- of these frames all but the first ones, so many, were looked at, and the run has come to none of them
+pub record AreLookedAt (nodes : List ProgressState) (left : ℕ) (losing : List Frame) : Type 0 where
+  pub first : List Frame
+  pub others : List Frame
+  pub losing_is : losing ≡ first ++ others
+  pub left_is : length first ≡ left
+  pub none : NoneIsReached nodes others

@@ -2,6 +2,7 @@ ghost use Rattle.std.specs.Prelude.{◌≡◌};
 ghost use Rattle.ra_audit.specs.declared.audit_error.AuditError.TheVariants as audit;
 
 use ra_cluster::{BookEvent, TakeError};
+use ra_frame::Frame;
 use ra_stamp::{Memory, NodeId};
 use thiserror::Error;
 
@@ -10,7 +11,7 @@ use thiserror::Error;
 pub struct AuditFault {
     /// At which node.
     pub node: NodeId,
-    /// The event. If a frame came, it was never sent, or its message came before.
+    /// The event. If a frame came, it was never sent, or its message came or was lost before.
     pub event: BookEvent,
 }
 
@@ -20,6 +21,8 @@ pub struct AuditFault {
 pub enum AuditError {
     /// An event does not fit, now or in an earlier round.
     Fault(AuditFault),
+    /// This frame was noted as lost, and it came or was lost before, or was never sent.
+    NotLost(Frame),
     /// Memory ran out.
     Memory,
 }
@@ -34,7 +37,9 @@ pub enum RoundError {
     OtherCluster,
     /// An event does not fit, or a frame was never sent. This or an earlier round found it.
     Fault(AuditFault),
-    /// Memory ran out before events were taken, or while they were put into the run.
+    /// This frame was noted as lost, and it came or was lost before, or was never sent.
+    NotLost(Frame),
+    /// Memory ran out before events were taken, or while events and losses were put into the run.
     Memory,
     /// The events of a node were not taken.
     NotTaken {
@@ -53,6 +58,8 @@ pub enum FinishError {
     Round(RoundError),
     /// A frame came that was never sent.
     NeverSent(AuditFault),
+    /// This frame was noted as lost, and was never sent.
+    LostUnsent(Frame),
 }
 
 /// Why not all that the books of a closed cluster say is in the run of an auditor.

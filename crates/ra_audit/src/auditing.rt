@@ -1,11 +1,14 @@
 //! Events of running nodes that are put into one run of the cluster.
 ghost use Rattle.std.specs.Prelude.{◌≡◌, ◌≢◌, ◌↔◌, ◌++◌, ◌<◌, ℕ, length, map, slice_index_or, sum_by, IsTrue, IsErrOf, OnOk, MatchOption};
 ghost use Rattle.std.specs.List.{AllWithin, range_with_len};
-ghost use Rattle.ra_audit.specs.Audit.{ProgressState, IsAudited, IsDue, IsReady, NoneIsReady, IsMisfit, Advances};
+ghost use Rattle.ra_frame.specs.declared.frame.Frame.{Frame};
+ghost use Rattle.ra_world.specs.Traffic.{lost_by};
+ghost use Rattle.ra_audit.specs.Audit.{ProgressState, IsAudited, IsReached, IsDue, IsReady, NoneIsReady, IsMisfit, Advances};
 
 use crate::progress::Progress;
 use crate::{AuditError, AuditFault, MarkObserver};
 use ra_cluster::{BookEvent, BookKind};
+use ra_frame::Frame;
 use ra_history::step_of;
 use ra_stamp::Mark;
 use ra_world::{MarklessWorld, StepError};
@@ -28,8 +31,10 @@ pub fn put_all<O: MarkObserver>(
 ) -> Result<(), AuditError>
     requires { IsAudited world.old nodes.old }
     ensures advances { Advances world.old nodes.old (O.told observer.old) world.new nodes.new (O.told observer.new) }
+    ensures unlost { lost_by world.new.moves ≡ lost_by world.old.moves }
     ensures ok { OnOk result (NoneIsReady nodes.new) }
     ensures fault { (fault : AuditFault) → IsErrOf result (AuditError.Fault fault) → IsMisfit world.new nodes.new fault }
+    ensures not_lost { (frame : Frame) → IsErrOf result (AuditError.NotLost frame) → ⊥ }
 {
     let mut near = 0;
     while let Some(place) = ready_near(nodes, near) {
@@ -58,8 +63,10 @@ fn put_next<O: MarkObserver>(
     requires within { place < length nodes.old }
     requires ready { (d : ProgressState) → IsReady nodes.old (slice_index_or nodes.old place d) }
     ensures advances { Advances world.old nodes.old (O.told observer.old) world.new nodes.new (O.told observer.new) }
+    ensures unlost { lost_by world.new.moves ≡ lost_by world.old.moves }
     ensures fewer { OnOk result (sum_by (λ p. length p.waiting) nodes.new < sum_by (λ p. length p.waiting) nodes.old) }
     ensures fault { (fault : AuditFault) → IsErrOf result (AuditError.Fault fault) → IsMisfit world.new nodes.new fault }
+    ensures not_lost { (frame : Frame) → IsErrOf result (AuditError.NotLost frame) → ⊥ }
 {
     let progress = &mut nodes[place];
     let Some(event) = progress.next() else {
@@ -81,6 +88,7 @@ fn put_next<O: MarkObserver>(
 fn error_of(refused: StepError, fault: AuditFault) -> AuditError
     ensures memory { refused ≡ StepError.Memory → result ≡ AuditError.Memory }
     ensures fault { refused ≢ StepError.Memory → result ≡ AuditError.Fault fault }
+    ensures not_lost { (frame : Frame) → result ≡ AuditError.NotLost frame → ⊥ }
 {
     match refused {
         StepError::Memory => AuditError::Memory,
@@ -136,21 +144,26 @@ fn is_ready(nodes: &[Progress], progress: &Progress) -> bool
     }
 }
 
-/// Returns whether an event can be put: whether a frame that came is one of a node whose events up to its clock are in
-/// the run.
+/// Returns whether an event can be put: whether the run has come to the frame, if it is one that came.
 fn is_due(nodes: &[Progress], kind: &BookKind) -> bool
     requires { (count : ℕ) × (map (λ p. p.node) nodes.now ≡ range_with_len 1 count) }
     ensures { IsTrue result ↔ IsDue nodes.now kind.now }
 {
     match kind {
-        BookKind::Got(frame) => {
-            // Nodes are counted from 1.
-            let sender = usize::from(frame.message.from().get());
-            match nodes.get(sender - 1) {
-                Some(progress) => frame.clock <= progress.clock(),
-                None => true,
-            }
-        }
+        BookKind::Got(frame) => is_reached(nodes, frame),
         BookKind::Asked { .. } | BookKind::Gave { .. } => true,
+    }
+}
+
+/// Returns whether the run has come to a frame: whether all events of its sender up to its clock are in the run.
+pub fn is_reached(nodes: &[Progress], frame: &Frame) -> bool
+    requires { (count : ℕ) × (map (λ p. p.node) nodes.now ≡ range_with_len 1 count) }
+    ensures { IsTrue result ↔ IsReached nodes.now frame.now }
+{
+    // Nodes are counted from 1.
+    let sender = usize::from(frame.message.from().get());
+    match nodes.get(sender - 1) {
+        Some(progress) => frame.clock <= progress.clock(),
+        None => true,
     }
 }

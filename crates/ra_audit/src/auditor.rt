@@ -1,4 +1,4 @@
-ghost use Rattle.std.specs.Prelude.{◌≡◌, ◌≢◌, ◌↔◌, ◌∷◌, ◌++◌, [], ℕ, List, Some, None, All, length, map, sum_by, IsErrOf, IfOk, IfSome, IsNone, IsTrue, OnOk, MatchOption};
+ghost use Rattle.std.specs.Prelude.{◌≡◌, ◌≢◌, ◌↔◌, ◌∷◌, ◌++◌, [], ℕ, List, Some, None, All, length, map, sum_by, IsErrOf, IfOk, IfSome, IsNone, IsTrue, OnOk, OnErr, MatchOption};
 ghost use Rattle.std.specs.List.{range_with_len};
 ghost use Rattle.ra_stamp.specs.NodeId.{IsNodeNumber};
 ghost use Rattle.ra_world.specs.Traffic.{LeavesUnderWay, sent_by};
@@ -6,16 +6,19 @@ ghost use Rattle.ra_world.specs.Quiet.{requests_in};
 ghost use Rattle.ra_world.specs.Run.{marks_of};
 ghost use Rattle.ra_audit.specs.declared.audit_error.AuditFault as audit_fault;
 ghost use Rattle.ra_stamp.specs.declared.message.Message.{Message};
-ghost use Rattle.ra_audit.specs.Audit.{Takes, AreAllIn, IsBehind, TakesHanded, NoneWaits, IsNeverSent, MayBePut, IsUnsent, clocks_taken, fresh_progress};
+ghost use Rattle.ra_frame.specs.declared.frame.Frame.{Frame};
+ghost use Rattle.ra_audit.specs.Audit.{Takes, AreAllIn, IsBehind, TakesHanded, NoneWaits, IsNeverSent, IsAhead, MayBePut, IsUnsent, clocks_taken, fresh_progress};
 
 use crate::audit_laws::runs_meet_the_theorem;
-use crate::auditing::put_all;
 use crate::closing::check_all;
+use crate::losing::put_events_and_losses;
+use crate::losses::Losses;
 use crate::never_sent::{clocks_of, first_unsent};
 use crate::progress::Progress;
 use crate::unsettled::{first_unsettled, waiting_at};
 use crate::{AuditError, AuditFault, BehindError, MarkObserver};
 use ra_cluster::{Book, BookEvent, Site, TakeError};
+use ra_frame::Frame;
 use ra_stamp::{Memory, NodeId};
 use ra_world::{MarklessWorld, NewError};
 use std::alloc::Global;
@@ -25,10 +28,11 @@ use std::sync::Wait;
 /// Puts what happens at the nodes of a cluster together into one run while the nodes go on. From time to time each node's
 /// book hands over the events since the last time, which [`take`](Auditor::take) takes, and then
 /// [`advance`](Auditor::advance) puts all that it can into the run. So a cluster can run for long: an auditor keeps the nodes at the end
-/// of the run, the messages under way, and the events that can't be put yet, and nothing of the others.
+/// of the run, the messages under way, and the events and losses that can't be put yet, and nothing of the others.
 ///
 /// Contracts see the run so far, and of each node the events that were taken from it: first those that are in the run,
-/// then those that are not yet.
+/// then those that are not yet. They also see the frames that were noted as lost: those whose loss is still to be put into the
+/// run, and those whose loss is in it.
 #[derive(Drop)]
 pub struct Auditor {
     world: MarklessWorld,
@@ -37,22 +41,23 @@ pub struct Auditor {
     start: u64,
     /// By the nodes' numbers, from 1.
     nodes: Vec<Progress>,
+    losses: Losses,
     fault: Option<AuditFault>,
 }
 
 impl Model for Auditor {
     ghost use Rattle.std.specs.Prelude.{◌≡◌};
-    ghost use Rattle.ra_audit.specs.Audit.{AuditState, IsAudited};
+    ghost use Rattle.ra_audit.specs.Audit.{AuditState, IsAudited, HasLost};
 
     ghost Value = { AuditState };
 
-    ghost view = { λ a. record { world = a.world; nodes = a.nodes.items; fault = a.fault } };
+    ghost view = { λ a. record { world = a.world; nodes = a.nodes.items; losing = a.losses.losing; lost = a.losses.lost; fault = a.fault } };
 
-    ghost invariant = { λ a. IsAudited a.world a.nodes.items × (a.count ≡ a.world.count) × (a.start ≡ a.world.start) };
+    ghost invariant = { λ a. IsAudited a.world a.nodes.items × (a.count ≡ a.world.count) × (a.start ≡ a.world.start) × HasLost a.world.moves a.losses.lost };
 }
 
 impl Auditor {
-    ghost use Rattle.ra_audit.specs.Audit.{IsAudited, NoneIsReady, IsMisfit, Advances, RunTheorem};
+    ghost use Rattle.ra_audit.specs.Audit.{IsAudited, HasLost, NoneIsReady, NoneIsReached, IsMisfit, IsNotLost, Advances, PutsLosses, RunTheorem};
 
     /// Makes the auditor of a cluster of this many nodes, in which nothing has happened yet. The highest number of each
     /// resource begins at `start`, 0 to 2^64-1. The cost is linear in the number of nodes.
@@ -67,17 +72,20 @@ impl Auditor {
         ensures world { IfOk result (λ auditor.
             auditor.world ≡ record { count = nodes; start = start; moves = [] }) }
         ensures nodes { IfOk result (λ auditor. auditor.nodes ≡ map fresh_progress (range_with_len 1 nodes)) }
+        ensures losses { IfOk result (λ auditor. (auditor.losing ≡ []) × (auditor.lost ≡ [])) }
         ensures fault { IfOk result (λ auditor. auditor.fault ≡ None) }
         ensures audited { IfOk result (λ auditor. IsAudited auditor.world auditor.nodes) }
         ensures bad_count { IsErrOf result NewError.BadCount ↔ (IsNodeNumber nodes → ⊥) }
     {
         let world = MarklessWorld::new(alloc, nodes, start)?;
         let progress = none_taken(alloc, nodes)?;
+        let losses = Losses::new(alloc);
         Ok(Auditor {
             world,
             count: nodes,
             start,
             nodes: progress,
+            losses,
             fault: None,
         })
     }
@@ -99,6 +107,22 @@ impl Auditor {
         ensures audited { IsAudited self.new.world self.new.nodes }
     {
         take_into(self.nodes.as_mut_slice(), node, after, events)
+    }
+
+    /// Notes that these frames are lost, such as those that could not be sent. `advance` puts their losses into the run, each once
+    /// all events of the frame's sender up to the frame's clock are in it. Note each frame once, and of each node only frames that
+    /// it sent. The cost is linear in their number.
+    ///
+    /// # Errors
+    ///
+    /// `Memory`: there is no room for them. The auditor is as before.
+    pub fn lose(&mut self, frames: &[Frame]) -> Result<(), Memory>
+        ensures ok { OnOk result (self.new ≡ record self.old { losing = self.old.losing ++ frames.now }) }
+        ensures err { OnErr result (self.new ≡ self.old) }
+        ensures audited { IsAudited self.new.world self.new.nodes }
+        ensures lost { HasLost self.new.world.moves self.new.lost }
+    {
+        self.losses.note(frames)
     }
 
     /// Returns whether the auditor was made for this many nodes and this start.
@@ -150,16 +174,20 @@ impl Auditor {
 
     /// Puts each event that can be put into the run, and tells the observer its marks: an ask or a leave at once after
     /// the node's earlier events, and a frame that came once all events of its sender up to the frame's clock are in the run.
+    /// Then it puts the loss of each frame that was noted as lost, once all events of its sender up to its clock are in the run.
     ///
-    /// The cost of each event is that of a step of a [`MarklessWorld`]. In a round each event is looked at once, and each
-    /// node is looked at once each time a node can't go on.
+    /// The cost of each event and of each loss is that of a step of a [`MarklessWorld`]. In a round each event is looked at once,
+    /// and each node is looked at once each time a node can't go on. Each loss that can't be put yet is looked at once.
     ///
     /// # Errors
     ///
     /// 1. `Fault`: an event does not fit, which was found by this call or an earlier one. The node would have
     ///    refused it; or it is a frame whose message is not under way, though all that its sender sent up to the frame's
     ///    clock is in the run. Or a round found a frame that was never sent. From then on nothing is put.
-    /// 2. `Memory`: memory ran out. The events before are in the run, and the call can be made again.
+    /// 2. `NotLost`: a frame was noted as lost whose message is not under way, though all that its sender sent up to the frame's
+    ///    clock is in the run: it came or was lost before, or was never sent. All events that can be put are in the run, and some
+    ///    other losses may not be. The loss of this frame is still to be put, so that each later call tries it.
+    /// 3. `Memory`: memory ran out. The events and losses before are in the run, and the call can be made again.
     pub fn advance<O: MarkObserver>(
         &mut self,
         alloc: Global,
@@ -167,19 +195,30 @@ impl Auditor {
     ) -> Result<(), AuditError>
         ensures advances { Advances self.old.world self.old.nodes (O.told observer.old)
             self.new.world self.new.nodes (O.told observer.new) }
+        ensures losses { PutsLosses self.new.nodes self.old.losing self.old.lost self.new.losing self.new.lost }
+        ensures lost { HasLost self.new.world.moves self.new.lost }
         ensures theorem { RunTheorem self.new.world.count self.new.world.moves }
         ensures ok { OnOk result (NoneIsReady self.new.nodes) }
+        ensures none_reached { OnOk result (NoneIsReached self.new.nodes self.new.losing) }
         ensures found { (fault : audit_fault.AuditFault) → self.old.fault ≡ None → IsErrOf result (AuditError.Fault fault)
             → IsMisfit self.new.world self.new.nodes fault }
         ensures kept { (fault : audit_fault.AuditFault) → self.old.fault ≡ Some fault
             → IsErrOf result (AuditError.Fault fault) × (self.new ≡ self.old) }
         ensures fault { (fault : audit_fault.AuditFault) → IsErrOf result (AuditError.Fault fault) ↔ (self.new.fault ≡ Some fault) }
+        ensures not_lost { (frame : Frame) → IsErrOf result (AuditError.NotLost frame)
+            → NoneIsReady self.new.nodes × IsNotLost self.new.world self.new.nodes self.new.losing frame }
     {
         runs_meet_the_theorem();
         if let Some(fault) = self.fault {
             return Err(AuditError::Fault(fault));
         }
-        let answer = put_all(alloc, &mut self.world, self.nodes.as_mut_slice(), observer);
+        let answer = put_events_and_losses(
+            alloc,
+            &mut self.world,
+            self.nodes.as_mut_slice(),
+            &mut self.losses,
+            observer,
+        );
         note_fault(&answer, &mut self.fault);
         answer
     }
@@ -193,6 +232,17 @@ impl Auditor {
         ensures audited { IsAudited self.now.world self.now.nodes }
     {
         first_unsettled(&self.nodes)
+    }
+
+    /// Returns a frame that was noted as lost and whose loss is not in the run, or `None` if all losses are in it. Call it once the
+    /// last events of all nodes were taken, and `advance` has answered `Ok`. Then the frame was never sent, as far as these events
+    /// say: the clock of each event of its sender in the run is less than the frame's. It does not allocate.
+    pub fn unsettled_loss(&self) -> Option<Frame>
+        requires { NoneIsReached self.now.nodes self.now.losing }
+        ensures left { MatchOption result (self.now.losing ≡ []) (IsAhead self.now.nodes self.now.losing) }
+        ensures audited { IsAudited self.now.world self.now.nodes }
+    {
+        self.losses.first()
     }
 
     /// Tells whether all that happened at each node is in the run: the last event of its book has the clock of the node's last
@@ -217,6 +267,7 @@ impl Auditor {
     pub fn fault(&self) -> Option<AuditFault>
         ensures value { result ≡ self.now.fault }
         ensures audited { IsAudited self.now.world self.now.nodes }
+        ensures lost { HasLost self.now.world.moves self.now.lost }
     {
         self.fault
     }
@@ -228,6 +279,24 @@ impl Auditor {
         ensures audited { IsAudited self.now.world self.now.nodes }
     {
         waiting_at(&self.nodes)
+    }
+
+    /// Returns how many losses are in the run.
+    pub fn lost(&self) -> u64
+        ensures value { result ≡ length self.now.lost }
+        ensures audited { IsAudited self.now.world self.now.nodes }
+        ensures lost { HasLost self.now.world.moves self.now.lost }
+    {
+        self.losses.lost()
+    }
+
+    /// Returns how many frames were noted as lost whose losses are not in the run yet. After an `advance` that is Ok, these are
+    /// frames whose senders' events are not all in the run up to the frame's clock.
+    pub fn losing(&self) -> usize
+        ensures value { result ≡ length self.now.losing }
+        ensures audited { IsAudited self.now.world self.now.nodes }
+    {
+        self.losses.losing()
     }
 
     /// Returns how many steps the run has.

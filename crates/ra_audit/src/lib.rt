@@ -19,6 +19,8 @@ mod audit_laws;
 mod auditing;
 mod auditor;
 mod closing;
+mod losing;
+mod losses;
 mod mark_observer;
 mod never_sent;
 mod progress;

@@ -1,9 +1,10 @@
 //! A round of the audit of a cluster whose threads go on.
-ghost use Rattle.std.specs.Prelude.{◌≡◌, ◌↔◌, ◌⊎◌, ◌≤◌, true, false, ℕ, All, None, Some, IsOk, IsErrOf, OnOk};
+ghost use Rattle.std.specs.Prelude.{◌≡◌, ◌↔◌, ◌⊎◌, ◌≤◌, true, false, [], ℕ, All, None, Some, IsOk, IsErrOf, OnOk};
 ghost use Rattle.ra_audit.specs.declared.audit_error.AuditFault as audit_fault;
 ghost use Rattle.ra_cluster.specs.declared.take_error.TakeError.{TakeError};
+ghost use Rattle.ra_frame.specs.declared.frame.Frame.{Frame};
 ghost use Rattle.ra_audit.specs.declared.audit_error.RoundError as round_error;
-ghost use Rattle.ra_audit.specs.Audit.{NoneIsReady, NoneWaits, IsNeverSent, IsMisfit, IsUnsent, MayBePut, IsAudited, IsAuditorOf, RunTheorem, Audits, TakesMore, TakesAllAt, NoneIsKept, clocks_taken};
+ghost use Rattle.ra_audit.specs.Audit.{NoneIsReady, NoneIsReached, NoneWaits, IsNeverSent, IsAhead, IsMisfit, IsNotLost, IsUnsent, MayBePut, IsAudited, HasLost, IsAuditorOf, RunTheorem, Audits, TakesMore, TakesAllAt, NoneIsKept, clocks_taken};
 ghost use Rattle.ra_stamp.specs.NodeId.{IsNodeNumber};
 
 use crate::audit_laws::runs_meet_the_theorem;
@@ -37,11 +38,13 @@ impl Auditor {
     /// 2. `OtherCluster`: the auditor was made for another number of nodes, or with another start. Nothing has changed.
     /// 3. `Fault`: an event does not fit, as [`Auditor::advance`] says. If it was found by an earlier round, nothing has
     ///    changed.
-    /// 4. `Memory`: memory ran out before events were taken, or while they were put. The next round goes on.
-    /// 5. `NotTaken`: the events of a node were not taken, nor those of the nodes after it. What was taken is in the run, as far
-    ///    as it can be. If the cause is `Memory`, the next round takes them. Any other cause says that the auditor is not that of
-    ///    the round before; the node still has its events.
-    /// 6. `Fault`: a frame that waits as the next event of its node was never sent.
+    /// 4. `NotLost`: a frame that was noted as lost came or was lost before, or was never sent, as [`Auditor::advance`] says. All
+    ///    events that were taken and can be put are in the run. The loss of the frame still waits, so that each later round tries it.
+    /// 5. `Memory`: memory ran out before events were taken, or while they or losses were put. The next round goes on.
+    /// 6. `NotTaken`: the events of a node were not taken, nor those of the nodes after it. What was taken or noted as lost is in
+    ///    the run, as far as it can be. If the cause is `Memory`, the next round takes them. Any other cause says that the
+    ///    auditor is not that of the round before; the node still has its events.
+    /// 7. `Fault`: a frame that waits as the next event of its node was never sent.
     pub fn audit<R: Wait, G: Gate + Drop, O: MarkObserver>(
         &mut self,
         rt: &R,
@@ -52,6 +55,7 @@ impl Auditor {
         ensures audits { Audits self.old (O.told observer.old) self.new (O.told observer.new) }
         ensures theorem { RunTheorem self.new.world.count self.new.world.moves }
         ensures ok { OnOk result (NoneIsReady self.new.nodes) }
+        ensures none_reached { OnOk result (NoneIsReached self.new.nodes self.new.losing) }
         ensures kept { OnOk result (NoneIsKept self.new.nodes) }
         ensures may_be_put { OnOk result (All (MayBePut (clocks_taken self.old.nodes) self.new.nodes) self.new.nodes) }
         ensures not_audited { IsErrOf result RoundError.NotAudited ↔ (cluster.now.audited ≡ false) }
@@ -65,8 +69,10 @@ impl Auditor {
             ⊎ IsUnsent (clocks_taken self.old.nodes) self.new.nodes fault }
         ensures fault { (fault : audit_fault.AuditFault) → IsErrOf result (RoundError.Fault fault)
             → self.new.fault ≡ Some fault }
+        ensures not_lost { (frame : Frame) → IsErrOf result (RoundError.NotLost frame)
+            → NoneIsReady self.new.nodes × IsNotLost self.new.world self.new.nodes self.new.losing frame }
         ensures not_taken { (node : ℕ) (cause : TakeError) → IsErrOf result (RoundError.NotTaken node cause)
-            → NoneIsReady self.new.nodes }
+            → NoneIsReady self.new.nodes × NoneIsReached self.new.nodes self.new.losing }
     {
         runs_meet_the_theorem();
         match check_round(cluster, self) {
@@ -76,8 +82,8 @@ impl Auditor {
     }
 
     /// Ends the audit of a cluster that its caller alone has, so that all threads have ended: takes what is left at the nodes, as
-    /// a round does. If it is Ok, all that was taken is in the run. After `NotTaken` for `Memory`, and after `Memory`, it can be
-    /// called again.
+    /// a round does. If it is Ok, all that was taken is in the run, and the losses of all frames that were noted as lost. After
+    /// `NotTaken` for `Memory`, and after `Memory`, it can be called again.
     ///
     /// The cost is that of a round, and then linear in the number of nodes.
     ///
@@ -87,6 +93,7 @@ impl Auditor {
     ///
     /// 1. `Round`: the round failed, as [`Auditor::audit`] says.
     /// 2. `NeverSent`: a frame that came was never sent.
+    /// 3. `LostUnsent`: a frame that was noted as lost was never sent.
     pub fn finish<R: Wait, G: Gate + Drop, O: MarkObserver>(
         &mut self,
         rt: &R,
@@ -97,12 +104,15 @@ impl Auditor {
         ensures audits { Audits self.old (O.told observer.old) self.new (O.told observer.new) }
         ensures theorem { RunTheorem self.new.world.count self.new.world.moves }
         ensures ok { OnOk result (NoneWaits self.new.nodes) }
+        ensures all_lost { OnOk result (self.new.losing ≡ []) }
         ensures kept { OnOk result (NoneIsKept self.new.nodes) }
         ensures not_audited { IsErrOf result (FinishError.Round RoundError.NotAudited) ↔ (cluster.old.audited ≡ false) }
         ensures other_cluster { IsErrOf result (FinishError.Round RoundError.OtherCluster)
             ↔ ((cluster.old.audited ≡ true) × (IsAuditorOf cluster.old self.old → ⊥)) }
         ensures never_sent { (fault : audit_fault.AuditFault) → IsErrOf result (FinishError.NeverSent fault)
             → IsNeverSent self.new.nodes fault }
+        ensures lost_unsent { (frame : Frame) → IsErrOf result (FinishError.LostUnsent frame)
+            → NoneWaits self.new.nodes × IsAhead self.new.nodes self.new.losing frame }
     {
         match self.audit(rt, alloc, cluster, observer) {
             Ok(()) => all_settled(self),
@@ -111,21 +121,31 @@ impl Auditor {
     }
 }
 
-/// Tells whether all that was taken is in the run.
+/// Tells whether all that was taken is in the run, and all losses.
 ///
 /// # Errors
 ///
-/// `NeverSent`: a frame that came was never sent.
+/// The first that holds:
+///
+/// 1. `NeverSent`: a frame that came was never sent.
+/// 2. `LostUnsent`: a frame that was noted as lost was never sent.
 fn all_settled(auditor: &Auditor) -> Result<(), FinishError>
-    requires { NoneIsReady auditor.now.nodes }
+    requires ready { NoneIsReady auditor.now.nodes }
+    requires reached { NoneIsReached auditor.now.nodes auditor.now.losing }
     ensures ok { OnOk result (NoneWaits auditor.now.nodes) }
+    ensures all_lost { OnOk result (auditor.now.losing ≡ []) }
     ensures never_sent { (fault : audit_fault.AuditFault) → IsErrOf result (FinishError.NeverSent fault)
         → IsNeverSent auditor.now.nodes fault }
+    ensures lost_unsent { (frame : Frame) → IsErrOf result (FinishError.LostUnsent frame)
+        → NoneWaits auditor.now.nodes × IsAhead auditor.now.nodes auditor.now.losing frame }
     ensures no_round { (refused : round_error.RoundError) → IsErrOf result (FinishError.Round refused) → ⊥ }
 {
-    match auditor.unsettled() {
+    if let Some(fault) = auditor.unsettled() {
+        return Err(FinishError::NeverSent(fault));
+    }
+    match auditor.unsettled_loss() {
         None => Ok(()),
-        Some(fault) => Err(FinishError::NeverSent(fault)),
+        Some(frame) => Err(FinishError::LostUnsent(frame)),
     }
 }
 
@@ -145,8 +165,10 @@ fn check_round<G: Gate + Drop>(cluster: &Cluster<G>, auditor: &Auditor) -> Resul
         ↔ ((cluster.now.audited ≡ true) × (IsAuditorOf cluster.now auditor.now → ⊥)) }
     ensures fault { (fault : audit_fault.AuditFault) → IsErrOf result (RoundError.Fault fault)
         ↔ (IsAuditorOf cluster.now auditor.now × (auditor.now.fault ≡ Some fault)) }
+    ensures not_lost { (frame : Frame) → IsErrOf result (RoundError.NotLost frame) → ⊥ }
     ensures taken { (node : ℕ) (cause : TakeError) → IsErrOf result (RoundError.NotTaken node cause) → ⊥ }
     ensures audited { IsAudited auditor.now.world auditor.now.nodes }
+    ensures lost { HasLost auditor.now.world.moves auditor.now.lost }
 {
     let known = auditor.fault();
     if !cluster.is_audited() {
@@ -174,9 +196,11 @@ fn go_round<R: Wait, G: Gate + Drop, O: MarkObserver>(
     observer: &mut O,
 ) -> Result<(), RoundError>
     requires audited { IsAudited auditor.old.world auditor.old.nodes }
+    requires lost { HasLost auditor.old.world.moves auditor.old.lost }
     requires count { auditor.old.world.count ≡ cluster.now.nodes }
     ensures audits { Audits auditor.old (O.told observer.old) auditor.new (O.told observer.new) }
     ensures ok { OnOk result (NoneIsReady auditor.new.nodes) }
+    ensures none_reached { OnOk result (NoneIsReached auditor.new.nodes auditor.new.losing) }
     ensures kept { OnOk result (NoneIsKept auditor.new.nodes) }
     ensures may_be_put { OnOk result (All (MayBePut (clocks_taken auditor.old.nodes) auditor.new.nodes) auditor.new.nodes) }
     ensures not_audited { IsErrOf result RoundError.NotAudited → ⊥ }
@@ -186,8 +210,10 @@ fn go_round<R: Wait, G: Gate + Drop, O: MarkObserver>(
         ⊎ IsUnsent (clocks_taken auditor.old.nodes) auditor.new.nodes fault }
     ensures fault { (fault : audit_fault.AuditFault) → IsErrOf result (RoundError.Fault fault)
         → auditor.new.fault ≡ Some fault }
+    ensures not_lost { (frame : Frame) → IsErrOf result (RoundError.NotLost frame)
+        → NoneIsReady auditor.new.nodes × IsNotLost auditor.new.world auditor.new.nodes auditor.new.losing frame }
     ensures not_taken { (node : ℕ) (cause : TakeError) → IsErrOf result (RoundError.NotTaken node cause)
-        → NoneIsReady auditor.new.nodes }
+        → NoneIsReady auditor.new.nodes × NoneIsReached auditor.new.nodes auditor.new.losing }
 {
     // A frame that was taken by now came before this round takes its sender's events.
     let Ok(clocks) = auditor.clocks(alloc) else {
@@ -214,10 +240,13 @@ fn answer_of(
     ensures other_cluster { IsErrOf result RoundError.OtherCluster → ⊥ }
     ensures fault { (fault : audit_fault.AuditFault) → IsErrOf result (RoundError.Fault fault)
         → IsErrOf advanced (AuditError.Fault fault) }
+    ensures not_lost { (frame : Frame) → IsErrOf result (RoundError.NotLost frame)
+        → IsErrOf advanced (AuditError.NotLost frame) }
     ensures not_taken { (node : ℕ) (cause : TakeError) → IsErrOf result (RoundError.NotTaken node cause) → IsOk advanced }
 {
     match (advanced, taken) {
         (Err(AuditError::Fault(fault)), _) => Err(RoundError::Fault(fault)),
+        (Err(AuditError::NotLost(frame)), _) => Err(RoundError::NotLost(frame)),
         (Err(AuditError::Memory), _) => Err(RoundError::Memory),
         (Ok(()), Err((node, cause))) => Err(RoundError::NotTaken { node, cause }),
         (Ok(()), Ok(())) => Ok(()),

@@ -1,12 +1,15 @@
-use Rattle.std.proofs.Common.{length}
+use Rattle.std.proofs.Common.{◌≡◌, length}
 use Rattle.std.specs.Prelude.{sum_by}
+use Rattle.ra_world.specs.Traffic.{lost_by}
 use Rattle.ra_audit.specs.Audit.{Advances}
 use Rattle.ra_audit.proofs.auditing.put_all.Given as goal
 
--- the run went on
+-- the run went on, and nothing more was lost
 abbrev pub invariant-loop-place : goal.invariant-loop-place
-invariant-loop-place g l =
-    Advances l.fn.world l.fn.nodes (g.O.MarkObserver.told l.fn.observer) l.world l.nodes (g.O.MarkObserver.told l.observer)
+invariant-loop-place g l = record {
+  advances : Advances l.fn.world l.fn.nodes (g.O.MarkObserver.told l.fn.observer) l.world l.nodes (g.O.MarkObserver.told l.observer);
+  unlost : lost_by l.world.moves ≡ lost_by l.fn.world.moves;
+}
 
 -- how many events wait
 abbrev pub decreases-loop-place : goal.decreases-loop-place

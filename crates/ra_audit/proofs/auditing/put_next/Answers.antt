@@ -2,7 +2,7 @@ use Rattle.std.proofs.Common.{◌≡◌, List, ◌++◌, Err, get_or, refl, ap, 
 use Rattle.std.proofs.lemmas.List.{get_or_default, set-get_or}
 use Rattle.std.proofs.lemmas.Option.{none-some}
 use Rattle.ra_stamp.specs.declared.entry.Mark.{Mark}
-use Rattle.ra_audit.proofs.AuditSteps.{advances_step, advances_kept, misfit_of}
+use Rattle.ra_audit.proofs.AuditSteps.{advances_step, advances_kept, misfit_of, nothing_lost_by}
 use Rattle.ra_audit.proofs.auditing.put_next.Goals as goal
 
 pub unreachable-requires : goal.unreachable-requires
@@ -36,3 +36,8 @@ returns-in-Err-clause-fault g c =
     misfit_of c.args.world.now c.step.new.self nodes _ place p c.node-node.result c.in-Some.event c.in-Err.refused c.error_of.result (Err c.error_of.result) c.step_of-step.result refl
     c.in-Err.ensures.err (set-get_or nodes place c.index-nodes-place.result) c.requires.within at c.node-node.ensures (sym c.in-Some.ensures.value) (c.requires.ready c.index-nodes-place.result)
     c.step_of-step.ensures c.in-Err.ensures.allowed.1 c.error_of.ensures.memory c.error_of.ensures.fault
+
+pub returns-in-Ok-clause-unlost : goal.returns-in-Ok-clause-unlost
+returns-in-Ok-clause-unlost g c =
+    nothing_lost_by c.args.world.now c.step.new.self c.step_of-step.result c.node-node.result c.in-Some.event c.in-Ok.outcome.sends.items c.in-Ok.outcome.marks.items
+    c.step_of-step.ensures c.in-Ok.ensures.ok

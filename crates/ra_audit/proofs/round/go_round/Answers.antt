@@ -1,10 +1,10 @@
 use Rattle.std.proofs.Common.{refl, ◌∙◌}
-use Rattle.ra_audit.proofs.AuditRounds.{took_nothing, audits_nothing, audits_all, audits_as, audits_noted, none_ready_as, none_kept_as, none_kept_after, may_be_put_as, if_done, if_taken}
+use Rattle.ra_audit.proofs.AuditRounds.{audits_nothing, audits_all, audits_as, audits_noted, none_ready_as, none_reached_as, none_kept_as, none_kept_after, may_be_put_as, if_done, if_taken}
 use Rattle.ra_audit.proofs.round.go_round.Goals as goal
 
 pub returns-in_default-clause-audits : goal.returns-in_default-clause-audits
 returns-in_default-clause-audits g c =
-    audits_nothing c.args.auditor.now c.args.auditor.now (g.O.MarkObserver.told c.args.observer.now) (took_nothing c.args.auditor.now c.requires.audited)
+    audits_nothing c.args.auditor.now (g.O.MarkObserver.told c.args.observer.now) c.requires.audited c.requires.lost
 
 pub find_unsent-requires : goal.find_unsent-requires
 find_unsent-requires g c = if_done _ c.advance-advanced.result c.in-Ok-answer_of.ensures.ok.0 c.advance-advanced.ensures.ok
@@ -12,12 +12,14 @@ find_unsent-requires g c = if_done _ c.advance-advanced.result c.in-Ok-answer_of
 pub returns-in-Some-clause-audits : goal.returns-in-Some-clause-audits
 returns-in-Some-clause-audits g c =
     audits_noted c.args.auditor.now c.advance-advanced.new.self c.find_unsent.new.self _ _ c.in-Some.fault c.in-Some.ensures.found.0
-    (audits_all c.args.auditor.now c.take_all-taken.new.auditor c.advance-advanced.new.self _ _ c.take_all-taken.ensures.more c.advance-advanced.ensures.advances)
+    (audits_all c.args.auditor.now c.take_all-taken.new.auditor c.advance-advanced.new.self _ _ c.take_all-taken.ensures.more c.advance-advanced.ensures.advances
+    c.advance-advanced.ensures.losses c.advance-advanced.ensures.lost)
 
 pub returns-in-Ok-answer_of-clause-audits : goal.returns-in-Ok-answer_of-clause-audits
 returns-in-Ok-answer_of-clause-audits g c =
     audits_as c.args.auditor.now c.advance-advanced.new.self c.find_unsent.new.self _ _ (c.in-None.ensures.none refl).0
-    (audits_all c.args.auditor.now c.take_all-taken.new.auditor c.advance-advanced.new.self _ _ c.take_all-taken.ensures.more c.advance-advanced.ensures.advances)
+    (audits_all c.args.auditor.now c.take_all-taken.new.auditor c.advance-advanced.new.self _ _ c.take_all-taken.ensures.more c.advance-advanced.ensures.advances
+    c.advance-advanced.ensures.losses c.advance-advanced.ensures.lost)
 
 pub returns-in-Ok-answer_of-clause-ok : goal.returns-in-Ok-answer_of-clause-ok
 returns-in-Ok-answer_of-clause-ok g c =
@@ -38,9 +40,22 @@ returns-in-Ok-answer_of-clause-may_be_put g c =
 pub returns-clause-audits : goal.returns-clause-audits
 returns-clause-audits g c =
     audits_all c.args.auditor.now c.take_all-taken.new.auditor c.advance-advanced.new.self _ _ c.take_all-taken.ensures.more c.advance-advanced.ensures.advances
+    c.advance-advanced.ensures.losses c.advance-advanced.ensures.lost
 
 pub returns-clause-fault : goal.returns-clause-fault
 returns-clause-fault g c fault is = (c.advance-advanced.ensures.fault fault).0 (c.in-Err.ensures.fault fault is)
 
 pub returns-clause-not_taken : goal.returns-clause-not_taken
-returns-clause-not_taken g c node cause is = if_done _ c.advance-advanced.result (c.in-Err.ensures.not_taken node cause is) c.advance-advanced.ensures.ok
+returns-clause-not_taken g c node cause is =
+    let done = c.in-Err.ensures.not_taken node cause is in (
+      if_done _ c.advance-advanced.result done c.advance-advanced.ensures.ok,
+      if_done _ c.advance-advanced.result done c.advance-advanced.ensures.none_reached,
+    )
+
+pub returns-in-Ok-answer_of-clause-none_reached : goal.returns-in-Ok-answer_of-clause-none_reached
+returns-in-Ok-answer_of-clause-none_reached g c =
+    none_reached_as c.advance-advanced.new.self c.find_unsent.new.self (c.in-None.ensures.none refl).0
+    (if_done _ c.advance-advanced.result c.in-Ok-answer_of.ensures.ok.0 c.advance-advanced.ensures.none_reached)
+
+pub returns-clause-not_lost : goal.returns-clause-not_lost
+returns-clause-not_lost g c frame is = c.advance-advanced.ensures.not_lost frame (c.in-Err.ensures.not_lost frame is)

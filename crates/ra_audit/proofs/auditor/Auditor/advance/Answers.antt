@@ -1,5 +1,6 @@
 use Rattle.std.proofs.Common.{◌≡◌, List, ◌++◌, length, take, drop, vec_len, arith, ap, sym, subst}
-use Rattle.ra_audit.specs.Audit.{ProgressState, AuditState, NoneIsReady, RunTheorem}
+use Rattle.ra_audit.specs.Audit.{ProgressState, AuditState, HasLost, PutsLosses, NoneIsReady, NoneIsReached, IsNotLost, RunTheorem}
+use Rattle.ra_audit.proofs.AuditLosses.{puts_none}
 use Rattle.ra_audit.proofs.AuditSteps.{on_done, slice_back}
 use Rattle.ra_audit.proofs.auditor.Auditor.advance.Goals as goal
 
@@ -9,19 +10,71 @@ returns-in-Some-clause-theorem g c =
     subst (λ (a : AuditState). RunTheorem a.world.count a.world.moves) c.self.view_is
     (c.runs_meet_the_theorem.ensures w.count w.start w.moves c.self.invariant.0.count c.self.invariant.0.run)
 
+pub returns-in-Some-clause-losses : goal.returns-in-Some-clause-losses
+returns-in-Some-clause-losses g c = puts_none c.args.self.now.nodes c.args.self.now.losing c.args.self.now.lost
+
+pub returns-in-Some-clause-lost : goal.returns-in-Some-clause-lost
+returns-in-Some-clause-lost g c = subst (λ (a : AuditState). HasLost a.world.moves a.lost) c.self.view_is c.self.invariant.3
+
 pub returns-clause-theorem : goal.returns-clause-theorem
 returns-clause-theorem g c =
-    let w = c.put_all-answer.new.world in
-    let a = c.put_all-answer.ensures.advances.audited in
+    let w = c.put_events_and_losses-answer.new.world in
+    let a = c.put_events_and_losses-answer.ensures.advances.audited in
     c.runs_meet_the_theorem.ensures w.count w.start w.moves a.count a.run
+
+pub returns-clause-losses : goal.returns-clause-losses
+returns-clause-losses g c =
+    let items = c.self.inside.nodes.items in
+    let new = c.put_events_and_losses-answer.new.nodes in
+    let losses = c.put_events_and_losses-answer.new.losses in
+    let len = ap (λ (xs : List ProgressState). length xs) c.as_mut_slice.ensures.value in
+    let back = take (vec_len c.self.inside.nodes) (new ++ drop (length new) items) in
+    let same : back ≡ new =
+    slice_back (vec_len c.self.inside.nodes) new items (omega (arith, c.as_mut_slice.ensures.len, len)) (omega (arith, c.put_events_and_losses-answer.auto.nodes, len))
+    in
+    subst (λ (a : AuditState). PutsLosses back a.losing a.lost losses.losing losses.lost) c.self.view_is
+    (subst (λ (ns : List ProgressState). PutsLosses ns c.self.inside.losses.losing c.self.inside.losses.lost losses.losing losses.lost) (sym same)
+    c.put_events_and_losses-answer.ensures.losses)
 
 pub returns-clause-ok : goal.returns-clause-ok
 returns-clause-ok g c =
     let items = c.self.inside.nodes.items in
-    let new = c.put_all-answer.new.nodes in
+    let new = c.put_events_and_losses-answer.new.nodes in
+    let losses = c.put_events_and_losses-answer.new.losses in
     let len = ap (λ (xs : List ProgressState). length xs) c.as_mut_slice.ensures.value in
     let back = take (vec_len c.self.inside.nodes) (new ++ drop (length new) items) in
     let same : back ≡ new =
-    slice_back (vec_len c.self.inside.nodes) new items (omega (arith, c.as_mut_slice.ensures.len, len)) (omega (arith, c.put_all-answer.auto.nodes, len))
+    slice_back (vec_len c.self.inside.nodes) new items (omega (arith, c.as_mut_slice.ensures.len, len)) (omega (arith, c.put_events_and_losses-answer.auto.nodes, len))
     in
-    on_done (NoneIsReady new) (NoneIsReady back) c.put_all-answer.result (subst NoneIsReady (sym same)) c.put_all-answer.ensures.ok
+    on_done (NoneIsReady new × NoneIsReached new losses.losing) (NoneIsReady back) c.put_events_and_losses-answer.result (λ both. subst NoneIsReady (sym same) both.0)
+    c.put_events_and_losses-answer.ensures.ok
+
+pub returns-clause-none_reached : goal.returns-clause-none_reached
+returns-clause-none_reached g c =
+    let items = c.self.inside.nodes.items in
+    let new = c.put_events_and_losses-answer.new.nodes in
+    let losses = c.put_events_and_losses-answer.new.losses in
+    let len = ap (λ (xs : List ProgressState). length xs) c.as_mut_slice.ensures.value in
+    let back = take (vec_len c.self.inside.nodes) (new ++ drop (length new) items) in
+    let same : back ≡ new =
+    slice_back (vec_len c.self.inside.nodes) new items (omega (arith, c.as_mut_slice.ensures.len, len)) (omega (arith, c.put_events_and_losses-answer.auto.nodes, len))
+    in
+    on_done (NoneIsReady new × NoneIsReached new losses.losing) (NoneIsReached back losses.losing) c.put_events_and_losses-answer.result
+    (λ both. subst (λ (ns : List ProgressState). NoneIsReached ns losses.losing) (sym same) both.1)
+    c.put_events_and_losses-answer.ensures.ok
+
+pub returns-clause-not_lost : goal.returns-clause-not_lost
+returns-clause-not_lost g c frame is =
+    let items = c.self.inside.nodes.items in
+    let new = c.put_events_and_losses-answer.new.nodes in
+    let world = c.put_events_and_losses-answer.new.world in
+    let losses = c.put_events_and_losses-answer.new.losses in
+    let len = ap (λ (xs : List ProgressState). length xs) c.as_mut_slice.ensures.value in
+    let back = take (vec_len c.self.inside.nodes) (new ++ drop (length new) items) in
+    let same : back ≡ new =
+    slice_back (vec_len c.self.inside.nodes) new items (omega (arith, c.as_mut_slice.ensures.len, len)) (omega (arith, c.put_events_and_losses-answer.auto.nodes, len))
+    in
+    let both = c.put_events_and_losses-answer.ensures.not_lost frame is in (
+      subst NoneIsReady (sym same) both.0,
+      subst (λ (ns : List ProgressState). IsNotLost world ns losses.losing frame) (sym same) both.1,
+    )

@@ -1,6 +1,6 @@
 use Rattle.std.proofs.Common.{refl, sym, ◌∙◌}
 use Rattle.std.proofs.lemmas.Option.{none-some}
-use Rattle.ra_audit.proofs.AuditRounds.{took_nothing, audits_nothing}
+use Rattle.ra_audit.proofs.AuditRounds.{audits_nothing}
 use Rattle.ra_audit.proofs.auditor.Auditor.audit.Goals as goal
 
 pub returns-in-Ok-clause-theorem : goal.returns-in-Ok-clause-theorem
@@ -10,8 +10,7 @@ returns-in-Ok-clause-theorem g c =
 
 pub returns-in-Err-clause-audits : goal.returns-in-Err-clause-audits
 returns-in-Err-clause-audits g c =
-    audits_nothing c.args.self.now c.args.self.now (g.O.MarkObserver.told c.args.observer.now)
-    (took_nothing c.args.self.now c.in-Err.ensures.audited)
+    audits_nothing c.args.self.now (g.O.MarkObserver.told c.args.observer.now) c.in-Err.ensures.audited c.in-Err.ensures.lost
 
 pub returns-in-Err-clause-theorem : goal.returns-in-Err-clause-theorem
 returns-in-Err-clause-theorem g c =

@@ -1,5 +1,8 @@
-use Rattle.std.proofs.Common.{ap, sym}
+use Rattle.std.proofs.Common.{map, ap, sym, ◌∙◌}
+use Rattle.ra_frame.specs.declared.frame.Frame.{Frame}
+use Rattle.ra_world.specs.Traffic.{lost_by}
 use Rattle.ra_world.specs.World.{WorldState}
+use Rattle.ra_audit.specs.AuditKeeping.{LossState}
 use Rattle.ra_audit.proofs.AuditSteps.{audited_at_first}
 use Rattle.ra_audit.proofs.auditor.Auditor.new.Goals as goal
 
@@ -9,6 +12,8 @@ invariant_of-result c = (
       c.in_ok-progress.progress.items c.in_ok-progress.ensures,
   sym (ap (λ (w : WorldState). w.count) c.in_ok-world.ensures.ok),
   sym (ap (λ (w : WorldState). w.start) c.in_ok-world.ensures.ok),
+  ap (λ (w : WorldState). lost_by w.moves) c.in_ok-world.ensures.ok
+      ∙ sym (ap (λ (l : LossState). map (λ (f : Frame). f.message) l.lost) c.new-losses.ensures),
 )
 
 pub returns-clause-audited : goal.returns-clause-audited

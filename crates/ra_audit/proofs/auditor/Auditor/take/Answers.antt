@@ -16,6 +16,7 @@ invariant_of-self c = (
       (subst (λ (ns : List ProgressState). Takes ns c.args.node c.args.after c.args.events.now c.take_into.result new) c.as_mut_slice.ensures.value c.take_into.ensures)),
   c.self.invariant.1,
   c.self.invariant.2,
+  c.self.invariant.3,
 )
 
 pub returns-clause-audited : goal.returns-clause-audited

@@ -16,6 +16,7 @@ invariant_of-self r c = (
       (subst (λ (ns : List ProgressState). TakesHanded ns c.args.site.now c.take_handed_into.result new) c.as_mut_slice.ensures.value c.take_handed_into.ensures)),
   c.self.invariant.1,
   c.self.invariant.2,
+  c.self.invariant.3,
 )
 
 pub returns-clause-audited : goal.returns-clause-audited

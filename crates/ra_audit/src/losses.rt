@@ -1,0 +1,116 @@
+//! Frames that were noted as lost.
+ghost use Rattle.std.specs.Prelude.{◌≡◌, ◌+◌, ◌<◌, ◌^◌, [], ◌++◌, length, slice_get, OnOk, OnErr};
+ghost use Rattle.ra_audit.specs.AuditKeeping.{LosesFirst, DefersFirst};
+
+use ra_frame::Frame;
+use ra_stamp::{GhostList, Memory};
+use std::alloc::Global;
+use std::collections::VecDeque;
+use std::marker::Model;
+
+/// The frames that were noted as lost: those whose loss is in the run, which are counted and of which only proofs know more,
+/// and those whose loss is still to be put into it.
+#[derive(Drop)]
+pub struct Losses {
+    losing: VecDeque<Frame>,
+    /// How many losses are in the run.
+    count: u64,
+    /// The frames whose loss is in the run, for proofs alone.
+    lost: GhostList<Frame>,
+}
+
+impl Model for Losses {
+    ghost use Rattle.ra_audit.specs.AuditKeeping.{LossState, losses_of, IsKeptLosses};
+
+    ghost Value = { LossState };
+
+    ghost view = { losses_of };
+
+    ghost invariant = { IsKeptLosses };
+}
+
+impl Losses {
+    /// Makes those of a run in which nothing was lost. It does not allocate.
+    pub fn new(alloc: Global) -> Losses
+        ensures { result ≡ record { losing = []; lost = [] } }
+    {
+        Losses {
+            losing: VecDeque::new(alloc),
+            count: 0,
+            lost: GhostList::new(),
+        }
+    }
+
+    /// Returns how many losses are in the run.
+    pub fn lost(&self) -> u64
+        ensures { result ≡ length self.now.lost }
+    {
+        self.count
+    }
+
+    /// Returns how many losses are still to be put into the run.
+    pub fn losing(&self) -> usize
+        ensures { result ≡ length self.now.losing }
+    {
+        self.losing.len()
+    }
+
+    /// Returns the first frame whose loss is still to be put into the run, or `None` if there is none.
+    pub fn first(&self) -> Option<Frame>
+        ensures { result ≡ slice_get self.now.losing 0 }
+    {
+        first_of(&self.losing)
+    }
+
+    /// Notes further frames, after the others whose loss is still to be put into the run.
+    ///
+    /// # Errors
+    ///
+    /// `Memory`: there is no room for them, and none is noted.
+    pub fn note(&mut self, frames: &[Frame]) -> Result<(), Memory>
+        ensures ok { OnOk result (self.new ≡ record self.old { losing = self.old.losing ++ frames.now }) }
+        ensures err { OnErr result (self.new ≡ self.old) }
+    {
+        append(&mut self.losing, frames)
+    }
+
+    /// The loss of the first frame is in the run now.
+    pub fn put(&mut self)
+        requires some { 0 < length self.old.losing }
+        requires room { length self.old.lost + 1 < 2 ^ 64 }
+        ensures { LosesFirst self.old self.new }
+    {
+        let Some(frame) = self.losing.pop_front() else {
+            return;
+        };
+        self.count += 1;
+        self.lost = self.lost.and(&frame);
+    }
+
+    /// Leaves the loss of the first frame for later, after the others.
+    pub fn defer(&mut self)
+        requires { 0 < length self.old.losing }
+        ensures { DefersFirst self.old self.new }
+    {
+        self.losing.rotate_left(1);
+    }
+}
+
+/// Returns the first frame, or `None` if there is none.
+fn first_of(losing: &VecDeque<Frame>) -> Option<Frame>
+    ensures { result ≡ slice_get losing.now.items 0 }
+{
+    losing.front().copied()
+}
+
+/// Puts frames at the end of those whose loss is still to be put into the run, or, if there is no memory, none.
+fn append(losing: &mut VecDeque<Frame>, frames: &[Frame]) -> Result<(), Memory>
+    ensures ok { OnOk result (losing.new.items ≡ losing.old.items ++ frames.now) }
+    ensures err { OnErr result (losing.new.items ≡ losing.old.items) }
+{
+    losing.reserve(frames.len())?;
+    for frame in frames {
+        losing.push_back_reserved(*frame);
+    }
+    Ok(())
+}
