@@ -64,7 +64,7 @@ clash words rest text same none =
     let both : Some rest ≡ None = sym (behind-append words rest) ∙ (ap (behind words) same ∙ none) in
     cc
 
--- what stands after the words
+-- what is after the words
 after : (words rest tail text : List ℕ) → words ++ rest ≡ text → words ++ tail ≡ text → rest ≡ tail
 after words rest tail text one other = append_cancel_left words rest tail (one ∙ sym other)
 

@@ -32,7 +32,7 @@ may_run : {X : Type 0} (script : ScriptState) (result : Result X ClusterError) �
     → IsErrOf result cluster.Unreleased ↔ ((IsOutOfOrder script → ⊥) × IsUnreleased script) → MayRun script
 may_run script result first second o u = (λ h. first (o.1 h), λ h. second (u.1 (λ k. first (o.1 k), h)))
 
--- where threads do not run the script of a text, or not to its end
+-- if threads do not run the script of a text, or not to its end
 pub refuses_cluster : {X : Type 0} (text : List ℕ) (script : ScriptState) (why : ClusterError) → script_of text ≡ Ok script
     → IsErrOf {T = X} (Err why) cluster.OutOfOrder ↔ IsOutOfOrder script
     → IsErrOf {T = X} (Err why) cluster.Unreleased ↔ ((IsOutOfOrder script → ⊥) × IsUnreleased script) → RefusesRun text (of_cluster why)

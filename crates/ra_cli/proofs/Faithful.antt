@@ -30,7 +30,7 @@ pub anyway : (P : Type 0) (result : Option Task) → IfSome result HasNoChoices 
 anyway P None h = tt
 anyway P (Some task) h = λ p. h
 
--- where no text of help is printed, it does not matter what asks for one
+-- if no text of help is printed, it does not matter what asks for one
 pub no_help : (asked : Task) (P : Type 0) → OnHelp asked ⊥ → OnHelp asked P
 no_help (task.Answer node nodes) P none = tt
 no_help (task.Sim policy choices format) P none = tt

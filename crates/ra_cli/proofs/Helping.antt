@@ -1,4 +1,4 @@
--- A text of help is printed where a word asks for it; and whether a word is an option.
+-- A text of help is printed if a word asks for it; and whether a word is an option.
 use Rattle.std.proofs.Common.{◌≡◌, ◌↔◌, ℕ, zero, suc, ◌<◌, Option, Some, None, List, [], ◌∷◌, length, map, slice_index_or, String, Global, string_bytes, refl, ap, ◌∙◌, inl, inr, arith}
 use Rattle.std.specs.Prelude.{IfSome, Any}
 use Rattle.ra_cli.specs.Statuses.{IsPrinted}

@@ -16,7 +16,7 @@ use Rattle.ra_cli.specs.declared.error.RunScriptError.TheVariants as fault
 use Rattle.ra_cli.specs.ClusterRun.{RefusesRun, of_script}
 use Rattle.ra_cli.proofs.Inputs.{is_read}
 
--- what stands before an else
+-- what comes before an `else`
 before_else : {X : Type 0} (test : Bool) (x y : X) → test ≡ true → (if test then x else y) ≡ x
 before_else true x y h = refl
 before_else false x y h = absurd cc

@@ -2,7 +2,7 @@ use Rattle.std.proofs.Common.{◌≡◌, ◌≢◌, ℕ, List, ◌∷◌, ◌++�
 use Rattle.std.proofs.lemmas.Str.Pattern.{strip_prefix_char}
 use Rattle.ra_cli.proofs.command_line.text_in.Goals as goal
 
--- a word that is an option and a rest is the option, a byte and what stands behind that byte in the rest
+-- a word that is an option and a rest is the option, a byte and what is after that byte in the rest
 behind : (byte : ℕ) (word option rest : List ℕ) (text : Option (Bor (List ℕ))) → word ≡ option ++ rest
     → MatchOption text ((any : List ℕ) → rest ≢ byte ∷ any) (λ text. rest ≡ byte ∷ text.now) → IfSome text (λ text. word ≡ option ++ byte ∷ text.now)
 behind byte word option rest None whole stripped = tt
