@@ -6,7 +6,7 @@ use crate::growth_of_settling::ONE_LOCK;
 use crate::helpers::{assert_at, entry, r};
 use crate::histories::Done::At;
 use crate::histories::{Done, ONE, TWO, books_after};
-use Act::{Advances, AdvancesInParts, Finds, Gets, Has, Leaves};
+use Act::{Advances, AdvancesInParts, Finds, FindsNotLost, Gets, Has, HasLosses, Leaves, Loses};
 use ra_audit::{AuditError, AuditFault, Auditor, MarkObserver, TakeError, Told};
 use ra_cluster::{Book, BookEvent, BookKind};
 use ra_frame::Frame;
@@ -42,6 +42,12 @@ pub enum Act {
     Leaves(Option<Came>),
     /// It has this run, and the marks that were told are those of the lock.
     Has(Shown),
+    /// It notes as lost that this message was sent in a frame with this clock.
+    Loses(u64, Wire),
+    /// It finds that this frame was not lost.
+    FindsNotLost(u64, Wire),
+    /// So many losses are in the run, and so many wait.
+    HasLosses(u64, usize),
 }
 
 /// An observer that compares each mark that it is told with the one that is due: those of one lock.
@@ -164,19 +170,24 @@ fn advances(
     }
 }
 
+/// Returns the message in a frame with this clock.
+fn frame_of(name: Name, clock: u64, wire: Wire) -> Option<Frame> {
+    match message(name, wire) {
+        Some(message) => Some(Frame { clock, message }),
+        None => None,
+    }
+}
+
 /// Returns the event with its node.
 pub fn fault_of(name: Name, came: Came) -> Option<AuditFault> {
     let Came(number, clock, sent, wire) = came;
     let Some(node) = NodeId::new(number) else {
         return None;
     };
-    let Some(message) = message(name, wire) else {
+    let Some(frame) = frame_of(name, sent, wire) else {
         return None;
     };
-    let kind = BookKind::Got(Frame {
-        clock: sent,
-        message,
-    });
+    let kind = BookKind::Got(frame);
     Some(AuditFault {
         node,
         event: BookEvent { clock, kind },
@@ -223,6 +234,43 @@ fn leaves(
     left(alloc, auditor, observer) == Some(due)
 }
 
+fn has_losses(auditor: &Auditor, lost: u64, losing: usize) -> bool {
+    auditor.lost() == lost && auditor.losing() == losing
+}
+
+/// Notes a frame as lost, of which callers know the answer alone, so that their proofs are short.
+fn lose(auditor: &mut Auditor, frame: &Frame) -> bool {
+    auditor.lose(&[*frame]).is_ok()
+}
+
+/// Notes a frame as lost, and notes it again if memory ran out and all is as before.
+fn loses(auditor: &mut Auditor, frame: Option<Frame>) -> Tried {
+    let Some(frame) = frame else {
+        return Tried::Wrong;
+    };
+    let (lost, losing) = (auditor.lost(), auditor.losing());
+    if lose(auditor, &frame) {
+        return Tried::AtOnce;
+    }
+    if has_losses(auditor, lost, losing) && lose(auditor, &frame) {
+        return Tried::Again;
+    }
+    Tried::Wrong
+}
+
+/// Returns whether this frame was not lost.
+fn finds_not_lost(
+    alloc: Global,
+    auditor: &mut Auditor,
+    observer: &mut Compares,
+    frame: Option<Frame>,
+) -> bool {
+    match frame {
+        Some(due) => advance(alloc, auditor, observer) == Err(AuditError::NotLost(due)),
+        None => false,
+    }
+}
+
 /// Does this, or looks whether it is shown.
 fn acts(
     alloc: Global,
@@ -239,6 +287,12 @@ fn acts(
         Finds(came) => once(finds(alloc, auditor, observer, name, came)),
         Leaves(came) => once(leaves(alloc, auditor, observer, name, came)),
         Has(shown) => once(has(auditor, observer, shown)),
+        Loses(clock, wire) => loses(auditor, frame_of(name, clock, wire)),
+        FindsNotLost(clock, wire) => {
+            let frame = frame_of(name, clock, wire);
+            once(finds_not_lost(alloc, auditor, observer, frame))
+        }
+        HasLosses(lost, losing) => once(has_losses(auditor, lost, losing)),
     }
 }
 
@@ -392,6 +446,45 @@ const FOUND_TWICE: &[Act] = &[
     Has(Shown(2, 1, 2, 1, 1)),
 ];
 
+/// The REQUEST of the lock is lost before the auditor has the event that sent it, and is noted again.
+pub const LOST: &[Act] = &[
+    Loses(1, Wire::Asks),
+    Advances,
+    HasLosses(0, 1),
+    Has(Shown(0, 0, 0, 0, 0)),
+    Gets(Part(1, 0, 1, 0)),
+    AdvancesInParts,
+    HasLosses(1, 0),
+    Has(Shown(2, 1, 1, 0, 1)),
+    Loses(1, Wire::Asks),
+    FindsNotLost(1, Wire::Asks),
+    FindsNotLost(1, Wire::Asks),
+    HasLosses(1, 1),
+    Has(Shown(2, 1, 1, 0, 1)),
+];
+
+/// The REQUEST of the lock came, and is noted as lost.
+const CAME: &[Act] = &[
+    Gets(Part(1, 0, 1, 0)),
+    Gets(Part(2, 0, 1, 0)),
+    Loses(1, Wire::Asks),
+    FindsNotLost(1, Wire::Asks),
+    HasLosses(0, 1),
+    Has(Shown(2, 1, 2, 1, 1)),
+];
+
+/// The REQUEST of the lock comes after its loss is in the run.
+const COMES: &[Act] = &[
+    Loses(1, Wire::Asks),
+    Gets(Part(1, 0, 1, 0)),
+    AdvancesInParts,
+    HasLosses(1, 0),
+    Gets(Part(2, 0, 1, 0)),
+    Finds(FIRST),
+    HasLosses(1, 0),
+    Has(Shown(2, 1, 1, 0, 1)),
+];
+
 /// What auditors find.
 const AUDITS: &[Row] = &[
     Row {
@@ -413,6 +506,21 @@ const AUDITS: &[Row] = &[
         words: "a frame came twice",
         done: CAME_TWICE,
         acts: FOUND_TWICE,
+    },
+    Row {
+        words: "a frame was lost",
+        done: ONE_LOCK,
+        acts: LOST,
+    },
+    Row {
+        words: "a frame came before its loss",
+        done: ONE_LOCK,
+        acts: CAME,
+    },
+    Row {
+        words: "a frame came after its loss",
+        done: ONE_LOCK,
+        acts: COMES,
     },
 ];
 

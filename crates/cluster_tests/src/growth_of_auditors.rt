@@ -1,7 +1,7 @@
 //! Each growth of an auditor is refused: its call answers that memory ran out, leaves everything as it was, and does what
 //! it should when it is made again. If that happens in the middle of a round, the events before are in the run.
 use crate::audits::Act::{AdvancesInParts, Gets, Has, Leaves};
-use crate::audits::{Act, EVENT_BY_EVENT, Part, Shown, audited};
+use crate::audits::{Act, EVENT_BY_EVENT, LOST, Part, Shown, audited};
 use crate::growth::end;
 use crate::growth_of_settling::ONE_LOCK;
 use crate::histories::{ONE, TWO, books_after};
@@ -47,5 +47,14 @@ fn growth_of_a_round_of_an_auditor(rt: HostRuntime) {
     end(
         &rt,
         again(try_auditor(alloc, ONE_ROUND), try_auditor(alloc, ONE_ROUND)),
+    );
+}
+
+#[test]
+fn growth_of_an_auditor_of_losses(rt: HostRuntime) {
+    let alloc = rt.alloc();
+    end(
+        &rt,
+        again(try_auditor(alloc, LOST), try_auditor(alloc, LOST)),
     );
 }
