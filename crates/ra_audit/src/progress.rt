@@ -176,11 +176,11 @@ impl Progress {
         ensures settled { self.new.settled ≡ self.old.settled }
         ensures ok { OnOk result (self.new.kept ≡ []) }
     {
-        // The frames are of no use here: the run tells what each event sent.
+        // Losses are not yet put into the run.
         let Handed {
             after: _,
             events,
-            sent: _,
+            lost: _,
         } = handed;
         self.keep(events);
         self.take_kept(alloc)

@@ -2,3 +2,4 @@ mod Holding
 mod LockOrderLemmas
 mod Endings
 mod SiteNumbers
+mod LostFrames

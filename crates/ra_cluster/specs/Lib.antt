@@ -4,3 +4,4 @@ pub mod ClientGrant
 pub mod LockOrder
 pub mod Outcome
 pub mod Cluster
+pub mod Losses

@@ -7,8 +7,7 @@ ghost use Rattle.ra_history.specs.Settled.{IsCluster, start_of};
 ghost use Rattle.ra_cluster.specs.Sites.{AreSitesWith};
 
 use crate::book_room::BookRoom;
-use crate::site::stop_all;
-use crate::sites::make_sites;
+use crate::sites::{make_sites, stop_all};
 use crate::{Book, Gate, Grant, Inbox, NewPostError, Post, Site, SiteError, Stop};
 use ra_stamp::{Mode, Name, NodeId};
 use std::alloc::Global;

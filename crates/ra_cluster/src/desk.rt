@@ -1,10 +1,14 @@
 //! What is under the lock of a site: the book, and the clients that wait.
-ghost use Rattle.std.specs.Prelude.{◌≡◌, ◌≢◌, ◌↔◌, ◌<◌, true, All, IfOk, IfSome, IsErrOf, OnErr, vec_len};
+ghost use Rattle.std.specs.Prelude.{◌≡◌, ◌≢◌, ◌↔◌, ◌<◌, true, false, [], All, IfOk, IfSome, IsErrOf, OnErr, OnOk, vec_len};
 ghost use Rattle.ra_frame.specs.Fits.{Fits};
 ghost use Rattle.ra_history.specs.History.{clock_of};
+ghost use Rattle.ra_history.specs.Book.{with_all_taken, IsFirst, Loses};
+ghost use Rattle.ra_cluster.specs.Losses.{lost_frames};
 
+use crate::losses::lost_of;
 use crate::ticket::SharedTicket;
 use crate::{Book, BookError, Events, Frames, Grant, Posted, Sent, Stop, TakeError};
+use ra_frame::Frame;
 use ra_stamp::{Entry, Mark, Memory, Mode, Name};
 use std::alloc::Global;
 use std::mem;
@@ -38,6 +42,9 @@ pub struct Desk {
     waiters: Vec<Waiter>,
     /// Whether the book hands over what has happened.
     audited: bool,
+    /// Whether one of the frames that the book has may be flagged lost. If not, a round does not look at each.
+    may_have_lost: bool,
+    ghost flagged: { may_have_lost ≡ false → lost_frames book.sent ≡ [] },
 }
 
 /// What a node hands over in a round of an audit. It has left the node's book.
@@ -47,9 +54,9 @@ pub struct Handed {
     pub after: u64,
     /// The events since the round before.
     pub events: Events,
-    /// The frames that the book let go, with the flags of lost ones. An auditor does not need them: its run tells what each
-    /// event sent.
-    pub sent: Vec<Sent>,
+    /// Those of the frames sent since the round before that the post refused, in order of sending. Each frame was tried by now,
+    /// so the others were not lost.
+    pub lost: Vec<Frame>,
 }
 
 impl Handed {
@@ -58,7 +65,7 @@ impl Handed {
         Handed {
             after: 0,
             events: Events::new(alloc),
-            sent: Vec::new(alloc),
+            lost: Vec::new(alloc),
         }
     }
 }
@@ -71,12 +78,16 @@ impl Waiter {
 }
 
 impl Desk {
-    /// Makes the desk of a book at which nobody waits. If it is audited, the book hands over what has happened.
-    pub fn new(alloc: Global, book: Book, audited: bool) -> Desk {
+    /// Makes the desk of a book that has sent nothing, at which nobody waits. If it is audited, the book hands over what has
+    /// happened.
+    pub fn new(alloc: Global, book: Book, audited: bool) -> Desk
+        requires { book.sent ≡ [] }
+    {
         Desk {
             book,
             waiters: Vec::new(alloc),
             audited,
+            may_have_lost: false,
         }
     }
 
@@ -137,39 +148,67 @@ impl Desk {
         (cause, mem::replace(&mut self.waiters, Vec::new(alloc)))
     }
 
-    /// Hands over the frames that the book has, and the events after one with the clock `after`, or from the node's first one
-    /// on if `after` is 0. That takes a time that does not grow with the history. A node that is not audited hands over nothing,
-    /// so that its book stays whole. Frames for which there is no memory are left for the next round.
+    /// Flags a frame that the book sent and still has as lost.
+    pub fn mark_lost(&mut self, frame: &Frame)
+        ensures { IsFirst self.old.book.sent frame.now false → Loses self.old.book.sent frame.now self.new.book.sent }
+    {
+        self.may_have_lost = true;
+        // The book sent it, no round took it before it was tried, and nobody else flags it.
+        let _ = self.book.mark_lost(frame);
+    }
+
+    /// Hands over the events after one with the clock `after`, or from the node's first one on if `after` is 0, and those of the
+    /// frames sent since the round before that are flagged lost. Unless there may be one, that takes a time that does not grow
+    /// with the history. All frames leave the book, too; they are returned, so that they need not be dropped under the lock. A
+    /// node that is not audited hands over nothing, so that its book stays whole.
     ///
     /// # Errors
     ///
     /// The first that holds, and the book is as before:
     ///
     /// 1. `OutOfTurn`: `after` is not the clock of the last event that was handed over, or 0 before the first.
-    /// 2. `Memory`: there is no room for what the leaves of the node's clients will need.
-    pub fn hand_over(&mut self, alloc: Global, after: u64) -> Result<Handed, TakeError>
-        ensures events { IfOk result (λ handed. self.old.audited ≡ true
-            → (handed.after ≡ after) × (handed.events.items ≡ self.old.book.events)) }
+    /// 2. `Memory`: there is no room for the lost frames, or for what the leaves of the node's clients will need.
+    pub fn hand_over(&mut self, alloc: Global, after: u64) -> Result<(Handed, Vec<Sent>), TakeError>
+        ensures events { IfOk result (λ made. self.old.audited ≡ true
+            → (made.0.after ≡ after) × (made.0.events.items ≡ self.old.book.events)) }
+        ensures lost { IfOk result (λ made. self.old.audited ≡ true
+            → made.0.lost.items ≡ lost_frames self.old.book.sent) }
+        // So nothing is handed over twice.
+        ensures taken { OnOk result (self.old.audited ≡ true → self.new.book ≡ with_all_taken self.old.book) }
         ensures out_of_turn { IsErrOf result TakeError.OutOfTurn
             ↔ ((self.old.audited ≡ true) × (after ≢ clock_of self.old.book.taken.events)) }
         ensures err { OnErr result (self.new.book ≡ self.old.book) }
     {
         if !self.audited {
-            return Ok(Handed::nothing(alloc));
+            return Ok((Handed::nothing(alloc), Vec::new(alloc)));
         }
         if self.book.taken_clock() != after {
             return Err(TakeError::OutOfTurn);
         }
-        let events = self.book.take_events(alloc)?;
-        let sent = match self.book.take_sent(alloc) {
-            Ok(sent) => sent,
-            Err(Memory) => Vec::new(alloc),
-        };
-        Ok(Handed {
+        let lost = self.lost(alloc)?;
+        let (events, sent) = self.book.take_all(alloc)?;
+        self.may_have_lost = false;
+        let handed = Handed {
             after,
             events,
-            sent,
-        })
+            lost,
+        };
+        Ok((handed, sent))
+    }
+
+    /// Returns the frames of the book that are flagged lost, in order of sending. If there may be one, the cost is linear in the
+    /// number of its frames.
+    ///
+    /// # Errors
+    ///
+    /// `Memory`: memory ran out.
+    fn lost(&self, alloc: Global) -> Result<Vec<Frame>, Memory>
+        ensures { IfOk result (λ lost. lost.items ≡ lost_frames self.now.book.sent) }
+    {
+        if !self.may_have_lost {
+            return Ok(Vec::new(alloc));
+        }
+        lost_of(alloc, &self.book)
     }
 
     /// Returns why a client cannot ask if there is no memory. Each other cause comes before `Memory`.

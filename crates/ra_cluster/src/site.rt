@@ -4,9 +4,10 @@ ghost use Rattle.ra_frame.specs.Fits.{Fits};
 
 use crate::call::Call;
 use crate::desk::{Desk, Handed, Stepped};
-use crate::stop_causes::stop_of;
+use crate::sending::Sending;
+use crate::sites::{stop_after, stop_all};
 use crate::ticket::Ticket;
-use crate::{Book, BookError, Gate, Grant, Inbox, NewError, Post, Stop, TakeError};
+use crate::{Book, BookError, Gate, Grant, Inbox, NewError, Post, Sent, Stop, TakeError};
 use ra_frame::Frame;
 use ra_stamp::{Entry, Memory, Mode, Name, NodeId};
 use std::alloc::Global;
@@ -43,7 +44,8 @@ enum Halt {
 /// nodes in order, and the gate that watches. Their contracts require these sites, since a lost frame has to stop them all;
 /// [`is_site_of`](crate::is_site_of) tests it. Under the lock these calls ask the gate and call the book. The frames are
 /// sent after the lock is given back, and no thread ever has the locks of two books. A frame that the post does not take is
-/// flagged as lost, and then each site is stopped, which ends the waits of all clients.
+/// flagged as lost, and then each site is stopped, which ends the waits of all clients. A round of an audit waits until all
+/// frames of such a call were tried, so each loss is flagged when it takes what the book has.
 ///
 /// A client that waits has a ticket of its own. When an event lets it in, its thread is told by this ticket after the lock
 /// is given back, and no other thread is woken. A stop wakes all.
@@ -56,6 +58,7 @@ pub struct Site {
     node: NodeId,
     alloc: Global,
     desk: Mutex<Desk>,
+    sending: Sending,
 }
 
 impl Model for Site {
@@ -91,6 +94,7 @@ impl Site {
             node: me,
             alloc,
             desk: Mutex::new(Desk::new(alloc, book, false)),
+            sending: Sending::new(false),
         })
     }
 
@@ -113,6 +117,7 @@ impl Site {
             node,
             alloc,
             desk: Mutex::new(desk),
+            sending: Sending::new(true),
         })
     }
 
@@ -222,13 +227,13 @@ impl Site {
     {
         let (mut taken, mut stepped) = (Vec::new(alloc), Vec::new(alloc));
         for _ in rt.forever() {
-            let received = match inbox.take(rt, &mut taken) {
-                Ok(true) => self.receive_all(rt, alloc, &taken, &mut stepped, gate),
+            let (are_sent, received) = match inbox.take(rt, &mut taken) {
+                Ok(true) => self.carry(rt, alloc, &taken, &mut stepped, post, gate),
                 Ok(false) => return,
-                Err(Memory) => Err(Halt::Refused(BookError::Memory)),
+                Err(Memory) => (true, Err(Halt::Refused(BookError::Memory))),
             };
-            for step in &stepped {
-                self.finish(rt, alloc, step, post, sites);
+            if !are_sent {
+                stop_all(rt, sites, Stop::Send);
             }
             if let Err(halt) = received {
                 stop_after(rt, sites, self.halt(rt, halt, sites));
@@ -281,13 +286,16 @@ impl Site {
         self.desk.lock(rt).book.clock()
     }
 
-    /// Hands over the events after one with the clock `after`, or from the first one on if it is 0. It is for an auditor alone,
-    /// which takes them: they leave the book. A node that is not audited hands over nothing. It waits for the lock, and has it for
-    /// a time that does not grow with the history.
+    /// Hands over the events after one with the clock `after`, or from the first one on if it is 0, and the frames that were lost
+    /// since the round before. Each is handed over once. It is for an auditor alone, which takes them: they leave the book. A
+    /// node that is not audited hands over nothing.
+    ///
+    /// It waits until no thread is sending what the book handed out, while calls that come later wait for it. Then it waits for
+    /// the lock, and has it for a time that does not grow with the history, unless a frame was lost.
     ///
     /// # Errors
     ///
-    /// The first that holds, and the node still has its events:
+    /// The first that holds, and the node still has its events and losses:
     ///
     /// 1. `OutOfTurn`: `after` is not the clock of the last event that was handed over, or 0 before the first.
     /// 2. `Memory`: memory ran out.
@@ -297,7 +305,9 @@ impl Site {
         alloc: Global,
         after: u64,
     ) -> Result<Handed, TakeError> {
-        self.desk.lock(rt).hand_over(alloc, after)
+        // The frames that left the book are dropped here, with no lock held.
+        let (handed, _sent) = self.hand_over_alone(rt, alloc, after)?;
+        Ok(handed)
     }
 
     /// Gives up the lock, and returns the book. It does not allocate.
@@ -308,6 +318,7 @@ impl Site {
             node: _,
             alloc: _,
             desk,
+            sending: _,
         } = self;
         let book = desk.into_inner().book;
         // Each reader tells that the book has a history.
@@ -365,7 +376,22 @@ impl Site {
         empty
     }
 
-    /// Makes one call of the book, and sends the frames of its event.
+    /// Does what `hand_over` does, and returns the frames that left the book, too.
+    ///
+    /// # Errors
+    ///
+    /// Those of `hand_over`.
+    fn hand_over_alone<R: Wait>(
+        &self,
+        rt: &R,
+        alloc: Global,
+        after: u64,
+    ) -> Result<(Handed, Vec<Sent>), TakeError> {
+        let _alone = self.sending.alone(rt);
+        self.desk.lock(rt).hand_over(alloc, after)
+    }
+
+    /// Makes one call of the book, and sends the frames of its event. If one was lost, each site is stopped.
     ///
     /// # Errors
     ///
@@ -380,13 +406,56 @@ impl Site {
         sites: &[Site],
         gate: &G,
     ) -> Result<(), SiteError> {
-        match self.call_desk(rt, alloc, call, gate) {
-            Ok(stepped) => {
-                self.finish(rt, alloc, &stepped, post, sites);
+        match self.call_and_send(rt, alloc, call, post, gate) {
+            Ok(are_sent) => {
+                if !are_sent {
+                    stop_all(rt, sites, Stop::Send);
+                }
                 Ok(())
             }
             Err(halt) => Err(self.halt(rt, halt, sites)),
         }
+    }
+
+    /// Makes one call of the book, and sends the frames of its event, with no round of an audit in between. Returns whether all
+    /// were sent.
+    ///
+    /// # Errors
+    ///
+    /// Why the call was not made.
+    fn call_and_send<R: Wait, G: Gate>(
+        &self,
+        rt: &R,
+        alloc: Global,
+        call: Call,
+        post: &Post,
+        gate: &G,
+    ) -> Result<bool, Halt> {
+        let _share = self.sending.share(rt);
+        let stepped = self.call_desk(rt, alloc, call, gate)?;
+        Ok(self.finish(rt, alloc, &stepped, post))
+    }
+
+    /// Hands the book frames, and sends those of their events, with no round of an audit in between. Puts what came of each into
+    /// the list. Returns whether all were sent, and if one was not received, why; those before it were.
+    fn carry<R: Wait, G: Gate>(
+        &self,
+        rt: &R,
+        alloc: Global,
+        taken: &[Vec<u8>],
+        stepped: &mut Vec<Stepped>,
+        post: &Post,
+        gate: &G,
+    ) -> (bool, Result<(), Halt>) {
+        let _share = self.sending.share(rt);
+        let received = self.receive_all(rt, alloc, taken, stepped, gate);
+        let mut are_sent = true;
+        for step in stepped.as_slice() {
+            if !self.finish(rt, alloc, step, post) {
+                are_sent = false;
+            }
+        }
+        (are_sent, received)
     }
 
     /// Asks the gate and makes one call of the book, all under the lock.
@@ -440,19 +509,12 @@ impl Site {
         Ok(())
     }
 
-    /// Tells the client that an event let in, and sends the event's frames.
-    fn finish<R: Wait>(
-        &self,
-        rt: &R,
-        alloc: Global,
-        stepped: &Stepped,
-        post: &Post,
-        sites: &[Site],
-    ) {
+    /// Tells the client that an event let in, and sends the event's frames. Returns whether all were sent.
+    fn finish<R: Wait>(&self, rt: &R, alloc: Global, stepped: &Stepped, post: &Post) -> bool {
         if let Some((ticket, grant)) = &stepped.told {
             ticket.tell(rt, Ok(*grant));
         }
-        self.send(rt, alloc, stepped.frames.as_slice(), post, sites);
+        self.send(rt, alloc, stepped.frames.as_slice(), post)
     }
 
     /// Returns what a call answers that was not made. If the gate stopped it, each site is stopped first.
@@ -466,32 +528,21 @@ impl Site {
         }
     }
 
-    /// Sends the frames of an event, and flags each that the post refuses as lost. If there was one, each site is stopped
-    /// after the last.
-    fn send<R: Wait>(&self, rt: &R, alloc: Global, frames: &[Frame], post: &Post, sites: &[Site])
+    /// Sends the frames of an event, and flags each that the post refuses as lost. Returns whether there was none.
+    fn send<R: Wait>(&self, rt: &R, alloc: Global, frames: &[Frame], post: &Post) -> bool
         requires { All Fits frames.now }
     {
         if frames.is_empty() {
-            return;
+            return true;
         }
         let mut left = frames;
         let mut are_sent = true;
         while let Some((refused, others)) = post.send_up_to(rt, alloc, left) {
-            self.mark_lost(rt, refused);
+            self.desk.lock(rt).mark_lost(refused);
             are_sent = false;
             left = others;
         }
-        if !are_sent {
-            stop_all(rt, sites, Stop::Send);
-        }
-    }
-
-    /// Flags a frame that the book sent as lost.
-    fn mark_lost<R: Wait>(&self, rt: &R, frame: &Frame) {
-        let mut desk = self.desk.lock(rt);
-        // The book sent it, and nobody else flags it. If a round took it since, the book does not have it any more, and its
-        // loss is not noted.
-        let _ = desk.book.mark_lost(frame);
+        are_sent
     }
 
     /// Returns the cause for which the node is stopped.
@@ -538,19 +589,5 @@ impl Site {
             && entry.client == client
             && entry.name == name
             && entry.mode == mode
-    }
-}
-
-/// Stops each site, in turn from node 1 up, with one lock at a time.
-pub fn stop_all<R: Wait>(rt: &R, sites: &[Site], stop: Stop) {
-    for site in sites {
-        site.stop(rt, stop);
-    }
-}
-
-/// Stops each site after a call of one of them was refused, unless that one is stopped already.
-pub fn stop_after<R: Wait>(rt: &R, sites: &[Site], refused: SiteError) {
-    if let Some(stop) = stop_of(refused) {
-        stop_all(rt, sites, stop);
     }
 }

@@ -3,9 +3,11 @@ ghost use Rattle.std.specs.Prelude.{◌≡◌, ◌↔◌, ◌++◌, ◌∷◌, [
 ghost use Rattle.std.specs.List.{range_with_len};
 ghost use Rattle.ra_cluster.specs.Sites.{AreSitesWith};
 
-use crate::{NewError, Site};
+use crate::stop_causes::stop_of;
+use crate::{NewError, Site, SiteError, Stop};
 use ra_stamp::{Memory, NodeId};
 use std::alloc::Global;
+use std::sync::Wait;
 
 /// Returns whether these are the sites of nodes 1 to n, in order, and the node of this site is one of them, as the calls of
 /// [`Site`] require. It does not allocate. The cost is linear in the number of sites.
@@ -79,5 +81,19 @@ fn new_site(
         Site::new_audited(alloc, me, nodes, start)
     } else {
         Site::new(alloc, me, nodes, start)
+    }
+}
+
+/// Stops each site, in turn from node 1 up, with one lock at a time.
+pub fn stop_all<R: Wait>(rt: &R, sites: &[Site], stop: Stop) {
+    for site in sites {
+        site.stop(rt, stop);
+    }
+}
+
+/// Stops each site after a call of one of them was refused, unless that one is stopped already.
+pub fn stop_after<R: Wait>(rt: &R, sites: &[Site], refused: SiteError) {
+    if let Some(stop) = stop_of(refused) {
+        stop_all(rt, sites, stop);
     }
 }

@@ -19,7 +19,7 @@ use Rattle.ra_history.specs.declared.event.BookEvent.{BookEvent}
 use Rattle.ra_history.specs.declared.sent.Sent.{Sent}
 use Rattle.ra_history.specs.declared.stop.Stop.{Stop}
 use Rattle.ra_history.specs.History.{IsHistory, node_event, happening_of, clock_after, clock_of, frames_at}
-use Rattle.ra_history.specs.Book.{BookState, TakenState, opening_book, whole_events, whole_sent, with_events_taken, with_sent_taken, LeadsTo, HasHistory, HasClock, as_sent, next_clock, with_event}
+use Rattle.ra_history.specs.Book.{BookState, TakenState, opening_book, whole_events, whole_sent, with_all_taken, LeadsTo, HasHistory, HasClock, as_sent, next_clock, with_event}
 use Rattle.ra_history.specs.Keeping.{Keeps, answers_to, sends_by}
 
 -- a book that is kept has a history
@@ -168,44 +168,31 @@ flags law book sent node keeps same =
           ∙ sym (map-append (λ (s : Sent). s.frame) book.taken.sent book.sent));
     }
 
--- the book after its events were taken
-pub events_taken_is : (now book : BookState) → book ≡ now → (taken : TakenState) (events : List BookEvent)
-    → taken ≡ record book.taken { some = true; events = whole_events book } → events ≡ []
-    → record book { taken = taken; events = events } ≡ with_events_taken now
-events_taken_is now book is taken events taken_is none =
-    (λ i. record book { taken = taken_is i; events = none i }) ∙ ap with_events_taken is
+-- the book after its events and frames were taken
+pub all_taken_is : (now book : BookState) → book ≡ now → (first taken : TakenState) (events : List BookEvent) (sent : List Sent)
+    → first ≡ record book.taken { some = true; events = whole_events book }
+    → taken ≡ record first { some = true; sent = first.sent ++ book.sent }
+    → events ≡ [] → sent ≡ []
+    → record book { taken = taken; events = events; sent = sent } ≡ with_all_taken now
+all_taken_is now book is first taken events sent first_is taken_is no_events no_sent =
+    (λ i. record book { taken = taken_is i; events = no_events i; sent = no_sent i })
+    ∙ ap (λ (t : TakenState). record book { taken = record t { some = true; sent = t.sent ++ book.sent }; events = []; sent = [] }) first_is
+    ∙ ap with_all_taken is
 
-pub events_taken : (book : BookState) (node : NodeState) (taken : TakenState) (events : List BookEvent) → Keeps book node
-    → taken ≡ record book.taken { some = true; events = whole_events book } → events ≡ []
-    → Keeps (record book { taken = taken; events = events }) node
-events_taken book node taken events keeps taken_is none =
-    subst (λ (b : BookState). Keeps b node) (sym (events_taken_is book book refl taken events taken_is none))
+pub all_taken : (book : BookState) (node : NodeState) (first taken : TakenState) (events : List BookEvent) (sent : List Sent) → Keeps book node
+    → first ≡ record book.taken { some = true; events = whole_events book }
+    → taken ≡ record first { some = true; sent = first.sent ++ book.sent }
+    → events ≡ [] → sent ≡ []
+    → Keeps (record book { taken = taken; events = events; sent = sent }) node
+all_taken book node first taken events sent keeps first_is taken_is no_events no_sent =
+    subst (λ (b : BookState). Keeps b node) (sym (all_taken_is book book refl first taken events sent first_is taken_is no_events no_sent))
     (record {
       count = keeps.count;
       member = keeps.member;
       leads =
-          subst (λ (es : List BookEvent). IsHistory book.me book.nodes book.start es (whole_sent book) node) (sym (append-nil (whole_events book)))
-          keeps.leads;
-    })
-
--- the book after its frames were taken
-pub sent_taken_is : (now book : BookState) → book ≡ now → (taken : TakenState) (sent : List Sent)
-    → taken ≡ record book.taken { some = true; sent = whole_sent book } → sent ≡ []
-    → record book { taken = taken; sent = sent } ≡ with_sent_taken now
-sent_taken_is now book is taken sent taken_is none =
-    (λ i. record book { taken = taken_is i; sent = none i }) ∙ ap with_sent_taken is
-
-pub sent_taken : (book : BookState) (node : NodeState) (taken : TakenState) (sent : List Sent) → Keeps book node
-    → taken ≡ record book.taken { some = true; sent = whole_sent book } → sent ≡ []
-    → Keeps (record book { taken = taken; sent = sent }) node
-sent_taken book node taken sent keeps taken_is none =
-    subst (λ (b : BookState). Keeps b node) (sym (sent_taken_is book book refl taken sent taken_is none))
-    (record {
-      count = keeps.count;
-      member = keeps.member;
-      leads =
-          subst (λ (ss : List Sent). IsHistory book.me book.nodes book.start (whole_events book) ss node) (sym (append-nil (whole_sent book)))
-          keeps.leads;
+          subst (λ (ss : List Sent). IsHistory book.me book.nodes book.start (whole_events book ++ []) ss node) (sym (append-nil (whole_sent book)))
+          (subst (λ (es : List BookEvent). IsHistory book.me book.nodes book.start es (whole_sent book) node) (sym (append-nil (whole_events book)))
+          keeps.leads);
     })
 
 pub determined :

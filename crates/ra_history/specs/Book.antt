@@ -110,14 +110,13 @@ pub record Hears (book : BookState) (bytes : List ℕ) (P : Frame → Type 0) : 
 
 -- ---- What is taken
 
--- the book after all its events were taken
-abbrev pub with_events_taken : BookState → BookState
-with_events_taken book =
-    record book { taken = record book.taken { some = true; events = whole_events book }; events = [] }
-
--- the book after all its frames were taken
-abbrev pub with_sent_taken : BookState → BookState
-with_sent_taken book = record book { taken = record book.taken { some = true; sent = whole_sent book }; sent = [] }
+-- the book after all its events and frames were taken
+abbrev pub with_all_taken : BookState → BookState
+with_all_taken book = record book {
+  taken = record { some = true; events = whole_events book; sent = whole_sent book };
+  events = [];
+  sent = [];
+}
 
 -- ---- A loss
 

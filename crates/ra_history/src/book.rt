@@ -64,7 +64,7 @@ impl Book {
     ghost use Rattle.ra_node.specs.Turns.{MayAsk};
     ghost use Rattle.ra_node.specs.Node.{NodeState};
     ghost use Rattle.ra_history.specs.History.{clock_of};
-    ghost use Rattle.ra_history.specs.Book.{opening_book, whole_events, with_events_taken, with_sent_taken, IsWhole, LeadsTo, HasHistory, HasClock, Adds, Runs, Hears, IsFirst, Loses};
+    ghost use Rattle.ra_history.specs.Book.{opening_book, whole_events, with_all_taken, IsWhole, LeadsTo, HasHistory, HasClock, Adds, Runs, Hears, IsFirst, Loses};
     ghost use Rattle.ra_history.specs.Keeping.{ComesNext, IsChecked, AnswersAsk, AnswersLeave, AnswersReceive};
 
     /// Makes the book of node `me` of `nodes`, in which nothing has happened yet. The highest number of each resource begins
@@ -336,39 +336,28 @@ impl Book {
         self.sent.len() as u64
     }
 
-    /// Hands over the events that the book still has, and goes on without them. The book keeps the clock of the last one, and
-    /// still has its history by its type. Room for the events of the leaves of the node's clients is made first, and that is
-    /// all the cost: it does not grow with the history.
+    /// Hands over the events and the sent frames that the book still has, and goes on without them. The book keeps the clock of
+    /// the last event, and still has its history by its type. It can't flag these frames any more. Room for what the leaves of
+    /// the node's clients will need is made first, and that is all the cost: it does not grow with the history.
     ///
     /// # Errors
     ///
     /// `Memory`: there is no such room. The book is as before.
-    pub fn take_events(&mut self, alloc: Global) -> Result<Events, Memory>
-        ensures events { IfOk result (λ events. events.items ≡ self.old.events) }
-        ensures ok { OnOk result (self.new ≡ with_events_taken self.old) }
+    pub fn take_all(&mut self, alloc: Global) -> Result<(Events, Vec<Sent>), Memory>
+        ensures events { IfOk result (λ taken. taken.0.items ≡ self.old.events) }
+        ensures sent { IfOk result (λ taken. taken.1.items ≡ self.old.sent) }
+        ensures ok { OnOk result (self.new ≡ with_all_taken self.old) }
         ensures err { OnErr result (self.new ≡ self.old) }
         ensures history { HasHistory self.new }
     {
-        let events = events_for(alloc, self.departures.len())?;
+        let leaves = self.departures.len();
+        let events = events_for(alloc, leaves)?;
+        let sent = sent_for(alloc, self.nodes, leaves)?;
         self.taken.take_events(&self.events);
-        Ok(mem::replace(&mut self.events, events))
-    }
-
-    /// Hands over the sent frames that the book still has, each with its flag, and goes on without them. The book can't flag
-    /// them any more. Room for the frames of the leaves of the node's clients is made first, and that is all the cost.
-    ///
-    /// # Errors
-    ///
-    /// `Memory`: there is no such room. The book is as before.
-    pub fn take_sent(&mut self, alloc: Global) -> Result<Vec<Sent>, Memory>
-        ensures sent { IfOk result (λ sent. sent.items ≡ self.old.sent) }
-        ensures ok { OnOk result (self.new ≡ with_sent_taken self.old) }
-        ensures err { OnErr result (self.new ≡ self.old) }
-        ensures history { HasHistory self.new }
-    {
-        let sent = sent_for(alloc, self.nodes, self.departures.len())?;
         self.taken.take_sent(&self.sent);
-        Ok(mem::replace(&mut self.sent, sent))
+        let old_events = mem::replace(&mut self.events, events);
+        let old_sent = mem::replace(&mut self.sent, sent);
+        Ok((old_events, old_sent))
     }
 
     /// Returns the fault, or `None` if there is none. It does not allocate.

@@ -1,0 +1,36 @@
+//! How rounds of an audit keep off while threads send.
+use std::sync::{RwLock, RwLockReadGuard, RwLockWriteGuard, Wait};
+
+/// What the threads that send for an audited site share, and a round of the audit has alone. A thread has its share from before
+/// it calls the book until all frames of the event were tried. So each frame that a round takes from the book was tried, and is
+/// flagged if it was lost. From a site that is not audited no round takes anything, so nobody waits there.
+///
+/// A round that waits comes before threads that have no share yet. So a thread must not take a second one.
+#[derive(Drop)]
+pub struct Sending {
+    lock: Option<RwLock<()>>,
+}
+
+impl Sending {
+    /// Makes that of a site, audited or not.
+    pub fn new(audited: bool) -> Sending {
+        let lock = if audited { Some(RwLock::new(())) } else { None };
+        Sending { lock }
+    }
+
+    /// Waits until no round is at work here. None begins as long as the caller has what is returned.
+    pub fn share<R: Wait>(&self, rt: &R) -> Option<RwLockReadGuard<'_, ()>> {
+        match &self.lock {
+            Some(lock) => Some(lock.read(rt)),
+            None => None,
+        }
+    }
+
+    /// Waits until no thread is sending. None begins as long as the caller has what is returned.
+    pub fn alone<R: Wait>(&self, rt: &R) -> Option<RwLockWriteGuard<'_, ()>> {
+        match &self.lock {
+            Some(lock) => Some(lock.write(rt)),
+            None => None,
+        }
+    }
+}
