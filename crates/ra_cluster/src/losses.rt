@@ -41,6 +41,7 @@ fn push_if_lost(lost: &mut Vec<Frame>, sent: &Sent) -> Result<(), Memory>
         return Ok(());
     }
     lost.reserve(1)?;
+    // Field by field, since the proof of a copy of the frame is not told of the type of its message.
     let Frame { clock, message } = sent.frame;
     lost.push_reserved(Frame { clock, message });
     Ok(())
