@@ -124,16 +124,6 @@ module _ (script : ScriptState) (Q : ClusterError → Type 0) where
   abbrev pub Whole : Result Settled ClusterError → Type 0
   Whole r = MatchResult r (IsDone script) Q
 
-  pub run : (r : Result Settled ClusterError) → Whole r
-      → IfOk r (λ settled. (moves : List Move) × (map (λ move. move.step) moves ≡ settled.steps.items)
-      × IsRun script.nodes 0 moves × Reports script.nodes 0 moves settled.report)
-  run (Ok s) whole = (whole.moves, whole.moves_are, whole.run, whole.reports)
-  run (Err e) whole = tt
-
-  pub main_theorem : (r : Result Settled ClusterError) → Whole r → IfOk r (λ settled. MainTheorem script.nodes settled.report)
-  main_theorem (Ok s) whole = whole.main_theorem
-  main_theorem (Err e) whole = tt
-
   pub plan : (r : Result Settled ClusterError) → Whole r → IfOk r (λ settled. MeetsPlan script settled.report.marks.items)
   plan (Ok s) whole = whole.plan
   plan (Err e) whole = tt
@@ -141,10 +131,6 @@ module _ (script : ScriptState) (Q : ClusterError → Type 0) where
   pub ended : (r : Result Settled ClusterError) → Whole r → IfOk r (λ settled. IsQuietEnd settled.report)
   ended (Ok s) whole = whole.ended
   ended (Err e) whole = tt
-
-  pub unrepeated : (r : Result Settled ClusterError) → Whole r → IfOk r (λ settled. settled.report.repeated ≡ 0)
-  unrepeated (Ok s) whole = whole.unrepeated
-  unrepeated (Err e) whole = tt
 
   pub none_waits : (r : Result Settled ClusterError) → Whole r → IfOk r (λ settled. settled.report.waiting ≡ 0)
   none_waits (Ok s) whole = whole.none_waits
@@ -174,14 +160,6 @@ module _ (script : ScriptState) (books : List BookState) (grants : List Grant) w
   pub refuses : (r : Result Settled ClusterError) → Ended r → IfErr r (RefusesSound script books grants)
   refuses (Ok s) whole = tt
   refuses (Err e) whole = whole
-
--- and joined again
-pub done_of : (script : ScriptState) (books : List BookState) (grants : List Grant) (r : Result Settled ClusterError)
-    → IfOk r (IsOutcome script books grants) → IfOk r (λ settled. MeetsPlan script settled.report.marks.items)
-    → IfOk r (λ settled. IsQuietEnd settled.report) → (IsErrOf r OutOfOrder → ⊥) → (IsErrOf r Unreleased → ⊥)
-    → MatchResult r (IsDone script) IsOfThreads
-done_of script books grants (Ok s) outcome plan ended in_order released = done_by books script grants s outcome (plan, ended)
-done_of script books grants (Err e) outcome plan ended in_order released = (λ is. in_order (ap Err is), λ is. released (ap Err is))
 
 -- ---- Refusals that there are not
 
@@ -231,3 +209,7 @@ not_passed X x P r apart whole says = (
   λ is. absurd (not_refused P IsOfThreads x apart r whole is),
   λ h. let told = says.1 h in absurd (cc),
 )
+
+-- nor what is returned is a refusal, whatever is returned
+pub also_ok : {T U : Type 0} {v : U} {w : T} (X : Type 0) (x : ClusterError) → IsErrOf (Ok v) x ↔ X → IsErrOf {T = T} (Ok w) x ↔ X
+also_ok X x says = (λ is. absurd (cc), λ h. let told = says.1 h in absurd (cc))

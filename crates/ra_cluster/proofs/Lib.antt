@@ -3,3 +3,4 @@ mod LockOrderLemmas
 mod Endings
 mod SiteNumbers
 mod LostFrames
+mod Records

@@ -1,5 +1,5 @@
 -- What comes of a script that threads ran.
-use Rattle.std.specs.Prelude.{◌≡◌, ◌≢◌, ◌*◌, ◌-◌, List, [], ◌∷◌, All, AllPairs, map, length, Option, Some, None}
+use Rattle.std.specs.Prelude.{◌≡◌, ◌≢◌, ◌*◌, ◌-◌, false, List, [], ◌∷◌, All, AllPairs, map, length, Option, Some, None}
 use Rattle.ra_schedule.specs.Script.{ScriptState}
 use Rattle.ra_world.specs.declared.report.Report.{Report}
 use Rattle.ra_world.specs.Traffic.{Move}
@@ -11,7 +11,7 @@ use Rattle.ra_cluster.specs.declared.cluster_run.ClusterError.TheVariants.{OutOf
 use Rattle.ra_history.specs.declared.grant.Grant.{Grant}
 use Rattle.ra_history.specs.declared.settled.Settled.{Settled}
 use Rattle.ra_history.specs.declared.stop.Stop.{Stop}
-use Rattle.ra_history.specs.Book.{BookState}
+use Rattle.ra_history.specs.Book.{BookState, HasHistory}
 use Rattle.ra_history.specs.Plan.{MeetsPlan, IsQuietEnd, locks_of}
 use Rattle.ra_history.specs.Settled.{IsCluster, IsSettledOrder, IsSettledRun, Placed, IsGranted, BooksFit, settled_steps}
 
@@ -81,8 +81,6 @@ RefusesSound script books grants Lost = IsReported script books grants Lost
 RefusesSound script books grants UnderWay = IsReported script books grants UnderWay
 RefusesSound script books grants Memory = AreOf script books
 
--- ---- Only private contracts speak of these.
-
 -- a script was brought to its end: what is promised of the run and its report
 pub record IsDone (script : ScriptState) (settled : Settled) : Type 0 where
   pub moves : List Move
@@ -96,6 +94,18 @@ pub record IsDone (script : ScriptState) (settled : Settled) : Type 0 where
   pub none_waits : settled.report.waiting ≡ 0
   pub requests : settled.report.requests ≡ locks_of script
   pub count : settled.report.sent ≡ 2 * (script.nodes - 1) * locks_of script
+
+-- What threads recorded of a script that they brought to its end: these books are the histories of its nodes, of which no
+-- one was stopped, no frame is flagged lost, and they settle into this run.
+pub record IsRecord (script : ScriptState) (books : List BookState) (settled : Settled) : Type 0 where
+  pub histories : All HasHistory books
+  pub no_fault : All (λ book. book.fault ≡ None) books
+  pub kept : All (λ book. All (λ sent. sent.lost ≡ false) book.sent) books
+  pub grants : List Grant
+  pub outcome : IsOutcome script books grants settled
+  pub done : IsDone script settled
+
+-- ---- Only private contracts speak of it.
 
 -- a refusal that can come only after the script was looked at
 abbrev pub IsOfThreads : ClusterError → Type 0

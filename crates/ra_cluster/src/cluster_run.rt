@@ -1,11 +1,12 @@
-ghost use Rattle.std.specs.Prelude.{◌≡◌, ◌↔◌, ℕ, ◌≤◌, ◌<◌, ◌+◌, ◌-◌, ◌*◌, List, map, IsErrOf, IfOk, IfSome, MatchResult, OnOk, vec_len, length};
+ghost use Rattle.std.specs.Prelude.{◌≡◌, ◌↔◌, ℕ, ◌≤◌, ◌<◌, ◌+◌, ◌-◌, ◌*◌, List, All, map, IsErrOf, IfOk, IfSome, MatchResult, OnOk, vec_len, length};
 ghost use Rattle.ra_world.specs.Traffic.{Move};
 ghost use Rattle.ra_world.specs.Run.{IsRun};
 ghost use Rattle.ra_world.specs.World.{Reports};
 ghost use Rattle.ra_world.specs.MainTheorem.{MainTheorem};
 ghost use Rattle.ra_cluster.specs.LockOrder.{IsOutOfOrder, IsUnreleased};
+ghost use Rattle.ra_history.specs.Book.{HasHistory};
 ghost use Rattle.ra_history.specs.Plan.{MeetsPlan, IsQuietEnd, locks_of};
-ghost use Rattle.ra_cluster.specs.Outcome.{IsDone, IsOfThreads};
+ghost use Rattle.ra_cluster.specs.Outcome.{IsOfThreads, IsRecord};
 
 use crate::lock_order::check_script;
 use crate::outcome::settle_script;
@@ -61,6 +62,15 @@ impl From<Memory> for ClusterError {
     }
 }
 
+/// What threads recorded of a script that they brought to its end.
+#[derive(Drop)]
+pub struct Recorded {
+    /// The books of the nodes, in order.
+    pub books: Vec<Book>,
+    /// The one run into which they settle.
+    pub settled: Settled,
+}
+
 /// Runs a script by threads: one for each node and one for each client. A client's thread does the client's operations
 /// one after the other, at the client's site. Once the clients' threads have ended, the post is closed; once the nodes'
 /// threads have ended, the books settle. The numbers begin at 0. If the result is Ok, nobody waits or is queued, and no
@@ -110,8 +120,31 @@ pub fn run_cluster<R: Threads + Wait + Sync, G: Gate>(
     ensures count { IfOk result (λ settled. settled.report.sent
         ≡ 2 * (script.now.nodes - 1) * locks_of script.now) }
 {
+    match record_cluster(rt, alloc, script, gate) {
+        Ok(recorded) => Ok(recorded.settled),
+        Err(fault) => Err(fault),
+    }
+}
+
+/// Runs a script by threads, as [`run_cluster`] does and at the same cost, and returns the books of the nodes, too.
+///
+/// # Errors
+///
+/// Those of [`run_cluster`].
+pub fn record_cluster<R: Threads + Wait + Sync, G: Gate>(
+    rt: &R,
+    alloc: Global,
+    script: &Script,
+    gate: &G,
+) -> Result<Recorded, ClusterError>
+    ensures out_of_order { IsErrOf result ClusterError.OutOfOrder ↔ IsOutOfOrder script.now }
+    ensures unreleased { IsErrOf result ClusterError.Unreleased
+        ↔ ((IsOutOfOrder script.now → ⊥) × IsUnreleased script.now) }
+    // The run is the one into which these very books settle, and all is true of it that `run_cluster` says.
+    ensures recorded { IfOk result (λ recorded. IsRecord script.now recorded.books.items recorded.settled) }
+{
     check_script(script)?;
-    run_in_order(rt, alloc, script, gate)
+    record_in_order(rt, alloc, script, gate)
 }
 
 /// Runs a script that threads can run, and settles the books.
@@ -119,16 +152,19 @@ pub fn run_cluster<R: Threads + Wait + Sync, G: Gate>(
 /// # Errors
 ///
 /// Those of `run_cluster`, except for the first two.
-fn run_in_order<R: Threads + Wait + Sync, G: Gate>(
+fn record_in_order<R: Threads + Wait + Sync, G: Gate>(
     rt: &R,
     alloc: Global,
     script: &Script,
     gate: &G,
-) -> Result<Settled, ClusterError>
-    ensures { MatchResult result (IsDone script.now) IsOfThreads }
+) -> Result<Recorded, ClusterError>
+    ensures { MatchResult result (λ recorded. IsRecord script.now recorded.books.items recorded.settled) IsOfThreads }
 {
     let (books, grants) = books_of(rt, alloc, script, gate)?;
-    settle_script(alloc, script, &books, &grants)
+    match settle_script(alloc, script, &books, &grants) {
+        Ok(settled) => Ok(Recorded { books, settled }),
+        Err(fault) => Err(fault),
+    }
 }
 
 /// Runs a script by threads in a cluster of its own. Returns the books of the nodes, in order, and what the clients were
@@ -138,7 +174,9 @@ fn books_of<R: Threads + Wait + Sync, G: Gate>(
     alloc: Global,
     script: &Script,
     gate: &G,
-) -> Result<(Vec<Book>, Vec<Grant>), Memory> {
+) -> Result<(Vec<Book>, Vec<Grant>), Memory>
+    ensures { IfOk result (λ run. All HasHistory run.0.items) }
+{
     // A script has 1 to 64 nodes, so only `Memory` can come.
     let Ok(cluster) = Cluster::new(alloc, script.nodes(), 0, gate) else {
         return Err(Memory);

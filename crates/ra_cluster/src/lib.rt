@@ -15,7 +15,8 @@
 //!
 //! docs/EMBEDDING.md explains the shortest such program line by line, and also how to start the threads of the nodes
 //! yourself, and how to use a [`Site`] for each node and the [`Post`] by themselves. [`run_cluster`] does all of it for
-//! a script; [`run_threads`] and [`settle_script`] are its two halves, for a caller that makes the cluster.
+//! a script, and [`record_cluster`] returns the books, too; [`run_threads`] and [`settle_script`] are its two halves, for a
+//! caller that makes the cluster.
 #![tactic(auto)]
 
 mod book_room;
@@ -37,7 +38,7 @@ mod threads;
 mod ticket;
 
 pub use cluster::{CallError, Cluster, Held};
-pub use cluster_run::{ClusterError, run_cluster};
+pub use cluster_run::{ClusterError, Recorded, record_cluster, run_cluster};
 pub use desk::Handed;
 pub use gate::{Gate, OpenGate};
 pub use outcome::settle_script;
