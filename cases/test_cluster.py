@@ -1,5 +1,8 @@
 """`ra cluster` on scripts for which the order of the marks is up to the threads: what does not depend on it."""
-from cases import TEXTS, RaTest, run, shown
+import subprocess
+import tomllib
+
+from cases import LIMIT, RA, TEXTS, RaTest, run, shown
 
 # How often a script is run if the order of its marks is up to the threads.
 RUNS = 10
@@ -80,6 +83,38 @@ def are_writers_alone(lines):
     return writer is None
 
 
+def totals_of(requests, messages):
+    """Returns the totals of a run that ended with nothing left to do."""
+    return f"requests {requests}\nmessages {messages}\nunder-way 0\nlost 0\nwaiting 0\nqueued 0\n"
+
+
+def events_of(books):
+    """Returns the lines of each book after its first, and the first lines, in order."""
+    firsts, events = [], []
+    for line in books.splitlines():
+        if line.startswith("book "):
+            firsts.append(line)
+            events.append([])
+        else:
+            events[-1].append(line)
+    return firsts, events
+
+
+def line_of(client, op):
+    """Returns the line of a book that an operation of a client is."""
+    word, name = op.split(" ")
+    return f"release {client} {name}" if word == "U" else f"ask {client} {name} {word}"
+
+
+def settled(script):
+    """Returns what `ra settle` prints while it reads, by a pipe, the books that `ra cluster` prints of a script."""
+    with subprocess.Popen([RA, "cluster", "--books"], stdin=subprocess.PIPE, stdout=subprocess.PIPE) as threads:
+        threads.stdin.write(TEXTS[script].encode())
+        threads.stdin.close()
+        done = subprocess.run([RA, "settle"], stdin=threads.stdout, capture_output=True, timeout=LIMIT, check=False)
+    return done.stdout.decode()
+
+
 class Clusters(RaTest):
     def run_cluster(self, script, words="cluster"):
         """Returns what a run prints, which ends with status 0."""
@@ -102,8 +137,7 @@ class Clusters(RaTest):
             for number in range(RUNS):
                 with self.subTest(script=script, run=number):
                     output = self.run_cluster(script)
-                    totals = f"requests {requests}\nmessages {messages}\nunder-way 0\nlost 0\nwaiting 0\nqueued 0\n"
-                    self.assertTrue(output.endswith(totals), output)
+                    self.assertTrue(output.endswith(totals_of(requests, messages)), output)
                     self.expect_marks(output, clients)
 
     def test_no_two_conflicting_clients_are_inside_together(self):
@@ -122,3 +156,37 @@ class Clusters(RaTest):
         for script, verdict in TRACED:
             with self.subTest(script=script):
                 self.expect(words="check", input=self.run_cluster(script, "cluster --trace"), output=verdict)
+
+    def expect_books(self, books, script, messages):
+        """Fails unless the books are those of the script's nodes, in order. In them each client does its operations in order,
+        at its node, and as many frames come as messages are sent, each in version 2."""
+        firsts, events = events_of(books)
+        nodes = script["nodes"]
+        self.assertEqual(firsts, [f"book 1 {node} {nodes} 0" for node in range(1, nodes + 1)], books)
+        ops = 0
+        for number, client in enumerate(script["client"], 1):
+            expected = [line_of(number, op) for op in client["ops"]]
+            done = [it for it in events[client["node"] - 1] if it.split(" ")[:2] in (["ask", f"{number}"], ["release", f"{number}"])]
+            self.assertEqual(done, expected, books)
+            ops += len(expected)
+        came = [it for lines in events for it in lines if it.startswith("receive 02")]
+        self.assertEqual(len(came), messages, books)
+        # So no line is anything else.
+        self.assertEqual(sum(map(len, events)), ops + messages, books)
+
+    def test_the_books_of_threads_settle(self):
+        for script, requests, messages, clients in IN_ORDER:
+            for number in range(RUNS):
+                with self.subTest(script=script, run=number):
+                    books = self.run_cluster(script, "cluster --books")
+                    self.expect_books(books, tomllib.loads(TEXTS[script]), messages)
+                    status, output, note = run("settle", books.encode())
+                    self.assertEqual(status, 0, shown(note))
+                    output = output.decode()
+                    self.assertTrue(output.endswith(totals_of(requests, messages)), output)
+                    self.expect_marks(output, clients)
+
+    def test_the_books_of_threads_settle_through_a_pipe(self):
+        for script in ("ALONE", "ONE_CLIENT"):
+            with self.subTest(script=script):
+                self.assertEqual(settled(script), TEXTS[f"{script}_PRINTED"])

@@ -29,6 +29,7 @@ BROKEN = [
     ("sim --policy seeded --seeds 1..2", "ONE_CLIENT", "finished 2 first 1\n", ""),
     ("sim --policy seeded --seeds 1..2 --find finished", "ONE_CLIENT", "trace 2 2 0\n", ""),
     ("cluster", "ONE_CLIENT", "request 1 1 r X 1\n", ""),
+    ("cluster --books", "ONE_CLIENT", "book 1 1 2 0\n", ""),
     ("check", "ONE_CLIENT_TRACE", "valid\nrequests 1\n", ""),
     ("check", None, "invalid 1 Line\n", ""),
     ("check --marks", None, "valid\nrequests 0\n", ""),

@@ -57,7 +57,12 @@ class FailingWriters(PreloadTest):
             self.expect_written(words, TEXTS["ONE_CLIENT"], TEXTS[printed], 0)
 
     def test_a_writer_that_fails_has_a_prefix_of_what_the_threads_did(self):
-        for words, printed in (("cluster", "ONE_CLIENT_PRINTED"), ("cluster --trace", "ONE_CLIENT_TRACE")):
+        outputs = (
+            ("cluster", "ONE_CLIENT_PRINTED"),
+            ("cluster --trace", "ONE_CLIENT_TRACE"),
+            ("cluster --books", "ONE_CLIENT_BOOKS"),
+        )
+        for words, printed in outputs:
             self.expect_prefixes(words, TEXTS["ONE_CLIENT"], TEXTS[printed])
             self.expect_written(words, TEXTS["ONE_CLIENT"], TEXTS[printed], 0)
         self.expect_prefixes("cluster", TEXTS["TWO_NAMES"], "refused OutOfOrder\n")

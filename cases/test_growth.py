@@ -117,6 +117,7 @@ class Growth(PreloadTest):
         # The one client's marks have one order.
         self.expect_growth("cluster", SCRIPT, TEXTS["ONE_CLIENT_PRINTED"])
         self.expect_growth("cluster --trace", SCRIPT, TEXTS["ONE_CLIENT_TRACE"])
+        self.expect_growth("cluster --books", SCRIPT, TEXTS["ONE_CLIENT_BOOKS"])
 
     def test_growth_of_settle(self):
         books = TEXTS["BOOKS_ONE"] + TEXTS["BOOKS_TWO"]

@@ -1,6 +1,7 @@
 -- A text of help is printed if a word asks for it; and whether a word is an option.
-use Rattle.std.proofs.Common.{◌≡◌, ◌↔◌, ℕ, zero, suc, ◌<◌, Option, Some, None, List, [], ◌∷◌, length, map, slice_index_or, String, Global, string_bytes, refl, ap, ◌∙◌, inl, inr, arith}
-use Rattle.std.specs.Prelude.{IfSome, Any}
+use Rattle.std.proofs.Common.{◌≡◌, ◌↔◌, ℕ, zero, suc, ◌<◌, true, false, Option, Some, None, List, [], ◌∷◌, length, map, slice_index_or, String, Global, string_bytes, refl, ap, ◌∙◌, inl, inr, arith}
+use Rattle.std.proofs.lemmas.Bool.{false≢true}
+use Rattle.std.specs.Prelude.{IfSome, IsTrue, Any}
 use Rattle.ra_cli.specs.Statuses.{IsPrinted}
 use Rattle.ra_cli.specs.Words.{IsHelpWord}
 
@@ -41,3 +42,12 @@ option_word words option = (there, back)
 
     back : Any (λ word. word ≡ option) (map string_bytes words) → Any (λ word. string_bytes word ≡ option) words
     back (k, bytes, less, is, same) = let at = word_of words k bytes less is in (k, at.0, at.1, at.2, at.3 ∙ same)
+
+-- what was found is so, and what was not is not
+pub is_given : (words : List (String Global)) (option : List ℕ) → IsTrue true ↔ Any (λ word. string_bytes word ≡ option) words
+    → Any (λ word. word ≡ option) (map string_bytes words)
+is_given words option found = (option_word words option).0 (found.0 refl)
+
+pub is_missing : (words : List (String Global)) (option : List ℕ) → IsTrue false ↔ Any (λ word. string_bytes word ≡ option) words
+    → Any (λ word. word ≡ option) (map string_bytes words) → ⊥
+is_missing words option found given = false≢true (found.1 ((option_word words option).1 given))

@@ -6,6 +6,7 @@ mod Passed
 mod Numbers
 mod Scripts
 mod ClusterRuns
+mod BookTexts
 mod Surveys
 mod NodeRuns
 mod Options

@@ -1,8 +1,8 @@
 -- The words that ask to settle books.
 use Rattle.std.proofs.Common.{◌≡◌, ℕ, ◌+◌, Bool, true, false, List, [], ◌∷◌, length, slice_get, MatchOption, None, Option, Some, codes, ap, sym, refl, ◌∙◌, inl, inr, arith}
 use Rattle.std.proofs.lemmas.Option.{same_Some}
-use Rattle.ra_cli.specs.declared.cluster_output.ClusterOutput.{ClusterOutput}
-use Rattle.ra_cli.specs.declared.cluster_output.ClusterOutput.TheVariants.{Lines, Trace}
+use Rattle.ra_cli.specs.declared.settle_task.SettleOutput.{SettleOutput}
+use Rattle.ra_cli.specs.declared.settle_task.SettleOutput.TheVariants.{Lines, Trace}
 use Rattle.ra_cli.specs.declared.settle_task.SettleTask.{SettleTask}
 use Rattle.ra_cli.specs.NodeRun.{AreNodeWords}
 use Rattle.ra_cli.specs.SettleRun.{AreOptionsOf, AreSettleWords, AsksToSettle}
@@ -13,13 +13,13 @@ abbrev all_bytes : List (List ℕ) → ℕ
 all_bytes [] = 0
 all_bytes (word ∷ words) = length word + all_bytes words
 
-abbrev bytes_of : Bool → ClusterOutput → ℕ
+abbrev bytes_of : Bool → SettleOutput → ℕ
 bytes_of false Lines = 0
 bytes_of false Trace = 7
 bytes_of true Lines = 9
 bytes_of true Trace = 16
 
-bytes_are : (repeats : Bool) (printed : ClusterOutput) (options : List (List ℕ)) → AreOptionsOf repeats printed options → all_bytes options ≡ bytes_of repeats printed
+bytes_are : (repeats : Bool) (printed : SettleOutput) (options : List (List ℕ)) → AreOptionsOf repeats printed options → all_bytes options ≡ bytes_of repeats printed
 bytes_are false Lines options are = ap all_bytes are
 bytes_are false Trace options are = ap all_bytes are
 bytes_are true Lines options are = ap all_bytes are
@@ -27,7 +27,7 @@ bytes_are true Trace options (inl are) = ap all_bytes are
 bytes_are true Trace options (inr are) = ap all_bytes are
 
 -- so they ask for one thing
-one_task : (repeats repeats' : Bool) (printed printed' : ClusterOutput) → bytes_of repeats printed ≡ bytes_of repeats' printed' → (repeats ≡ repeats') × (printed ≡ printed')
+one_task : (repeats repeats' : Bool) (printed printed' : SettleOutput) → bytes_of repeats printed ≡ bytes_of repeats' printed' → (repeats ≡ repeats') × (printed ≡ printed')
 one_task false false Lines Lines same = (refl, refl)
 one_task false false Trace Trace same = (refl, refl)
 one_task true true Lines Lines same = (refl, refl)

@@ -1,13 +1,12 @@
 -- What `ra cluster` does.
-use Rattle.std.specs.Prelude.{◌≡◌, ◌≢◌, ℕ, ◌*◌, ◌-◌, List, Option, IfSome, Ok, Err}
+use Rattle.std.specs.Prelude.{◌≡◌, ◌≢◌, ℕ, List, Option, IfSome, Ok, Err, flat_map}
+use Rattle.std.specs.List.{AllZip}
 use Rattle.std.specs.Io.KnownBytes.{Consumes, Appends}
 use Rattle.ra_world.specs.declared.error.ReadFault.{ReadFault}
 use Rattle.ra_world.specs.declared.error.ReadFault.TheVariants as read
 use Rattle.ra_world.specs.declared.report.Report.{Report}
 use Rattle.ra_world.specs.Lines.{report_text}
-use Rattle.ra_world.specs.Run.{IsRun}
 use Rattle.ra_world.specs.Traffic.{Move}
-use Rattle.ra_world.specs.World.{Reports}
 use Rattle.ra_schedule.specs.Script.{ScriptState}
 use Rattle.ra_trace.specs.TraceText.{IsTrace}
 use Rattle.ra_script.specs.declared.error.ChoicesError.{ChoicesError}
@@ -18,32 +17,37 @@ use Rattle.ra_script.specs.ScriptText.{script_of}
 use Rattle.ra_cluster.specs.declared.cluster_run.ClusterError.{ClusterError}
 use Rattle.ra_cluster.specs.declared.cluster_run.ClusterError.TheVariants as cluster
 use Rattle.ra_cluster.specs.LockOrder.{IsOutOfOrder, IsUnreleased}
-use Rattle.ra_history.specs.Plan.{MeetsPlan, IsQuietEnd, locks_of}
+use Rattle.ra_cluster.specs.Outcome.{IsRecord}
+use Rattle.ra_history.specs.declared.settled.Settled.{Settled}
+use Rattle.ra_history.specs.Book.{BookState}
+use Rattle.ra_book.specs.Book.{lines_text}
+use Rattle.ra_book.specs.Written.{IsWrittenBook}
 use Rattle.ra_cli.specs.Words.{PrintsBy}
 use Rattle.ra_cli.specs.declared.cluster_output.ClusterOutput.{ClusterOutput}
-use Rattle.ra_cli.specs.declared.cluster_output.ClusterOutput.TheVariants.{Lines, Trace}
+use Rattle.ra_cli.specs.declared.cluster_output.ClusterOutput.TheVariants.{Lines, Trace, Books}
 use Rattle.ra_cli.specs.declared.error.RunScriptError.{RunScriptError}
 use Rattle.ra_cli.specs.declared.error.RunScriptError.TheVariants as fault
 
--- what the output says of a run of nodes with numbers that begin at 0: the lines of its report, or its trace
-abbrev pub SaysRun : ClusterOutput → (nodes : ℕ) → List Move → Report → (output : List ℕ) → Type 0
-SaysRun Lines nodes moves report output = output ≡ report_text report
-SaysRun Trace nodes moves report output = IsTrace nodes 0 moves output
+-- the output is the text of these books, one after the other, each as it is written
+abbrev pub AreWrittenBooks : List BookState → (output : List ℕ) → Type 0
+AreWrittenBooks books output = (written : List (List (List ℕ))) × AllZip IsWrittenBook written books × (output ≡ flat_map lines_text written)
 
--- The output says what came of a run of the script's nodes, with numbers that begin at 0. The marks of each client are
--- those of its operations, in order. Nothing waits or is queued, and no message is lost or under way. Each lock of the
--- script was requested, and exactly two messages were sent for each request and other node.
+-- what the output says of a run of nodes with numbers that begin at 0: the lines of its report, its trace, or these books,
+-- which settle into it
+abbrev pub SaysRun : ClusterOutput → (nodes : ℕ) → List BookState → List Move → Report → (output : List ℕ) → Type 0
+SaysRun Lines nodes books moves report output = output ≡ report_text report
+SaysRun Trace nodes books moves report output = IsTrace nodes 0 moves output
+SaysRun Books nodes books moves report output = AreWrittenBooks books output
+
+-- The output says what came of a run of the script: of books that threads may have recorded of it, or of the one run into which
+-- they settle. `IsRecord` tells all that is promised of both. Among it, the marks of each client are those of its
+-- operations, in order. Nothing waits or is queued, and no message is lost or under way. Each lock of the script was
+-- requested, and exactly two messages were sent for each request and other node.
 pub record SaysScript (printed : ClusterOutput) (script : ScriptState) (output : List ℕ) : Type 0 where
-  pub moves : List Move
-  pub run : IsRun script.nodes 0 moves
-  pub report : Report
-  pub reports : Reports script.nodes 0 moves report
-  pub plan : MeetsPlan script report.marks.items
-  pub ended : IsQuietEnd report
-  pub none_waits : report.waiting ≡ 0
-  pub requests : report.requests ≡ locks_of script
-  pub count : report.sent ≡ 2 * (script.nodes - 1) * locks_of script
-  pub says : SaysRun printed script.nodes moves report output
+  pub books : List BookState
+  pub settled : Settled
+  pub recorded : IsRecord script books settled
+  pub says : SaysRun printed script.nodes books recorded.outcome.moves settled.report output
 
 -- the input is the text of a script, and the output says what came of such a run of it
 abbrev pub IsClusterRun : ClusterOutput → (input output : List ℕ) → Type 0

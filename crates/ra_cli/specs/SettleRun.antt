@@ -10,13 +10,13 @@ use Rattle.ra_settle.specs.declared.settling.SettledText.{SettledText}
 use Rattle.ra_settle.specs.Verdicts.{IsSettledText, IsWrong}
 use Rattle.ra_trace.specs.declared.error.TraceError.{TraceError}
 use Rattle.ra_trace.specs.declared.error.TraceError.TheVariants as trace_fault
-use Rattle.ra_cli.specs.declared.cluster_output.ClusterOutput.{ClusterOutput}
-use Rattle.ra_cli.specs.declared.cluster_output.ClusterOutput.TheVariants.{Lines, Trace}
+use Rattle.ra_cli.specs.declared.settle_task.SettleOutput.{SettleOutput}
+use Rattle.ra_cli.specs.declared.settle_task.SettleOutput.TheVariants.{Lines, Trace}
 use Rattle.ra_cli.specs.declared.settle_task.SettleTask.{SettleTask}
 use Rattle.ra_cli.specs.Refusals.{refused_line, trace_word}
 
 -- these are the options of `settle`, in either order, by which messages may come again or not, and this is printed
-abbrev pub AreOptionsOf : (repeats : Bool) → (printed : ClusterOutput) → (options : List (List ℕ)) → Type 0
+abbrev pub AreOptionsOf : (repeats : Bool) → (printed : SettleOutput) → (options : List (List ℕ)) → Type 0
 AreOptionsOf false Lines options = options ≡ []
 AreOptionsOf false Trace options = options ≡ codes "--trace" ∷ []
 AreOptionsOf true Lines options = options ≡ codes "--repeats" ∷ []
@@ -39,7 +39,7 @@ abbrev pub AreSettleWords : (words : List (List ℕ)) → Type 0
 AreSettleWords words = (asked : SettleTask) × AsksToSettle words asked
 
 -- what is printed of the settled run: the lines of its report, or its trace
-abbrev pub Prints : ClusterOutput → SettledText → List ℕ → Type 0
+abbrev pub Prints : SettleOutput → SettledText → List ℕ → Type 0
 Prints Lines text output = output ≡ report_text text.settled.report
 Prints Trace text output = (moves : List Move) × (map (λ move. move.step) moves ≡ text.settled.steps.items)
     × IsTrace text.nodes text.start moves output

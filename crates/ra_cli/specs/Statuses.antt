@@ -80,9 +80,9 @@ IsBroken words old before after =
 pub record Serves (words : List (List ℕ)) (old new before after : Option (List ℕ)) (Untouched : Type 0) (status : ℕ) : Type 0 where
   pub range : status ≤ 3
   -- Status 0 comes only if the input was answered or drawn, was performed to its end, under one seed or each of many, or
-  -- was run by threads to its end and, exactly with the word `--trace`, written as a trace; or if it is the trace of a run
-  -- or, with the word `--marks`, the log of one of the lock table; or if a word asks for a text of help or for the
-  -- version, and nothing was read; or for `ra node` and `ra settle`.
+  -- was run by threads to its end, of which exactly with the word `--trace` the trace was written, and exactly with
+  -- `--books` the books; or if it is the trace of a run or, with the word `--marks`, the log of one of the lock table; or
+  -- if a word asks for a text of help or for the version, and nothing was read; or for `ra node` and `ra settle`.
   pub done : status ≡ 0 → (Untouched × Any IsHelpWord words) ⊎ IsDone words old new before after ⊎ RunsBy words old new before after
       ⊎ AreNodeWords words ⊎ AreSettleWords words
   -- Status 3 comes only if the input was performed and something is left to do, under one seed or some of many, or is the

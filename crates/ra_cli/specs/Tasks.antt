@@ -117,7 +117,7 @@ IsRefusedBy asked old before after = IsRefusedFor (λ why. IfSome old (λ input.
 -- ---- Words
 
 -- the task is one that the words of a command line may ask for: of a node and the nodes that they give, for mark logs
--- exactly if a word is `--marks`, for the trace of threads exactly if a word is `--trace`, and of help only if a word
--- asks for it
+-- exactly if a word is `--marks`, for the trace of threads exactly if a word is `--trace`, for their books exactly if one
+-- is `--books`, and of help only if a word asks for it
 abbrev pub Suits : (words : List (List ℕ)) → Task → Type 0
 Suits words asked = OnAnswer asked (GivesNode words) × ChecksBy words asked × OnHelp asked (Any IsHelpWord words)

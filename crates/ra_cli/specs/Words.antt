@@ -2,7 +2,7 @@
 use Rattle.std.specs.Prelude.{◌≡◌, ℕ, ◌+◌, ◌≤◌, ◌⊎◌, ⊤, List, [], ◌∷◌, ◌++◌, Any, Some, slice_get, codes}
 use Rattle.std.specs.Str.Parse.{IsNumeral, digits_value, without_leading_plus}
 use Rattle.ra_cli.specs.declared.cluster_output.ClusterOutput.{ClusterOutput}
-use Rattle.ra_cli.specs.declared.cluster_output.ClusterOutput.TheVariants.{Lines, Trace}
+use Rattle.ra_cli.specs.declared.cluster_output.ClusterOutput.TheVariants.{Lines, Trace, Books}
 use Rattle.ra_cli.specs.declared.input_kind.InputKind.{InputKind}
 use Rattle.ra_cli.specs.declared.input_kind.InputKind.TheVariants as kinds
 use Rattle.ra_cli.specs.declared.command_line.Task.{Task}
@@ -87,10 +87,16 @@ ReadsBy words kinds.Marks = HasMarksWord words
 abbrev pub HasTraceWord : (words : List (List ℕ)) → Type 0
 HasTraceWord words = Any (λ word. word ≡ codes "--trace") words
 
--- of a run by threads, the trace is printed exactly if one of the words is `--trace`
+-- one of the words is `--books`
+abbrev pub HasBooksWord : (words : List (List ℕ)) → Type 0
+HasBooksWord words = Any (λ word. word ≡ codes "--books") words
+
+-- of a run by threads, the trace is printed exactly if one of the words is `--trace`, and the books exactly if one is
+-- `--books`, which are not both among the words
 abbrev pub PrintsBy : (words : List (List ℕ)) → ClusterOutput → Type 0
-PrintsBy words Lines = HasTraceWord words → ⊥
-PrintsBy words Trace = HasTraceWord words
+PrintsBy words Lines = (HasTraceWord words → ⊥) × (HasBooksWord words → ⊥)
+PrintsBy words Trace = HasTraceWord words × (HasBooksWord words → ⊥)
+PrintsBy words Books = (HasTraceWord words → ⊥) × HasBooksWord words
 
 -- what words choose: `check` and `draw` read what `ReadsBy` says, and `cluster` prints what `PrintsBy` says
 abbrev pub ChecksBy : (words : List (List ℕ)) → Task → Type 0

@@ -4,7 +4,7 @@ ghost use Rattle.ra_schedule.specs.Survey.{NoneIsLost, NoneIsRepeated};
 ghost use Rattle.ra_cli.specs.Words.{AreSimWords, ChecksBy, ReadsBy, Gives, GivesNoChoices, GivesNode, GivesNothingBut, GivesText, IsHelpWord, NamesFaithfully, OnAnswer, OnHelp, SimsFaithfully};
 ghost use Rattle.ra_cli.specs.Finishing.{HasNoChoices, IsFaithful, RunsFaithfully};
 
-use crate::cluster_output::ClusterOutput;
+use crate::cluster_output::{ClusterOutput, output_by};
 use crate::command_rows::command;
 use crate::input_kind::InputKind;
 use crate::search::Search;
@@ -371,19 +371,15 @@ fn check_task<'a>(words: &[String]) -> Task<'a>
     }
 }
 
-/// Returns the task of the command `cluster`: it prints the trace if a word says so. The parser has found that it is an option
-/// then, and tells less of it in its contract than the words do.
-fn cluster_task<'a>(words: &[String]) -> Task<'a>
-    ensures help { OnHelp result ⊥ }
-    ensures choices { HasNoChoices result }
-    ensures numbers { OnAnswer result (λ _ _. ⊥) }
-    ensures marks { ChecksBy (map string_bytes words.now) result }
+/// Returns the task of the command `cluster`, or `None` if the words ask it to print both the trace and the books.
+fn cluster_task<'a>(words: &[String]) -> Option<Task<'a>>
+    ensures help { IfSome result (λ task. OnHelp task ⊥) }
+    ensures choices { IfSome result HasNoChoices }
+    ensures numbers { IfSome result (λ task. OnAnswer task (λ _ _. ⊥)) }
+    ensures marks { IfSome result (ChecksBy (map string_bytes words.now)) }
 {
-    if has_word(words, "--trace") {
-        Task::Cluster(ClusterOutput::Trace)
-    } else {
-        Task::Cluster(ClusterOutput::Lines)
-    }
+    let printed = output_by(words)?;
+    Some(Task::Cluster(printed))
 }
 
 /// Returns the word for the command, the first after the program's name, or `None` if there is none. It does not
@@ -409,7 +405,7 @@ fn task_of<'a>(words: &'a [String], matches: &ArgMatches<'a>) -> Option<Task<'a>
     match word {
         "answer" => answer_task(words),
         "sim" => sim_task(words, given),
-        "cluster" => Some(cluster_task(words)),
+        "cluster" => cluster_task(words),
         "check" => Some(check_task(words)),
         "draw" => draw_task(words, given),
         _ => None,

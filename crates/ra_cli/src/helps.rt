@@ -198,6 +198,10 @@ run of the cluster, whose marks and totals are printed.
 them.
 Example: ra cluster --trace < script.toml | ra check
 
+--books prints the books of the nodes, one after the other, as `ra settle` reads
+them: what happened at each node, in order.
+Example: ra cluster --books < script.toml | ra settle
+
 A client that waits in vain would keep the program waiting forever. So two kinds
 of scripts are refused before any thread starts:
   OutOfOrder  a client locks a name that does not sort, byte by byte, after

@@ -126,12 +126,19 @@ const SIM_OPTIONS: &[OptionRow] = &[
     },
 ];
 
-/// The option of the command `cluster`.
-const CLUSTER_OPTIONS: &[OptionRow] = &[OptionRow {
-    name: "trace",
-    help: "Print the trace in place of marks and totals",
-    ..FLAG
-}];
+/// The options of the command `cluster`.
+const CLUSTER_OPTIONS: &[OptionRow] = &[
+    OptionRow {
+        name: "trace",
+        help: "Print the trace in place of marks and totals",
+        ..FLAG
+    },
+    OptionRow {
+        name: "books",
+        help: "Print the books in place of marks and totals",
+        ..FLAG
+    },
+];
 
 /// The options of the command `settle`.
 const SETTLE_OPTIONS: &[OptionRow] = &[

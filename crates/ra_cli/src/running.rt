@@ -6,11 +6,12 @@ ghost use Rattle.ra_world.specs.Traffic.{Move};
 ghost use Rattle.ra_trace.specs.TraceText.{IsTrace};
 ghost use Rattle.ra_script.specs.ScriptText.{script_of};
 ghost use Rattle.ra_cluster.specs.declared.cluster_run.ClusterError.{ClusterError};
-ghost use Rattle.ra_cli.specs.ClusterRun.{IsClusterRun, RunsCluster, RefusesRun, SaysRun, SaysScript, of_cluster};
+ghost use Rattle.ra_cli.specs.ClusterRun.{AreWrittenBooks, IsClusterRun, RunsCluster, RefusesRun, SaysRun, SaysScript, of_cluster};
 
 use crate::cluster_output::ClusterOutput;
 use crate::error::RunScriptError;
-use ra_cluster::{ClusterError, OpenGate, Settled, run_cluster};
+use ra_book::push_book;
+use ra_cluster::{Book, ClusterError, OpenGate, Recorded, Settled, record_cluster};
 use ra_schedule::Script;
 use ra_script::read_script;
 use ra_stamp::Memory;
@@ -65,23 +66,43 @@ fn trace_of(alloc: Global, nodes: u16, settled: &Settled) -> Result<String, Memo
     }
 }
 
-/// Returns what is printed of the run into which the books of this many nodes settled.
+/// Returns the text of books that threads recorded, one after the other.
 ///
 /// # Errors
 ///
 /// `Memory`: memory ran out.
-fn settled_text(
+fn books_text(alloc: Global, books: &[Book]) -> Result<String, Memory>
+    ensures { IfOk result (λ text. AreWrittenBooks books.now (string_bytes text)) }
+{
+    let mut text = String::new(alloc);
+    for book in books {
+        // A book takes only frames that fit, so only `Memory` can come.
+        let Ok(()) = push_book(&mut text, book) else {
+            return Err(Memory);
+        };
+    }
+    Ok(text)
+}
+
+/// Returns what is printed of what threads recorded at this many nodes.
+///
+/// # Errors
+///
+/// `Memory`: memory ran out.
+fn recorded_text(
     alloc: Global,
     printed: ClusterOutput,
     nodes: u16,
-    settled: &Settled,
+    recorded: &Recorded,
 ) -> Result<String, Memory>
-    ensures { IfOk result (λ text. (moves : List Move) → map (λ move. move.step) moves ≡ settled.now.steps.items
-        → IsRun nodes 0 moves → SaysRun printed nodes moves settled.now.report (string_bytes text)) }
+    ensures { IfOk result (λ text. (moves : List Move) → map (λ move. move.step) moves ≡ recorded.now.settled.steps.items
+        → IsRun nodes 0 moves
+        → SaysRun printed nodes recorded.now.books.items moves recorded.now.settled.report (string_bytes text)) }
 {
     match printed {
-        ClusterOutput::Lines => report_text(alloc, &settled.report),
-        ClusterOutput::Trace => trace_of(alloc, nodes, settled),
+        ClusterOutput::Lines => report_text(alloc, &recorded.settled.report),
+        ClusterOutput::Trace => trace_of(alloc, nodes, &recorded.settled),
+        ClusterOutput::Books => books_text(alloc, &recorded.books),
     }
 }
 
@@ -90,7 +111,7 @@ fn settled_text(
 ///
 /// # Errors
 ///
-/// Those of [`run_cluster`].
+/// Those of [`record_cluster`].
 fn text_of_run<T: Threads + Wait + Sync>(
     rt: &T,
     alloc: Global,
@@ -100,14 +121,14 @@ fn text_of_run<T: Threads + Wait + Sync>(
     ensures ok { IfOk result (λ text. SaysScript printed script.now (string_bytes text)) }
     ensures err { IfErr result (λ why. (input : List ℕ) → script_of input ≡ Ok script.now → RefusesRun input (of_cluster why)) }
 {
-    let settled = run_cluster(rt, alloc, script, &OpenGate)?;
-    let text = settled_text(alloc, printed, script.nodes(), &settled)?;
+    let recorded = record_cluster(rt, alloc, script, &OpenGate)?;
+    let text = recorded_text(alloc, printed, script.nodes(), &recorded)?;
     Ok(text)
 }
 
 /// Reads the text of a script, runs it by threads, and writes what is printed of the one run into which the books of the nodes
-/// settle: the lines of its report, or its trace. It takes at most 65,537 bytes from the reader, and no read or write that failed
-/// is tried again. It waits for the threads that it starts, and nothing bounds how long.
+/// settle: the lines of its report, its trace, or these books. It takes at most 65,537 bytes from the reader, and no read or
+/// write that failed is tried again. It waits for the threads that it starts, and nothing bounds how long.
 ///
 /// # Errors
 ///

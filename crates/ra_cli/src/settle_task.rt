@@ -1,12 +1,11 @@
 //! The command `settle`.
 ghost use Rattle.std.specs.Prelude.{◌≡◌, ◌↔◌, ◌∷◌, [], List, ℕ, map, string_bytes, IfOk, IsTrue, MatchOption};
 ghost use Rattle.ra_settle.specs.Verdicts.{IsSettledText, IsWrong};
-ghost use Rattle.ra_cli.specs.declared.cluster_output.ClusterOutput.{ClusterOutput};
+ghost use Rattle.ra_cli.specs.declared.settle_task.SettleOutput.{SettleOutput};
 ghost use Rattle.ra_cli.specs.declared.settle_task.SettleTask.{SettleTask};
 ghost use Rattle.ra_cli.specs.SettleRun as spec;
 ghost use Rattle.ra_cli.specs.SettleRun.{AreNoOptions, AreOptionsFor, AreSettleWords, AsksToSettle, Prints, RefusesInput, ServesSettle, TellsSettled, unsettled_line};
 
-use crate::cluster_output::ClusterOutput;
 use crate::outcome::{Outcome, Remark, UNFINISHED};
 use crate::refusal::Refusal;
 use crate::serving::{DONE, refuse, written};
@@ -21,13 +20,22 @@ use std::io::{Read, Write};
 /// The most bytes that a text of books may have.
 const MAX_TEXT: usize = 1 << 30;
 
+/// What `ra settle` prints of the run into which books settle.
+#[derive(Clone, Copy)]
+pub enum SettleOutput {
+    /// The lines of its report.
+    Lines,
+    /// Its trace.
+    Trace,
+}
+
 /// How books are settled.
 #[derive(Clone, Copy)]
 pub struct SettleTask {
     /// Whether messages may come more than once.
     pub repeats: bool,
     /// What is printed of the run.
-    pub printed: ClusterOutput,
+    pub printed: SettleOutput,
 }
 
 /// Returns whether a word is this text. It does not allocate.
@@ -51,13 +59,13 @@ fn one_option(one: &String) -> Option<SettleTask>
     if is_text(one, "--repeats") {
         return Some(SettleTask {
             repeats: true,
-            printed: ClusterOutput::Lines,
+            printed: SettleOutput::Lines,
         });
     }
     if is_text(one, "--trace") {
         return Some(SettleTask {
             repeats: false,
-            printed: ClusterOutput::Trace,
+            printed: SettleOutput::Trace,
         });
     }
     None
@@ -70,7 +78,7 @@ fn two_options(one: &String, other: &String) -> Option<SettleTask>
 {
     let both = SettleTask {
         repeats: true,
-        printed: ClusterOutput::Trace,
+        printed: SettleOutput::Trace,
     };
     if are_texts(one, other, "--repeats", "--trace") {
         return Some(both);
@@ -88,7 +96,7 @@ fn options_of(options: &[String]) -> Option<SettleTask>
     match options {
         [] => Some(SettleTask {
             repeats: false,
-            printed: ClusterOutput::Lines,
+            printed: SettleOutput::Lines,
         }),
         [one] => one_option(one),
         [one, other] => two_options(one, other),
@@ -146,7 +154,7 @@ fn unsettled_text(alloc: Global, line: u64, cause: TextCause) -> Result<String, 
 ///
 /// `Memory`: memory ran out.
 fn trace_of(alloc: Global, text: &SettledText) -> Result<String, Memory>
-    ensures { IfOk result (λ output. Prints ClusterOutput.Trace text.now (string_bytes output)) }
+    ensures { IfOk result (λ output. Prints SettleOutput.Trace text.now (string_bytes output)) }
 {
     // The steps are a run, so only `Memory` can come.
     match trace_text(alloc, text.nodes, text.start, &text.settled.steps) {
@@ -160,12 +168,12 @@ fn trace_of(alloc: Global, text: &SettledText) -> Result<String, Memory>
 /// # Errors
 ///
 /// `Memory`: memory ran out.
-fn run_text(alloc: Global, printed: ClusterOutput, text: &SettledText) -> Result<String, Memory>
+fn run_text(alloc: Global, printed: SettleOutput, text: &SettledText) -> Result<String, Memory>
     ensures { IfOk result (λ output. Prints printed text.now (string_bytes output)) }
 {
     match printed {
-        ClusterOutput::Lines => report_text(alloc, &text.settled.report),
-        ClusterOutput::Trace => trace_of(alloc, text),
+        SettleOutput::Lines => report_text(alloc, &text.settled.report),
+        SettleOutput::Trace => trace_of(alloc, text),
     }
 }
 

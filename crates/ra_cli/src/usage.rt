@@ -30,6 +30,9 @@ const AS_CHOICES_TEXT: &str =
 /// What is said about a part of a trace that has no lines.
 const PART_TEXT: &str = "--from must be at least 1, and at most --to; see ra draw --help";
 
+/// What is said if `cluster` is asked for two things.
+const CLUSTER_TEXT: &str = "--books cannot be used with --trace; see ra cluster --help";
+
 /// What is said if `node` has an argument that the parser passes over, which only `--` is.
 const NODE_TEXT: &str = "node takes no arguments; see ra node --help";
 
@@ -311,6 +314,7 @@ fn push_unseen(note: &mut Note, words: &[String], sim: &ArgMatches) {
 fn push_unseen_of(note: &mut Note, words: &[String], command: &str, given: &ArgMatches) {
     match command {
         "draw" => note.push(PART_TEXT),
+        "cluster" => note.push(CLUSTER_TEXT),
         "node" => note.push(NODE_TEXT),
         "settle" => note.push(SETTLE_TEXT),
         _ => push_unseen(note, words, given),

@@ -23,6 +23,7 @@ complete -c ra -n '__fish_seen_subcommand_from sim' -l trace -d 'Print the trace
 complete -c ra -n '__fish_seen_subcommand_from sim' -l as-choices -d 'Print the choices in place of marks and totals'
 complete -c ra -n '__fish_seen_subcommand_from sim' -s h -l help -d 'Print help, or a summary with -h'
 complete -c ra -n '__fish_seen_subcommand_from cluster' -l trace -d 'Print the trace in place of marks and totals'
+complete -c ra -n '__fish_seen_subcommand_from cluster' -l books -d 'Print the books in place of marks and totals'
 complete -c ra -n '__fish_seen_subcommand_from cluster' -s h -l help -d 'Print help, or a summary with -h'
 complete -c ra -n '__fish_seen_subcommand_from check' -l marks -d 'Check the mark log of any lock service, not a trace'
 complete -c ra -n '__fish_seen_subcommand_from check' -s h -l help -d 'Print help, or a summary with -h'

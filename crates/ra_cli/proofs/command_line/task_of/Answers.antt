@@ -15,9 +15,9 @@ returns-in-sim-clause-faithful c =
     under RunsFaithfully (SimsFaithfully words) (NamesFaithfully words) (λ sims. sims.names) c.sim_task.result c.sim_task.ensures.faithful
 
 pub returns-in-cluster-clause-faithful : goal.returns-in-cluster-clause-faithful
-returns-in-cluster-clause-faithful c sims =
+returns-in-cluster-clause-faithful c =
     let words = map string_bytes c.args.words.now in
-    absurd (no_other words c.in_ok-word.word.now (codes "cluster") c.in_ok-word.ensures c.in-cluster.is cluster_is_long sims)
+    other words (no_other words c.in_ok-word.word.now (codes "cluster") c.in_ok-word.ensures c.in-cluster.is cluster_is_long) c.cluster_task.result
 
 pub returns-in-check-clause-faithful : goal.returns-in-check-clause-faithful
 returns-in-check-clause-faithful c sims =
@@ -60,7 +60,7 @@ pub returns-in-draw-clause-numbers : goal.returns-in-draw-clause-numbers
 returns-in-draw-clause-numbers c = none_numbered (GivesNode (map string_bytes c.args.words.now)) c.draw_task.result c.draw_task.ensures.numbers
 
 pub returns-in-cluster-clause-numbers : goal.returns-in-cluster-clause-numbers
-returns-in-cluster-clause-numbers c = no_numbers (GivesNode (map string_bytes c.args.words.now)) c.cluster_task.result c.cluster_task.ensures.numbers
+returns-in-cluster-clause-numbers c = none_numbered (GivesNode (map string_bytes c.args.words.now)) c.cluster_task.result c.cluster_task.ensures.numbers
 
 pub returns-in-check-clause-numbers : goal.returns-in-check-clause-numbers
 returns-in-check-clause-numbers c = no_numbers (GivesNode (map string_bytes c.args.words.now)) c.check_task.result c.check_task.ensures.numbers
@@ -84,7 +84,7 @@ pub returns-in-sim-clause-choices : goal.returns-in-sim-clause-choices
 returns-in-sim-clause-choices c = c.sim_task.ensures.choices
 
 pub returns-in-cluster-clause-choices : goal.returns-in-cluster-clause-choices
-returns-in-cluster-clause-choices c _ = c.cluster_task.ensures.choices
+returns-in-cluster-clause-choices c = anyway (GivesNoChoices (map string_bytes c.args.words.now)) c.cluster_task.result c.cluster_task.ensures.choices
 
 pub returns-in-check-clause-choices : goal.returns-in-check-clause-choices
 returns-in-check-clause-choices c _ = c.check_task.ensures.choices
