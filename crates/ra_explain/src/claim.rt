@@ -9,7 +9,7 @@ pub struct Claim {
     pub entry: Entry,
     /// Whether it was granted. Otherwise it waits.
     pub holds: bool,
-    /// The place of the mark since which it does so, counted from 1.
+    /// The line or the place of the mark since which it does so, counted from 1.
     pub since: u64,
 }
 
@@ -19,6 +19,27 @@ impl Claim {
         self.entry.name == entry.name
             && conflicts(self.entry.mode, entry.mode)
             && (self.holds || self.entry.stamp < entry.stamp)
+    }
+
+    /// Adds whose it is, what that client does with the name, and in or since which line.
+    pub fn push(&self, note: &mut Note, does: &str, place: &str) {
+        note.client(self.entry.client);
+        note.push(" at node ");
+        note.number(u64::from(self.entry.stamp.node.get()));
+        note.push(does);
+        note.name(&self.entry.name);
+        note.mode(self.entry.mode);
+        note.push(place);
+        note.number(self.since);
+    }
+
+    /// Adds that it is in the way of another one, since it holds or came first.
+    pub fn push_in_the_way(&self, note: &mut Note) {
+        if self.holds {
+            self.push(note, " has held ", " since line ");
+        } else {
+            self.push(note, " asked for ", " in line ");
+        }
     }
 }
 
@@ -69,4 +90,16 @@ pub fn claims_after(alloc: Global, note: &mut Note, marks: &[Mark]) -> Vec<Claim
         note.refuse_if(!noted);
     }
     claims
+}
+
+/// Returns the text for a request of a run that waits, but is blocked by no claim, given how many messages are under way at
+/// the end and how many were lost. It lacks one of these, as the main theorem says.
+pub fn want_text(under_way: u128, lost: u128) -> &'static str {
+    if under_way == 0 {
+        ": no client blocks it, but a message was lost"
+    } else if lost == 0 {
+        ": no client blocks it, but a message is under way"
+    } else {
+        ": no client blocks it, but a message was lost or is under way"
+    }
 }

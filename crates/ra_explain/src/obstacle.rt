@@ -80,27 +80,6 @@ fn cause_text(cause: MarkCause) -> &'static str {
     }
 }
 
-/// Adds the claim that is in the way.
-fn push_claim(note: &mut Note, claim: &Claim) {
-    note.push(": ");
-    note.client(claim.entry.client);
-    note.push(" at node ");
-    note.number(u64::from(claim.entry.stamp.node.get()));
-    note.push(if claim.holds {
-        " has held "
-    } else {
-        " asked for "
-    });
-    note.name(&claim.entry.name);
-    note.mode(claim.entry.mode);
-    note.push(if claim.holds {
-        " since line "
-    } else {
-        " in line "
-    });
-    note.number(claim.since);
-}
-
 /// Adds the number that a request must exceed.
 fn push_granted(note: &mut Note, before: &Before) {
     note.push(": ");
@@ -142,7 +121,8 @@ fn push_details(
     match cause {
         MarkCause::NodeBusy | MarkCause::Held | MarkCause::Earlier => {
             if let Some(claim) = first_in_the_way(&before.claims, entry, cause) {
-                push_claim(note, &claim);
+                note.push(": ");
+                claim.push_in_the_way(note);
             }
         }
         MarkCause::NotAbove => push_granted(note, before),

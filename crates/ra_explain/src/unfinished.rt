@@ -1,11 +1,10 @@
 //! Which clients wait for which others at the end of a run.
-use crate::claim::Claim;
+use crate::claim::{Claim, want_text};
 use crate::script::{run_of, script_in};
 use crate::standing::{RunEnd, Standing};
 use ra_schedule::{Policy, Script};
 use ra_stamp::{Entry, Memory, Name, NodeId};
 use ra_text::Note;
-use ra_world::Report;
 use std::alloc::Global;
 
 /// The most clients that are described.
@@ -13,17 +12,6 @@ const MAX_CLIENTS: u64 = 4;
 
 /// The most requests that are named as blocking one request.
 const MAX_BLOCKERS: u64 = 3;
-
-/// Returns the text for a request that no client blocks: it lacks a message that was lost or is under way.
-fn want_text(report: &Report) -> &'static str {
-    if report.under_way == 0 {
-        "no client blocks it, but a message was lost"
-    } else if report.lost == 0 {
-        "no client blocks it, but a message is under way"
-    } else {
-        "no client blocks it, but a message was lost or is under way"
-    }
-}
 
 /// Adds that a claim is in the way.
 fn push_blocker(note: &mut Note, ending: &RunEnd<'_>, claim: &Claim) {
@@ -52,10 +40,8 @@ fn push_blockers(note: &mut Note, ending: &RunEnd<'_>, entry: &Entry) {
         }
     }
     note.push_more(" and ", count, MAX_BLOCKERS);
-    // Then a message was lost or is under way, as the main theorem says.
     if count == 0 {
-        note.push(": ");
-        note.push(want_text(ending.report));
+        note.push(want_text(ending.report.under_way, ending.report.lost));
     }
 }
 

@@ -1,0 +1,250 @@
+//! What is left at the end of a trace or of a mark log.
+use crate::before::{entry_of, mark_in};
+use crate::claim::{Claim, want_text};
+use crate::open_text::{Left, Open, OpenText, Stage, Words};
+use arrayvec::ArrayVec;
+use indexmap::IndexMap;
+use ra_stamp::Memory;
+use ra_text::Note;
+use std::alloc::Global;
+
+/// The most bytes of a mark.
+const MAX_LINE: usize = 79;
+
+/// The most clients that are named at each stage.
+const MAX_CLIENTS: u64 = 4;
+
+/// The most requests that are named as blocking one request.
+const MAX_BLOCKERS: u64 = 3;
+
+/// A client that waits, is queued or holds.
+#[derive(Clone, Copy)]
+struct Client {
+    /// Its request. If the client is queued it has none yet, and the number in this one has no meaning.
+    claim: Claim,
+    stage: Stage,
+}
+
+/// The end of a text.
+#[derive(Drop)]
+struct TextEnd {
+    clients: Vec<Client>,
+    left: Left,
+    is_trace: bool,
+}
+
+/// Returns the line that requests what a client with these words wants, without its line feed. A client that is queued gets
+/// the number 1.
+fn line_of(words: &[u8], stage: Stage) -> ArrayVec<u8, MAX_LINE> {
+    let mut line = ArrayVec::new();
+    line.try_extend_from_slice(b"request ").ok();
+    line.try_extend_from_slice(words).ok();
+    if let Stage::Queued = stage {
+        line.try_extend_from_slice(b" 1").ok();
+    }
+    line
+}
+
+/// Returns the client with these words.
+fn client_of(words: &[u8], open: &Open) -> Option<Client> {
+    match mark_in(&line_of(words, open.stage)) {
+        Some(mark) => Some(Client {
+            claim: Claim {
+                entry: *entry_of(&mark),
+                holds: open.stage == Stage::Holds,
+                since: open.since,
+            },
+            stage: open.stage,
+        }),
+        None => None,
+    }
+}
+
+/// Returns the clients with these words. If memory runs out, the note records it.
+fn clients_of(alloc: Global, note: &mut Note, all: &IndexMap<Words, Open>) -> Vec<Client> {
+    let mut clients = Vec::new(alloc);
+    for (words, open) in all.iter() {
+        if let Some(client) = client_of(words, open) {
+            note.refuse_if(clients.push(client).is_err());
+        }
+    }
+    clients
+}
+
+impl Client {
+    /// Returns whether it is in the way of another client: it blocks the request of one that waits, or is the one of its node for
+    /// which one that is queued waits.
+    fn is_in_the_way(&self, other: &Client) -> bool {
+        let (entry, queued) = (&self.claim.entry, &other.claim.entry);
+        match other.stage {
+            Stage::Waits => self.stage != Stage::Queued && self.claim.blocks(queued),
+            Stage::Queued => {
+                self.stage != Stage::Queued
+                    && entry.stamp.node == queued.stamp.node
+                    && entry.name == queued.name
+            }
+            Stage::Holds => false,
+        }
+    }
+
+    /// Adds what it does, and since which line.
+    fn push(&self, note: &mut Note) {
+        let does = match self.stage {
+            Stage::Waits => " has waited for ",
+            Stage::Queued => " has been queued for ",
+            Stage::Holds => " has held ",
+        };
+        self.claim.push(note, does, " since line ");
+    }
+}
+
+/// Returns the first client after a line that is at this stage.
+fn next_at(clients: &[Client], after: u64, stage: Stage) -> Option<Client> {
+    let (mut found, mut first) = (None, u64::MAX);
+    for client in clients {
+        let since = client.claim.since;
+        if after < since && since < first && client.stage == stage {
+            found = Some(*client);
+            first = since;
+        }
+    }
+    found
+}
+
+/// Returns the first client after a line that is in the way of another one.
+fn next_in_the_way(clients: &[Client], after: u64, other: &Client) -> Option<Client> {
+    let (mut found, mut first) = (None, u64::MAX);
+    for client in clients {
+        let since = client.claim.since;
+        if after < since && since < first && client.is_in_the_way(other) {
+            found = Some(*client);
+            first = since;
+        }
+    }
+    found
+}
+
+/// Returns how many clients are in the way of another one.
+fn count_in_the_way(clients: &[Client], other: &Client) -> u64 {
+    let mut count = 0;
+    for client in clients {
+        if client.is_in_the_way(other) {
+            count = u64::saturating_add(count, 1);
+        }
+    }
+    count
+}
+
+impl TextEnd {
+    /// Adds that no client blocks a request.
+    fn push_want(&self, note: &mut Note) {
+        note.push(if self.is_trace {
+            want_text(self.left.under_way, self.left.lost)
+        } else {
+            ": no client blocks it"
+        });
+    }
+
+    /// Adds which clients are in the way of one that waits or is queued.
+    fn push_in_the_way(&self, note: &mut Note, client: &Client) {
+        let mut after = 0;
+        for named in 0..MAX_BLOCKERS {
+            let Some(other) = next_in_the_way(&self.clients, after, client) else {
+                break;
+            };
+            note.push(if named == 0 { ": " } else { ", " });
+            other.claim.push_in_the_way(note);
+            after = other.claim.since;
+        }
+        note.push_more(
+            " and ",
+            count_in_the_way(&self.clients, client),
+            MAX_BLOCKERS,
+        );
+        if after == 0 && client.stage == Stage::Waits {
+            self.push_want(note);
+        }
+    }
+
+    /// Adds the first clients at a stage. Returns how many clients are named then, if this many are named before.
+    fn push_clients(&self, note: &mut Note, stage: Stage, before: u64) -> u64 {
+        let (mut after, mut named) = (0, before);
+        for _ in 0..MAX_CLIENTS {
+            let Some(client) = next_at(&self.clients, after, stage) else {
+                break;
+            };
+            note.push(if named == 0 { ": " } else { "; " });
+            client.push(note);
+            self.push_in_the_way(note, &client);
+            after = client.claim.since;
+            named = u64::saturating_add(named, 1);
+        }
+        named
+    }
+
+    /// Adds the first clients at each stage.
+    fn push(&self, note: &mut Note) {
+        let waiting = self.push_clients(note, Stage::Waits, 0);
+        let named = self.push_clients(note, Stage::Queued, waiting);
+        self.push_clients(note, Stage::Holds, named);
+    }
+}
+
+/// Adds how many there are of something, and what becomes of them.
+fn push_count(note: &mut Note, count: u128, thing: &str, what: &str) {
+    note.number(count);
+    note.push(thing);
+    note.push(if count == 1 { " " } else { "s " });
+    note.push(what);
+}
+
+/// Adds how much is left.
+fn push_counts(note: &mut Note, left: &Left, is_trace: bool) {
+    if is_trace {
+        note.push("the trace ends with ");
+        push_count(note, left.under_way, " message", "under way, ");
+        push_count(note, left.lost, " message", "lost, ");
+        push_count(note, u128::from(left.waiting), " request", "waiting, ");
+        push_count(note, u128::from(left.queued), " client", "queued, ");
+    } else {
+        note.push("the log ends with ");
+        push_count(note, u128::from(left.waiting), " request", "waiting, ");
+    }
+    push_count(note, u128::from(left.holding), " request", "holding");
+}
+
+/// Adds what is left at the end of a text.
+fn push_end(alloc: Global, note: &mut Note, text: &OpenText, left: &Left) {
+    push_counts(note, left, text.is_trace);
+    if text.is_whole {
+        let end = TextEnd {
+            clients: clients_of(alloc, note, &text.open),
+            left: *left,
+            is_trace: text.is_trace,
+        };
+        end.push(note);
+    } else {
+        note.push("; there was no room to name them");
+    }
+}
+
+/// Returns a note on what is left at the end of a text whose lines were taken, and which is a mark log, or a trace in which
+/// this many messages were sent. The note counts the messages that are under way and lost, and the requests that wait, are
+/// queued or hold. At each stage it names the first four clients and since which lines they are there, and which clients
+/// those wait for that wait or are queued. If there was no memory for the clients, or there were more than 65,536 at once,
+/// it only counts. Of a log without a mark it says that. Returns `None` if nothing is left. The cost is linear in how many
+/// wait, are queued or hold.
+///
+/// # Errors
+///
+/// `Memory`: memory ran out.
+pub fn end_note(alloc: Global, text: &OpenText, sent: u128) -> Result<Option<String>, Memory> {
+    let mut note = Note::new(alloc);
+    let left = text.counts.left(sent);
+    if text.lines == 0 {
+        note.push("the log has no mark, so nothing was judged");
+    } else if !left.is_nothing() {
+        push_end(alloc, &mut note, text, &left);
+    }
+    note.finish()
+}
