@@ -32,6 +32,8 @@ BROKEN = [
     ("cluster --books", "ONE_CLIENT", "book 1 1 2 0\n", ""),
     ("check", "ONE_CLIENT_TRACE", "valid\nrequests 1\n", ""),
     ("check", None, "invalid 1 Line\n", ""),
+    # Of a verdict that was not printed it is not said what is left at the end, or that a log has no mark.
+    ("check", "LOST_TRACE", "valid\nrequests 1\n", ""),
     ("check --marks", None, "valid\nrequests 0\n", ""),
     ("check --marks", b"no mark\n", "invalid 1 Line\n", ""),
     ("draw", "ONE_CLIENT_TRACE", "<svg xmlns=", ""),
@@ -45,6 +47,9 @@ BROKEN = [
 
 # The note on the line of a trace that is not a mark.
 NO_MARK = "ra: line 1, 'trace 2 2 0': this looks like a trace, which ra check reads without --marks\n"
+# The note on the end of the log of one request.
+ONE_LEFT = "ra: the log ends with 1 request waiting, 0 requests holding: "
+ONE_LEFT += "client 1 at node 1 has waited for 'r' (X) since line 1: no client blocks it\n"
 
 
 def breaks_off(words, given, printed, fault, note, refused=0):
@@ -91,4 +96,13 @@ class FailingNotes(PreloadTest):
                 came = {"status": 3, "output": b"invalid 1 Line\n", "note": NO_MARK.encode()[:place]}
                 came |= {"note_failed": True, "noted_after": 0}
                 runs.append(Run("check --marks", TEXTS["ONE_CLIENT_TRACE"], notes=Stream(place, fault), expected=came))
+        self.expect_of(runs)
+
+    def test_a_fault_of_the_note_on_an_end_changes_nothing_else(self):
+        runs = []
+        for fault, _ in SAID:
+            for place in range(0, len(ONE_LEFT), 7):
+                came = {"status": 0, "output": b"valid\nrequests 1\ngrants 0\n", "note": ONE_LEFT.encode()[:place]}
+                came |= {"note_failed": True, "noted_after": 0}
+                runs.append(Run("check --marks", "request 1 1 r X 1\n", notes=Stream(place, fault), expected=came))
         self.expect_of(runs)

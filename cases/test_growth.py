@@ -164,6 +164,17 @@ class Growth(PreloadTest):
         line = "request 1 1 r X"
         self.expect_of_line("check --marks", f"{line}\n", "invalid 1 Line\n", line, cause, NOT_A_MARK, quotes=False)
 
+    def test_growth_of_a_note_on_the_end_of_a_trace(self):
+        counts = "ra: the trace ends with 0 messages under way, 0 messages lost, 0 requests waiting, 1 client queued, 1 request holding"
+        queued = "client 2 at node 1 has been queued for 'r' (S) since line 5: client 1 at node 1 has held 'r' (X) since line 4"
+        note = f"{counts}: {queued}; client 1 at node 1 has held 'r' (X) since line 4\n"
+        less = [f"{counts}; there was no room to name them\n", NO_MORE]
+        self.expect_growth("check", TEXTS["A_QUEUED_TRACE"], "valid\nrequests 1\nmessages 0\n", 0, note, less)
+
+    def test_growth_of_a_note_on_a_log_without_a_mark(self):
+        note = "ra: the log has no mark, so nothing was judged\n"
+        self.expect_growth("check --marks", "", "valid\nrequests 0\ngrants 0\n", 0, note, [NO_MORE])
+
     def test_growth_of_a_note_on_a_line_of_books(self):
         line = "receive 02020002000100000000000000000100000000000000020172"
         cause = f", in the book of node 1, a frame of node 2 with clock 2: {NOT_SENT.rstrip()}"

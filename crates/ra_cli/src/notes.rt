@@ -16,6 +16,7 @@ use crate::seen_writer::OutputFault;
 use crate::usage::usage_note;
 use crate::{AnswerError, CommandFault};
 use ra_draw::DrawError;
+use ra_explain::end_note;
 use ra_schedule::DriveError;
 use ra_script::{ChoicesError, PerformError, read_choices};
 use ra_text::Note;
@@ -72,16 +73,27 @@ fn said_of(
 ) -> Said {
     match place_of(alloc, words, seen, remark, last_seed) {
         Some(text) => Said::Note(text),
-        None => cause_of(alloc, words, remark),
+        None => cause_of(alloc, words, seen, remark),
+    }
+}
+
+/// Returns what there is to say about the end of a trace in which this many messages were sent, or of a mark log.
+fn of_end(alloc: Global, seen: &Seen, sent: u128) -> Said {
+    match end_note(alloc, seen.open(), sent) {
+        Ok(Some(text)) => Said::Note(text),
+        Ok(None) => Said::Nothing,
+        // Without a note, nothing would seem to be left.
+        Err(_) => Said::Text(UNEXPLAINED),
     }
 }
 
 /// Returns what there is to say about the cause of a remark.
-fn cause_of(alloc: Global, words: &[String], remark: &Remark) -> Said {
+fn cause_of(alloc: Global, words: &[String], seen: &Seen, remark: &Remark) -> Said {
     match remark {
         Remark::Refused(refusal) => refusal_of(alloc, words, *refusal),
         Remark::Unfinished => Said::Text(UNEXPLAINED),
         Remark::SomeUnfinished => Said::Text(SEEDS_LEFT),
+        Remark::Ends { sent } => of_end(alloc, seen, *sent),
         Remark::NoTrace { line, cause } => Said::Line {
             line: *line,
             text: cause_text(*cause),

@@ -30,6 +30,13 @@ pub enum Remark {
     TooManyBooks,
     /// The log is no run of the lock table: its first wrong line, and why.
     NoLog { line: u64, cause: MarkCause },
+    /// The text is a trace in which this many messages were sent, or a run of the lock table, in which none is.
+    Ends { sent: u128 },
+}
+
+/// Returns whether a status says that nothing was refused, and neither the input nor the output failed.
+fn is_fair(status: u8) -> bool {
+    matches!(status, 0 | UNFINISHED)
 }
 
 /// What came of a command: its exit status, and what there is to say of it to a person, if anything.
@@ -56,29 +63,29 @@ impl Outcome {
 
     /// Returns whether nothing was refused, and neither the input nor the output failed.
     pub fn is_fair(&self) -> bool {
-        matches!(self.status, 0 | UNFINISHED)
+        is_fair(self.status)
     }
 
     /// Makes that of a verdict. Of one that could not be printed there is nothing to say but that.
     pub fn judged(status: u8, remark: Option<Remark>) -> Outcome
         ensures { result.status ≡ status }
     {
-        Outcome::new(status, if status == UNFINISHED { remark } else { None })
+        Outcome::new(status, if is_fair(status) { remark } else { None })
     }
 }
 
-/// Returns what there is to say of a verdict, which is nothing if the text is a trace.
+/// Returns what there is to say of a verdict.
 pub fn remark_of(verdict: &Verdict) -> Option<Remark> {
     match *verdict {
-        Verdict::Valid { .. } => None,
+        Verdict::Valid { messages, .. } => Some(Remark::Ends { sent: messages }),
         Verdict::Invalid { line, cause } => Some(Remark::NoTrace { line, cause }),
     }
 }
 
-/// Returns what there is to say of a verdict on a mark log, which is nothing if it is a run of the lock table.
+/// Returns what there is to say of a verdict on a mark log.
 pub fn marks_remark_of(verdict: &MarksVerdict) -> Option<Remark> {
     match *verdict {
-        MarksVerdict::Valid { .. } => None,
+        MarksVerdict::Valid { .. } => Some(Remark::Ends { sent: 0 }),
         MarksVerdict::Invalid { line, cause } => Some(Remark::NoLog { line, cause }),
     }
 }

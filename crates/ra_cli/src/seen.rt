@@ -2,6 +2,7 @@
 ghost use Rattle.std.specs.Prelude.{◌≡◌};
 
 use arrayvec::ArrayVec;
+use ra_explain::OpenText;
 use ra_text::cut;
 use std::alloc::Global;
 use std::io;
@@ -27,6 +28,8 @@ pub struct Seen {
     feeds: u64,
     /// Whether the line before was `end`.
     is_after_end: bool,
+    /// What is open after the lines that were looked at and taken whole.
+    open: OpenText,
 }
 
 /// Adds bytes to the first ones, as far as these are remembered, and returns whether there was memory for them.
@@ -51,6 +54,7 @@ impl Seen {
             taken: 0,
             feeds: 0,
             is_after_end: false,
+            open: OpenText::new(alloc),
         }
     }
 
@@ -96,6 +100,11 @@ impl Seen {
     /// Returns whether the line before the last one was `end`.
     pub fn is_after_end(&self) -> bool {
         self.is_after_end
+    }
+
+    /// Returns what is open after the lines that were looked at and taken whole.
+    pub fn open(&self) -> &OpenText {
+        &self.open
     }
 
     /// Returns how many lines were taken with their line feeds.
@@ -159,6 +168,17 @@ impl Seen {
                 None => false,
             };
         self.take(count);
+        if count > 0 && self.is_over() {
+            self.follow_line();
+        }
+    }
+
+    /// Follows the last line, which was taken with its line feed.
+    fn follow_line(&mut self) {
+        let end = self.taken.saturating_sub(1);
+        if let Some(line) = self.line.as_slice().get(..end) {
+            self.open.take_line(line);
+        }
     }
 
     /// Remembers that `count` bytes of what was shown are taken.

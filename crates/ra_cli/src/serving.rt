@@ -539,6 +539,7 @@ pub fn serve<T: Threads + Wait + Sync, R: BufRead, W: Write>(
 ///
 /// - If something was refused, a text is no trace, a log is no mark log, books do not settle, or a run ended with something left
 ///   to do, a line says what is wrong, where in what was read, and what would be right.
+/// - If a text is a trace or a mark log, a line says what is left at its end, if anything is, or that a log has no mark.
 /// - There is a line for each option that has no effect, if the policy `listed` has no choices, if a finished run leaves names
 ///   locked, and for the seed of a run that was found.
 /// - There is a line if `writer` failed, unless that is a pipe that is no longer read.
