@@ -24,7 +24,7 @@ not_me q me h e = grind (arith, nat_tests)
 is_not : (q me : ℕ) → q ≢ me → not (q == me) ≡ true
 is_not q me h = grind (arith, nat_tests)
 
--- who is asked is another node
+-- a node that is asked is another node
 asked_is_other : (s : State) (node : ℕ) → IsTrue (set.contains (set.from_list {R = nat_cmp} (others_of s.me s.nodes)) node) → IsOther s node
 asked_is_other s node h =
     let found = any_passes (λ k. not (k == s.me)) 1 s.nodes node (sym (set.contains-from_list_nat (others_of s.me s.nodes) node) ∙ h) in

@@ -28,7 +28,7 @@ any_past p first (suc n) q h =
       | false ↦ rest
     ]
 
--- inside the range it is where it passes
+-- inside the range it is as it passes
 pub any_inside : (p : ℕ → Bool) (first n q : ℕ) → first ≤ q → q < first + n → list_any (λ y. nat_eq y q) (filter p (range_with_len first n)) ≡ p q
 any_inside p first zero q low high = absurd (omega arith)
 any_inside p first (suc n) q low high =
@@ -128,7 +128,7 @@ sorted_from p v first (suc n) =
 pub sorted : (p : ℕ → Bool) (v : ℕ → ℕ) (first n : ℕ) → T (finmap.is_sorted nat_cmp (map (λ node. (node, v node)) (filter p (range_with_len first n))))
 sorted p v first n = subst T (sym (sorted_from p v first n)) tt
 
--- ---- A longer range, where no more pass.
+-- ---- A longer range, in which no more pass
 
 pub filter-longer : (p : ℕ → Bool) (first n more : ℕ) → n ≤ more → ((q : ℕ) → first + n ≤ q → q < first + more → p q ≡ false) → filter p (range_with_len first more) ≡ filter p (range_with_len first n)
 filter-longer p first zero zero le none = refl

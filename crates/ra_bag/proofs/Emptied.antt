@@ -330,7 +330,7 @@ same_spare spare capacity len is = omega (arith, is)
 pub more_spare : (spare capacity len new_capacity new_len : ℕ) → capacity - len ≡ spare → new_capacity ≡ capacity → new_len ≤ len → spare ≤ new_capacity - new_len
 more_spare spare capacity len new_capacity new_len is same less = omega (arith, is, same, less)
 
--- ---- Where a message was found
+-- ---- A message was found
 
 pub same_place : (near place : ℕ) → At near ≡ At place → near ≡ place
 same_place near place is = cc
@@ -338,7 +338,7 @@ same_place near place is = cc
 pub in_no_place : (slot place : ℕ) → In slot ≡ At place → ⊥
 in_no_place slot place is = cc
 
--- ---- Where nothing was found
+-- ---- Nothing was found
 
 -- what holds of each value that was found
 pub of_none : {A : Type 0} (P : A → Type 0) (found : Option A) → found ≡ None → IfSome found P

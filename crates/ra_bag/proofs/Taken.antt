@@ -6,7 +6,7 @@ use Rattle.ra_stamp.specs.declared.message.Message.{Message}
 use Rattle.ra_bag.specs.Bag.{TakesFirst}
 use Rattle.std.proofs.lemmas.List.{get_or-take, get_or_default, length-take-le}
 
--- the first message that is equal to this one stands at a place, and none before it is
+-- the first message that is equal to this one is at a place, and none before it is
 pub takes_at : (messages : List Message) (place : ℕ) (message : Message) → place < length messages → get_or messages place message ≡ message
     → ((k : ℕ) → k < place → get_or messages k message ≢ message) → TakesFirst messages message (remove messages place)
 takes_at messages place message lt is first =

@@ -176,7 +176,7 @@ same_fault books found stop at = (
   λ is. let both : Some found ≡ Some stop = at ∙ is in let same : found ≡ stop = cc in ap (λ (s : Stop). Err (Fault s)) same,
 )
 
--- where they have none, none is answered
+-- if they have none, none is answered
 pub no_fault : (script : ScriptState) (books : List BookState) (grants : List Grant) (stop : Stop) → None ≡ first_fault books
     → (r : Result Settled ClusterError) → Ended script books grants r → IsErrOf r (Fault stop) ↔ (first_fault books ≡ Some stop)
 no_fault script books grants stop none r whole = (
@@ -184,7 +184,7 @@ no_fault script books grants stop none r whole = (
   λ is. let wrong = none ∙ is in absurd (cc),
 )
 
--- where one has, nothing else is
+-- if one has, that is answered
 pub some_fault : (books : List BookState) (found : Stop) (Q : ClusterError → Type 0) → Some found ≡ first_fault books → first_fault books ≡ None
     → Q (Fault found)
 some_fault books found Q at none = let wrong = at ∙ none in absurd (cc)

@@ -13,7 +13,7 @@ at_seam : {X : Type 0} (xs ys : List X) (x : X) → slice_get (xs ++ x ∷ ys) (
 at_seam [] ys x = refl
 at_seam (y ∷ xs) ys x = at_seam xs ys x
 
--- what stands after a seam
+-- what is after a seam
 behind_seam : {X : Type 0} (xs ys : List X) (x : X) (n k : ℕ) → n ≡ suc (length xs + k) → slice_get (xs ++ x ∷ ys) n ≡ slice_get ys k
 behind_seam [] ys x zero k e = absurd (omega arith)
 behind_seam [] ys x (suc n) k e = ap (slice_get ys) (omega arith)
@@ -44,7 +44,7 @@ past_take [] (suc n) k more = refl
 past_take (x ∷ xs) (suc n) zero more = absurd (omega arith)
 past_take (x ∷ xs) (suc n) (suc k) more = past_take xs n k (omega arith)
 
--- where nothing but other operations stand, the name is not unlocked
+-- if there are only other operations, the name is not unlocked
 not_unlocked : (ops : List Op) (held : List ℕ) (k : ℕ) → All (λ op. op ≢ Unlock held) ops → slice_get ops k ≢ Some (Unlock held)
 not_unlocked ops held k all is =
     all k (Unlock held) (slice_get_within ops k (Unlock held) is) (get_or_from_slice_get ops k (Unlock held) (Unlock held) is)

@@ -1,4 +1,4 @@
--- The sites of a cluster stand in the order of their numbers, and so do the books that they give when they are closed.
+-- The sites of a cluster are in the order of their numbers, and so are the books that they give when they are closed.
 use Rattle.std.proofs.Common.{◌≡◌, ℕ, zero, suc, ◌+◌, ◌<◌, ◌≤◌, List, [], ◌∷◌, ◌++◌, map, length, get_or, Bor, Option, Some, None, is_some, IfSome, ltb, sym, ap, ◌∙◌, subst, inl, inr, arith}
 use Rattle.std.specs.Prelude.{All}
 use Rattle.std.specs.List.{range_with_len}
@@ -24,7 +24,7 @@ found_at n node place sites (Some s) are is within at =
     let e : 1 + place ≡ node = omega arith in
     at ∙ ap (λ (xs : List ℕ). get_or xs place s.now) are ∙ get_or-range_with_len 1 n place s.now low ∙ e
 
--- one more number stands after those that there are
+-- one more number comes after those that there are
 numbers_from : (a n : ℕ) → range_with_len a (suc n) ≡ range_with_len a n ++ (a + n) ∷ []
 numbers_from a zero = let e : a ≡ a + 0 = omega arith in ap (λ (x : ℕ). x ∷ []) e
 numbers_from a (suc n) =

@@ -1,4 +1,4 @@
--- What the checks of the fields say where none fails.
+-- What the checks of the fields say if none fails.
 use Rattle.std.proofs.Common.{◌≡◌, ℕ, ◌+◌, ◌^◌, ◌≤◌, Bool, true, false, cond, not, List, [], ◌∷◌, ◌++◌, length, drop, Option, Some, None, refl, sym, subst, ◌∙◌, arith}
 use Rattle.std.specs.Prelude.{◌||◌, ◌⊎◌, ◌==◌, nat_lt, nat_le, slice_index, Result, Ok, Err}
 use Rattle.std.specs.List.{list_all}
@@ -115,7 +115,7 @@ ends_before mode len rest e = grind (arith)
 pub clock_is_there : (format : Format) (bytes : List ℕ) (mode : ℕ) → mode ≡ mode_place format → IsChecked format bytes → mode + 9 + 8 ≤ length bytes
 clock_is_there format bytes mode e all = ends_before mode (length bytes) (slice_index bytes (mode_place format + 17)) (subst (λ m. length bytes ≡ m + 18 + slice_index bytes (mode_place format + 17)) (sym e) all.long)
 
--- where a name is told by its bytes alone
+-- a name that is told by its bytes alone
 pub name_passes : (name : List ℕ) (r : Bool) → 1 ≤ length name → length name ≤ 32 → (r ≡ true → IsName name) → (IsName name → r ≡ true) → r ≡ list_all is_name_byte name
 name_passes name true low high to from = sym (list_all-from_AllPass is_name_byte name (to refl).each)
 name_passes name false low high to from =
@@ -147,7 +147,7 @@ fault_ahead len [] behind fault e = absurd cc
 fault_ahead len (check ∷ checks) behind fault e =
     ahead_by (nat_lt len check.end) check.is_right (first_failing len checks) (first_failing len (checks ++ behind)) check fault (fault_ahead len checks behind fault) e
 
--- where some checks pass, the first fault is that of the others
+-- if some checks pass, the first fault is that of the others
 behind_by : (short right : Bool) (some all others : Option FrameError) (check : Check) → (some ≡ None → all ≡ others) → cond short (Some Short) (cond right some (Some check.fault)) ≡ None
     → cond short (Some Short) (cond right all (Some check.fault)) ≡ others
 behind_by true right some all others check behind e = absurd cc

@@ -23,7 +23,7 @@ use Rattle.ra_frame.specs.Fits.{Fits}
 use Rattle.ra_frame.specs.Checked.{IsChecked, clock_in, name_in}
 use Rattle.ra_frame.proofs.Checks.{a_kind, checked, of_request, of_reply, within, same, different, not_above, none_failing}
 
--- what stands from the mode on: it is the same in both versions
+-- what comes from the mode on: it is the same in both versions
 abbrev pub rest_of : ℕ → ℕ → ℕ → List ℕ → List ℕ
 rest_of mode seq clock name = mode ∷ (to_be_bytes w64 seq ++ (to_be_bytes w64 clock ++ length name ∷ name))
 
@@ -58,7 +58,7 @@ is_below bytes fits = omega (arith, fits 0, fits 1, fits 2, fits 3, fits 4, fits
 two_again : (bytes : List ℕ) → length bytes ≡ 2 → IsBytes bytes → to_be_bytes w16 (from_be_bytes w16 bytes) ≡ bytes
 two_again bytes len fits = be_bytes_2 bytes _ len fits refl
 
--- bytes from the mode on, where the name is as long as is said
+-- bytes from the mode on, if the name is as long as is said
 pieces : (mode len : ℕ) (seq clock name seq' clock' : List ℕ) → seq' ≡ seq → clock' ≡ clock → length name ≡ len
     → mode ∷ (seq ++ (clock ++ len ∷ name)) ≡ mode ∷ (seq' ++ (clock' ++ length name ∷ name))
 pieces mode len seq clock name seq' clock' s c l = cc
@@ -92,7 +92,7 @@ spelled_of V2 (b0 ∷ b1 ∷ b2 ∷ b3 ∷ b4 ∷ b5 ∷ rest) fits long version
     (rest_again rest (IsBytes-drop 6 bytes fits) (omega (arith, long)))
 spelled_of format bytes fits long version = absurd (omega (arith, long))
 
--- the name is what stands after its length
+-- the name is what is after its length
 name_whole : (place len : ℕ) (bytes : List ℕ) → length bytes ≡ place + len → slice_range bytes place (place + len) ≡ drop place bytes
 name_whole place len bytes long = take_all ((place + len) - place) (drop place bytes) (omega (arith, length-drop place bytes))
 
@@ -103,7 +103,7 @@ mode_low_of format kind k =
       | inr reply ↦ omega (arith, of_reply format kind reply)
     ]
 
--- bytes that pass the checks have the fields that stand in them
+-- bytes that pass the checks have the fields that are in them
 pub fields_of : (format : Format) (bytes : List ℕ) → IsBytes bytes → IsChecked format bytes
     → HasFields format bytes (slice_index bytes 1) (node_at format bytes 2) (node_at format bytes (to_place format)) (slice_index bytes (mode_place format)) (number_at bytes (mode_place format + 1)) (clock_in format bytes) (name_in format bytes)
 fields_of format bytes fits h =
@@ -125,7 +125,7 @@ fields_of format bytes fits h =
       spelled = rw name (spelled_of format bytes fits h.long h.version);
     }
 
--- what stands at each place of a text
+-- what is at each place of a text
 pub record Reads (format : Format) (bytes : List ℕ) (kind from to mode seq clock : ℕ) (name : List ℕ) : Type 0 where
   pub version_is : format_of bytes ≡ Ok format
   pub kind_is : slice_index bytes 1 ≡ kind
@@ -234,7 +234,7 @@ byte_mode (suc (suc (suc zero))) h = (IntentExclusive, refl)
 byte_mode (suc (suc (suc (suc zero)))) h = (SharedIntentExclusive, refl)
 byte_mode (suc (suc (suc (suc (suc byte))))) h = absurd (omega arith)
 
--- the mode of a byte, where it has one
+-- the mode of a byte, if it has one
 mode_in : ℕ → Mode
 mode_in zero = Shared
 mode_in (suc zero) = Exclusive

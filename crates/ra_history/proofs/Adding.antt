@@ -24,7 +24,7 @@ use Rattle.ra_history.specs.Book.{BookState, LeadsTo, HasHistory, HasClock, Adds
 use Rattle.ra_history.specs.Keeping.{Keeps, IsForThisBook, ComesNext, Happens, Stays}
 use Rattle.ra_history.proofs.Kept.{history_of}
 
--- ---- What is kept where nothing but room changed
+-- ---- What is kept if nothing but room changed
 
 pub same_kept : (book : BookState) (node node' : NodeState) (events : List BookEvent) (sent : List Sent) → Keeps book node
     → events ≡ book.events → sent ≡ book.sent → node' ≡ node → Keeps (record book { events = events; sent = sent }) node'

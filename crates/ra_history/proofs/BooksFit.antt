@@ -30,7 +30,7 @@ use Rattle.ra_history.proofs.SentApart.{different_at}
 use Rattle.ra_history.proofs.LossesApart.{messages_of, lost_is_sent, all_apart}
 use Rattle.ra_history.proofs.Whole.{HasWholeHistory, whole_histories}
 
--- ---- Where a place of a list is
+-- ---- The place of an item in a list
 
 -- a place of two joined lists is in the first or in the second
 place_in : {X : Type 0} (xs ys prefix : List X) (z : X) (suffix : List X) → xs ++ ys ≡ prefix ++ z ∷ suffix
@@ -258,7 +258,7 @@ node_count [] cluster histories = absurd (omega (arith, cluster.some))
 node_count (b ∷ books) cluster histories =
     subst IsNodeNumber (cluster.one_count 0 b (omega arith)) (histories 0 b (omega arith)).count
 
--- where no frame came that was not sent, and no message twice, the settled steps are a run
+-- if no frame came that was not sent, and no message twice, the settled steps are a run
 pub books_ran :
     ((n start : ℕ) (steps : List Step) (happened : ℕ → List Happening) → IsNodeNumber n → FitTogether n start steps happened
     → (moves : List Move) × (map (λ move. move.step) moves ≡ steps) × IsRun n start moves × ((i : ℕ) → 1 ≤ i → i ≤ n → happened_at i moves ≡ happened i))

@@ -1,4 +1,4 @@
--- Which refusal of settling comes where its cause stands: one that has none of the other causes.
+-- Which refusal of settling comes if there is its cause: one that has none of the other causes.
 use Rattle.std.proofs.Common.{◌≡◌, ◌≢◌, ◌⊎◌, List, length, map, refl, sym, ◌∙◌, subst, inl, inr}
 use Rattle.std.specs.Prelude.{All, AllPairs, IfOk, OnOk, IsErrAnd, IsErrOf, IsOkUnless, MatchResult, Result, Ok, Err}
 use Rattle.std.specs.List.{Any}
@@ -42,7 +42,7 @@ module _ (books : List BookState) (grants : List Grant) where
   received_refused GrantTwice why = absurd why
   received_refused Memory why = why
 
-  -- where what came is refused
+  -- if what came is refused
   pub by_received : (e : SettleError) → RefusesReceived books e → (r : Result Settled SettleError) → IsErrAnd r (λ x. x ≡ e) → Whole r
   by_received e why r is = refused (Settles books grants) (Refuses books grants) e (received_refused e why) r is
 

@@ -146,7 +146,7 @@ sent_anew nodes node spare len len' capacity capacity' departures was none room 
 
 -- ---- Room that is made
 
--- no room is made where that is refused
+-- no room is made if that is refused
 pub not_made : {T E : Type 0} (Q : E → Type 0) (P : T → Type 0) (r : Result T E) → IsErrAnd r Q → IfOk r P
 not_made Q P (Ok v) is = absurd is
 not_made Q P (Err e) is = tt

@@ -76,7 +76,7 @@ pairs_map R f (x ∷ xs) pairs =
     AllPairs-cons R (f x) (map f xs) (all_map (R (f x)) f xs (pairs_first (λ a b. R (f a) (f b)) x xs pairs))
     (pairs_map R f xs (pairs_rest (λ a b. R (f a) (f b)) x xs pairs))
 
--- where the values of all are different, so are those of the ones that pass a test
+-- if the values of all are different, so are those of the ones that pass a test
 pub different_kept : {X Y : Type 0} (f : X → Y) (p : X → Bool) (xs : List X) → AreDifferent (map f xs) → AreDifferent (map f (filter p xs))
 different_kept f p xs different =
     pairs_map (λ a b. a ≢ b) f (filter p xs) (AllPairs-filter (λ a b. f a ≢ f b) p xs (pairs_of_map (λ a b. a ≢ b) f xs different))
@@ -101,7 +101,7 @@ passes_in p (y ∷ ys) x e (suc k, low, same) = by_test (p y) (passes_in p ys x 
     by_test true (i, within, at) = (suc i, omega (arith, within), at)
     by_test false at = at
 
--- where those that pass a test are different, one that passes it is no later one
+-- if those that pass a test are different, one that passes it is no later one
 pub kept_apart : {X : Type 0} (p : X → Bool) (xs : List X) → AreDifferent (filter p xs) → (i j : ℕ) (d : X) → i < j → j < length xs → p (get_or xs i d) ≡ true → get_or xs i d ≢ get_or xs j d
 kept_apart p [] different i j d below within e same = omega (arith, within)
 kept_apart p (x ∷ xs) different i zero d below within e same = omega (arith, below)

@@ -41,7 +41,7 @@ module _ (P : Sent → Type 0) (clock : ℕ) (at_clock : (s : Sent) → P s → 
               not (subst P (ap (λ n. get_or sent n d) here ∙ read d) is)
         ]
 
-    -- where its clock is passed, it is not there
+    -- if its clock is passed, it is not there
     behind : Ascends sent → clock < s.frame.clock → (k : ℕ) (d : Sent) → k < length sent → P (get_or sent k d) → ⊥
     behind up past k d low is =
         elim (cases_lt k place) [
@@ -74,7 +74,7 @@ module _ (sent : List Sent) (frame : Frame) (place : ℕ) where
     pub none_behind : Ascends sent → frame.clock < s.frame.clock → All (λ s. s.frame ≢ frame) sent
     none_behind up past = behind (IsOf frame) frame.clock (clock_of_it frame) sent place s within at before up past
 
--- ---- The frame, where it is not flagged lost
+-- ---- The frame, if it is not flagged lost
 
 module _ (sent : List Sent) (frame : Frame) (place : ℕ) where
   pub none_kept_below : ((k : ℕ) (d : Sent) → k < place → (get_or sent k d).frame.clock < frame.clock) → NoneBefore (IsKeptOf frame) sent place

@@ -26,7 +26,7 @@ entered_in-append (Requested e ∷ a) b = entered_in-append a b
 entered_in-append (Entered e ∷ a) b = ap (λ (es : List Entry). e ∷ es) (entered_in-append a b)
 entered_in-append (Left e ∷ a) b = entered_in-append a b
 
--- an entry is granted by the marks where its Entered mark is one of them
+-- an entry is granted by the marks if its Entered mark is one of them
 pub entered_is_mark : (marks : List Mark) (e : Entry) → Contains (entered_in marks) e → Contains marks (Entered e)
 entered_is_mark [] e is = absurd (omega (arith, is.1))
 entered_is_mark (Requested f ∷ marks) e is = later (Requested f) marks (Entered e) (entered_is_mark marks e is)
@@ -121,7 +121,7 @@ all_granted grants marks i all granted =
     All-weaker (λ g. Contains (entered_in marks) g.entry) (λ g. Contains marks (Entered g.entry)) (λ g. entered_is_mark marks g.entry) grants
     (subst (λ (gs : List Grant). All (λ g. Contains (entered_in marks) g.entry) gs) (take_all i grants all) granted)
 
--- grants that are granted are refused where two are equal
+-- grants that are granted are refused if two are equal
 pub grants_once : (grants : List Grant) (marks : List Mark) → All (λ g. Contains marks (Entered g.entry)) grants → (r : Result (Unit {0}) SettleError)
     → MatchResult r (λ _. AllPairs (λ a b. a ≢ b) grants) (RefusesRepeats grants)
     → MatchResult r (λ _. All (λ g. Contains marks (Entered g.entry)) grants × AllPairs (λ a b. a ≢ b) grants) (RefusesGrants grants marks)

@@ -34,7 +34,7 @@ module _ (me nodes clock : ℕ) (bytes : List ℕ) where
       pub not_heard : (e : BookError) → NotHeard me nodes clock bytes e → IsHeard me nodes clock bytes (Err e)
       not_heard e why = record { heard = tt; refused = why; one_text = one_text; no_fault = no_fault }
 
-      -- a frame for the node is heard where a clock is left
+      -- a frame for the node is heard if a clock is left
       module _ (f : OneFrame) (is : IsFrameFor me nodes bytes f) where
         pub heard : (next : ℕ) → ComesAt clock (Got f) (Ok next) → IsHeard me nodes clock bytes (Ok (f, next))
         heard next comes = record { heard = (is, comes.0, comes.1); refused = tt; one_text = one_text; no_fault = no_fault }
@@ -76,7 +76,7 @@ is_for me nodes message to from number ne eq ne_is same to_is eq_is other from_i
 
 -- ---- An answer
 
--- who hears is the node of the book
+-- the node that hears is the node of the book
 pub heard_by : {book now : BookState} {clock : ℕ} {bytes : List ℕ} {r : Result (OneFrame × ℕ) BookError} → book ≡ now
     → IsHeard book.me book.nodes clock bytes r → IsHeard now.me now.nodes clock bytes r
 heard_by {clock = clock} {bytes = bytes} {r = r} is heard = subst (λ (b : BookState). IsHeard b.me b.nodes clock bytes r) is heard

@@ -33,7 +33,7 @@ pub opened :
 opened opening me n start count member =
     record { count = count; member = member; leads = opening me n start }
 
--- a message is for the node as it was first where it is for the node as it is now
+-- a message was for the node as it was first if it is for the node as it is now
 for_the_first : (old first : NodeState) (event : Event) → (old.me ≡ first.me) × (old.nodes ≡ first.nodes) → IsForThisNode old event → IsForThisNode first event
 for_the_first old first (Ask client name mode) same h = tt
 for_the_first old first (Leave client name) same h = tt
@@ -43,7 +43,7 @@ module _
     (node_stays : (old new : NodeState) (happened : List Happening) → NodeEvents old happened new
     → (new.me ≡ old.me) × (new.nodes ≡ old.nodes) × (new.start ≡ old.start))
   where
-    -- who the node is
+    -- which node it is
     who : (book : BookState) (node : NodeState) → Keeps book node
         → (node.me ≡ book.me) × (node.nodes ≡ book.nodes) × (node.start ≡ book.start)
     who book node keeps =

@@ -1,4 +1,4 @@
--- Where a plan is met, there is a request for each lock of the script, and each was granted: so none waits.
+-- If a plan is met, there is a request for each lock of the script, and each was granted: so none waits.
 use Rattle.std.proofs.Common.{◌≡◌, ℕ, suc, ◌+◌, ◌-◌, ◌*◌, ◌<◌, ◌≤◌, Bool, true, false, cond, eqb, ltb, List, [], ◌∷◌, length, get_or, Option, sum_by, All, refl, sym, ap, ◌∙◌, subst, arith}
 use Rattle.std.specs.List.{filter}
 use Rattle.std.proofs.lemmas.Bool.{le-ltb}

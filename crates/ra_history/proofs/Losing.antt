@@ -12,7 +12,7 @@ use Rattle.ra_history.specs.declared.sent.Sent.{Sent}
 use Rattle.ra_history.specs.Book.{BookState, IsFirst, Loses}
 use Rattle.ra_history.specs.Keeping.{IsFlagged}
 
--- where the frame stands first
+-- if the frame is first
 is_first : (xs : List Sent) (place : ℕ) (x : Sent) (frame : Frame) (lost : Bool) → place < length xs → x ≡ get_or xs place x
     → ((d : Sent) → (get_or xs place d).frame ≡ frame) → ((k : ℕ) (d : Sent) → k < place → (get_or xs k d).frame ≢ frame) → x.lost ≡ lost
     → IsFirst xs frame lost
@@ -29,7 +29,7 @@ is_first xs place x frame lost lt at found before flag =
           before k d under (ap (λ (s : Sent). s.frame) (sym (get_or-take place xs k d under)) ∙ e);
     }
 
--- two frames that stand first are one
+-- two frames that are first are one
 same_first : (prefix suffix : List Sent) (s : Sent) (place : ℕ) (x : Sent) (frame : Frame) → s.frame ≡ frame → All (λ (t : Sent). t.frame ≢ frame) prefix
     → x ≡ get_or (prefix ++ s ∷ suffix) place x → x.frame ≡ frame
     → ((k : ℕ) (d : Sent) → k < place → (get_or (prefix ++ s ∷ suffix) k d).frame ≢ frame) → x ≡ s
@@ -50,7 +50,7 @@ flag_is xs place x frame lost at found before first =
     (subst (λ (ys : List Sent). x ≡ get_or ys place x) first.sent_is at) frame_is
     (subst (λ (ys : List Sent). (k : ℕ) (d : Sent) → k < place → (get_or ys k d).frame ≢ frame) first.sent_is before))
 
--- a frame that is not among them does not stand first
+-- a frame that is not among them is not first
 none_first : (xs : List Sent) (frame : Frame) (lost : Bool) → All (λ (t : Sent). t.frame ≢ frame) xs → IsFirst xs frame lost → ⊥
 none_first xs frame lost none first =
     let s : Sent = record { frame = frame; lost = lost } in
@@ -140,7 +140,7 @@ as_many : (old : List Sent) (frame : Frame) (new : List Sent) (r : Result (Unit 
 as_many old frame new r flags =
     sym (length-map new (λ (t : Sent). t.frame)) ∙ ap length flags.frames ∙ length-map old (λ (t : Sent). t.frame)
 
--- the frames of a book are lent, and stand in it again once one of them is flagged
+-- the frames of a book are lent, and are in it again once one of them is flagged
 module _ {A : Type 0} (now book : BookState) (is : book ≡ now) (frame : Frame) (sent : Vec Sent A) (lent flagged : List Sent) (r : Result (Unit {0}) MarkLostError)
     (lent_is : lent ≡ book.sent) (many : length lent ≡ sent.len) (flags : IsFlagged lent frame flagged r)
   where

@@ -14,7 +14,7 @@ use Rattle.ra_history.specs.Plan.{client_of_mark, marks_of_client, IsNextMark, F
 
 -- ---- One mark
 
--- the operations from one on, where the first is requested already or not
+-- the operations from one on, if the first is requested already or not
 abbrev pub FollowsFrom : ℕ → Bool → List Op → List Mark → Type 0
 FollowsFrom node false ops marks = FollowsOps node ops marks
 FollowsFrom node true (Lock name mode ∷ ops) (mark ∷ marks) =
@@ -113,7 +113,7 @@ other_mark client mark marks not =
 
 -- ---- The loop over the marks
 
--- What is left to follow after this many marks, where those so far were the marks of the operations before a place, and
+-- What is left to follow after this many marks, if those so far were the marks of the operations before a place, and
 -- `requested` says whether the one there is requested already.
 abbrev pub SameLeft : ℕ → Option ScriptClient → ℕ → List Mark → Bool → ℕ → ℕ → Type 0
 SameLeft node o client marks requested place i =
@@ -133,7 +133,7 @@ skip_mark node o client marks requested place i mark less is not before =
       λ h. before.1 (subst P (sym same) h),
     )
 
--- what is left, where the mark is the client's
+-- what is left, if the mark is the client's
 here : (node : ℕ) (o : Option ScriptClient) (client : ℕ) (marks : List Mark) (requested : Bool) (place i : ℕ) (mark : Mark) (ops : List Op)
     → i < length marks → mark ≡ get_or marks i mark → client_of_mark mark ≡ client → rest_of o place ≡ ops
     → SameLeft node o client marks requested place i
@@ -227,7 +227,7 @@ cons_filter p x xs is = ap (λ (b : Bool). cond b (x ∷ filter p xs) (filter p 
 skip_filter : {X : Type 0} (p : X → Bool) (x : X) (xs : List X) → p x ≡ false → filter p (x ∷ xs) ≡ filter p xs
 skip_filter p x xs is = ap (λ (b : Bool). cond b (x ∷ filter p xs) (filter p xs)) is
 
--- what passes stands in the filtered list
+-- what passes is in the filtered list
 filter_some : {X : Type 0} (p : X → Bool) (xs : List X) (k : ℕ) (d : X) → k < length xs → p (get_or xs k d) ≡ true → filter p xs ≡ [] → ⊥
 filter_some p [] k d less is none = absurd (omega arith)
 filter_some p (x ∷ xs) zero d less is none = let e = sym (cons_filter p x xs is) ∙ none in absurd (cc)

@@ -90,7 +90,7 @@ nothing_repeated moves placed ms steps = repeated_by_steps moves ∙ ap (flat_ma
 
 -- ---- The events
 
--- a frame came where it was to go
+-- a frame came to the node to which it was to go
 abbrev pub IsAddressed : ℕ → BookKind → Type 0
 IsAddressed i (Asked client name mode) = Unit {0}
 IsAddressed i (Gave client name) = Unit {0}
@@ -113,7 +113,7 @@ projected i (p ∷ placed) h =
     by_test true rest = refl
     by_test false rest = refl
 
--- ---- Frames come where they were to go
+-- ---- Frames come to the nodes to which they were to go
 
 pub of_map : {X Y : Type 0} (P : Y → Type 0) (f : X → Y) (xs : List X) → All P (map f xs) → All (λ x. P (f x)) xs
 of_map P f xs h k d low = subst P (get_or-map f xs k d (f d) low) (h k (f d) (omega (arith, low, length-map xs f)))
@@ -131,7 +131,7 @@ addressed b (Asked client name mode) h = tt
 addressed b (Gave client name) h = tt
 addressed b (Got frame) h = h.to
 
--- what stands in the order is among the events of its node
+-- what is in the order is among the events of its node
 among : (placed : List Placed) (k : ℕ) (d : Placed) → k < length placed → Contains (events_of (get_or placed k d).node placed) (get_or placed k d).event
 among [] k d low = absurd (omega (arith, low))
 among (p ∷ placed) zero d low =

@@ -52,7 +52,7 @@ abbrev pub ComesAt : ℕ → BookKind → Result ℕ BookError → Type 0
 ComesAt clock kind r =
     MatchResult r (λ next. (next ≡ clock_after clock kind) × (next ≤ 2 ^ 62)) (λ e. (e ≡ ClockFull) × (2 ^ 62 < clock_after clock kind))
 
--- it is there exactly where a clock is left
+-- it is there exactly if a clock is left
 abbrev pub HasNext : {T : Type 0} → BookState → BookKind → Result T BookError → Type 0
 HasNext book kind r = MatchResult r (λ _. HasClock book kind) (λ e. (e ≡ ClockFull) × (HasClock book kind → ⊥))
 
@@ -112,7 +112,7 @@ passed x e cause h is = (
 pub passed_allowed : (T S : Type 0) {Q : Type 0} (x e : BookError) → x ≡ e → IsOkUnless {T = T} (Err e) Memory ↔ Q → IsOkUnless {T = S} (Err x) Memory ↔ Q
 passed_allowed T S x e h is = (λ m. is.0 (sym h ∙ m), λ q. h ∙ is.1 q)
 
--- by what is allowed, which stops only where memory runs out
+-- by what is allowed, which stops only if memory runs out
 pub other : {T S Q : Type 0} (v : T) (r : Result S BookError) (cause : BookError) → IsOkUnless r Memory → cause ≢ Memory → IsErrOf (Ok v) cause ↔ Q → IsErrOf r cause ↔ Q
 other v (Ok w) cause h apart is = (λ e. absurd (cc), λ q. let no = is.1 q in absurd (cc))
 other v (Err x) cause h apart is = (λ e. absurd (apart (let same : x ≡ cause = cc in sym same ∙ h)), λ q. let no = is.1 q in absurd (cc))

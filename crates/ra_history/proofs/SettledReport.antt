@@ -51,7 +51,7 @@ never_refused books b n start steps cluster history is nodes starts runs = (
       (subst (λ (s : ℕ). WorldRun (length books) s steps) (sym (same_start books b start cluster is starts)) runs),
 )
 
--- where all books start at 0, so does the cluster
+-- if all books start at 0, so does the cluster
 pub from_zero : (books : List BookState) → 1 ≤ length books → All (λ b. b.start ≡ 0) books → start_of books ≡ 0
 from_zero [] some all = absurd (omega (arith, some))
 from_zero (b ∷ books) some all = all 0 b (omega arith)

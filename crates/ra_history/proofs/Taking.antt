@@ -142,7 +142,7 @@ pub head_same : (books : List BookState) (taken : List ℕ) (count : ℕ) (first
     → ((e : BookEvent) → IsNextOfBook books taken count e → ⊥) → IsHeadOfEarliest books taken (count + 1) first
 head_same books taken count first (turn, earliest, is) none = (turn, earliest_same books taken count turn earliest none, is)
 
--- the event that stands there is the earliest
+-- the event that is there is the earliest
 pub turn_of_head : (books : List BookState) (taken : List ℕ) (count : ℕ) (head : Head) (turn : Turn) → IsHeadOfEarliest books taken count (Some head)
     → turn.place ≡ head.place → IsNextOfBook books taken head.place turn.event → IsEarliest books taken count (Some turn)
 turn_of_head books taken count head turn (None, earliest, is) at next = absurd (none-some head (sym is))
@@ -155,7 +155,7 @@ turn_of_head books taken count head turn (Some t, earliest, is) at next =
     let same : t ≡ turn = λ i. record { place = sym place i; event = sym event i } in
     subst (λ (x : Turn). IsEarliest books taken count (Some x)) same earliest
 
--- a head stands at a book, whose next event there is
+-- a head is at a book, whose next event there is
 pub head_within : (books : List BookState) (taken : List ℕ) (count : ℕ) (head : Head) → IsHeadOfEarliest books taken count (Some head) → head.place < count
 head_within books taken count head (None, earliest, is) = absurd (none-some head (sym is))
 head_within books taken count head (Some t, earliest, is) =
@@ -190,7 +190,7 @@ no_clock_no_next books taken k book at is none e next =
     let read : slice_get book.events (slice_index taken k) ≡ Some e = ap (λ (b : BookState). slice_get b.events (slice_index taken k)) same ∙ next.2 in
     none e.clock (is ∙ ap (λ (o : Option BookEvent). option_map (λ (e : BookEvent). e.clock) o) read)
 
--- what is found where the head stands
+-- what is found at the place of the head
 module _ (books : List BookState) (taken : List ℕ) (count : ℕ) (head : Head) where
   abbrev Found : Option Turn → Type 0
   Found o = IfSome o (λ turn. (turn.place ≡ head.place) × IsNextOfBook books taken head.place turn.event × (slice_index taken head.place + 1 < 2 ^ 64))

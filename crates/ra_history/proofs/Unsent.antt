@@ -1,4 +1,4 @@
--- Each frame was sent and kept, or was not: so where none came that was not, all that came were.
+-- Each frame was sent and kept, or was not: so if none came that was not, all that came were.
 use Rattle.std.proofs.Common.{◌≡◌, ◌⊎◌, zero, suc, Bool, true, false, List, [], ◌∷◌, get_or, refl, sym, ap, ◌∙◌, subst, inl, inr, arith}
 use Rattle.std.specs.Prelude.{All, Contains}
 use Rattle.std.specs.Ordering.{eq_by_cmp, is_eq}

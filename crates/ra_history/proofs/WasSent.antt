@@ -12,7 +12,7 @@ use Rattle.ra_history.proofs.Merging.{number_at}
 abbrev as_kept : Frame → Sent
 as_kept f = record { frame = f; lost = false }
 
--- the book of the sender stands one before its number
+-- the book of the sender is at the place one before its number
 module _ (books : List BookState) (cluster : IsCluster books) (frame : Frame) (sender : ℕ) (from : sender + 1 ≡ from_of frame.message) where
   place_is : (k : ℕ) (b : BookState) → k < length books → get_or books k b ≡ b → b.me ≡ from_of frame.message → k ≡ sender
   place_is k b low at me =
@@ -36,7 +36,7 @@ module _ (books : List BookState) (cluster : IsCluster books) (frame : Frame) (s
       let same = place_is is.0 is.1 is.2 is.3 is.4.0 in
       omega (arith, past, same, is.2)
 
--- where all were sent, none came that was not
+-- if all were sent, none came that was not
 pub all_sent : (books : List BookState) → All (λ f. WasSent books f) (all_received books) → HasUnsent books → ⊥
 all_sent books all (k, f, low, at, none) = none (subst (WasSent books) at (all k f low))
 

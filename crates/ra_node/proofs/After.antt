@@ -75,7 +75,7 @@ module _ (me nodes start : ℕ) (slots : List (List ℕ × Resource)) (now : Nod
         },
       )
 
-  -- what is known after a call at a slot: the node is consistent, an event happened where it was Ok, and else the node is as before
+  -- what is known after a call at a slot: the node is consistent, an event happened if it was Ok, and otherwise the node is as before
   pub record IsAfterCall {E : Type 0} (result : Result Outcome E) (Event : Outcome → Type 0) : Type 0 where
     pub consistent : IsConsistentNode (node_with me nodes start slots')
     pub ok : IfOk result Event
@@ -142,7 +142,7 @@ nobody_holds r me nodes name start is client entry held = none-some entry (sym (
 
 -- ---- A call at the slot of a name that nothing was about yet
 
--- the node by its slots, where these are as before
+-- the node by its slots, if these are as before
 pub same_view : (me nodes start : ℕ) (before slots : List (List ℕ × Resource)) (now : NodeState) → slots ≡ before → node_with me nodes start before ≡ now → node_with me nodes start slots ≡ now
 same_view me nodes start before slots now same is = ap (λ (es : List (List ℕ × Resource)). node_with me nodes start es) same ∙ is
 

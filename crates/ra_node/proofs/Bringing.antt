@@ -101,7 +101,7 @@ to_node n message r here brings =
 pub of_node : (n : NodeState) (message : Message) (r : Resource) → r ≡ resource_at n (name_of message) → BringsNothing n message → BringsNothingTo r message
 of_node n message r here brings = subst (λ (x : Resource). BringsNothingTo x message) (sym here) (brings.1.resource, brings.1.turn)
 
--- where the slot refuses a message, it brings something
+-- if the slot refuses a message, it brings something
 pub refused_to_bring : {T E : Type 0} {Q : Type 0} (result : Result T E) (e : E) → IsErrOf result e → OnErr result (Q → ⊥) → Q → ⊥
 refused_to_bring (Ok v) e is err brings = cc
 refused_to_bring (Err fault) e is err brings = err brings

@@ -49,7 +49,7 @@ asked old client mode sends marks new fits turn =
           omega (arith, in_parts old, in_parts new, ap (λ (r : Resource). current r.client) queues.new_is, ap (λ (r : Resource). length r.queue) queues.new_is, length-append old.queue (record { client = client; mode = mode } ∷ []))
     ]
 
--- one client is the current one where somebody holds
+-- one client is the current one if somebody holds
 one_holds : (s : State) (phase : Phase) (client : Option ℕ) (e : Entry) → held_entry (use_in s phase client) ≡ Some e → current client ≡ 1
 one_holds s phase None e is = absurd (none-some e is)
 one_holds s phase (Some client) e is = one_is client

@@ -156,7 +156,7 @@ nobody_or_next r next rest nobody queue number =
       | inr last ↦ absurd (omega (arith, last, number))
     ]
 
--- a number is left where a client is next
+-- a number is left if a client is next
 left_number : (old : Resource) (client : ℕ) (new : Resource) (sends : List Message) (marks : List Mark) → LeavesToNext old client sends marks new → old.state.highest < greatest_number
 left_number old client new sends marks hands = omega (arith, hands.may.number_left, ap (λ (s : State). s.highest) hands.leaves.step.new_is)
 

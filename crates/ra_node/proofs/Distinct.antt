@@ -1,4 +1,4 @@
--- No client stands at a resource twice.
+-- No client is at a resource twice.
 use Rattle.std.proofs.Common.{◌≡◌, ◌≢◌, ◌⊎◌, ◌↔◌, ℕ, zero, suc, ◌<◌, List, [], ◌∷◌, ◌++◌, Any, Contains, length, get_or, map, Option, Some, None, refl, sym, ap, ◌∙◌, subst, append_assoc, arith, inl, inr}
 use Rattle.std.specs.Prelude.{AllPairs, option_to_list}
 use Rattle.std.proofs.lemmas.List.{get_or_default, get_or-map, length-map, map-append}
@@ -10,7 +10,7 @@ use Rattle.ra_node.specs.declared.queued_client.Queued.{Queued}
 use Rattle.ra_node.specs.Resource.{Resource, IsBusy, clients_of}
 use Rattle.ra_node.specs.Turns.{MayAsk}
 
--- who stands there, by the current client and the queue
+-- who is at it, by the current client and the queue
 abbrev pub standing : Option ℕ → List Queued → List ℕ
 standing client queue = option_to_list client ++ map (λ q. q.client) queue
 
@@ -53,7 +53,7 @@ busy_is r c = (
 
 -- ---- Who asks and who leaves
 
--- who is not in a list is none of its elements
+-- a client that is not in a list is none of its elements
 apart : (cs : List ℕ) (c : ℕ) → (Contains cs c → ⊥) → (k d : ℕ) → k < length cs → get_or cs k d ≢ c
 apart cs c free k d lt e = free (k, lt, get_or_default cs k c d lt ∙ e)
 
@@ -68,7 +68,7 @@ asks_once r c may nobody h =
     (λ k d lt e. apart (map (λ q. q.client) r.queue) c (λ at. may.not_busy (subst (λ (cs : List ℕ). Contains cs c) (sym waiting) at)) k d lt (sym e))
     (subst Once waiting h)
 
--- or stands after all others
+-- or is after all others
 pub queues_once : (r : Resource) (c : ℕ) (q : Queued) → q.client ≡ c → MayAsk r c → Once (clients_of r) → Once (standing r.client (r.queue ++ q ∷ []))
 queues_once r c q is may h =
     let ends : standing r.client (r.queue ++ q ∷ []) ≡ clients_of r ++ c ∷ [] =

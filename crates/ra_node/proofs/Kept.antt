@@ -88,7 +88,7 @@ request_is_busy old mode sends entered new step =
       | inr alone ↦ subst (λ (s : State). IsBusyPhase s.phase) (sym alone.new_is) tt
     ]
 
--- ---- What a message does to the phase: a waiting node may enter, and else the phase stays
+-- ---- What a message does to the phase: a waiting node may enter, and otherwise the phase stays
 
 receive_fits : (old : State) (message : Message) (sends : List Message) (entered : Bool) (new : State) (client : Option ℕ) → ReceiveStep old message sends entered new
     → ClientFits old.phase client → ClientFits new.phase client

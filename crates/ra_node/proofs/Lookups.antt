@@ -17,7 +17,7 @@ true_of true true t = (tt, tt)
 true_of true false t = absurd t
 true_of false b t = absurd t
 
--- names compare as equal exactly where they are the same
+-- names compare as equal exactly if they are the same
 pub names-Decides : (a b : List ℕ) → Decides (eq_by_cmp (slice_cmp nat_cmp) a b) (a ≡ b)
 names-Decides a b = subst (λ (t : Bool). Decides t (a ≡ b)) (sym (is_eq-slice_cmp a b)) (bytes_eq-Decides a b)
 

@@ -34,7 +34,7 @@ get_slot slots name = finmap.get-from_entries nat_list_cmp_total slots name ∙ 
 
 -- ---- Another slot for a name
 
--- slots where a look-up finds this resource at a name, and at all others what it found before
+-- slots in which a look-up finds this resource at a name, and at all others what it found before
 pub updated : (slots slots' : List (List ℕ × Resource)) (name : List ℕ) (new : Resource) → ((q : List ℕ) → lookup (bytes_eq q) slots' ≡ cond (bytes_eq name q) (Some new) (lookup (bytes_eq q) slots))
     → finmap.from_entries {R = cmp} slots' ≡ finmap.insert (finmap.from_entries slots) name new
 updated slots slots' name new finds =
@@ -78,7 +78,7 @@ sum_of_none f =
     let m = finmap.empty {X = Resource} {R = cmp} in
     ap (sum_by (λ e. f e.1)) (no_items (finmap.entries m) (sym (finmap.len-entries m) ∙ finmap.len-empty cmp Resource))
 
--- a sum over the slots, where no name has two, is one over all names
+-- a sum over the slots, if no name has two, is one over all names
 pub sum_of_slots : (f : Resource → ℕ) (slots : List (List ℕ × Resource)) → IsDistinct bytes_eq (keys_of slots)
     → sum_by (λ e. f e.1) slots ≡ sum_by (λ e. f e.1) (finmap.entries (finmap.from_entries {R = cmp} slots))
 unfolding IsDistinct

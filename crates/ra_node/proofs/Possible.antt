@@ -244,7 +244,7 @@ possible_receive s (Reply from to name seq) =
     let taken = possible_reply s from seq in
     ([], taken.0, taken.1, (refl, taken.2))
 
--- where a message lets a node enter, the node waited, and so it has a client
+-- if a message lets a node enter, the node waited, and so it has a client
 entered_holds : (old : State) (message : Message) (sends : List Message) (new : State) (client : Option ℕ) → ReceiveStep old message sends true new → ClientFits old.phase client
     → (e : Entry) × (held_entry (use_in new new.phase client) ≡ Some e)
 entered_holds old (Request from to name mode seq) sends new client step fits = absurd (false≢true (sym step.0))

@@ -149,7 +149,7 @@ holds_before : (old : Resource) (client : ℕ) (sends : List Message) (marks : L
 holds_before old client sends marks new (inl to_nobody) = (to_nobody.entry, to_nobody.leaves.holds)
 holds_before old client sends marks new (inr to_next) = (to_next.entry, to_next.leaves.holds)
 
--- a client leaves where it holds and memory does not run out
+-- a client leaves if it holds and memory does not run out
 pub left_tells : (result : Result Outcome LeaveError) (old : Resource) (client : ℕ) (new : Resource) (Same : Type 0)
     → MatchResult result (λ o. LeaveTurn old client o.sends.items o.marks.items new × IsConsistent new.state) (λ fault. IsLeaveRefusal old client fault × Same) → LeaveTells result old client
 left_tells (Ok x) r client new Same ended =

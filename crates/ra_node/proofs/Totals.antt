@@ -1,4 +1,4 @@
--- Sums over all names, and what becomes of them where the resource of one name changes.
+-- Sums over all names, and what becomes of them if the resource of one name changes.
 use Rattle.std.proofs.Common.{◌≡◌, ℕ, ◌+◌, ◌*◌, ◌/◌, ◌^◌, ◌≤◌, Bool, true, false, cond, List, [], ◌∷◌, length, Option, Some, None, Result, Ok, Err, MatchResult, refl, sym, ap, ◌∙◌, subst, arith, inl, inr}
 use Rattle.std.specs.Prelude.{sum_by, unwrap_or}
 use Rattle.std.specs.Str.{bytes_eq}
@@ -33,7 +33,7 @@ sum_over f m = sum_by (λ e. f e.1) (finmap.entries m)
 
 -- ---- One name
 
--- to put a resource where another one was taken out is to put it over that one
+-- to put a resource at the place at which another one was taken out is to put it over that one
 put_over : (m : Names) (name : List ℕ) (r : Resource) → finmap.insert (finmap.remove m name) name r ≡ finmap.insert m name r
 put_over m name r =
     finmap.same_map nat_list_cmp_total same_names _ _ (λ q.
@@ -46,7 +46,7 @@ put_over m name r =
     twice true o = refl
     twice false o = refl
 
--- to put a resource where it is changes nothing
+-- to put a resource at its own place changes nothing
 put_same : (m : Names) (name : List ℕ) (r : Resource) → finmap.get m name ≡ Some r → finmap.insert m name r ≡ m
 put_same m name r is =
     finmap.same_map nat_list_cmp_total same_names _ _ (λ q.
@@ -73,7 +73,7 @@ sum_moves f m name old new is =
     let now : sum_over f (finmap.insert m name new) ≡ f new + sum_over f rest = sym (ap (sum_over f) (put_over m name new)) ∙ sum_of_insert f rest name new (taken m name) in
     omega (arith, sum_is f m name old is, now)
 
--- where a resource comes under a name, in place of what is found there; a name that is not there adds nothing
+-- a resource that comes under a name, in place of what is found there; a name that is not there adds nothing
 pub sum_put : (f : Resource → ℕ) (m : Names) (name : List ℕ) (absent new : Resource) → f absent ≡ 0 → sum_over f (finmap.insert m name new) + f (unwrap_or (finmap.get m name) absent) ≡ sum_over f m + f new
 sum_put f m name absent new zero = of_entry (finmap.get m name) refl
   where
@@ -92,7 +92,7 @@ sum_part f m name absent zero = of_entry (finmap.get m name) refl
 abbrev pub sum_at : (Resource → ℕ) → List (List ℕ × Resource) → ℕ
 sum_at f slots = sum_over f (finmap.from_entries slots)
 
--- where the slot of a name changes
+-- the slot of a name changes
 pub moved : (f : Resource → ℕ) (slots slots' : List (List ℕ × Resource)) (name : List ℕ) (old new : Resource) → Some old ≡ lookup (bytes_eq name) slots → Finds slots slots' name new → sum_at f slots' + f old ≡ sum_at f slots + f new
 moved f slots slots' name old new was finds =
     let m = finmap.from_entries {R = slice_cmp nat_cmp} slots in
@@ -103,12 +103,12 @@ moved f slots slots' name old new was finds =
 pub part : (f : Resource → ℕ) (slots : List (List ℕ × Resource)) (name : List ℕ) (old : Resource) → Some old ≡ lookup (bytes_eq name) slots → f old ≤ sum_at f slots
 part f slots name old was = omega (arith, sum_is f (finmap.from_entries {R = slice_cmp nat_cmp} slots) name old (get_slot slots name ∙ sym was))
 
--- where a write goes through a look-up
+-- a write goes through a look-up
 pub through : {S : Type 0} (f : Resource → ℕ) (slots slots' : IndexMap (List ℕ) Resource S) (name : List ℕ) (old new : Resource) → Some old ≡ lookup (bytes_eq name) slots.entries → WritesThrough bytes_eq (bytes_eq name) slots new slots'
     → sum_at f slots'.entries + f old ≡ sum_at f slots.entries + f new
 through f slots slots' name old new was writes = moved f slots.entries slots'.entries name old new was (written_through slots slots' name old new was writes).finds
 
--- where the slot of a name comes, once room was made for it
+-- the slot of a name comes, once room was made for it
 pub come : (f : Resource → ℕ) (me nodes start : ℕ) (before slots slots' : List (List ℕ × Resource)) (now : NodeState) (name : List ℕ) (new : Resource) → node_with me nodes start before ≡ now → slots ≡ before → finmap.get now.resources name ≡ None
     → Finds slots slots' name new → sum_at f slots' ≡ f new + sum_at f before
 come f me nodes start before slots slots' now name new is same none finds =

@@ -22,7 +22,7 @@ granted_holds (HoldsBy f) e is = ap (λ (x : Entry). HoldsBy x) (some_is f e is)
 pub holder_holds : (r : Resource) (e : Entry) → holder_of r ≡ Some e → use_of r ≡ HoldsBy e
 holder_holds r e is = granted_holds (use_of r) e is
 
--- where a request is granted the node is inside
+-- if a request is granted, the node is inside
 pub granted_inside : (s : State) (phase : Phase) (client : Option ℕ) (e : Entry) → held_entry (use_in s phase client) ≡ Some e → (seq : ℕ) × (mode : Mode) × (phase ≡ Inside seq mode)
 granted_inside s Idle None e is = absurd (none-some e is)
 granted_inside s Idle (Some client) e is = absurd (none-some e is)

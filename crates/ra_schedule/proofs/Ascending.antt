@@ -82,7 +82,7 @@ module _ (nodes_laws : LawsOfNodes) (laws : LawsOfRuns) (n start : ℕ) (count :
       subst (λ (ns : List (List ℕ)). Contains ns name) (sym (one_more_name moves move ∙ ap (λ (s : Step). names_asked moves ++ name_asked s) step))
       (Contains-push (names_asked moves) name)
 
-  -- a client that keeps what it has, and stands nowhere else
+  -- a client that keeps what it has, and is nowhere else
   kept_above : (client : ℕ) → Untouched n client move.marks old.nodes nodes' → (i : ℕ) (name other : List ℕ) → IsNode n i → WaitsForName (nodes' i) client name
       → IsBusy (resource_at (nodes' i) other) client → other ≢ name → HoldsName (nodes' i) client other × IsBelow other name
   kept_above client un i name other at waits busy apart =

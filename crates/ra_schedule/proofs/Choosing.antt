@@ -149,7 +149,7 @@ nobody_past_the_end script moves n few none (suc k) (step, h) =
     past (x ∷ xs) zero e = omega arith
     past (x ∷ xs) (suc k) e = let less = past xs k e in omega arith
 
--- where no client is enabled and no message under way, no choice is left
+-- if no client is enabled and no message under way, no choice is left
 pub nothing_left : OneList → (script : ScriptState) (policy : Policy) (moves : List Move) (words : ℕ)
     → ((choices : Listing Choice) → policy ≡ Listed choices → ⊥) → None ≡ generator_at policy words → LeavesMessages script moves 0
     → Ends script policy moves
@@ -191,7 +191,7 @@ first_client script (Seeded seed) moves words client not free first = absurd cc
 first_client script (Faulty seed faults) moves words client not free first = absurd cc
 first_client script (Listed choices) moves words client not free first = absurd (not choices refl)
 
--- a policy that lists its choices makes the one at the place of the turn, and ends where there is none
+-- a policy that lists its choices makes the one at the place of the turn, and ends if there is none
 pub listed_choice : (script : ScriptState) (policy : Policy) (choices : Listing Choice) (moves : List Move) (place : ℕ) (choice : Choice) → policy ≡ Listed choices
     → place ≡ length moves → Some choice ≡ slice_get choices.items place → Picks script policy moves choice
 listed_choice script policy choices moves place choice is turn at =

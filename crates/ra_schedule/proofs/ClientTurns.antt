@@ -68,7 +68,7 @@ use_holder s Idle (Some c) e is = absurd cc
 use_holder s (Waiting seq mode) (Some c) e is = absurd cc
 use_holder s (Inside seq mode) (Some c) e is = cc
 
--- who holds is the current client
+-- a client that holds is the current one
 pub holder_is : (r : Resource) (c : ℕ) → HasIt r c → r.client ≡ Some c
 holder_is r c has =
     let (e, is, client) = has_in r c has in
@@ -190,7 +190,7 @@ module _ (me nodes start : ℕ) (name : List ℕ) (old : Resource) (client : ℕ
   listed : clients_of new ≡ clients_of old ++ client ∷ []
   listed = asks_last me nodes start name old client mode sends marks new consistent turn
 
-  -- it stands there from then on, and holds exactly if a mark says that it entered
+  -- it is there from then on, and holds exactly if a mark says that it entered
   pub asker_stands : IsBusy new client
   asker_stands = subst (λ (xs : List ℕ). Contains xs client) (sym listed) (Contains-push (clients_of old) client)
 
@@ -242,7 +242,7 @@ leave_leaves c old client sends marks new apart turn = elim turn [
 
 module _ (old : Resource) (client : ℕ) (sends : List Message) (marks : List Mark) (new : Resource)
     (once : AllPairs (λ a b. a ≢ b) (clients_of old)) (turn : LeaveTurn old client sends marks new) (leads : MarksLead (use_of old) marks (use_of new)) where
-  -- it stands there no more
+  -- it is there no more
   pub leaver_gone : IsBusy new client → ⊥
   leaver_gone (k, within, is) =
       let all : AllPairs (λ a b. a ≢ b) (client ∷ clients_of new) = subst (AllPairs (λ a b. a ≢ b)) (leaves_first old client sends marks new turn) once in

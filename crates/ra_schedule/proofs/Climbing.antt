@@ -1,4 +1,4 @@
--- Who goes from an item of a list to one that is above it, again and again, comes to an end.
+-- A walk from an item of a list to one that is above it, again and again, comes to an end.
 use Rattle.std.proofs.Common.{◌≡◌, ◌⊎◌, ℕ, zero, suc, ◌+◌, ◌<◌, ◌≤◌, List, [], ◌∷◌, Contains, sym, subst, arith, inl, inr}
 
 -- 1 for a fact that holds, and 0 for one that does not

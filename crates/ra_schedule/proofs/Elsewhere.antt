@@ -1,4 +1,4 @@
--- Who is enabled after one more move: who is not at its node and did not enter by it is so where it was before.
+-- Who is enabled after one more move: a client that is not at its node and did not enter by it is so if it was before.
 use Rattle.std.proofs.Common.{◌≡◌, ◌≢◌, ◌↔◌, ℕ, ◌+◌, Bool, Some, List, [], ◌∷◌, ◌++◌, All, slice_get, slice_index_or, refl, sym, ap, ◌∙◌, subst, arith, inl, inr}
 use Rattle.std.specs.Prelude.{if◌then◌else◌, option_map}
 use Rattle.std.proofs.lemmas.Bool.{ne_eqb}
@@ -19,7 +19,7 @@ use Rattle.ra_schedule.specs.Enabled.{IsFlag, AreFlags, AreFlagsElsewhere, node_
 use Rattle.ra_schedule.specs.Below.{LawsBelow}
 use Rattle.ra_schedule.proofs.Waiting.{steps_by-more, waits_on, waited}
 
--- ---- Where nothing happens
+-- ---- Nodes at which nothing happens
 
 -- at a node that is not the one of a step nothing happens by it
 quiet : (step : Step) (i : ℕ) → node_at step ≢ Some i → events_at i step ≡ []

@@ -102,7 +102,7 @@ abbrev pub EndsBy : ScriptState → Policy → ℕ → List Move → Option Driv
 EndsBy script policy limit moves None = Ends script policy moves × (length moves ≤ limit)
 EndsBy script policy limit moves (Some cause) = Stops script policy limit moves cause
 
--- where they end, they go no further
+-- if they end, they go no further
 no_further : LawsBelow → (script : ScriptState) (policy : Policy) (limit : ℕ) (moves : List Move) (why : Option DriveError)
     → EndsBy script policy limit moves why → length moves < limit → (choice : Choice) (step : Step)
     → Picks script policy moves choice → StandsFor script moves choice step → ⊥
@@ -219,7 +219,7 @@ err_same e = cc
 no_ok : {X : Type 0} {x : X} {y : DriveError} → Ok x ≡ Err y → ⊥
 no_ok e = cc
 
--- an end where no choice is left
+-- an end if no choice is left
 pub answers_ok : {X : Type 0} → LawsBelow → (script : ScriptState) (policy : Policy) (limit : ℕ) (moves : List Move) (value : X)
     → IsNodeNumber script.nodes → Follows script policy moves → Ends script policy moves → length moves ≤ limit
     → Answers script policy limit (Ok value)
@@ -246,7 +246,7 @@ answers_err laws script policy limit fault count (inr (moves, follows, stops)) =
       absurd (none_some (one_ending laws script policy limit other moves None (Some fault) count follows' follows (ends, within) stops));
 }
 
--- where two lists of moves follow a policy to its end, they are one
+-- if two lists of moves follow a policy to its end, they are one
 pub one_run : LawsBelow → (script : ScriptState) (policy : Policy) (a b : List Move) → IsNodeNumber script.nodes
     → Follows script policy a → Ends script policy a → Follows script policy b → Ends script policy b → a ≡ b
 one_run laws script policy a b count f ends g end =

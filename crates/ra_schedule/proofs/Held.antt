@@ -8,7 +8,7 @@ use Rattle.ra_schedule.specs.declared.script.Op.{Op}
 use Rattle.ra_schedule.specs.declared.script.Op.TheVariants.{Lock, Unlock}
 use Rattle.ra_schedule.specs.Script.{IsHeldAfter}
 
--- after an operation the client has the name, where `before` says that it had it before
+-- after an operation the client has the name, if `before` says that it had it before
 abbrev IsHeldThen : Type 0 → Op → List ℕ → Type 0
 IsHeldThen before op name = ((mode : Mode) × (op ≡ Lock name mode)) ⊎ ((op ≢ Unlock name) × before)
 
@@ -21,11 +21,11 @@ ends (x ∷ xs) =
       | inr w ↦ inr (x ∷ w.0, w.1, ap (λ ys. x ∷ ys) w.2)
     ]
 
--- what stands before the last element, where a list is split at an earlier one
+-- what is before the last element, if a list is split at an earlier one
 pub before_last : {X : Type 0} (xs before prefix : List X) (x y last : X) → xs ++ x ∷ [] ≡ before ++ y ∷ (prefix ++ last ∷ []) → (xs ≡ before ++ y ∷ prefix) × (x ≡ last)
 before_last xs before prefix x y last e = same_from_push xs (before ++ y ∷ prefix) x last (e ∙ sym (append_assoc before (y ∷ prefix) (last ∷ [])))
 
--- where the operations are split at the lock of the name
+-- the operations are split at the lock of the name
 held_by_split : (ops before after : List Op) (op : Op) (name : List ℕ) (mode : Mode) → ops ++ op ∷ [] ≡ before ++ Lock name mode ∷ after → All (λ o. o ≢ Unlock name) after → IsHeldThen (IsHeldAfter ops name) op name
 held_by_split ops before after op name mode e none =
     elim (ends after) [
@@ -41,7 +41,7 @@ held_by_split ops before after op name mode e none =
           inr (λ o. not-last (sym is.1 ∙ o), (before, prefix, mode, is.0, in-prefix))
     ]
 
--- a client has a name after one more operation exactly where this one locks it, or does not unlock it and it had it before
+-- a client has a name after one more operation exactly if this one locks it, or does not unlock it and it had it before
 pub held_pushed : (ops : List Op) (op : Op) (name : List ℕ) → IsHeldAfter (ops ++ op ∷ []) name ↔ IsHeldThen (IsHeldAfter ops name) op name
 held_pushed ops op name = (
   λ h. held_by_split ops h.0 h.1 op name h.2 h.3 h.4,
@@ -57,7 +57,7 @@ held_pushed ops op name = (
   ],
 )
 
--- where the last operation is not about the name, the name is held exactly where it was before
+-- if the last operation is not about the name, the name is held exactly if it was before
 pub says_nothing : (ops before : List Op) (last : Op) (name : List ℕ) → ops ≡ before ++ last ∷ []
     → ((mode : Mode) → last ≢ Lock name mode) → last ≢ Unlock name → IsHeldAfter ops name ↔ IsHeldAfter before name
 says_nothing ops before last name is no-lock no-unlock =
@@ -69,7 +69,7 @@ says_nothing ops before last name is no-lock no-unlock =
       λ h. subst (λ (xs : List Op). IsHeldAfter xs name) (sym is) (pushed.1 (inr (no-unlock, h))),
     )
 
--- where the last operation unlocks the name, it is not held
+-- if the last operation unlocks the name, it is not held
 pub unlocked_last : (ops before : List Op) (name : List ℕ) → ops ≡ before ++ Unlock name ∷ [] → IsHeldAfter ops name → ⊥
 unlocked_last ops before name is held =
     elim ((held_pushed before (Unlock name) name).0 (subst (λ (xs : List Op). IsHeldAfter xs name) is held)) [

@@ -7,19 +7,19 @@ use Rattle.ra_stamp.proofs.Places.{split_at}
 use Rattle.ra_schedule.specs.declared.script.Op.{Op}
 use Rattle.ra_schedule.specs.Script.{ScriptClient, ScriptState, IsScriptClient, IsScript, AddsOp, LastHas}
 
--- it stands at the end
+-- it is at the end
 pub ends_with : (clients : List ScriptClient) (n : ℕ) (last : ScriptClient) → n ≡ length clients → 0 < n → last ≡ get_or clients (n - 1) last
     → clients ≡ take (n - 1) clients ++ last ∷ []
 ends_with clients n last len some is =
     split_at clients (n - 1) last (omega arith) (sym is) ∙ ap (λ rest. take (n - 1) clients ++ last ∷ rest) (drop_all (suc (n - 1)) clients (omega arith))
 
--- another one in its place stands at the end
+-- another one in its place is at the end
 pub set_last : (clients : List ScriptClient) (n : ℕ) (new : ScriptClient) → n ≡ length clients → 0 < n
     → set clients (n - 1) new ≡ take (n - 1) clients ++ new ∷ []
 set_last clients n new len some =
     set_split clients (n - 1) new (omega arith) ∙ ap (λ rest. take (n - 1) clients ++ new ∷ rest) (drop_all (suc (n - 1)) clients (omega arith))
 
--- a script stays one where its last client is replaced by a client of such a script
+-- a script stays one if its last client is replaced by a client of such a script
 pub with_last : (nodes : ℕ) (clients : List ScriptClient) (n : ℕ) (last new : ScriptClient) → n ≡ length clients → 0 < n → last ≡ get_or clients (n - 1) last
     → (IsScriptClient nodes last → IsScriptClient nodes new) → IsScript (record { nodes = nodes; clients = clients })
     → IsScript (record { nodes = nodes; clients = set clients (n - 1) new })
@@ -40,7 +40,7 @@ pub no_last : (script : ScriptState) (before : List ScriptClient) (last : Script
 no_last script [] last is none = cc
 no_last script (x ∷ before) last is none = cc
 
--- where no last client is found, there are no clients
+-- if no last client is found, there are no clients
 pub none_there : (clients : List ScriptClient) (n : ℕ) → n ≡ length clients → (0 < n → false ≡ true) → clients ≡ []
 none_there [] n len none = refl
 none_there (x ∷ xs) n len none = absurd (false≢true (none (omega (arith, len))))
@@ -63,7 +63,7 @@ adds_op old nodes clients n last new op len some is was new-is =
       ap (λ (xs : List ScriptClient). record { nodes = nodes; clients = xs }) after-is ∙ ap (λ (s : ScriptState). record s { clients = after }) was,
     )
 
--- a script with its last client put where it is
+-- a script with its last client put at its own place
 pub last_kept : (nodes : ℕ) (clients : List ScriptClient) (n : ℕ) (last new : ScriptClient) (old : ScriptState) → last ≡ get_or clients (n - 1) last
     → record { nodes = nodes; clients = clients } ≡ old → new ≡ last → ◌≡◌ {A = ScriptState} (record { nodes = nodes; clients = set clients (n - 1) new }) old
 last_kept nodes clients n last new old at is same =

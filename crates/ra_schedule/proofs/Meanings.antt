@@ -68,7 +68,7 @@ pub place_of_client : (script : ScriptState) (client count : ℕ) (clients : Lis
     → length clients ≡ length script.clients → client - 1 < length clients
 place_of_client script client count clients not within count_is long = omega (arith, not, within, count_is, long)
 
--- there it is known where the client stands
+-- there it is known at which names the client is
 pub progress_of : (script : ScriptState) (world : WorldState) (clients : List Progress) (client : ℕ) (d : Progress) → Tracks script world clients → (client ≡ 0 → ⊥)
     → client - 1 < length clients → IsProgress client world.moves (get_or clients (client - 1) d)
 progress_of script world clients client d tracks not within =

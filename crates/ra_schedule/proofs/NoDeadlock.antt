@@ -1,5 +1,5 @@
 -- If nothing was lost, and nothing more can happen, each client of a script in order is done: of those that wait, each
--- waits for a name that somebody holds who waits for a name above it.
+-- waits for a name that is held by a client that waits for a name above it.
 use Rattle.std.proofs.Common.{◌≡◌, ℕ, zero, suc, ◌<◌, Option, Some, None, List, [], ◌∷◌, ◌++◌, Contains, length, map, slice_get, refl, sym, ap, ◌∙◌, subst, arith, inl, inr}
 use Rattle.std.specs.Prelude.{option_to_list}
 use Rattle.std.specs.Cmp.Lexicographic.{nat_list_cmp_total}
@@ -111,7 +111,7 @@ module _ (nodes_laws : LawsOfNodes) (laws : LawsOfRuns) (script : ScriptState) (
       let o = (all.clients client who at_it).waits waits in
       (o.0, record { client = client; who = who; at_it = at_it; last = o.1; out = o.2 })
 
-  -- who holds a name and is not done waits for one that is above it
+  -- a client that holds a name and is not done waits for one that is above it
   waits_above : (name : List ℕ) (taken : IsTaken n all.nodes name) (who : ScriptClient) (at_it : client_at script taken.client ≡ Some who)
       → (left : List Op) → (all.clients taken.client who at_it).left ≡ left → (other : List ℕ) × IsStuckAt other × IsBelow name other
   waits_above name taken who at_it [] left_is =
@@ -179,7 +179,7 @@ module _ (nodes_laws : LawsOfNodes) (laws : LawsOfRuns) (script : ScriptState) (
   nobody_stuck name stuck =
       climbed IsBelow below_or_not nat_list_cmp_total.trans never_below IsStuckAt ⊥ (all_names script.clients) among_names (λ x p. inr (rises x p)) name stuck
 
-  -- ---- So every client is done, and nobody stands anywhere
+  -- ---- So every client is done, and nobody is at any name
 
   none_left : (client : ℕ) (who : ScriptClient) (at_it : client_at script client ≡ Some who) (left : List Op) → (all.clients client who at_it).left ≡ left → left ≡ []
   none_left client who at_it [] left_is = refl

@@ -1,4 +1,4 @@
--- If no client stands anywhere, none is queued.
+-- If no client is at any name, none is queued.
 use Rattle.std.proofs.Common.{◌≡◌, ℕ, zero, suc, ◌+◌, ◌<◌, ◌≤◌, cond, ◌&&◌, T, List, [], ◌∷◌, ◌++◌, length, map, Option, Some, None, Contains, refl, sym, ap, ◌∙◌, subst, arith}
 use Rattle.std.specs.Prelude.{sum_by, option_to_list, unwrap_or}
 use Rattle.std.specs.List.{range_with_len}

@@ -11,7 +11,7 @@ within_list [] k node is = absurd cc
 within_list (c ∷ clients) zero node is = omega arith
 within_list (c ∷ clients) (suc k) node is = let less = within_list clients k node is in omega arith
 
--- who has a node is a client
+-- one that has a node is a client
 pub is_client : (script : ScriptState) (client node : ℕ) → node_of script client ≡ Some node
     → (k : ℕ) × (client ≡ k + 1) × (k < length script.clients)
 is_client script zero node is = absurd cc

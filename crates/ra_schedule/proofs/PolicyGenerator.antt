@@ -37,7 +37,7 @@ pub next_word : (seed words : ℕ) (generator : Lcg) → generator ≡ generator
 unfolding word_of
 next_word seed words generator at = ap (λ (g : Lcg). (pcg64 g).0) at
 
--- and how it stands then
+-- and its state then
 pub after_word : (seed words : ℕ) (generator : Lcg) → generator ≡ generator_after seed words → (pcg64 generator).1 ≡ generator_after seed (words + 1)
 unfolding generator_after
 after_word seed words generator at = ap (λ (g : Lcg). (pcg64 g).1) at ∙ ap (generator_after seed) (sym (add-one words))
@@ -79,7 +79,7 @@ more_drawn script (Listed choices) moves move choice means = refl
 
 -- ---- What is picked
 
--- a choice of a policy, and where its generator stands then
+-- a choice of a policy, and the state of its generator then
 abbrev pub Draws : ScriptState → Policy → List Move → Lcg → Choice → Type 0
 Draws script policy moves new choice = Picks script policy moves choice
     × (Some new ≡ generator_at policy (words_drawn policy moves + words_for policy choice))
@@ -144,7 +144,7 @@ of_message script seed faults moves old next new place choice at once twice name
       ap Some (twice ∙ after_word seed (words + 1) next at' ∙ ap (generator_after seed) drawn),
     )
 
--- a client is picked where the word names it
+-- a client is picked if the word names it
 pub client_is_picked : (script : ScriptState) (policy : Policy) (seed : ℕ) (faults : FaultRates) (moves : List Move) (old new : Lcg) (named : Choice)
     → policy ≡ Faulty seed faults → ((place : ℕ) → named ≡ Message place → ⊥) → IsWithoutFault named
     → Some old ≡ generator_at policy (words_drawn policy moves) → new ≡ (pcg64 old).1 → IsNamedBy (pcg64 old).0 script moves named
@@ -165,7 +165,7 @@ message_is_picked script policy seed faults moves old next new named place choic
     (of_message script seed faults moves old next new place choice at once twice
     (subst (λ (x : Choice). IsNamedBy (pcg64 old).0 script moves x) message names) is)
 
--- where there is no choice, nothing is picked
+-- if there is no choice, nothing is picked
 nothing_is_named : (script : ScriptState) (moves : List Move) (word : ℕ) (choice : Choice)
     → ((a b : List Sent) → LeavesUnderWay moves a → LeavesUnderWay moves b → a ≡ b)
     → AreChoices script moves [] → IsNamedBy word script moves choice → ⊥

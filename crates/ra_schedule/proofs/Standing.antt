@@ -1,4 +1,4 @@
--- Where a client of a script stands: at the names that it locked and did not unlock since, at its own node. It holds
+-- At which names a client of a script is: at those that it locked and did not unlock since, at its own node. It holds
 -- each of them, except that one that waits does not hold the name that it locked last.
 use Rattle.std.proofs.Common.{◌≡◌, ◌⊎◌, ◌↔◌, ℕ, Some, List, [], ◌∷◌, ◌++◌, length, slice_get, refl, sym, ap, ◌∙◌, subst, append_assoc, arith, inl, inr}
 use Rattle.std.proofs.lemmas.Bool.{cases_eq}
@@ -51,7 +51,7 @@ pub record ComesIn (n client : ℕ) (nodes nodes' : ℕ → NodeState) : Type 0 
   pub after : HasIt (resource_at (nodes' i) name) client
   pub kept : (j : ℕ) (other : List ℕ) → IsNode n j → HasIt (resource_at (nodes j) other) client → HasIt (resource_at (nodes' j) other) client
 
--- it stands where it stood; and no mark names it and it holds what it held, or a mark says that it entered, and it did
+-- it is at the names at which it was; and no mark names it and it holds what it held, or a mark says that it entered, and it did
 pub record Untouched (n client : ℕ) (marks : List Mark) (nodes nodes' : ℕ → NodeState) : Type 0 where
   pub stands : (i : ℕ) (name : List ℕ) → IsNode n i → IsBusy (resource_at (nodes i) name) client ↔ IsBusy (resource_at (nodes' i) name) client
   pub holds : (IsSilent client marks × ((i : ℕ) (name : List ℕ) → IsNode n i → HasIt (resource_at (nodes i) name) client ↔ HasIt (resource_at (nodes' i) name) client))

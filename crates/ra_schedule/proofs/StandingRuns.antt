@@ -1,5 +1,5 @@
--- After each run in which the clients do what the script says, each of them stands where it should, and nobody else
--- stands anywhere.
+-- After each run in which the clients do what the script says, each of them is at the names at which it should be, and
+-- nobody else is at any.
 use Rattle.std.proofs.Common.{◌≡◌, ◌≢◌, ◌↔◌, ℕ, zero, suc, Some, List, [], ◌∷◌, ◌++◌, All, slice_get, refl, sym, ap, ◌∙◌, subst, append_assoc, arith, inl, inr}
 use Rattle.std.specs.Prelude.{if◌then◌else◌}
 use Rattle.std.proofs.lemmas.Bool.{cases_eq, eq-eqb}
@@ -149,7 +149,7 @@ module _ (n client : ℕ) (marks : List Mark) (nodes nodes' : ℕ → NodeState)
     ];
   }
 
--- where all nodes stay and there are no marks
+-- if all nodes stay and there are no marks
 all_untouched : (n client : ℕ) (marks : List Mark) (nodes nodes' : ℕ → NodeState) → marks ≡ [] → ((i : ℕ) → IsNode n i → nodes' i ≡ nodes i)
     → Untouched n client marks nodes nodes'
 all_untouched n client marks nodes nodes' none same = record {

@@ -56,7 +56,7 @@ one_more_seed script faults limit first seed survey new outcome so is t = record
   tallies = t;
 }
 
--- where the last one is tried, they are all
+-- if the last one is tried, they are all
 pub all_seeds : (script : ScriptState) (faults : Option FaultRates) (limit first last : ℕ) (survey : Survey) → first ≤ last → SoFar script faults limit first (last + 1) survey
     → IsSurvey script faults limit first last survey
 all_seeds script faults limit first last survey some so = record {
@@ -66,7 +66,7 @@ all_seeds script faults limit first last survey some so = record {
   tallies = so.tallies;
 }
 
--- where the last one is below the first there are none
+-- if the last one is below the first there are none
 pub no_seeds : (script : ScriptState) (faults : Option FaultRates) (limit first last : ℕ) (survey : Survey) → last < first → Tallies first [] survey
     → IsSurvey script faults limit first last survey
 no_seeds script faults limit first last survey none t = record {

@@ -115,7 +115,7 @@ past_the_end (x ∷ xs) zero n e = absurd cc
 past_the_end (x ∷ xs) (suc k) n e =
     let is : suc k + n ≡ suc (k + n) = omega arith in ap (slice_get (x ∷ xs)) is ∙ past_the_end xs k n e
 
--- who has nothing left to do has nothing left after more steps
+-- a client that has nothing left to do has nothing left after more steps
 nothing_left : (script : ScriptState) (client done n : ℕ) → op_at script client done ≡ None → op_at script client (done + n) ≡ None
 nothing_left script client done n e =
     elim (client_at script client) as (λ o. option_and_then (λ c. slice_get c.ops done) o ≡ None → option_and_then (λ c. slice_get c.ops (done + n)) o ≡ None) [
@@ -123,7 +123,7 @@ nothing_left script client done n e =
       | Some who ↦ λ h. past_the_end who.ops done n h
     ] e
 
--- who waits or has nothing left to do is so still after a move by which it did not enter
+-- a client that waits or has nothing left to do is so still after a move by which it did not enter
 stuck_after : (script : ScriptState) (client : ℕ) (move : Move) (old new : Progress) → IsStuck script client old
     → IsProgressAfter move client old new → All (λ mark. Enters client mark → ⊥) move.marks → IsStuck script client new
 stuck_after script client move old new (inl waits) (between, step, marks) none = inl (marks.waiting.1 (step.waiting.1 (inr waits), none))
@@ -319,7 +319,7 @@ are_done script world clients steps tracks are done k d within =
 abbrev pub WaitingEnds : ScriptState → Policy → Bool → Type 0
 WaitingEnds script policy finished = ChoosesItself policy → LosesNothing policy → (IsOutOfOrder script → ⊥) → (IsUnreleased script → ⊥) → IsTrue finished
 
--- what is recorded where no choice is left
+-- what is recorded if no choice is left
 pub records_all : (script : ScriptState) (policy : Policy) (world : WorldState) (driver : Driver) (limit : ℕ) (records : Bool)
     (driven : Driven) → IsThrough script policy limit records world driver
     → driven.steps.items ≡ driver.steps.items → driven.choices.items ≡ driver.choices.items → driven.turns ≡ length world.moves

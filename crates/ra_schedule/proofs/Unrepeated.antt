@@ -50,7 +50,7 @@ no_repeat (Repeated message) sound place is = sound
 
 -- ---- What faults make of it
 
--- where none are repeats, no number is that of a repeat
+-- if none are repeats, no number is that of a repeat
 of_tests : (message : ℕ) (lost repeated : Bool) → repeated ≡ lost
     → IsNoRepeat (if lost then Lost message else if repeated then Repeated message else Message message)
 of_tests message true repeated same place is = cc

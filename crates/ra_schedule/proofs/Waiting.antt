@@ -44,7 +44,7 @@ right_part : (client : ℕ) (xs ys : List Mark) → NoneEnters client (xs ++ ys)
 right_part client [] ys all = all
 right_part client (x ∷ xs) ys all = right_part client xs ys (elements.All-tail (λ mark. Enters client mark → ⊥) x (xs ++ ys) all)
 
--- a client waits after one more move where none of its marks says that it entered, and it asks by the move or waited before
+-- a client waits after one more move if none of its marks says that it entered, and it asks by the move or waited before
 pub waits_on : (client : ℕ) (moves : List Move) (move : Move) → NoneEnters client move.marks
     → Asks client move.step ⊎ IsWaiting client moves → IsWaiting client (moves ++ move ∷ [])
 waits_on client moves move none (inl asks) =
@@ -82,7 +82,7 @@ pub nobody_waits : (client : ℕ) → IsWaiting client [] → ⊥
 nobody_waits client ([], after, ask, is, asks, silent) = absurd cc
 nobody_waits client (m ∷ before, after, ask, is, asks, silent) = absurd cc
 
--- where a client stands goes on with a move
+-- the place of a client goes on with a move
 pub goes_on : (client : ℕ) (moves : List Move) (move : Move) (old new : Progress) → IsProgress client moves old
     → IsProgressAfter move client old new → IsProgress client (moves ++ move ∷ []) new
 goes_on client moves move old new stood (between, step, marks) =

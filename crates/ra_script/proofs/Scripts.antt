@@ -23,7 +23,7 @@ pub up_to_none : (b : Bool) (n : ℕ) → None ≡ (if b then Some n else None) 
 up_to_none true n e = absurd cc
 up_to_none false n e = refl
 
--- clients are placed where there are as many as may be, and each is at a node
+-- clients are placed if there are at most as many as may be, and each is at a node
 pub are_placed-few : (nodes : ℕ) (clients : List ClientRef) → 1 ≤ length clients → length clients ≤ 64 → are_placed nodes (map client_table clients) ≡ list_all (λ client. is_up_to nodes client.node) clients
 are_placed-few nodes clients some few =
     rw (length-map, le-leb 1 (length clients) some, le-leb (length clients) 64 few) (list_all-map (λ (table : ClientTable). is_up_to nodes table.node) client_table clients)

@@ -1,4 +1,4 @@
--- A text is read as choices exactly where it is how they are written.
+-- A text is read as choices exactly if it is how they are written.
 use Rattle.std.proofs.Common.{◌≡◌, ◌<◌, ◌^◌, ◌+◌, ◌*◌, ◌-◌, ℕ, true, false, ◌&&◌, ◌||◌, ◌==◌, not, nat_le, List, [], ◌∷◌, length, get_or, map, fold, Option, Some, None, option_map, option_and_then, refl, sym, ap, subst, ◌∙◌, inl, inr, arith, rules, ◌⊎◌, All, Result, Ok, Err, length-append}
 use Rattle.std.proofs.lemmas.Bool.{cases_Bool, and_parts, le-leb, leb-true, eqb-true, ne_eqb}
 use Rattle.std.proofs.Math.Bool.{or-true}

@@ -35,7 +35,7 @@ is_text text short utf8 = (short, is_utf8-from_IsUtf8 text utf8)
 pub not_both : {P : Type 0} (n : ℕ) → n ≤ 65536 → 65536 < n → P
 not_both n short long = absurd (omega (arith, short, long))
 
--- ---- No memory is asked for before a text is parsed, nor where it is read
+-- ---- No memory is asked for before a text is parsed, nor after it was read
 
 pub limit_is_not_memory : {T P : Type 0} → IsErrOf {T = T} (Err fault.Limit) fault.Memory → P
 limit_is_not_memory of = absurd cc

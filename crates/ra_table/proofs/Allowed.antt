@@ -7,7 +7,7 @@ use Rattle.ra_stamp.specs.Stamp.{IsEarlier}
 use Rattle.ra_table.specs.Table.{LockTable, Excludes, MayRequest, MayEnter}
 use Rattle.ra_table.specs.Refusals.{SharesNodeAndName, IsNodeBusy, IsNotAbove, IsHeld, HasEarlier}
 
--- where P holds of no element, each element lacks it
+-- if P holds of no element, each element lacks it
 All-not_any : {X : Type 0} (P : X → Type 0) (xs : List X) → (Any P xs → ⊥) → All (λ x. P x → ⊥) xs
 All-not_any P xs none k d lt p = none (k, get_or xs k d, lt, get_or_default xs k (get_or xs k d) d lt, p)
 

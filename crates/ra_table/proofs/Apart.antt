@@ -37,7 +37,7 @@ pub All-there : {X : Type 0} (P : X → Type 0) (prefix rest : List X) (x : X) �
 All-there P [] rest x all = All-head P x rest all
 All-there P (y ∷ prefix) rest x all = All-there P prefix rest x (All-tail P y (prefix ++ x ∷ rest) all)
 
--- ---- each two elements, where the relation does not depend on their order
+-- ---- each two elements, of a relation that does not depend on their order
 
 pub Apart-put : {X : Type 0} (R : X → X → Type 0) → ((a b : X) → R a b → R b a) → (prefix rest : List X) (x : X)
     → Apart R (prefix ++ rest) → All (R x) (prefix ++ rest) → Apart R (prefix ++ x ∷ rest)

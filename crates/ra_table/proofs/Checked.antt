@@ -18,7 +18,7 @@ pub record IsAnswered (table : LockTable) (e : Entry) (answer : Result ℕ Enter
   pub held : IsErrOf answer Held ↔ (Contains table.waiting e × IsHeld table e)
   pub earlier : IsErrOf answer Earlier ↔ (Contains table.waiting e × (IsHeld table e → ⊥) × HasEarlier table e)
 
--- of all entries those on the name of this one stand in a list
+-- of all entries those on the name of this one are in a list
 module _ (some standing all : List Entry) (e : Entry) (on : some ≡ on_name e.name standing) (is : standing ≡ all) where
   among : some ≡ on_name e.name all
   among = on ∙ ap (on_name e.name) is

@@ -15,7 +15,7 @@ pub record SameCounts (a b : LockTable) : Type 0 where
 length-gained : (old : List Entry) (e : Entry) (new : List Entry) → Gains old e new → length new ≡ suc (length old)
 length-gained old e new gains = rw (gains.2, gains.3) (simp length-append (omega arith))
 
--- lists of one length stay such where each gains an entry, and where each loses one
+-- lists of one length stay such if each gains an entry, and if each loses one
 both_gain : (a b a' b' : List Entry) (e : Entry) → length a ≡ length b → Gains a e a' → Gains b e b' → length a' ≡ length b'
 both_gain a b a' b' e same gains gains' = length-gained a e a' gains ∙ ap suc same ∙ sym (length-gained b e b' gains')
 

@@ -34,7 +34,7 @@ none_later Off m ms place rest (suc k) x lt at off = rest k x (omega arith) at o
 none_rest : (Off : Mark → Type 0) (m : Mark) (ms : List Mark) (place : ℕ) → NoneFrom Off (m ∷ ms) (suc place) → NoneFrom Off ms place
 none_rest Off m ms place none k x lt at off = none (suc k) x (omega arith) at off
 
--- the mark `on` stands at this place, and none after it is Off
+-- the mark `on` is at this place, and none after it is Off
 record Since (on : Mark) (Off : Mark → Type 0) (marks : List Mark) (place : ℕ) : Type 0 where
   there : IsAt marks place on
   none : NoneFrom Off marks (suc place)
@@ -154,7 +154,7 @@ granted_lasts e = record { starts = granted_starts e; keeps = λ old new m step 
 nothing_there : (e : Entry) → Contains [] e → ⊥
 nothing_there e at = let lt = at.1 in omega arith
 
--- an entry that entered was requested before, where it did not wait at first
+-- an entry that entered was requested before, if it did not wait at first
 requested_before : (marks : List Mark) (old new : LockTable) (e : Entry) (j : ℕ) → TableSteps old marks new → IsSoundTable old → IsAt marks j (Entered e)
     → Waits e old ⊎ ((i : ℕ) × (i < j) × IsAt marks i (Requested e))
 requested_before [] old new e j steps sound at = absurd cc

@@ -1,4 +1,4 @@
--- Lanes one after the other, and what becomes of them where one lane changes or comes.
+-- Lanes one after the other, and what becomes of them if one lane changes or comes.
 use Rattle.std.proofs.Common.{◌≡◌, ℕ, true, false, cond, List, [], ◌∷◌, ◌++◌, All, Any, Contains, ◌↔◌, Some, None, refl, sym, ap, ◌∙◌, subst, arith, inl, inr}
 use Rattle.std.specs.Str.{bytes_eq}
 use Rattle.std.specs.List.{AllByRecursion, IsDistinct}
@@ -150,7 +150,7 @@ module _ {X : Type 0} (part : X → List Entry) where
             ∙ ap (λ (l : List Entry). l ++ on_name name rest) (none_on name first.0 (part first.1) apart on.0))
       ] refl at
 
-  -- and where it finds none no entry is on the name
+  -- and if it finds none, no entry is on the name
   pub missing : (name : List ℕ) (lanes : List (List ℕ × X)) → AreOnTheirNames part lanes → None ≡ lookup (bytes_eq name) lanes → [] ≡ on_name name (joined part lanes)
   missing name [] on none = refl
   missing name (first ∷ lanes) on none =

@@ -1,4 +1,4 @@
--- Who waits and holds in the lanes that a table keeps, and what becomes of it where one lane changes or comes.
+-- Who waits and holds in the lanes that a table keeps, and what becomes of it if one lane changes or comes.
 use Rattle.std.proofs.Common.{◌≡◌, ◌<◌, ℕ, List, [], ◌∷◌, ◌++◌, length, Option, Some, None, Result, Ok, Err, IsSome, OnOk, OnErr, MutBor, refl, sym, ap, ◌∙◌, subst, arith}
 use Rattle.std.specs.Option.{option_copied_mut}
 use Rattle.std.specs.Str.{bytes_eq}
@@ -33,7 +33,7 @@ module _ {S : Type 0} (lanes : IndexMap (List ℕ) Lane S) (now : Standing) (is 
   pub nobody_holds : None ≡ lookup (bytes_eq name) lanes.entries → [] ≡ on_name name now.holding
   nobody_holds none = missing holding_of name lanes.entries sorted.holding none ∙ ap (λ (s : Standing). on_name name s.holding) is
 
-  -- where an entry waits or holds on the name, there is a lane
+  -- if an entry waits or holds on the name, there is a lane
   pub lane_of_waiting : (place : ℕ) (shown : Option (MutBor Lane)) → option_copied_mut shown ≡ lookup (bytes_eq name) lanes.entries → place < length (on_name name now.waiting) → IsSome shown
   lane_of_waiting place None none lt = absurd (omega (arith, lt, ap length (nobody_waits none)))
   lane_of_waiting place (Some lane) at lt = refl
@@ -49,7 +49,7 @@ module _ {S : Type 0} (lanes : IndexMap (List ℕ) Lane S) (now : Standing) (is 
     pub holding : joined holding_of lanes'.entries ≡ now.holding
     pub err : OnErr result (standing_in lanes'.entries ≡ now)
 
-  -- ---- Where the lane of the name changes
+  -- ---- The lane of the name changes
 
   module _ (lanes' : IndexMap (List ℕ) Lane S) (old new : Lane) (at : Some old ≡ lookup (bytes_eq name) lanes.entries) (written : WritesThrough bytes_eq (bytes_eq name) lanes new lanes') where
     pub on_waiting : AreOn name old.waiting.items
@@ -112,7 +112,7 @@ module _ {S : Type 0} (lanes : IndexMap (List ℕ) Lane S) (now : Standing) (is 
           err = all_stay err holding;
         }
 
-  -- ---- Where the name has its first lane
+  -- ---- The name has its first lane
 
   module _ (lanes' : IndexMap (List ℕ) Lane S) (new : Lane) (e : Entry) (name_is : e.name ≡ name) (waits : new.waiting.items ≡ e ∷ []) (none : new.holding.items ≡ []) (more : lanes'.entries ≡ lanes.entries ++ (name, new) ∷ []) where
     pub sorted_with : IsUnique bytes_eq lanes' → IsSorted lanes'.entries

@@ -54,7 +54,7 @@ along a b (Entered e) same allowed =
     })
 along a b (Left e) same allowed = (allows_leave b e).1 ((same.holding e).0 ((allows_leave a e).0 allowed))
 
--- a run goes on with a mark exactly where the table at its end allows it
+-- a run goes on with a mark exactly if the table at its end allows it
 pub next_mark : (marks : List Mark) (m : Mark) (table : LockTable) → TableRun marks table → AllowsMark table m ↔ ((next : LockTable) × TableRun (marks ++ m ∷ []) next)
 next_mark marks m table run = (
   λ allowed. (allowed.0, steps_grow marks m empty_table table allowed.0 run allowed.1),

@@ -1,4 +1,4 @@
--- Where an entry stands in a list, found by comparing entries one by one.
+-- The place of an entry in a list, found by comparing entries one by one.
 use Rattle.std.proofs.Common.{rules, ◌≡◌, ◌↔◌, ◌≢◌, ℕ, ◌<◌, ◌≤◌, ◌+◌, List, Contains, IsTrue, length, get_or, sym, ◌∙◌, subst, arith}
 use Rattle.std.proofs.lemmas.List.{get_or_default}
 use borrow.Author.Count.{below_none, below_more}

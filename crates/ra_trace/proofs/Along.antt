@@ -305,7 +305,7 @@ some_taken_by left now new bytes (Err fault) taken ended = tt
 nothing_is_open : (prefix : List Line) → IsOpen prefix []
 nothing_is_open prefix = ((All-nil (λ byte. byte ≢ 10), omega arith), λ whole. refl)
 
--- nothing stands after it
+-- nothing is after it
 valid_at_end : (limit left : ℕ) (old now new : Option (List ℕ)) (checker : Checker) (number : ℕ) → IsDone limit left old now checker number
     → Consumes now new [] → IsAtEnd new
     → Judges limit old new (Valid (requests_in (marks_of checker.world.moves)) (length (sent_by checker.world.moves)))
@@ -354,7 +354,7 @@ answers_at_end limit left old now new checker number (Err Memory) done none = ab
 
 -- ---- From line to line
 
--- what is left where it is neither wrong nor the last
+-- what is left if it is neither wrong nor the last
 pub right_turns : (limit left : ℕ) (old new : Option (List ℕ)) (after : Checker) (number : ℕ) (bytes : List ℕ) (next : Next)
     → Turns limit left old new after number bytes (Ok next) → ((why : Cause) → next ≡ Next.Wrong why → ⊥) → (next ≡ Next.Last → ⊥)
     → IsAlong limit (left - length bytes) old new after (number + 1)

@@ -1,4 +1,4 @@
--- What stands before and after a byte, and after words.
+-- What comes before and after a byte, and after words.
 use Rattle.std.proofs.Common.{◌≡◌, ◌≢◌, ℕ, zero, suc, ◌+◌, ◌-◌, ◌<◌, length-drop, add-one, ◌∙◌, ◌==◌, Bool, true, false, if◌then◌else◌, List, [], ◌∷◌, ◌++◌, length, get_or, take, drop, All, Option, Some, None, MatchOption, Bor, option_map, refl, sym, ap, arith, inl, inr, ◌⊎◌, eq-eqb}
 use Rattle.std.proofs.lemmas.Bool.{ne_eqb, cases_Bool, eqb-true, false≢true}
 use Rattle.std.proofs.lemmas.List.{take_all}

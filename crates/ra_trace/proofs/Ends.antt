@@ -1,4 +1,4 @@
--- Where a line is over, what stands after it makes no other line of it.
+-- Once a line is over, what comes after it makes no other line of it.
 use Rattle.std.proofs.Common.{◌≡◌, ◌≢◌, ◌⊎◌, ℕ, ◌<◌, ◌≤◌, ◌==◌, false, List, [], ◌∷◌, ◌++◌, length, take, ◌-◌, All, Option, Some, None, refl, sym, ap, ◌∙◌, subst, inl, inr, arith, append_assoc, length-append}
 use Rattle.std.specs.Prelude.{Ok}
 use Rattle.std.proofs.lemmas.Bool.{ne_eqb, cases_Bool, eqb-true, eqb-false}
@@ -22,7 +22,7 @@ free [] h = All-nil (λ b. (b == 10) ≡ false)
 free (b ∷ bytes) h =
     All-cons (λ b. (b == 10) ≡ false) b bytes (ne_eqb b 10 (All-head (λ byte. byte ≢ 10) b bytes h)) (free bytes (All-tail (λ byte. byte ≢ 10) b bytes h))
 
--- a line feed stands after all bytes that are none
+-- a line feed is after all bytes that are none
 feed_is_late : (bytes more before rest : List ℕ) → NoFeed bytes → bytes ++ more ≡ before ++ 10 ∷ rest → length bytes ≤ length before
 feed_is_late [] more before rest h e = omega arith
 feed_is_late (b ∷ bytes) more [] rest h e = absurd (All-head (λ byte. byte ≢ 10) b bytes h cc)
@@ -36,7 +36,7 @@ line_feeds text line rest h =
     let has = has_body line h.0 in
     (h.1 ∙ (ap (λ (bytes : List ℕ). bytes ++ rest) has.text_is ∙ append_assoc (body line) (10 ∷ []) rest), body_is_short line h.0)
 
--- no line begins where no line feed is within its length
+-- no line begins if no line feed is within its length
 pub no_line_in : (bytes more : List ℕ) → NoFeed bytes → (more ≡ []) ⊎ (127 ≤ length bytes) → (line : Line) (rest : List ℕ)
     → BeginsReadable (bytes ++ more) line rest → ⊥
 no_line_in bytes more h where_ line rest begins =
@@ -49,7 +49,7 @@ no_line_in bytes more h where_ line rest begins =
       | inr long ↦ absurd (omega (arith, late, short, long))
     ]
 
--- where its line feed came, the line is there already
+-- if its line feed came, the line is there already
 begins_at_feed : (before more : List ℕ) (line : Line) (rest : List ℕ) → NoFeed before → BeginsReadable ((before ++ 10 ∷ []) ++ more) line rest
     → BeginsReadable (before ++ 10 ∷ []) line []
 begins_at_feed before more line rest h begins =
@@ -116,7 +116,7 @@ long_is_over (b ∷ bytes) h long =
 pub feed_is_over : (bytes : List ℕ) (new : Option (List ℕ)) → EndsSo Feed bytes new → IsOverLine bytes
 feed_is_over bytes new (before, opened, is) = (before, 10, opened, is, inl refl)
 
--- what stands before the line feed
+-- what comes before the line feed
 before_feed : (bytes before : List ℕ) → bytes ≡ before ++ 10 ∷ [] → take (length bytes - 1) bytes ≡ before
 before_feed bytes before is =
     ap (take (length bytes - 1)) is

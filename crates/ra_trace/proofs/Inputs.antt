@@ -25,7 +25,7 @@ use Rattle.ra_trace.proofs.Ends.{begins_before}
 use Rattle.ra_trace.proofs.Versions.{begins_readable}
 use Rattle.ra_trace.proofs.Prefixes.{no_trace}
 
--- ---- What is wrong stays wrong, whatever stands after what was read
+-- ---- What is wrong stays wrong, whatever comes after what was read
 
 begins_more : (version : Version) (text more : List ℕ) (line : Line) (rest : List ℕ) → BeginsWith version text line rest
     → BeginsWith version (text ++ more) line (rest ++ more)
@@ -94,7 +94,7 @@ nothing_over : (prefix : List Line) (rest : List ℕ) → rest ≡ [] → IsOver
 nothing_over prefix rest none (before, byte, opened, is, how) =
     some_bytes before byte [] (append-nil (before ++ byte ∷ []) ∙ (sym is ∙ none))
 
--- what was read is all of a known input, where the text is valid
+-- what was read is all of a known input, if the text is valid
 record AllRead (limit : ℕ) (input : List ℕ) (new : Option (List ℕ)) (prefix : List Line) : Type 0 where
   input_is : input ≡ flat_map line_text prefix
   at_most : length input ≤ limit

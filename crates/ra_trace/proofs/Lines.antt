@@ -37,7 +37,7 @@ read_begins text bytes rest line cuts reads =
     let (fits, whole) = line_in-only bytes line reads in
     (fits, cut-only 10 text (bytes, rest) cuts ∙ (sym (append_assoc bytes (codes "\n") rest) ∙ ap (λ (prefix : List ℕ). prefix ++ rest) whole))
 
--- where no line ends or none is read, none begins the text
+-- if no line ends or none is read, none begins the text
 pub uncut : (text : List ℕ) → cut 10 text ≡ None → (line : Line) (rest : List ℕ) → BeginsReadable text line rest → ⊥
 uncut text none line rest h = let cuts = cut_line text line rest h in cc
 
@@ -47,7 +47,7 @@ unread text bytes others cuts none line rest h =
     let read = sym (ap line_in same.0) ∙ (has_body line h.0).read in
     cc
 
--- nor is a text without its line feed a line, where none is read
+-- nor is a text without its line feed a line, if none is read
 pub is_no_line : (text : List ℕ) → line_in text ≡ None → (line : Line) → IsReadable line → text ++ codes "\n" ≡ line_text line → ⊥
 is_no_line text none line fits same =
     let has = has_body line fits in

@@ -18,7 +18,7 @@ use Rattle.ra_trace.specs.Check.{ChecksLog}
 use Rattle.ra_trace.specs.MarksReading.{JudgesMarks, ReadsOnMarks, PassesMarksLimit, StopsBehindMarks, AnswersMarks}
 use Rattle.ra_trace.proofs.Ends.{begins_before}
 
--- ---- What is wrong stays wrong, whatever stands after what was read
+-- ---- What is wrong stays wrong, whatever comes after what was read
 
 some_bytes : (before : List ℕ) (byte : ℕ) (more : List ℕ) → (before ++ byte ∷ []) ++ more ≢ []
 some_bytes [] byte more e = absurd cc
@@ -49,7 +49,7 @@ nothing_over : (rest : List ℕ) → rest ≡ [] → IsOverLine rest → ⊥
 nothing_over rest none (before, byte, opened, is, how) =
     some_bytes before byte [] (append-nil (before ++ byte ∷ []) ∙ (sym is ∙ none))
 
--- what was read is all of a known input, where the marks are a run
+-- what was read is all of a known input, if the marks are a run
 record AllRead (limit : ℕ) (input : List ℕ) (new : Option (List ℕ)) (marks : List Mark) : Type 0 where
   input_is : input ≡ marks_text marks
   at_most : length input ≤ limit

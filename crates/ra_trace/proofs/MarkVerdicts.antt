@@ -90,7 +90,7 @@ no_more laws prefix marks r s why wrong whole h = at h.more h.longer_is h.left_i
         let begins = begins_so x more s (All-at (IsMarkLine Two) prefix x more run.lines) in
         absurd (next_is_not_wrong laws prefix more x r (marks_text more ++ s) why run (begins.0, left ∙ begins.1) wrong)
 
--- where nothing is left there are no more marks
+-- if nothing is left there are no more marks
 nothing_left : (prefix marks : List Mark) (s : List ℕ) → Longer prefix marks [] s → SameEnd prefix marks [] s
 nothing_left prefix marks s h = at h.more h.longer_is h.left_is
   where

@@ -293,7 +293,7 @@ some_taken_by left now new bytes (Ok End) taken ended = tt
 some_taken_by left now new bytes (Ok (Wrong why)) taken ended = tt
 some_taken_by left now new bytes (Err fault) taken ended = tt
 
--- what comes where there is no line
+-- what comes if there is no line
 pub none_turns : (limit left : ℕ) (old now new : Option (List ℕ)) (log : Log) (number : ℕ) (bytes : List ℕ) (next : NextMark)
     → IsAlongMarks limit left old now log number → TakesBytes left now new bytes → HasNone bytes new → IsMissing bytes next
     → TurnsMarks limit left old new log number bytes (Ok next)
@@ -313,7 +313,7 @@ pub no_log : TableLaws → (limit : ℕ) (old : Option (List ℕ)) → StopsBehi
 no_log laws limit old =
     ([], record { lines = All-nil (IsMarkLine Two); table = empty_table; run = laws.empty }, nothing_taken old, omega arith)
 
--- what is left where it is neither wrong nor the end
+-- what is left if it is neither wrong nor the end
 pub right_turns : (limit left : ℕ) (old new : Option (List ℕ)) (after : Log) (number : ℕ) (bytes : List ℕ) (next : NextMark)
     → TurnsMarks limit left old new after number bytes (Ok next) → ((why : MarkCause) → next ≡ Wrong why → ⊥) → (next ≡ End → ⊥)
     → IsAlongMarks limit (left - length bytes) old new after (number + 1)

@@ -1,4 +1,4 @@
--- Prefixes of a trace: which line may come next, which lines stand in one, and that the lines tell the run.
+-- Prefixes of a trace: which line may come next, which lines are in one, and that the lines tell the run.
 use Rattle.std.proofs.Common.{◌≡◌, ◌≢◌, ◌⊎◌, ℕ, List, [], ◌∷◌, ◌++◌, map, refl, sym, ap, ◌∙◌, subst, inl, inr, append_assoc}
 use Rattle.std.specs.Prelude.{All, flat_map}
 use Rattle.std.proofs.lemmas.List.{append-nil, append_cancel_left, append_cancel_right, map-append}
@@ -17,7 +17,7 @@ use Rattle.ra_trace.specs.TraceText.{IsLine, IsTraceIn, line_text, move_lines, t
 use Rattle.ra_trace.specs.Verdict.{IsTracePrefix, TableGoesOn, marks_in_line, marks_in}
 use Rattle.ra_trace.specs.Below.{LawsBelow}
 
--- ---- The steps and the marks that stand in lines
+-- ---- The steps and the marks that are in lines
 
 abbrev pub steps_in_line : Line → List Step
 steps_in_line (First version nodes start) = []
@@ -108,7 +108,7 @@ one_prefix laws version n start moves due version' n' start' moves' due' lines a
     let marks = marks_so_far version n start moves due lines a ∙ ap marks_of same ∙ sym (marks_so_far version' n' start' moves' due' lines b) in
     record { named = named; count = count; from = from; run = same; left = append_cancel_left (marks_in lines) due due' marks }
 
--- ---- Where a line stands among those of moves
+-- ---- The place of a line among those of moves
 
 -- a step's line, after those of the moves before
 pub record AtStep (moves : List Move) (prefix : List Line) (line : Line) : Type 0 where
@@ -132,7 +132,7 @@ pub record AtMark (moves : List Move) (prefix : List Line) (line : Line) : Type 
   pub prefix_is : prefix ≡ flat_map move_lines before ++ Stepped move.step ∷ map Marked come
   pub line_is : line ≡ Marked mark
 
--- the line is one of the marks, or it stands after them
+-- the line is one of the marks, or it is after them
 record AmongMarks (marks : List Mark) (prefix : List Line) (line : Line) : Type 0 where
   come : List Mark
   mark : Mark
@@ -227,7 +227,7 @@ place_in (move ∷ moves) (x ∷ prefix) line rest e =
 
 -- ---- What is right after a prefix
 
--- the line may come next after these lines, which are a prefix in this version where they are not empty
+-- the line may come next after these lines, which are a prefix in this version if they are not empty
 abbrev pub MayFollow : Version → List Line → Line → Type 0
 MayFollow version prefix (First named nodes start) = prefix ≡ []
 MayFollow version prefix (Stepped step) = (n start : ℕ) × (moves : List Move) × IsTracePrefix version n start moves [] prefix × GoesOn n start moves step
@@ -305,7 +305,7 @@ next_mark laws version n start moves prefix line count run each m =
       due_marks_go_on laws version n start (m.before ++ m.move ∷ []) m.mark m.others (First version n start ∷ prefix) here,
     )
 
--- a line of a prefix may come next where it stands, and is not the last one
+-- a line of a prefix may come next at its place, and is not the last one
 pub record InPrefix (version : Version) (prefix : List Line) (line : Line) : Type 0 where
   pub next : MayFollow version prefix line
   pub not_last : line ≢ Last
@@ -366,7 +366,7 @@ place_before_end (y ∷ prefix) line rest (x ∷ lines) final e =
       | inr h ↦ inr (record { rest = h.rest; lines_are = let are = h.lines_are in cc })
     ]
 
--- a line of a trace may come next where it stands
+-- a line of a trace may come next at its place
 pub next_in_trace : LawsBelow → (version : Version) (n start : ℕ) (moves : List Move) (text : List ℕ) (prefix : List Line) (line : Line) (rest : List Line)
     → IsTraceIn version n start moves text → prefix ++ line ∷ rest ≡ trace_lines version n start moves → MayFollow version prefix line
 next_in_trace laws version n start moves text prefix line rest trace e =

@@ -253,7 +253,7 @@ body (Marked (Entered entry)) = codes "enter " ++ full_tail (entry.stamp.node, (
 body (Marked (Left entry)) = codes "leave " ++ full_tail (entry.stamp.node, (entry.client, (entry.name, (entry.mode, entry.stamp.seq))))
 body Last = codes "end"
 
--- what a line has: its text ends with the one line feed in it, and what stands before is read as it
+-- what a line has: its text ends with the one line feed in it, and what comes before is read as it
 pub record HasBody (line : Line) : Type 0 where
   pub text_is : line_text line ≡ body line ++ codes "\n"
   pub no_feed : IsFree 10 (body line)

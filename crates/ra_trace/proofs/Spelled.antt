@@ -28,7 +28,7 @@ pub record ReadsField {A : Type 0} (read : List ℕ → Option A) (Is : A → Ty
   pub reads : Reads read Is spell
   pub no_space : (x : A) → Is x → IsFree 32 (spell x)
 
--- a field, and what stands after the space after it
+-- a field, and what comes after the space after it
 before_only : {A : Type 0} (f : List ℕ → Option A) (P : A → Type 0) (s : A → List ℕ) → ReadsField f P s
     → (text : List ℕ) (prefix : A × List ℕ) → before f text ≡ Some prefix → P prefix.0 × (text ≡ s prefix.0 ++ 32 ∷ prefix.1)
 before_only f P s F text prefix e =

@@ -33,7 +33,7 @@ same_lines (x ∷ a) (y ∷ b) g h e =
     let once = begins_once (flat_map line_text (x ∷ a)) x y (flat_map line_text a) (flat_map line_text b) (All-head IsReadable x a g, refl) (All-head IsReadable y b h, e) in
     ap (λ (line : Line). line ∷ a) once.0 ∙ ap (λ (lines : List Line). y ∷ lines) (same_lines a b (All-tail IsReadable x a g) (All-tail IsReadable y b h) once.1)
 
--- the steps that stand in a line
+-- the steps that are in a line
 abbrev steps_in : Line → List Step
 steps_in (First version nodes start) = []
 steps_in (Stepped step) = step ∷ []

@@ -182,7 +182,7 @@ one_cause laws prefix text why other p q =
 
 -- ---- A line that may come next is not wrong
 
--- what is behind a line that may come next
+-- what is after a line that may come next
 behind_next : (version : Version) (prefix : List Line) (line : Line) → MayFollow version prefix line
     → (IsFirst line × (prefix ≡ [])) ⊎ ((n start : ℕ) × (moves : List Move) × (due : List Mark) × IsTracePrefix version n start moves due prefix)
 behind_next version prefix (First named nodes from) next = inl (tt, next)
@@ -281,7 +281,7 @@ right_lines lines (inr (inl (version, n, start, moves, due, behind))) = all_read
 right_lines lines (inr (inr (version, n, start, moves, text, trace, are))) =
     all_readable version lines (subst (All (IsLine version)) (sym are) trace.lines)
 
--- a line among right ones may come next where it stands, and its version allows it
+-- a line among right ones may come next at its place, and its version allows it
 record StandsThere (prefix : List Line) (line : Line) : Type 0 where
   version : Version
   next : MayFollow version prefix line
@@ -330,7 +330,7 @@ longer_or_not (x ∷ a) (y ∷ b) r s p q e =
       | inr h ↦ inr (record { more = h.more; longer_is = let is = h.longer_is in cc; left_is = h.left_is })
     ]
 
--- right lines end where a line is wrong
+-- right lines end at a line that is wrong
 record SameEnd (a b : List Line) (r s : List ℕ) : Type 0 where
   lines : a ≡ b
   rest : r ≡ s
@@ -366,7 +366,7 @@ line_has_bytes (Stepped step) rest e = step_has_bytes step rest e
 line_has_bytes (Marked mark) rest e = mark_has_bytes mark rest e
 line_has_bytes Last rest e = cc
 
--- where nothing is left there are no more lines
+-- if nothing is left there are no more lines
 nothing_left : (prefix lines : List Line) (s : List ℕ) → Longer prefix lines [] s → SameEnd prefix lines [] s
 nothing_left prefix lines s h = at h.more h.longer_is h.left_is
   where

@@ -25,7 +25,7 @@ number_above start nodes lent moves w i is same less =
 pub number_of : (nodes : List NodeState) (place i : ℕ) → place + 1 ≡ i → place < length nodes → (1 ≤ i) × (i ≤ length nodes)
 number_of nodes place i number within = (omega (arith, number), omega (arith, number, within))
 
--- one node put where a node is leaves as many
+-- one node put at the place of a node leaves as many
 pub count_with : (nodes : List NodeState) (place : ℕ) (new : NodeState) → IsNodeNumber (length nodes) → IsNodeNumber (length (set nodes place new))
 count_with nodes place new count = subst IsNodeNumber (sym (length-set nodes place new)) count
 
@@ -35,7 +35,7 @@ pub kept_as : (start : ℕ) (nodes : List NodeState) (left left' : List Message)
 kept_as start nodes left left' moves moves' keeps same is =
     subst (λ (ms : List Message). Keeps start nodes ms moves') (sym same) (subst (λ (ms : List Move). Keeps start nodes left ms) (sym is) keeps)
 
--- the same, and one of the nodes is put where it is
+-- the same, and one of the nodes is put at its own place
 pub kept_back : (start : ℕ) (nodes : List NodeState) (left left' : List Message) (moves moves' : List Move) (place : ℕ) (old new : NodeState)
     → Keeps start nodes left moves → left' ≡ left → moves' ≡ moves → old ≡ get_or nodes place old → new ≡ old
     → Keeps start (set nodes place new) left' moves'

@@ -24,7 +24,7 @@ idle_has_none phase seq mode idle own = subst (λ (q : Phase). HasOwn q seq mode
 pub idle_goes_last : (phase : Phase) (me x k : ℕ) (m : Mode) → phase ≡ Idle → OwnGoesFirst phase me x k m → ⊥
 idle_goes_last phase me x k m idle first = subst (λ (q : Phase). OwnGoesFirst q me x k m) idle first
 
--- who awaits a REPLY has the request that it is to
+-- a node that awaits a REPLY has the request that it is to
 pub awaits_has : (s : State) (x seq : ℕ) (mode : Mode) → Awaits s x seq mode → HasOwn s.phase seq mode
 awaits_has s x seq mode awaits = subst (λ (q : Phase). HasOwn q seq mode) (sym awaits.waits) (refl, refl)
 
@@ -141,7 +141,7 @@ module _ (old new : State) (x seq : ℕ) (entered : Bool) (mode : Mode) (step : 
     | inr on ↦ subst (λ (t : State). IsTrue (set.contains t.awaited y)) (sym on.new_is) (remains old.awaited x y other ∙ h)
   ]
 
-  -- and who was not awaited is not
+  -- and one that was not awaited is not
   pub was_awaited : (y : ℕ) → y ≢ x → IsTrue (set.contains new.awaited y) → IsTrue (set.contains old.awaited y)
   was_awaited y other h = elim step [
     | inl enters ↦ absurd (nobody y (subst (λ (t : State). IsTrue (set.contains t.awaited y)) enters.new_is h))
@@ -169,7 +169,7 @@ module _ (old new : State) (x seq : ℕ) (entered : Bool) (mode : Mode) (step : 
   pub own_was : (k : ℕ) (m : Mode) → HasOwn new.phase k m → HasOwn old.phase k m
   own_was k m own = subst (λ (q : Phase). HasOwn q k m) (sym waited.waits) (own_is k m own)
 
-  -- who waits on waited so
+  -- one that waits on waited so
   pub waited_so : (y k : ℕ) (m : Mode) → y ≢ x → Awaits new y k m → Awaits old y k m
   waited_so y k m other h =
       let is = own_is k m (awaits_has new y k m h) in

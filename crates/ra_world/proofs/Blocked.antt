@@ -1,4 +1,4 @@
--- Where nothing was lost and nothing is under way, each request that waits is blocked.
+-- If nothing was lost and nothing is under way, each request that waits is blocked.
 use Rattle.std.proofs.Common.{◌≡◌, ◌≢◌, ◌⊎◌, ℕ, ◌≤◌, List, [], ◌∷◌, Contains, ◌||◌, Option, Some, None, refl, sym, ap, ◌∙◌, subst, arith, inl, inr}
 use Rattle.std.specs.Prelude.{IsTrue}
 use Rattle.std.specs.List.{list_any}

@@ -18,7 +18,7 @@ fits law s message spare log bag has sends marks new happened =
     let few = law s new message sends marks happened in
     (omega (arith, few.0, bag), record { for_step = has.for_step; for_marks = omega (arith, few.1, has.for_marks) })
 
--- for nothing, where it brings nothing
+-- for nothing, if it brings nothing
 pub nothing_fits : ((old a b : NodeState) (event : Event) (sends sends' : List Message) (marks marks' : List Mark) → NodeEvent old event sends marks a → NodeEvent old event sends' marks' b
     → (sends ≡ sends') × (marks ≡ marks') × (a ≡ b))
     → (s : NodeState) (message : Message) (spare : ℕ) (log : LogState) → BringsNothing s message → HasRoom log 0

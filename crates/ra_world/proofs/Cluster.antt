@@ -167,7 +167,7 @@ module _ {Lossy Copied : Type 0} (symmetric : (a b : Mode) → Conflict a b → 
         tabled = tabled;
       }
 
-  -- who is granted by this event may be
+  -- a client that is granted by this event may be
   grant : Conduct Lossy Copied start n r (states nodes' r) (rest ++ sends) → (e : Entry) → use_of after ≡ HoldsBy e → MayBeGranted n (uses nodes) (reaches nodes') p r e
   grant here e is =
       same_others n (uses nodes') (uses nodes) (reaches nodes') p r e (λ j apart. sym (ap use_of (resource_of j r (λ same _. apart same))))

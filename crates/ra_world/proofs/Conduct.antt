@@ -1,4 +1,4 @@
--- What holds of the automata of one name, one at each node, and of the messages under way: what holds also where messages were
+-- What holds of the automata of one name, one at each node, and of the messages under way: what holds also if messages were
 -- repeated, and as long as none was, that each dialog has one message at most. Each step keeps it.
 use Rattle.std.proofs.Common.{◌≡◌, ◌≢◌, ◌⊎◌, ℕ, Bool, List, [], ◌∷◌, ◌++◌, Contains, sym, ap, ◌∙◌, subst, inl, inr}
 use Rattle.std.proofs.lemmas.List.{append-nil}
@@ -18,7 +18,7 @@ use Rattle.ra_world.proofs.Exchanges.{Exchanges}
 use Rattle.ra_world.proofs.ExchangesAsking.{request_exchanged, leave_exchanged, not_a_reply}
 use Rattle.ra_world.proofs.ExchangesReceiving.{request_came, reply_came, message_gone, message_copied, exchanges_undisturbed}
 
--- messages are repeated only where Copied is so
+-- messages are repeated only if Copied is so
 pub record Conduct (Lossy Copied : Type 0) (start n : ℕ) (r : List ℕ) (s : ℕ → State) (bag : List Message) : Type 0 where
   pub exchanges : Exchanges Lossy start n r s bag
   pub exact : (Copied → ⊥) → Protocol Lossy n r s bag

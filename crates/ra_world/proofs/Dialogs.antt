@@ -22,7 +22,7 @@ use Rattle.ra_world.proofs.Lists.{filter_hit, filter_miss, filter_none}
 
 -- ---- Whose dialog a message is of
 
--- who asks in it, and who answers
+-- which node asks in it, and which answers
 abbrev pub asker_of : Message → ℕ
 asker_of (Request from to name mode seq) = from
 asker_of (Reply from to name seq) = to

@@ -17,7 +17,7 @@ use Rattle.ra_world.proofs.DifferentLists.{AreDifferent, one_more_different, las
 abbrev pub NoReply : List ℕ → ℕ → ℕ → ℕ → List Message → Type 0
 NoReply r i j seq hs = All (λ m. m ≢ Reply j i r seq) hs
 
--- what was said where i asks and j answers, with what of it is under way: the asker has met the numbers of all, and as
+-- what was said when i asks and j answers, with what of it is under way: the asker has met the numbers of all, and as
 -- long as a REQUEST is under way or deferred, no REPLY with its number was sent
 pub record Said (r : List ℕ) (i j : ℕ) (si sj : State) (ms hs : List Message) : Type 0 where
   pub different : AreDifferent hs
@@ -60,7 +60,7 @@ module _ (r : List ℕ) (i j : ℕ) (si si' sj sj' : State) (ms ms' hs hs' : Lis
         deferred = λ k here. All-push (λ m. m ≢ Reply j i r k) hs asks (old.deferred k (sym same ∙ here)) (λ e. not_a_request (sym e));
       })
 
-  -- a REPLY, where none with its number was sent
+  -- a REPLY, if none with its number was sent
   pub said_reply : (seq : ℕ) (before : List Message) → seq ≤ si.highest → si'.highest ≡ si.highest → NoReply r i j seq hs → finmap.get sj'.deferred i ≡ None
       → ms' ≡ before ++ Reply j i r seq ∷ [] → hs' ≡ hs ++ Reply j i r seq ∷ [] → Said r i j si' sj' ms' hs'
   said_reply seq before low same none_sent none under_way more =

@@ -29,7 +29,7 @@ first_once m ms different k d within = different 0 (suc k) d (omega arith) (omeg
 rest_different : (m : Message) (ms : List Message) → AreDifferent (m ∷ ms) → AreDifferent ms
 rest_different m ms different i j d below within = different (suc i) (suc j) d (omega (arith, below)) (omega (arith, within))
 
--- a test for each message, which it passes itself: where those that pass the test of each are different, all are
+-- a test for each message, which it passes itself: if those that pass the test of each are different, all are
 module _ (p : Message → Message → Bool) (itself : (m : Message) → p m m ≡ true) where
   abbrev EachApart : List Message → List Message → Type 0
   EachApart of ms = All (λ m. AreDifferent (filter (p m) ms)) of

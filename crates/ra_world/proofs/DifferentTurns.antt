@@ -30,7 +30,7 @@ awaits_met s j seq mode consistent awaits =
     let numbered : HasNumber (Waiting seq mode) s.highest = subst (λ (q : Phase). HasNumber q s.highest) awaits.waits consistent.numbered in
     numbered.1
 
--- who is deferred has met the number
+-- a node that is deferred has met the number
 pub deferred_met : {Lossy : Type 0} (r : List ℕ) (i j : ℕ) (si sj : State) (ms : List Message) (seq : ℕ) → IsConsistent si → Dialog Lossy r i j si sj ms → finmap.get sj.deferred i ≡ Some seq → seq ≤ si.highest
 deferred_met {Lossy} r i j si sj ms seq consistent d here = elim d [
   | inl silent ↦ absurd (some_none (sym here ∙ silent.not_deferred))

@@ -24,7 +24,7 @@ module _ (n start : ℕ) (moves : List Move) (move : Move) (before : IsRun n sta
       ∙ ap (λ (es : List Event). happened_at i moves ++ map (λ event. record { event = event; sends = move.sends; marks = move.marks }) es) none
       ∙ append-nil (happened_at i moves)
 
-  -- the nodes after the move, of which the one where nothing happened is as it was
+  -- the nodes after the move, of which the one at which nothing happened is as it was
   abbrev behind : ℕ → ℕ → NodeState
   behind i = with_node run.ends.0 i (before.ends.0 i)
 

@@ -29,11 +29,11 @@ use_there u p r x i q apart =
 put_use : (u : ℕ → List ℕ → Use) (p : ℕ) (r : List ℕ) (x : Use) → Alters u (with_use u p r x) p r x
 put_use u p r x = record { here = use_here u p r x; there = use_there u p r x }
 
--- where the one use is put, another one may be put
+-- if the one use is put, another one may be put
 then_put : (u u' : ℕ → List ℕ → Use) (p : ℕ) (r : List ℕ) (x y : Use) → Alters u u' p r y → Alters (with_use u p r x) u' p r y
 then_put u u' p r x y alters = record { here = alters.here; there = λ i q apart. alters.there i q apart ∙ sym (use_there u p r x i q apart) }
 
--- ---- What must be so where a request is granted
+-- ---- What must be so if a request is granted
 
 pub record MayBeGranted (n : ℕ) (u : ℕ → List ℕ → Use) (h : ℕ → List ℕ → ℕ) (p : ℕ) (r : List ℕ) (e : Entry) : Type 0 where
   pub met : (j : ℕ) → IsNode n j → e.stamp.seq ≤ h j r

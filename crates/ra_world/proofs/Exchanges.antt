@@ -1,6 +1,6 @@
--- What holds of the automata of one name and of the messages under way also where messages were repeated. Of two nodes, of which one
+-- What holds of the automata of one name and of the messages under way also if messages were repeated. Of two nodes, of which one
 -- asks and the other answers, any copy of a REQUEST or a REPLY may be under way, an old one too. No number in them is above that of the
--- asker's own request, a REPLY to that one is from a node that lets it pass, and who is awaited has a REQUEST under way to it, defers
+-- asker's own request, a REPLY to that one is from a node that lets it pass, and a node that is awaited has a REQUEST under way to it, defers
 -- its REPLY, or has a REPLY under way, unless a message was lost.
 use Rattle.std.proofs.Common.{◌≡◌, ◌≢◌, ◌⊎◌, ℕ, ◌<◌, ◌≤◌, List, [], ◌∷◌, ◌++◌, Contains, Some, zero, suc, refl, sym, ap, ◌∙◌, subst, arith, inl, inr}
 use Rattle.std.specs.Prelude.{IsTrue}
@@ -23,7 +23,7 @@ pub record IsUsed (start : ℕ) (s : State) (seq : ℕ) : Type 0 where
   pub reached : seq ≤ s.highest
   pub not_later : (own : ℕ) (mode : Mode) → HasOwn s.phase own mode → seq ≤ own
 
--- a REQUEST that is under way is one that the node made, in the mode of its own request where that has the number
+-- a REQUEST that is under way is one that the node made, in the mode of its own request if that has the number
 pub record WasMade (start : ℕ) (s : State) (seq : ℕ) (mode : Mode) : Type 0 where
   pub used : IsUsed start s seq
   pub same_mode : (own : Mode) → HasOwn s.phase seq own → own ≡ mode
@@ -54,7 +54,7 @@ pub record Exchanges (Lossy : Type 0) (start n : ℕ) (r : List ℕ) (s : ℕ �
   pub each : (i : ℕ) → IsNode n i → IsPlaced n r i (s i)
   pub risen : (i : ℕ) → IsNode n i → start ≤ (s i).highest
   pub dialog : (i j : ℕ) → IsNode n i → IsNode n j → i ≢ j → Exchange Lossy start r i j (s i) (s j) (between r i j bag)
-  -- who is no longer awaited lets the request pass
+  -- a node that is no longer awaited lets the request pass
   pub passed : (i j seq : ℕ) (mode : Mode) → IsNode n i → IsNode n j → i ≢ j → HasOwn (s i).phase seq mode → (IsTrue (set.contains (s i).awaited j) → ⊥) → LetsPass (s j) i seq mode
 
 module _ {Lossy : Type 0} (start n : ℕ) (r : List ℕ) (s s' : ℕ → State) (bag bag' : List Message) (p : ℕ) (new : State) (old : Exchanges Lossy start n r s bag) (changes : Changes s s' p new) where
@@ -93,7 +93,7 @@ pub grants_still : (start : ℕ) (si si' sj sj' : State) (i seq : ℕ) → Keeps
 grants_still start si si' sj sj' i seq keeps passes grants =
     record { above = grants.above; reached = omega (arith, keeps.more, grants.reached); passes = λ mode has. passes mode (grants.passes mode (keeps.own seq mode has)) }
 
--- no message comes, and nobody is deferred who was not
+-- no message comes, and no node is deferred that was not
 module _ {Lossy : Type 0} (start : ℕ) (r : List ℕ) (i j : ℕ) (si si' sj sj' : State) (ms ms' : List Message) (old : Exchange Lossy start r i j si sj ms) where
   pub exchange_kept : KeepsAsker si si' → ((seq : ℕ) (mode : Mode) → LetsPass sj i seq mode → LetsPass sj' i seq mode) → ((seq : ℕ) → finmap.get sj'.deferred i ≡ Some seq → finmap.get sj.deferred i ≡ Some seq)
       → ((m : Message) → Contains ms' m → Contains ms m) → ((seq : ℕ) (mode : Mode) → Awaits si' j seq mode → Pending Lossy r i j sj' ms' seq mode)

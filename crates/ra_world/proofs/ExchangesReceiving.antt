@@ -1,4 +1,4 @@
--- A message that comes, one that is lost and a copy keep what holds of all dialogs also where messages were repeated.
+-- A message that comes, one that is lost and a copy keep what holds of all dialogs, also if messages were repeated.
 use Rattle.std.proofs.Common.{◌≡◌, ◌≢◌, ◌⊎◌, ℕ, zero, suc, max, ◌≤◌, Bool, true, false, cond, List, [], ◌∷◌, ◌++◌, Contains, filter, Option, Some, None, refl, sym, ap, ◌∙◌, subst, arith, inl, inr}
 use Rattle.std.specs.Prelude.{IsTrue}
 use Rattle.std.specs.Ordering.{nat_cmp}
@@ -29,14 +29,14 @@ stays s = record { more = omega arith; own = λ _ _ has. has }
 some_same : (a b : ℕ) → ◌≡◌ {A = Option ℕ} (Some a) (Some b) → a ≡ b
 some_same a b e = cc
 
--- the number of a deferral was used where both that make it were
+-- the number of a deferral was used if both that make it were
 later_used : (start : ℕ) (s : State) (o : Option ℕ) (seq : ℕ) → ((k : ℕ) → o ≡ Some k → IsUsed start s k) → IsUsed start s seq → IsUsed start s (later_of o seq)
 later_used start s None seq before used = used
 later_used start s (Some k) seq before used =
     let was = before k refl in
     record { above = omega (arith, was.above, used.above); reached = omega (arith, was.reached, used.reached); not_later = λ own mode has. omega (arith, was.not_later own mode has, used.not_later own mode has) }
 
--- and it is that of the own request where neither is above it and one is it
+-- and it is that of the own request if neither is above it and one is it
 later_is : (o : Option ℕ) (seq own : ℕ) → ((k : ℕ) → o ≡ Some k → k ≤ own) → seq ≤ own → (seq ≡ own) ⊎ (o ≡ Some own) → later_of o seq ≡ own
 later_is None seq own before low is = elim is [ inl same ↦ same | inr none ↦ absurd (no own none) ]
   where

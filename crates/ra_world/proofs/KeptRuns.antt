@@ -125,7 +125,7 @@ module _
         let on = by_copy (length nodes) start moves (nodes_of nodes) message keeps.run keeps.ends (left, keeps.under_way, there) in
         record { count = keeps.count; run = on.0; ends = on.1; under_way = go_on moves move left left keeps.under_way refl }
 
--- ---- Who a node is
+-- ---- Which node it is
 
 module _
     (who : (old new : NodeState) (event : Event) (sends : List Message) (marks : List _) → NodeEvent old event sends marks new

@@ -27,7 +27,7 @@ pub put_more : (ms : List Move) (m : Move) → put_by (ms ++ m ∷ []) ≡ put_b
 put_more [] m = append-nil (put_in m)
 put_more (x ∷ ms) m = ap (λ (ys : List Message). put_in x ++ ys) (put_more ms m) ∙ sym (append_assoc (put_in x) (put_by ms) (put_in m))
 
--- where nothing was repeated, what was put under way is what was sent
+-- if nothing was repeated, what was put under way is what was sent
 pub put_is_sent : (ms : List Move) → repeated_by ms ≡ [] → put_by ms ≡ sent_by ms
 put_is_sent [] e = refl
 put_is_sent (x ∷ ms) e =
@@ -121,7 +121,7 @@ event_loses_nothing p (Repeat message) event here = refl
 
 -- ---- Which messages may be lost or repeated
 
--- messages are lost only where Lossy is so, and repeated only where Copied is so
+-- messages are lost only if Lossy is so, and repeated only if Copied is so
 abbrev pub Allows : Type 0 → Type 0 → Step → Type 0
 Allows Lossy Copied (Ask node client name mode) = Unit {0}
 Allows Lossy Copied (Leave node client name) = Unit {0}

@@ -1,6 +1,6 @@
 -- What holds of the automata of one name, one at each node, and of the messages under way, at any moment. The dialog of
 -- two nodes, of which one asks and the other answers, is silent, or the REQUEST is under way, or it is deferred, or the
--- REPLY is under way; and who has answered has met the number and has no request that goes first.
+-- REPLY is under way; and a node that has answered has met the number and has no request that goes first.
 use Rattle.std.proofs.Common.{◌≡◌, ◌≢◌, ◌⊎◌, ℕ, ◌≤◌, List, [], ◌∷◌, Some, None, sym, ap, ◌∙◌, subst, arith, inl, inr}
 use Rattle.std.specs.Prelude.{IsTrue}
 use Rattle.std.specs.FinSet as set
@@ -96,7 +96,7 @@ pub record IsPlaced (n : ℕ) (r : List ℕ) (i : ℕ) (s : State) : Type 0 wher
 pub record Protocol (Lossy : Type 0) (n : ℕ) (r : List ℕ) (s : ℕ → State) (bag : List Message) : Type 0 where
   pub each : (i : ℕ) → IsNode n i → IsPlaced n r i (s i)
   pub dialog : (i j : ℕ) → IsNode n i → IsNode n j → i ≢ j → Dialog Lossy r i j (s i) (s j) (between r i j bag)
-  -- who is no longer awaited lets the request pass
+  -- a node that is no longer awaited lets the request pass
   pub passed : (i j seq : ℕ) (mode : Mode) → IsNode n i → IsNode n j → i ≢ j → HasOwn (s i).phase seq mode → (IsTrue (set.contains (s i).awaited j) → ⊥) → LetsPass (s j) i seq mode
 
 -- ---- One node changes

@@ -1,4 +1,4 @@
--- Quiet runs: who waits is blocked, and how many messages were sent.
+-- Quiet runs: each request that waits is blocked, and how many messages were sent.
 use Rattle.std.proofs.Common.{◌≡◌, ℕ, List, [], Any, Contains, length, sym, ap, subst, arith, inl, inr}
 use Rattle.ra_stamp.specs.declared.message.Message.{Message}
 use Rattle.ra_stamp.specs.declared.entry.Entry.{Entry}
@@ -41,7 +41,7 @@ module _ (laws : LawsBelow) (n start : ℕ) (moves : List Move) (count : IsNodeN
       still : (P : Entry → Type 0) (old new : List Entry) → ((x : Entry) → Contains old x → Contains new x) → Any P old → Any P new
       still P old new more (k, x, lt, is, p) = let at = more x (k, lt, is) in (at.0, x, at.1, at.2, p)
 
-  -- where nothing was repeated
+  -- if nothing was repeated
   module _ (unrepeated : repeated_by moves ≡ []) where
     exactly : Reached ⊥ ⊥ n start moves
     exactly = every_run laws n start moves (allows_moves moves (inl quiet.none_lost) (inl unrepeated)) count run

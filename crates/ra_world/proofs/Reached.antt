@@ -38,7 +38,7 @@ use Rattle.ra_world.proofs.WaitingCounts.{total, over, one_update, one_node, mar
 use Rattle.ra_world.proofs.Cluster.{IsThere, IsTraffic, Invariant, Went, placed_at}
 use Rattle.ra_world.proofs.Nodes.{put_node, EndsAt, happens_here, ends_after}
 
--- messages are lost only where Lossy is so, and repeated only where Copied is so
+-- messages are lost only if Lossy is so, and repeated only if Copied is so
 pub record Reached (Lossy Copied : Type 0) (n start : ℕ) (moves : List Move) : Type 0 where
   pub nodes : ℕ → NodeState
   pub bag : List Message
@@ -127,7 +127,7 @@ under_way_more ms m left next less takes =
     (subst (λ (taken : List Message). TakesEach (put_by ms ++ put_in m) taken (next ++ put_in m)) (sym (taken_more ms m))
     (less_more (put_by ms) (taken_by ms ++ taken_in m.step) next (put_in m) (less_joined (put_by ms) (taken_by ms) left (taken_in m.step) next less takes)))
 
--- where it puts no copy there, that is what it sends
+-- if it puts no copy there, that is what it sends
 pub under_way_sent : (ms : List Move) (m : Move) (left next : List Message) → LeavesUnderWay ms left → TakesEach left (taken_in m.step) next → repeated_in m.step ≡ [] → LeavesUnderWay (ms ++ m ∷ []) (next ++ m.sends)
 under_way_sent ms m left next less takes none =
     subst (λ (xs : List Message). LeavesUnderWay (ms ++ m ∷ []) (next ++ xs)) (ap (λ (xs : List Message). m.sends ++ xs) none ∙ append-nil m.sends) (under_way_more ms m left next less takes)

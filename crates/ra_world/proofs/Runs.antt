@@ -137,7 +137,7 @@ prefix_of_steps splits n start prefix suffix world =
     let parts = parts_of prefix suffix world.0 world.1 in
     (parts.0, parts.3, prefixes splits n start parts.1 parts.0 (subst (IsRun n start) parts.2 world.2))
 
--- a list of steps that is a run goes on where the run does
+-- a list of steps that is a run goes on if the run does
 pub steps_go_on : LawsBelow → (n start : ℕ) (moves : List Move) (step : Step) → IsNodeNumber n → IsRun n start moves → WorldRun n start (map (λ move. move.step) moves ++ step ∷ []) ↔ GoesOn n start moves step
 steps_go_on laws n start moves step count run = (
   λ world.

@@ -73,7 +73,7 @@ module _
       ],
     )
 
-    -- where memory is short, the step is one that can want it
+    -- if memory is short, the step is one that can want it
     wanted : (r : Result Outcome StepError) → Tries w step r new → IsErrOf r Memory → MayNeedMemory w.count w.start w.moves step ⊎ IsFull w.moves
     wanted (Ok outcome) tried is = absurd (not_ok is)
       where

@@ -61,14 +61,14 @@ short start nodes moves w now step r is same on needs fails =
       }),
     ))
 
--- the nodes with one of them put where it is
+-- the nodes with one of them put at its own place
 pub same_nodes : (start : ℕ) (nodes : List NodeState) (moves moves' : List Move) (place : ℕ) (old new : NodeState)
     → old ≡ get_or nodes place old → new ≡ old → moves' ≡ moves → shown start (set nodes place new) moves' ≡ shown start nodes moves
 same_nodes start nodes moves moves' place old new at same is =
     let nodes_are : set nodes place new ≡ nodes = ap (set nodes place) (same ∙ at) ∙ set-get_or nodes place old in
     λ i. shown start (nodes_are i) (is i)
 
--- a message is taken, the first one, or where nothing was repeated the only one
+-- a message is taken: the first one or, if nothing was repeated, the only one
 pub took_first : (before left new : List Message) (message : Message) (moves moves' : List Move) → before ≡ left → moves' ≡ moves
     → TakesFirst before message new ⊎ ((repeated_by moves' ≡ []) × TakesOne before message new)
     → (repeated_by moves ≡ [] → TakesOne left message new → TakesFirst left message new)
@@ -86,7 +86,7 @@ pub first_is_taken : (r : Option Message) (old new : List Message) (message : Me
 first_is_taken None old new message there taken none = absurd (none refl there)
 first_is_taken (Some m) old new message there taken none = taken.1
 
--- a message that is there is copied, where there is room for it
+-- a message that is there is copied, if there is room for it
 pub copied_on : (r : Result Bool MemoryRefused) (before left new : List Message) (message : Message)
     → IfOk r (λ again. IsTrue again ↔ Contains before message) → IfOk r (λ again. IsTrue again → new ≡ before ++ message ∷ [])
     → IsOk r → before ≡ left → Contains left message → new ≡ left ++ message ∷ []
@@ -193,11 +193,11 @@ kept_by law start nodes left next after moves before logged move place i event o
     (subst (λ (s : NodeState). NodeEvent s event move.sends move.marks new) (sym (node_here nodes place (place + 1) old refl within at)) happened)
     takes))
 
--- what happens where a step is about
+-- what happens at the node that a step is about
 pub here : (i : ℕ) (event : Event) → (if i == i then event ∷ [] else []) ≡ event ∷ []
 here i event = ap (λ b. if b then event ∷ [] else []) (eq-eqb i i refl)
 
--- the run of what is kept, of nodes of which one was put where it is
+-- the run of what is kept, of nodes of which one was put at its own place
 pub run_of : (start : ℕ) (nodes : List NodeState) (left : List Message) (moves moves' : List Move) (place : ℕ) (new : NodeState)
     → Keeps start nodes left moves → moves' ≡ moves → IsRun (length (set nodes place new)) start moves'
 run_of start nodes left moves moves' place new keeps is =

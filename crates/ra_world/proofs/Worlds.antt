@@ -46,7 +46,7 @@ reported start nodes left moves report keeps at_all marks sent requests under_wa
 
 -- ---- Which steps are accepted
 
--- where the node is one of the world's, what is asked of it is asked of the node at its place
+-- if the node is one of the world's, what is asked of it is asked of the node at its place
 pub accepted_at : (start : ℕ) (nodes : List NodeState) (moves : List Move) (step : Step) (place node : ℕ) (state : NodeState)
     (P : NodeState → Type 0) (answer : Bool)
     → GoesOn (length nodes) start moves step ↔ (((1 ≤ node) × (node ≤ length nodes)) × P (nodes_of nodes node))
@@ -70,7 +70,7 @@ refused_above n start moves step node P law above =
     never : IsTrue false → ⊥
     never e = cc
 
--- a message can be delivered, lost or repeated where it is kept
+-- a message can be delivered, lost or repeated if it is kept
 pub accepted_message : (n start : ℕ) (moves : List Move) (left : List Message) (step : Step) (message : Message) (answer : Bool)
     → GoesOn n start moves (Deliver message) ↔ IsUnderWay moves message
     → GoesOn n start moves (Lose message) ↔ IsUnderWay moves message

@@ -2,7 +2,7 @@ use Rattle.std.proofs.Common.{◌≡◌, ◌++◌, Some, map, take}
 use Rattle.std.specs.VecDeque.{deque_capacity}
 use Rattle.ra_bag.proofs.slots.append.Given as goal
 
--- the messages so far stand at the end
+-- the messages so far are at the end
 abbrev pub invariant-loop-message : goal.invariant-loop-message
 invariant-loop-message l =
     record {

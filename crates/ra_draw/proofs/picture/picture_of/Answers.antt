@@ -1,6 +1,6 @@
 use Rattle.std.proofs.Common.{rules}
 use Rattle.ra_draw.proofs.picture.picture_of.Goals as goal
 
--- what stands in it is what was drawn
+-- its parts are what was drawn
 pub returns : goal.returns
 returns c = (c.in_ok-inner.inner.items, search rules)

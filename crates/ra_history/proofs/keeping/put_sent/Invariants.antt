@@ -3,7 +3,7 @@ use Rattle.std.specs.Prelude.{vec_len, vec_capacity}
 use Rattle.ra_history.specs.Book.{as_sent}
 use Rattle.ra_history.proofs.keeping.put_sent.Given as goal
 
--- the frames so far stand at the end, and each has taken its room
+-- the frames so far are at the end, and each has taken its room
 abbrev pub invariant-loop-frame : goal.invariant-loop-frame
 invariant-loop-frame l = record {
   items : l.sent.items ≡ l.initial.sent.items ++ as_sent (take l.frame-index l.frames);

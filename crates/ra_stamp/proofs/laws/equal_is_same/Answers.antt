@@ -10,7 +10,7 @@ use Rattle.ra_stamp.proofs.laws.equal_is_same.Goals as goal
 same_entries : (a b : Entry) → IsTrue (entries.ghosts.eq a b) ↔ (a ≡ b)
 same_entries a b = search rules
 
--- marks are the same where their words are, and their entries
+-- marks are the same if their words are, and their entries
 same_marks : (a b : Mark) → IsTrue (marks.ghosts.eq a b) ↔ (a ≡ b)
 same_marks (Requested a) (Requested b) = (λ h. ap Requested ((same_entries a b).0 h), λ h. (same_entries a b).1 (cc))
 same_marks (Requested a) (Entered b) = (λ h. absurd (true≢false (sym h)), λ h. cc)

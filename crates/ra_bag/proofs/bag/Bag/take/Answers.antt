@@ -27,7 +27,7 @@ returns-clause-left c = λ none. absurd (true≢false none)
 pub returns-clause-spare : goal.returns-clause-spare
 returns-clause-spare c = more_spare _ _ _ _ _ (ap (λ (b : Listed Message). b.spare) c.self.view_is) c.remove.ensures.capacity c.remove.ensures.len
 
--- ---- Where there is no such message
+-- ---- There is no such message
 
 pub returns-in_err-first-clause-taken : goal.returns-in_err-first-clause-taken
 returns-in_err-first-clause-taken c = of_none _ c.from_residual.result c.from_residual.ensures

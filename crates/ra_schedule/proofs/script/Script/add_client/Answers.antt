@@ -6,11 +6,11 @@ use Rattle.ra_schedule.specs.declared.error.AddClientError.TheVariants.{Clients,
 use Rattle.ra_schedule.proofs.Plans.{script_pushed}
 use Rattle.ra_schedule.proofs.script.Script.add_client.Goals as goal
 
--- where not all three hold, there is no room or no such node
+-- if not all three hold, there is no room or no such node
 no_room : (count node nodes : ℕ) → ((count < 64) × (1 ≤ node) × (node ≤ nodes) → ⊥) → (64 ≤ count) ⊎ ((1 ≤ node) × (node ≤ nodes) → ⊥)
 no_room count node nodes none = elim (cases_lt count 64) [ inl room ↦ inr (λ placed. none (room, placed.0, placed.1)) | inr full ↦ inl full ]
 
--- where all three hold, there are room and such a node
+-- if all three hold, there are room and such a node
 some_room : (count node nodes : ℕ) → (count < 64) × (1 ≤ node) × (node ≤ nodes) → (64 ≤ count) ⊎ ((1 ≤ node) × (node ≤ nodes) → ⊥) → ⊥
 some_room count node nodes room (inl full) = let less = room.0 in omega (arith, less, full)
 some_room count node nodes room (inr none) = none (room.1, room.2)
