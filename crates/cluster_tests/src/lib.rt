@@ -29,6 +29,8 @@ mod growth_of_auditors;
 #[cfg(test)]
 mod growth_of_clusters;
 #[cfg(test)]
+mod growth_of_losses;
+#[cfg(test)]
 mod growth_of_rounds;
 #[cfg(test)]
 mod growth_of_settling;
@@ -40,6 +42,8 @@ mod helpers;
 mod histories;
 #[cfg(test)]
 mod keeping;
+#[cfg(test)]
+mod losses;
 #[cfg(test)]
 mod orders;
 #[cfg(test)]
