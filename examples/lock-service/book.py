@@ -68,8 +68,13 @@ class Node:
     def __init__(self, program):
         try:
             self.process = subprocess.Popen([program, "node"], stdin=subprocess.PIPE, stdout=subprocess.PIPE)
+        except FileNotFoundError:
+            fail(
+                f"there is no program {program}: at the top of the repository, `./ra --help` builds crates/ra/out/ra, once,"
+                " in 15 to 22 minutes on four processors"
+            )
         except OSError as why:
-            fail(f"cannot start the node: {why}; `./ra --help` at the top of the repository builds the program")
+            fail(f"cannot start the node: {why}")
 
     def answers(self, lines):
         """Hands these lines to the node, and returns the answer to each: its lines, as lists of words. The last one is

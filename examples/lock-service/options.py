@@ -2,7 +2,7 @@
 import argparse
 import os
 
-TOP = os.path.join(os.path.dirname(os.path.realpath(__file__)), "..", "..")
+TOP = os.path.dirname(os.path.dirname(os.path.dirname(os.path.realpath(__file__))))
 LETTERS = set("abcdefghijklmnopqrstuvwxyzABCDEFGHIJKLMNOPQRSTUVWXYZ0123456789_-.")
 
 
