@@ -12,6 +12,8 @@ except ImportError:
         " `apt install python3-paho-mqtt` installs it for /usr/bin/python3"
     )
 
+SILENT = 5  # seconds without a connection, after which a host says so
+
 
 class Mqtt:
     """Host I subscribes to the topic CLUSTER/I. The broker keeps what it has for a host that is down. What it loses
@@ -34,6 +36,22 @@ class Mqtt:
         self.client.connect_async(*self.options.broker, keepalive=10)
         # paho has a thread of its own, which calls on_connect and on_message, and connects again whenever it has to.
         self.client.loop_start()
+        await self.watch()
+
+    async def watch(self):
+        """Says if there is no connection for a while, once each time. paho itself tries in silence."""
+        seconds = 0
+        while True:
+            await asyncio.sleep(1)
+            seconds = 0 if self.client.is_connected() else seconds + 1
+            if seconds == SILENT:
+                where = "{}:{}".format(*self.options.broker)
+                print(
+                    f"host: node {self.options.node} has had no connection to the broker at {where} for {SILENT} seconds,"
+                    " and goes on trying. On Debian, `apt install mosquitto` installs a broker, and `systemctl start"
+                    " mosquitto` starts it; --broker tells where another one is",
+                    file=sys.stderr,
+                )
 
     def send(self, peer, message):
         # paho would keep what is sent without a connection. But the host sends it again.
