@@ -123,7 +123,7 @@ const TRAFFIC: &[Row] = &[Row {
 }];
 
 #[test]
-fn books_settle_where_the_post_is_closed_under_traffic(rt: HostRuntime) {
+fn books_settle_if_the_post_is_closed_under_traffic(rt: HostRuntime) {
     assert_rows(&rt, TRAFFIC);
 }
 
