@@ -34,13 +34,15 @@ pub const NO_ROUND: Rounds = Rounds {
 /// Returns the REQUEST with number 2 of node 1 to node 2.
 fn second_request(name: Name) -> Option<Message> {
     match request(name, 1, 2, Mode::Exclusive) {
-        Some(Message::Request {
-            from,
-            to,
-            name,
-            mode,
-            seq: _,
-        }) => Some(Message::Request {
+        Some(
+            Message::Request {
+                from,
+                to,
+                name,
+                mode,
+                seq: _,
+            },
+        ) => Some(Message::Request {
             from,
             to,
             name,
@@ -101,13 +103,7 @@ fn take_once<R: Wait>(
 }
 
 /// Does this, and once more if memory ran out. Returns what became of it, too.
-fn take<R: Wait>(
-    rt: &R,
-    alloc: Global,
-    site: &Site,
-    name: Name,
-    clock: u64,
-) -> (Tried, u64, u64) {
+fn take<R: Wait>(rt: &R, alloc: Global, site: &Site, name: Name, clock: u64) -> (Tried, u64, u64) {
     let tried = match take_once(rt, alloc, site, name, clock) {
         Ok((latest, lost)) => return (Tried::AtOnce, latest, lost),
         Err(is_memory) if is_memory => Tried::Again,
@@ -144,12 +140,7 @@ pub fn round_after<R: Wait>(
 }
 
 /// Has client 1 of node 1 lock the name and unlock it, and makes a round. What became of the client, the round shows.
-pub fn use_once<R: Wait>(
-    rt: &R,
-    alloc: Global,
-    cluster: &Cluster<OpenGate>,
-    name: Name,
-) -> Rounds {
+pub fn use_once<R: Wait>(rt: &R, alloc: Global, cluster: &Cluster<OpenGate>, name: Name) -> Rounds {
     if lock(rt, alloc, cluster, 1, 1, &name, Mode::Exclusive).is_ok() {
         let _unlocked = unlock(rt, alloc, cluster, 1, 1, &name).is_ok();
     }
@@ -195,11 +186,7 @@ fn rounds_of<R: Threads + Wait + Sync>(
     cluster: &Cluster<OpenGate>,
     name: Name,
 ) -> Option<Rounds> {
-    let rounds = cluster.run(
-        rt,
-        alloc,
-        || lose_after_a_round(rt, alloc, cluster, name),
-    )?;
+    let rounds = cluster.run(rt, alloc, || lose_after_a_round(rt, alloc, cluster, name))?;
     Some(round_after(rt, alloc, cluster, name, rounds))
 }
 
