@@ -38,6 +38,12 @@ BROKEN = [
     ("check --marks", b"no mark\n", "invalid 1 Line\n", ""),
     ("draw", "ONE_CLIENT_TRACE", "<svg xmlns=", ""),
     ("draw", None, "invalid 1 Line\n", ""),
+    ("node", b"book 1 1 1 0\nask 7 r X\n", "ok\nrequest 1 7 r X 1\n", ""),
+    ("settle", b"book 1 1 1 0\nask 7 r X\n", "request 1 7 r X 1\n", ""),
+    ("settle", "BOOKS_UNASKED", "invalid 3 NotSent\n", ""),
+    ("settle --repeats", "ALL_TWICE", "request 1 7 r X 1\n", ""),
+    ("settle --repeats --trace", "ALL_TWICE", "trace 2 2 0\n", ""),
+    ("settle --repeats", "BOOKS_UNASKED", "invalid 3 NotSent\n", ""),
     ("--help", None, "Simulate, run, check", ""),
     ("sim --help", None, "Run a script", ""),
     ("--version", None, "ra 0.2.0", ""),
@@ -50,6 +56,10 @@ NO_MARK = "ra: line 1, 'trace 2 2 0': this looks like a trace, which ra check re
 # The note on the end of the log of one request.
 ONE_LEFT = "ra: the log ends with 1 request waiting, 0 requests holding: "
 ONE_LEFT += "client 1 at node 1 has waited for 'r' (X) since line 1: no client blocks it\n"
+# The note on the line of books by which a frame comes that was not sent.
+UNSENT = "ra: line 3, 'receive 02020002000100000000000000000100000000000000020172', in the book of node 1, "
+UNSENT += "a frame of node 2 with clock 2: its sender's book did not send this frame with this clock: "
+UNSENT += "expected one that ra node prints for that book\n"
 
 
 def breaks_off(words, given, printed, fault, note, refused=0):
@@ -105,4 +115,14 @@ class FailingNotes(PreloadTest):
                 came = {"status": 0, "output": b"valid\nrequests 1\ngrants 0\n", "note": ONE_LEFT.encode()[:place]}
                 came |= {"note_failed": True, "noted_after": 0}
                 runs.append(Run("check --marks", "request 1 1 r X 1\n", notes=Stream(place, fault), expected=came))
+        self.expect_of(runs)
+
+    def test_a_fault_of_the_note_on_books_changes_nothing_else(self):
+        runs = []
+        for fault, _ in SAID:
+            for place in range(0, len(UNSENT), 7):
+                came = {"status": 3, "output": b"invalid 3 NotSent\n", "note": UNSENT.encode()[:place]}
+                came |= {"note_failed": True, "noted_after": 0}
+                notes = Stream(place, fault)
+                runs += [Run(it, TEXTS["BOOKS_UNASKED"], notes=notes, expected=came) for it in ("settle", "settle --repeats")]
         self.expect_of(runs)

@@ -1,4 +1,5 @@
 """Standard input that fails once, in place of each of its bytes or of its end, and how much of it a command reads."""
+import dataclasses
 import errno
 
 from cases import TEXTS
@@ -6,6 +7,13 @@ from preload import PreloadTest, Run, Stream
 
 FAULTS = (errno.EINTR, errno.EAGAIN, errno.EPIPE, errno.EIO)
 ANSWER = "answer --node 2 --nodes 3"
+# The lines of a book, each with its answer.
+BOOK = [
+    ("book 1 1 1 0\n", "ok\n"),
+    ("ask 7 r X\n", "request 1 7 r X 1\nenter 1 7 r X 1\nok\n"),
+    ("ask 7\n", "refused Line\n"),
+    ("release 7 r\n", "leave 1 7 r X 1\nok\n"),
+]
 # The most bytes that are read of a frame, a script and a trace.
 FRAME_LIMIT = 258
 SCRIPT_LIMIT = 65_537
@@ -52,7 +60,16 @@ class FailingReaders(PreloadTest):
         self.expect_of(fails_at_each_byte("check --marks", TEXTS["IN_TURN_LOG"]))
 
     def test_a_reader_that_fails_after_any_byte_of_books_is_a_fault(self):
-        self.expect_of(fails_at_each_byte("settle", TEXTS["BOOKS_UNASKED"]))
+        for words, given in (("settle", "BOOKS_UNASKED"), ("settle --repeats", "BOOKS_TWO_AGAIN")):
+            self.expect_of(fails_at_each_byte(words, TEXTS[given]))
+
+    def test_a_reader_that_fails_after_any_byte_of_a_book_is_a_fault_after_the_answers(self):
+        given = "".join(line for line, _ in BOOK)
+        runs = []
+        for run in fails_at_each_byte("node", given):
+            answers = "".join(answer for _, answer in BOOK[:given[:run.reader.before].count("\n")])
+            runs.append(dataclasses.replace(run, expected={**run.expected, "output": f"{answers}refused Read\n".encode()}))
+        self.expect_of(runs)
 
     def test_a_fault_of_the_reader_comes_before_what_is_wrong_with_the_line(self):
         line = TEXTS["REQUEST_LINE"]
@@ -62,6 +79,11 @@ class FailingReaders(PreloadTest):
     def test_a_fault_of_the_reader_comes_before_what_is_wrong_with_the_script(self):
         for given in (TEXTS["ONE_CLIENT"], "nodes = ", TEXTS["A_KEEPER"], TEXTS["TWO_NAMES"]):
             self.expect_of(fails_at_the_end("cluster", given))
+
+    def test_a_fault_of_the_reader_comes_before_what_is_wrong_with_the_books(self):
+        for words in ("settle", "settle --trace", "settle --repeats", "settle --repeats --trace"):
+            for given in ("", "what\n", TEXTS["BOOKS_ONE"], TEXTS["BOOKS_UNASKED"], TEXTS["BOOKS_ONE"] + TEXTS["BOOKS_TWO"]):
+                self.expect_of(fails_at_the_end(words, given))
 
 
 class UnaskedReaders(PreloadTest):

@@ -1,7 +1,7 @@
 """Standard output that fails once after each byte that a command prints: it has the bytes before that, and no more."""
 import errno
 
-from cases import TEXTS
+from cases import TEXTS, text
 from preload import PreloadTest, Run, Stream
 
 # A fault of 0 takes nothing.
@@ -18,6 +18,26 @@ request 2 8 orders X 42
 enter 2 8 orders X 42
 leave 1 17 orders X 41
 leave 2 8 orders X 42
+"""
+# The book of a node that is alone, with a line of no form.
+LONELY_BOOK = "book 1 1 1 0\nask 7 r X\nask 7\nrelease 7 r\n"
+# Books in which a REQUEST comes twice, and is answered twice; nothing comes back to the client.
+ANSWERED_TWICE = ("ASKS", "ANSWERS", "REQUEST_AT_1", "REQUEST_AT_1_OF_1")
+ANSWERED_TWICE_PRINTED = """request 1 7 r X 1
+requests 1
+messages 3
+under-way 2
+lost 0
+waiting 1
+queued 0
+"""
+ANSWERED_TWICE_TRACE = """trace 2 2 0
+ask 1 7 r X
+request 1 7 r X 1
+repeat request 1 2 r X 1
+deliver request 1 2 r X 1
+deliver request 1 2 r X 1
+end
 """
 
 
@@ -76,6 +96,13 @@ class FailingWriters(PreloadTest):
         self.expect_written("check --marks", TEXTS["IN_TURN_LOG"], LOG_VERDICT, 0)
         self.expect_prefixes("check --marks", BOTH_INSIDE, "invalid 4 Held\n")
 
+    def test_a_writer_that_fails_has_a_prefix_of_the_answers_to_a_book(self):
+        answers = "ok\nrequest 1 7 r X 1\nenter 1 7 r X 1\nok\nrefused Line\nleave 1 7 r X 1\nok\n"
+        self.expect_prefixes("node", LONELY_BOOK, answers)
+        self.expect_written("node", LONELY_BOOK, answers, 0)
+        self.expect_prefixes("node", "what\n", "refused Line\n")
+        self.expect_written("node", "what\n", "refused Line\n", 2)
+
     def test_a_writer_that_fails_has_a_prefix_of_what_books_come_to(self):
         books = TEXTS["BOOKS_ONE"] + TEXTS["BOOKS_TWO"]
         self.expect_prefixes("settle", books, TEXTS["BOOKS_DONE"])
@@ -83,3 +110,13 @@ class FailingWriters(PreloadTest):
         self.expect_prefixes("settle --trace", books, TEXTS["BOOKS_DONE_TRACE"])
         self.expect_prefixes("settle", TEXTS["BOOKS_UNASKED"], "invalid 3 NotSent\n")
         self.expect_written("settle", TEXTS["BOOKS_UNASKED"], "invalid 3 NotSent\n", 3)
+
+    def test_a_writer_that_fails_has_a_prefix_of_what_books_with_copies_come_to(self):
+        books = text([TEXTS[it] for it in ANSWERED_TWICE])
+        outputs = (("settle --repeats", ANSWERED_TWICE_PRINTED), ("settle --repeats --trace", ANSWERED_TWICE_TRACE))
+        for words, printed in outputs:
+            self.expect_prefixes(words, books, printed)
+            self.expect_written(words, books, printed, 0)
+        self.expect_prefixes("settle", books, "invalid 5 Twice\n")
+        self.expect_written("settle", books, "invalid 5 Twice\n", 3)
+        self.expect_prefixes("settle --repeats", TEXTS["BOOKS_UNASKED"], "invalid 3 NotSent\n")
