@@ -4,7 +4,7 @@ use crate::cluster_calls::{new_cluster, use_name};
 use crate::growth::end;
 use crate::growth_of_sites::WANTING;
 use crate::helpers::{closed, r};
-use crate::plans::{TWO_WRITERS, script_of};
+use crate::plans::{Client, TWO_WRITERS, USES_R, script_of};
 use crate::threads::run_in;
 use ra_cluster::{
     Book, BookError, CallError, Cluster, ClusterError, NewPostError, OpenGate, SiteError, Stop,
@@ -136,31 +136,57 @@ fn growth_of_a_cluster(rt: HostRuntime) {
     end(&rt, again(try_cluster(&rt, alloc), try_cluster(&rt, alloc)));
 }
 
-/// Returns whether both grants of two writers were kept. If a node was stopped, returns whether that is since memory ran out.
-fn judge_kept(books: &[Book], kept: usize) -> Result<Tried, bool> {
+/// Returns whether this many grants were kept, one for each client. If a node was stopped, returns whether that is since memory ran
+/// out.
+fn judge_kept(books: &[Book], kept: usize, clients: usize) -> Result<Tried, bool> {
     let Some(one) = books.first() else {
         return Err(false);
     };
     match one.fault() {
-        None if kept == 2 => Ok(Tried::AtOnce),
+        None if kept == clients => Ok(Tried::AtOnce),
         None => Ok(Tried::Wrong),
         Some(stop) => Err(is_of_memory(ClusterError::Fault(stop))),
     }
 }
 
-/// Has threads run a script of two writers, and looks at the grants that are kept. If not both are, returns whether the
-/// cluster was stopped because memory ran out.
-fn try_keeping<R: Threads + Wait + Sync>(rt: &R, alloc: Global) -> Result<Tried, bool> {
-    let Some(script) = script_of(alloc, 2, TWO_WRITERS) else {
+/// Has threads run a script of clients that each use one name once, and looks at the grants that are kept. If one is not kept,
+/// returns whether the cluster was stopped because memory ran out.
+fn try_keeping<R: Threads + Wait + Sync>(
+    rt: &R,
+    alloc: Global,
+    nodes: u16,
+    clients: &[Client],
+) -> Result<Tried, bool> {
+    let Some(script) = script_of(alloc, nodes, clients) else {
         return Err(true);
     };
-    let cluster = make(alloc, 2)?;
+    let cluster = make(alloc, nodes)?;
     let kept = run_in(rt, alloc, &script, &cluster).len();
-    judge_kept(&closed(alloc, cluster), kept)
+    judge_kept(&closed(alloc, cluster), kept, clients.len())
 }
 
 #[test]
 fn growth_of_the_grants_that_are_kept(rt: HostRuntime) {
     let alloc = rt.alloc();
-    end(&rt, again(try_keeping(&rt, alloc), try_keeping(&rt, alloc)));
+    let tried = again(
+        try_keeping(&rt, alloc, 2, TWO_WRITERS),
+        try_keeping(&rt, alloc, 2, TWO_WRITERS),
+    );
+    end(&rt, tried);
+}
+
+/// One client at one node. No other thread has growths, so the one of the list of grants is always refused in turn.
+const ALONE: &[Client] = &[Client {
+    node: 1,
+    ops: USES_R,
+}];
+
+#[test]
+fn growth_of_the_only_grant_that_is_kept(rt: HostRuntime) {
+    let alloc = rt.alloc();
+    let tried = again(
+        try_keeping(&rt, alloc, 1, ALONE),
+        try_keeping(&rt, alloc, 1, ALONE),
+    );
+    end(&rt, tried);
 }
