@@ -1,5 +1,5 @@
 -- What is shown of a line, and what is kept of it.
-use Rattle.std.proofs.Common.{◌≡◌, ◌≢◌, ℕ, ◌+◌, ◌<◌, ◌≤◌, Bool, true, false, List, [], ◌∷◌, ◌++◌, length, take, refl, sym, ap, subst, ◌∙◌, append_assoc, length-append, arith, Option, Result, Ok, Err}
+use Rattle.std.proofs.Common.{◌≡◌, ◌≢◌, ℕ, ◌+◌, ◌<◌, ◌≤◌, ◌^◌, Bool, true, false, List, [], ◌∷◌, ◌++◌, length, take, refl, sym, ap, subst, ◌∙◌, append_assoc, length-append, arith, Option, Result, Ok, Err}
 use Rattle.std.proofs.Math.Seq.{take-append_seam}
 use Rattle.std.proofs.lemmas.List.{append-nil}
 use Rattle.std.proofs.lemmas.List.Elements.{All-nil, All-append}
@@ -10,7 +10,7 @@ use Rattle.ra_book.specs.declared.piece.Piece.{Piece}
 use Rattle.ra_book.specs.declared.piece.Piece.TheVariants.{Part, Over, End}
 use Rattle.ra_book.specs.declared.piece.ReadFailed.{ReadFailed}
 use Rattle.ra_book.specs.declared.piece.Taken.{Taken}
-use Rattle.ra_book.specs.Input.{HasNoFeed, IsKeptLine, IsPiece, Keeps, TakesShown, TakesPiece, TakesLine, TakesOpen}
+use Rattle.ra_book.specs.Input.{HasNoFeed, IsKeptLine, IsPiece, Keeps, TakesShown, TakesPiece, TakesLine, TakesOpen, TakesMost}
 
 -- more bytes than there is room for
 pub too_many : (text bytes more : List ℕ) → IsKeptLine text bytes false → 256 < length bytes + length more → IsKeptLine (text ++ more) bytes true
@@ -44,29 +44,41 @@ after line kept line' part none more text h = more text (subst (λ (t : List ℕ
 -- ---- Pieces of a line
 
 -- these bytes of a line came so far, and this is kept of them
-abbrev pub HasSome : Option (List ℕ) → Option (List ℕ) → Line → Type 0
-HasSome old now line = (text : List ℕ) × Consumes old now text × HasNoFeed text × IsKeptLine text line.bytes.items line.is_long
+abbrev pub HasSome : Option (List ℕ) → Option (List ℕ) → Line → ℕ → Type 0
+HasSome old now line turns =
+    (text : List ℕ) × Consumes old now text × HasNoFeed text × IsKeptLine text line.bytes.items line.is_long × (turns ≤ length text)
 
-pub no_bytes : (old : Option (List ℕ)) (line : Line) → IsKeptLine [] line.bytes.items line.is_long → HasSome old old line
-no_bytes old line kept = ([], Consumes-nil old, All-nil (λ byte. byte ≢ 10), kept)
+pub no_bytes : (old : Option (List ℕ)) (line : Line) → IsKeptLine [] line.bytes.items line.is_long → HasSome old old line 0
+no_bytes old line kept = ([], Consumes-nil old, All-nil (λ byte. byte ≢ 10), kept, omega arith)
 
-pub part_more : (old mid new : Option (List ℕ)) (line line' : Line) → HasSome old mid line → TakesPiece mid new line line' (Ok Part) → HasSome old new line'
-part_more old mid new line line' h p =
-    (h.0 ++ p.0, Consumes-trans old mid new h.0 p.0 h.1 p.1, All-append (λ byte. byte ≢ 10) h.0 p.0 h.2 p.2, p.3 h.0 h.3)
+pub part_more : (old mid new : Option (List ℕ)) (line line' : Line) (turns : ℕ) → HasSome old mid line turns
+    → TakesPiece mid new line line' (Ok Part) → HasSome old new line' (turns + 1)
+part_more old mid new line line' turns (text, took, free, kept, many) (part, took', free', some, keeps) = (
+  text ++ part,
+  Consumes-trans old mid new text part took took',
+  All-append (λ byte. byte ≢ 10) text part free free',
+  keeps text kept,
+  omega (arith, many, some, length-append text part),
+)
 
-pub over_more : (old mid new : Option (List ℕ)) (line line' : Line) → HasSome old mid line → TakesPiece mid new line line' (Ok Over) → TakesLine old new line'
-over_more old mid new line line' h p = (
+-- all turns were taken
+pub most_taken : (old now : Option (List ℕ)) (line : Line) (turns : ℕ) → HasSome old now line turns → 2 ^ 64 ≤ turns + 1 → TakesMost old now
+most_taken old now line turns (text, took, free, kept, many) all = (text, took, omega (arith, many, all))
+
+pub over_more : (old mid new : Option (List ℕ)) (line line' : Line) (turns : ℕ) → HasSome old mid line turns
+    → TakesPiece mid new line line' (Ok Over) → TakesLine old new line'
+over_more old mid new line line' turns h p = (
   h.0 ++ p.0,
   subst (Consumes old new) (sym (append_assoc h.0 p.0 (10 ∷ []))) (Consumes-trans old mid new h.0 (p.0 ++ 10 ∷ []) h.1 p.1),
   All-append (λ byte. byte ≢ 10) h.0 p.0 h.2 p.2,
   p.3 h.0 h.3,
 )
 
-pub open_of : (old now : Option (List ℕ)) (line : Line) → HasSome old now line → TakesOpen old now
-open_of old now line h = (h.0, h.1, h.2)
+pub open_of : (old now : Option (List ℕ)) (line : Line) (turns : ℕ) → HasSome old now line turns → TakesOpen old now
+open_of old now line turns h = (h.0, h.1, h.2)
 
-pub open_more : (old mid new : Option (List ℕ)) (line : Line) → HasSome old mid line → Consumes mid new [] → TakesOpen old new
-open_more old mid new line h none =
+pub open_more : (old mid new : Option (List ℕ)) (line : Line) (turns : ℕ) → HasSome old mid line turns → Consumes mid new [] → TakesOpen old new
+open_more old mid new line turns h none =
     (h.0, subst (Consumes old new) (append-nil h.0) (Consumes-trans old mid new h.0 [] h.1 none), h.2)
 
 -- ---- A piece of what is shown
@@ -77,16 +89,17 @@ is_over old new line line' taken over h =
     let piece : IsPiece h.0 true h.1 = subst (λ (b : Bool). IsPiece h.0 b h.1) over h.4 in
     (h.1, subst (Consumes old new) piece.0 h.2, piece.1, h.5)
 
-pub is_part : (old new : Option (List ℕ)) (line line' : Line) (taken : Taken) → taken.is_over ≡ false → TakesShown old new line line' (Ok taken)
-    → TakesPiece old new line line' (Ok Part)
-is_part old new line line' taken goes_on h =
+pub is_part : (old new : Option (List ℕ)) (line line' : Line) (taken : Taken) → taken.is_over ≡ false → 1 ≤ taken.count
+    → TakesShown old new line line' (Ok taken) → TakesPiece old new line line' (Ok Part)
+is_part old new line line' taken goes_on some h =
     let piece : IsPiece h.0 false h.1 = subst (λ (b : Bool). IsPiece h.0 b h.1) goes_on h.4 in
-    (h.1, subst (Consumes old new) piece.0 h.2, piece.1, h.5)
+    (h.1, subst (Consumes old new) piece.0 h.2, piece.1, omega (arith, some, h.3, ap length piece.0), h.5)
 
 -- nothing, and then a piece
 none_first : (old mid new : Option (List ℕ)) (line kept line' : Line) (r : Result Piece ReadFailed) → Consumes old mid [] → Keeps line kept []
     → TakesPiece mid new kept line' r → TakesPiece old new line line' r
-none_first old mid new line kept line' (Ok Part) none keeps p = (p.0, Consumes-trans old mid new [] p.0 none p.1, p.2, after line kept line' p.0 keeps p.3)
+none_first old mid new line kept line' (Ok Part) none keeps (part, took, free, some, more) =
+    (part, Consumes-trans old mid new [] part none took, free, some, after line kept line' part keeps more)
 none_first old mid new line kept line' (Ok Over) none keeps p = (p.0, Consumes-trans old mid new [] (p.0 ++ 10 ∷ []) none p.1, p.2, after line kept line' p.0 keeps p.3)
 none_first old mid new line kept line' (Ok End) none keeps p = (Consumes-trans old mid new [] [] none p.0, p.1, after line kept line' [] keeps p.2)
 none_first old mid new line kept line' (Err failed) none keeps p = Consumes-trans old mid new [] [] none p

@@ -1,5 +1,5 @@
 -- Lines that were read and answered, one after the other.
-use Rattle.std.proofs.Common.{◌≡◌, ◌≢◌, ℕ, false, List, [], ◌∷◌, ◌++◌, Option, Result, Ok, Err, inl, inr, codes, refl, sym, ap, subst, ◌∙◌, append_assoc, arith}
+use Rattle.std.proofs.Common.{◌≡◌, ◌≢◌, ℕ, ◌+◌, ◌≤◌, ◌^◌, Bool, false, List, [], ◌∷◌, ◌++◌, Option, Result, Ok, Err, inl, inr, codes, refl, sym, ap, subst, ◌∙◌, append_assoc, length, length-append, arith}
 use Rattle.std.proofs.lemmas.List.{append-nil}
 use Rattle.std.proofs.lemmas.List.Elements.{All-nil, All-cons, All-push}
 use Rattle.std.specs.Io.KnownBytes.{Appends, Consumes, IsAtEnd}
@@ -12,7 +12,7 @@ use Rattle.ra_book.specs.declared.refusal.Refusal.TheVariants as refusal
 use Rattle.ra_book.specs.Timed.{Timed}
 use Rattle.ra_book.specs.Answers.{Answers, AnswersAll, refused_line}
 use Rattle.ra_book.specs.declared.line.Line.{Line as KeptLine}
-use Rattle.ra_book.specs.Input.{HasNoFeed, TakesOpen}
+use Rattle.ra_book.specs.Input.{HasNoFeed, TakesOpen, TakesMost, HasEnded}
 use Rattle.ra_book.specs.NextLine.{ReadsLine}
 use Rattle.ra_book.specs.Book.{HasRead, IsAnswered, IsOwed, IsWritten, lines_text}
 use Rattle.ra_book.specs.Serving.{IsOpenedBy, OpensBy, Opens, AnswersSome, Serves}
@@ -121,32 +121,68 @@ not_opened old new kept Write h = (h.0, open_more old old new [] h.0 (nothing ol
 -- ---- The lines after it
 
 -- these lines were answered so far
-abbrev pub HasAnswered : Option (List ℕ) → Option (List ℕ) → Timed → List ℕ → Timed → Type 0
-HasAnswered old now before text after = (lines : List (List ℕ)) × HasRead old now lines [] × AnswersAll before lines text after
+abbrev pub HasAnswered : Option (List ℕ) → Option (List ℕ) → Timed → List ℕ → Timed → ℕ → Type 0
+HasAnswered old now before text after turns =
+    (lines : List (List ℕ)) × HasRead old now lines [] × AnswersAll before lines text after × (turns ≤ length lines)
 
-pub none_answered : (old : Option (List ℕ)) (node : Timed) → HasAnswered old old node [] node
-none_answered old node = ([], nothing old, (refl, refl))
+pub none_answered : (old : Option (List ℕ)) (node : Timed) → HasAnswered old old node [] node 0
+none_answered old node = ([], nothing old, (refl, refl), omega arith)
 
-pub one_answered : (old mid new : Option (List ℕ)) (a b c : Timed) (text line more : List ℕ) → HasAnswered old mid a text b → Consumes mid new (line ++ 10 ∷ [])
-    → HasNoFeed line → Answers b line more c → HasAnswered old new a (text ++ more) c
-one_answered old mid new a b c text line more h took free answer =
-    (h.0 ++ line ∷ [], line_more old mid new h.0 line h.1 took free, answers_more a b c h.0 line text more h.2 answer)
+pub one_answered : (old mid new : Option (List ℕ)) (a b c : Timed) (text line more : List ℕ) (turns : ℕ) → HasAnswered old mid a text b turns
+    → Consumes mid new (line ++ 10 ∷ []) → HasNoFeed line → Answers b line more c → HasAnswered old new a (text ++ more) c (turns + 1)
+one_answered old mid new a b c text line more turns (lines, read, answers, many) took free answer = (
+  lines ++ line ∷ [],
+  line_more old mid new lines line read took free,
+  answers_more a b c lines line text more answers answer,
+  omega (arith, many, length-append lines (line ∷ [])),
+)
 
-some_answered : (old mid new : Option (List ℕ)) (a b : Timed) (text : List ℕ) → HasAnswered old mid a text b → TakesOpen mid new → AnswersSome old new a text b
-some_answered old mid new a b text h part = (h.0, part.0, open_more old mid new h.0 part.0 h.1 part.1 part.2, h.2)
+some_answered : (old mid new : Option (List ℕ)) (a b : Timed) (text : List ℕ) (turns : ℕ) → HasAnswered old mid a text b turns → TakesOpen mid new
+    → AnswersSome old new a text b
+some_answered old mid new a b text turns (lines, read, answers, many) part = (lines, part.0, open_more old mid new lines part.0 read part.1 part.2, answers)
 
-pub all_answered : (old mid new : Option (List ℕ)) (a b : Timed) (text : List ℕ) → HasAnswered old mid a text b → TakesOpen mid new → IsAtEnd new
-    → Serves old new a text b (Ok tt)
-all_answered old mid new a b text h part end = (some_answered old mid new a b text h part, end)
+pub all_answered : (old mid new : Option (List ℕ)) (a b : Timed) (text : List ℕ) (turns : ℕ) → HasAnswered old mid a text b turns → TakesOpen mid new
+    → IsAtEnd new → Serves old new a text b (Ok tt)
+all_answered old mid new a b text turns h part end = (some_answered old mid new a b text turns h part, end)
 
-pub stopped : (old mid new : Option (List ℕ)) (a b : Timed) (text : List ℕ) (kept : KeptLine) (fault : BookFault) → HasAnswered old mid a text b
-    → ReadsLine mid new kept (Err fault) → Serves old new a text b (Err fault)
-stopped old mid new a b text kept Line h part = absurd part
-stopped old mid new a b text kept Read h part = some_answered old mid new a b text h part
-stopped old mid new a b text kept Write h part = some_answered old mid new a b text h part
+pub stopped : (old mid new : Option (List ℕ)) (a b : Timed) (text : List ℕ) (turns : ℕ) (kept : KeptLine) (fault : BookFault)
+    → HasAnswered old mid a text b turns → ReadsLine mid new kept (Err fault) → Serves old new a text b (Err fault)
+stopped old mid new a b text turns kept Line h part = absurd part
+stopped old mid new a b text turns kept Read h part = some_answered old mid new a b text turns h part
+stopped old mid new a b text turns kept Write h part = some_answered old mid new a b text turns h part
 
-pub too_many_lines : (old now : Option (List ℕ)) (a b : Timed) (text : List ℕ) → HasAnswered old now a text b → Serves old now a text b (Err Read)
-too_many_lines old now a b text h = (h.0, [], h.1, h.2)
+pub too_many_lines : (old now : Option (List ℕ)) (a b : Timed) (text : List ℕ) (turns : ℕ) → HasAnswered old now a text b turns
+    → Serves old now a text b (Err Read)
+too_many_lines old now a b text turns (lines, read, answers, many) = (lines, [], read, answers)
+
+-- ---- The end of the reader
+
+-- each line has a line feed
+many_lines : (lines : List (List ℕ)) → length lines ≤ length (lines_text lines)
+many_lines [] = omega arith
+many_lines (line ∷ lines) =
+    omega (arith, many_lines lines, length-append (line ++ 10 ∷ []) (lines_text lines), length-append line (10 ∷ []))
+
+-- all turns were taken
+pub most_read : (old now : Option (List ℕ)) (a b : Timed) (text : List ℕ) (turns : ℕ) → HasAnswered old now a text b turns → 2 ^ 64 ≤ turns + 1
+    → TakesMost old now
+most_read old now a b text turns (lines, read, answers, many) all =
+    (lines_text lines ++ [], read.taken, omega (arith, many, all, many_lines lines, length-append (lines_text lines) []))
+
+-- what was read before
+pub ended_more : (old mid new : Option (List ℕ)) (taken : List ℕ) (failed : Bool) → Consumes old mid taken → HasEnded mid new failed
+    → HasEnded old new failed
+ended_more old mid new taken failed took (inl fault) = inl fault
+ended_more old mid new taken failed took (inr (more, took', many)) =
+    inr (taken ++ more, Consumes-trans old mid new taken more took took', omega (arith, many, length-append taken more))
+
+pub ended_after : (old mid new : Option (List ℕ)) (a b : Timed) (text : List ℕ) (turns : ℕ) (failed : Bool) → HasAnswered old mid a text b turns
+    → HasEnded mid new failed → HasEnded old new failed
+ended_after old mid new a b text turns failed (lines, read, answers, many) = ended_more old mid new (lines_text lines ++ []) failed read.taken
+
+pub ended_behind : (old mid new : Option (List ℕ)) (made : Timed) (ok : List ℕ) (failed : Bool) → Opens old mid ok (Ok made) → HasEnded mid new failed
+    → HasEnded old new failed
+ended_behind old mid new made ok failed (line, read, opened, said) = ended_more old mid new (lines_text (line ∷ []) ++ []) failed read.taken
 
 -- ---- What was written in the end
 

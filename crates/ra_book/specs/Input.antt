@@ -1,5 +1,5 @@
 -- What is read of the next line.
-use Rattle.std.specs.Prelude.{◌≡◌, ◌≢◌, ℕ, ◌<◌, ◌≤◌, Bool, true, false, List, [], ◌∷◌, ◌++◌, All, Option, Result, Ok, Err, length, take}
+use Rattle.std.specs.Prelude.{◌≡◌, ◌≢◌, ◌⊎◌, ℕ, ◌+◌, ◌<◌, ◌≤◌, ◌^◌, Bool, true, false, List, [], ◌∷◌, ◌++◌, All, Option, Result, Ok, Err, length, take}
 use Rattle.std.specs.Io.KnownBytes.{Consumes, IsAtEnd}
 use Rattle.ra_book.specs.declared.line.Line.{Line}
 use Rattle.ra_book.specs.declared.piece.Piece.{Piece}
@@ -42,7 +42,8 @@ TakesShown old new line line' (Err failed) = Consumes old new [] × (line' ≡ l
 
 -- these bytes of a line were taken
 abbrev pub TakesPiece : Option (List ℕ) → Option (List ℕ) → Line → Line → Result Piece ReadFailed → Type 0
-TakesPiece old new line line' (Ok Part) = (part : List ℕ) × Consumes old new part × HasNoFeed part × Keeps line line' part
+TakesPiece old new line line' (Ok Part) =
+    (part : List ℕ) × Consumes old new part × HasNoFeed part × (1 ≤ length part) × Keeps line line' part
 TakesPiece old new line line' (Ok Over) = (part : List ℕ) × Consumes old new (part ++ 10 ∷ []) × HasNoFeed part × Keeps line line' part
 TakesPiece old new line line' (Ok End) = Consumes old new [] × IsAtEnd new × Keeps line line' []
 TakesPiece old new line line' (Err failed) = Consumes old new []
@@ -54,3 +55,11 @@ TakesLine old new line =
 
 abbrev pub TakesOpen : Option (List ℕ) → Option (List ℕ) → Type 0
 TakesOpen old new = (text : List ℕ) × Consumes old new text × HasNoFeed text
+
+-- as many bytes were taken as there are turns to take some
+abbrev pub TakesMost : Option (List ℕ) → Option (List ℕ) → Type 0
+TakesMost old new = (taken : List ℕ) × Consumes old new taken × (2 ^ 64 ≤ length taken + 1)
+
+-- the reader failed, or gave all bytes that can be taken of it
+abbrev pub HasEnded : Option (List ℕ) → Option (List ℕ) → Bool → Type 0
+HasEnded old new failed = (failed ≡ true) ⊎ TakesMost old new

@@ -1,27 +1,31 @@
 //! The next line of the input.
-ghost use Rattle.std.specs.Prelude.{◌≡◌, false, [], MatchResult};
+ghost use Rattle.std.specs.Prelude.{◌≡◌, true, false, [], IsErrOf, OnOk};
 ghost use Rattle.ra_book.specs.Output.{Puts};
+ghost use Rattle.ra_book.specs.declared.error.BookFault.{BookFault};
+ghost use Rattle.ra_book.specs.Input.{HasEnded};
 ghost use Rattle.ra_book.specs.NextLine.{ReadsLine};
 
 use crate::BookFault;
 use crate::line::Line;
 use crate::output::{Output, flush};
-use crate::piece::{Piece, take_piece};
+use crate::piece::{Piece, Reading, take_piece};
 use std::io::{BufRead, Write};
 
-/// The line that is read, and whether the reader shows nothing after it.
+/// The line that is read, and what is known of the reader.
 #[derive(Drop)]
 pub struct Input {
     pub line: Line,
-    pub is_drained: bool,
+    pub reading: Reading,
 }
 
 impl Input {
     /// Makes one of which nothing was read.
-    pub fn new() -> Input {
+    pub fn new() -> Input
+        ensures { result.reading.failed ≡ false }
+    {
         Input {
             line: Line::new(),
-            is_drained: true,
+            reading: Reading::new(),
         }
     }
 }
@@ -40,23 +44,28 @@ fn flush_if<W: Write>(is_drained: bool, writer: &mut W, out: &mut Output)
 ///
 /// # Errors
 ///
-/// `Read`: the reader failed. `Write`: the writer failed.
+/// `Read`: the reader failed, or the line has 2^64 - 1 bytes or more. `Write`: the writer failed.
 pub fn next_line<B: BufRead, W: Write>(
     reader: &mut B,
     input: &mut Input,
     writer: &mut W,
     out: &mut Output,
 ) -> Result<bool, BookFault>
+    requires { input.old.reading.failed ≡ false }
     ensures read { ReadsLine (B.remaining reader.old) (B.remaining reader.new) input.new.line result }
     ensures puts { Puts (W.contents writer.old) (W.contents writer.new) out.old out.new [] }
+    ensures unfailed { OnOk result (input.new.reading.failed ≡ false) }
+    // Only after a fault of the reader is `Read` answered, and only after one of the writer `Write`.
+    ensures reader { IsErrOf result BookFault.Read → HasEnded (B.remaining reader.old) (B.remaining reader.new) input.new.reading.failed }
+    ensures writer { IsErrOf result BookFault.Write → out.new.failed ≡ true }
 {
     input.line.clear();
     for _turn in 0..u64::MAX {
-        flush_if(input.is_drained, writer, out);
-        if out.failed {
+        flush_if(input.reading.is_drained(), writer, out);
+        if out.has_failed() {
             return Err(BookFault::Write);
         }
-        let piece = match take_piece(reader, &mut input.line, &mut input.is_drained) {
+        let piece = match take_piece(reader, &mut input.line, &mut input.reading) {
             Ok(piece) => piece,
             Err(_) => return Err(BookFault::Read),
         };

@@ -1,5 +1,5 @@
 //! What waits to be written.
-ghost use Rattle.std.specs.Prelude.{◌≡◌, ◌≤◌, [], false, length};
+ghost use Rattle.std.specs.Prelude.{◌≡◌, ◌≤◌, [], true, false, length};
 ghost use Rattle.ra_book.specs.Output.{HasPut, Puts};
 
 use arrayvec::ArrayVec;
@@ -9,12 +9,13 @@ use std::io::Write;
 /// The most bytes that wait.
 const MOST_WAITING: usize = 16_384;
 
-/// The text that waits to be written, and whether the writer failed. After that nothing is written any more, and what is put out is
-/// dropped: so the calls that put text out have no errors.
+/// The text that waits to be written, and whether the writer failed. After that nothing is written any more, and what is
+/// put out is dropped: so the calls that put text out have no errors. Only this file asks the writer, and so only it says
+/// that the writer failed.
 #[derive(Drop)]
 pub struct Output {
-    pub waiting: ArrayVec<u8, MOST_WAITING>,
-    pub failed: bool,
+    waiting: ArrayVec<u8, MOST_WAITING>,
+    failed: bool,
 }
 
 impl Output {
@@ -28,12 +29,20 @@ impl Output {
             failed: false,
         }
     }
+
+    /// Returns whether the writer failed.
+    pub fn has_failed(&self) -> bool
+        ensures { result ≡ self.now.failed }
+    {
+        self.failed
+    }
 }
 
 /// Writes all that waits.
 pub fn write_waiting<W: Write>(writer: &mut W, out: &mut Output)
     ensures puts { Puts (W.contents writer.old) (W.contents writer.new) out.old out.new [] }
     ensures none { out.new.failed ≡ false → out.new.waiting.items ≡ [] }
+    ensures kept { out.old.failed ≡ true → out.new.failed ≡ true }
 {
     if !out.failed {
         out.failed = write_out(writer, out.waiting.as_slice()).is_err();
@@ -45,6 +54,7 @@ pub fn write_waiting<W: Write>(writer: &mut W, out: &mut Output)
 pub fn flush<W: Write>(writer: &mut W, out: &mut Output)
     ensures puts { Puts (W.contents writer.old) (W.contents writer.new) out.old out.new [] }
     ensures none { out.new.failed ≡ false → out.new.waiting.items ≡ [] }
+    ensures kept { out.old.failed ≡ true → out.new.failed ≡ true }
 {
     write_waiting(writer, out);
     if !out.failed {

@@ -1,11 +1,12 @@
 //! A book that is read and answered.
-ghost use Rattle.std.specs.Prelude.{◌≡◌, ℕ, List, MatchOption};
+ghost use Rattle.std.specs.Prelude.{◌≡◌, ◌↔◌, [], true, false, ℕ, List, MatchOption, IsErrOf, OnOk};
 ghost use Rattle.ra_book.specs.Book.{IsOwed, IsWritten};
 ghost use Rattle.ra_book.specs.BookText.{IsFirst};
-ghost use Rattle.ra_book.specs.Input.{IsKeptLine};
+ghost use Rattle.ra_book.specs.Input.{HasEnded, IsKeptLine};
 ghost use Rattle.ra_book.specs.Output.{Puts};
 ghost use Rattle.ra_book.specs.Serving.{IsOpenedBy, OpensBy, Opens, Serves};
 ghost use Rattle.ra_book.specs.Answers.{refused_line};
+ghost use Rattle.ra_book.specs.declared.error.BookFault.{BookFault};
 ghost use Rattle.ra_book.specs.declared.refusal.Refusal.{Refusal};
 
 use crate::answering::answer_line;
@@ -47,9 +48,10 @@ fn open_by<W: Write>(
     writer: &mut W,
     out: &mut Output,
 ) -> Result<TimedNode, BookFault>
-    ensures { (read : List ℕ) → IsKeptLine read line.now.bytes.items line.now.is_long
+    ensures opens { (read : List ℕ) → IsKeptLine read line.now.bytes.items line.now.is_long
         → (text : List ℕ) × OpensBy read text result
         × Puts (W.contents writer.old) (W.contents writer.new) out.old out.new text }
+    ensures no_fault { (IsErrOf result BookFault.Read → ⊥) × (IsErrOf result BookFault.Write → ⊥) }
 {
     match opened_by(alloc, line) {
         Some(node) => {
@@ -76,8 +78,12 @@ fn take_first<B: BufRead, W: Write>(
     writer: &mut W,
     out: &mut Output,
 ) -> Result<TimedNode, BookFault>
-    ensures { (text : List ℕ) × Opens (B.remaining reader.old) (B.remaining reader.new) text result
+    requires { input.old.reading.failed ≡ false }
+    ensures opens { (text : List ℕ) × Opens (B.remaining reader.old) (B.remaining reader.new) text result
         × Puts (W.contents writer.old) (W.contents writer.new) out.old out.new text }
+    ensures unfailed { OnOk result (input.new.reading.failed ≡ false) }
+    ensures reader { IsErrOf result BookFault.Read → HasEnded (B.remaining reader.old) (B.remaining reader.new) input.new.reading.failed }
+    ensures writer { IsErrOf result BookFault.Write → out.new.failed ≡ true }
 {
     let is_there = match next_line(reader, input, writer, out) {
         Ok(is_there) => is_there,
@@ -104,8 +110,11 @@ fn take_events<B: BufRead, W: Write>(
     writer: &mut W,
     out: &mut Output,
 ) -> Result<(), BookFault>
-    ensures { (text : List ℕ) × Serves (B.remaining reader.old) (B.remaining reader.new) node.old text node.new result
+    requires { input.old.reading.failed ≡ false }
+    ensures serves { (text : List ℕ) × Serves (B.remaining reader.old) (B.remaining reader.new) node.old text node.new result
         × Puts (W.contents writer.old) (W.contents writer.new) out.old out.new text }
+    ensures reader { IsErrOf result BookFault.Read → HasEnded (B.remaining reader.old) (B.remaining reader.new) input.new.reading.failed }
+    ensures writer { IsErrOf result BookFault.Write → out.new.failed ≡ true }
 {
     for _line in 0..u64::MAX {
         let is_there = match next_line(reader, input, writer, out) {
@@ -128,16 +137,48 @@ fn take_events<B: BufRead, W: Write>(
 fn take_book<B: BufRead, W: Write>(
     alloc: Global,
     reader: &mut B,
+    input: &mut Input,
     writer: &mut W,
     out: &mut Output,
 ) -> Result<(), BookFault>
-    ensures { (text : List ℕ) × IsOwed (B.remaining reader.old) (B.remaining reader.new) text result
+    requires { input.old.reading.failed ≡ false }
+    ensures owed { (text : List ℕ) × IsOwed (B.remaining reader.old) (B.remaining reader.new) text result
         × Puts (W.contents writer.old) (W.contents writer.new) out.old out.new text }
+    ensures reader { IsErrOf result BookFault.Read → HasEnded (B.remaining reader.old) (B.remaining reader.new) input.new.reading.failed }
+    ensures writer { IsErrOf result BookFault.Write → out.new.failed ≡ true }
 {
-    let mut input = Input::new();
-    match take_first(alloc, reader, &mut input, writer, out) {
-        Ok(mut node) => take_events(alloc, &mut node, reader, &mut input, writer, out),
+    match take_first(alloc, reader, input, writer, out) {
+        Ok(mut node) => take_events(alloc, &mut node, reader, input, writer, out),
         Err(fault) => Err(fault),
+    }
+}
+
+/// Reads the lines of a book, and writes their answers.
+///
+/// # Errors
+///
+/// Those of `answer_book`.
+fn answer_from<B: BufRead, W: Write>(
+    alloc: Global,
+    reader: &mut B,
+    input: &mut Input,
+    writer: &mut W,
+    out: &mut Output,
+) -> Result<(), BookFault>
+    requires unfailed { input.old.reading.failed ≡ false }
+    requires waiting { out.old.waiting.items ≡ [] }
+    ensures answered { (text : List ℕ) × IsOwed (B.remaining reader.old) (B.remaining reader.new) text result
+        × IsWritten (W.contents writer.old) (W.contents writer.new) text result }
+    // Only after a fault of the reader is `Read` answered, and exactly after one of the writer `Write`.
+    ensures reader { IsErrOf result BookFault.Read → HasEnded (B.remaining reader.old) (B.remaining reader.new) input.new.reading.failed }
+    ensures writer { IsErrOf result BookFault.Write ↔ (out.new.failed ≡ true) }
+{
+    let taken = take_book(alloc, reader, input, writer, out);
+    flush(writer, out);
+    if out.has_failed() {
+        Err(BookFault::Write)
+    } else {
+        taken
     }
 }
 
@@ -164,12 +205,7 @@ pub fn answer_book<B: BufRead, W: Write>(
     ensures { (text : List ℕ) × IsOwed (B.remaining reader.old) (B.remaining reader.new) text result
         × IsWritten (W.contents writer.old) (W.contents writer.new) text result }
 {
+    let mut input = Input::new();
     let mut out = Output::new();
-    let taken = take_book(alloc, reader, writer, &mut out);
-    flush(writer, &mut out);
-    if out.failed {
-        Err(BookFault::Write)
-    } else {
-        taken
-    }
+    answer_from(alloc, reader, &mut input, writer, &mut out)
 }

@@ -3,25 +3,26 @@ use Rattle.ra_book.proofs.Put.{both, none}
 use Rattle.ra_book.proofs.next_line.next_line.Goals as goal
 
 pub returns-in-Over-clause-read : goal.returns-in-Over-clause-read
-returns-in-Over-clause-read g c = over_more _ _ _ _ _ c.loop-turn.invariant.some (rw (c.in-Ok.is, c.in-Over.is) at c.take_piece.ensures)
+returns-in-Over-clause-read g c = over_more _ _ _ _ _ _ c.loop-turn.invariant.some (rw (c.in-Ok.is, c.in-Over.is) at c.take_piece.ensures.takes)
 
 pub loop-turn-preserved : goal.loop-turn-preserved
 loop-turn-preserved g c = record {
-  some = part_more _ _ _ _ _ c.loop-turn.invariant.some (rw (c.in-Ok.is, c.in-Part.is) at c.take_piece.ensures);
+  some = part_more _ _ _ _ _ _ c.loop-turn.invariant.some (rw (c.in-Ok.is, c.in-Part.is) at c.take_piece.ensures.takes);
   puts = both _ _ _ _ _ _ _ _ c.loop-turn.invariant.puts c.flush_if.ensures;
+  unfailed = rw c.in-Ok.is at c.take_piece.ensures.unfailed;
 }
 
 pub loop-turn-init : goal.loop-turn-init
-loop-turn-init g c = record { some = no_bytes _ _ c.clear.ensures; puts = none _ _ }
+loop-turn-init g c = record { some = no_bytes _ _ c.clear.ensures; puts = none _ _; unfailed = c.requires }
 
-pub returns-then-out-clause-read : goal.returns-then-out-clause-read
-returns-then-out-clause-read g c = open_of _ _ _ c.loop-turn.invariant.some
+pub returns-then-has_failed-clause-read : goal.returns-then-has_failed-clause-read
+returns-then-has_failed-clause-read g c = open_of _ _ _ _ c.loop-turn.invariant.some
 
-pub returns-then-out-clause-puts : goal.returns-then-out-clause-puts
-returns-then-out-clause-puts g c = both _ _ _ _ _ _ _ _ c.loop-turn.invariant.puts c.flush_if.ensures
+pub returns-then-has_failed-clause-puts : goal.returns-then-has_failed-clause-puts
+returns-then-has_failed-clause-puts g c = both _ _ _ _ _ _ _ _ c.loop-turn.invariant.puts c.flush_if.ensures
 
 pub returns-in-Err-clause-read : goal.returns-in-Err-clause-read
-returns-in-Err-clause-read g c = open_more _ _ _ _ c.loop-turn.invariant.some (rw c.in-Err.is at c.take_piece.ensures)
+returns-in-Err-clause-read g c = open_more _ _ _ _ _ c.loop-turn.invariant.some (rw c.in-Err.is at c.take_piece.ensures.takes)
 
 pub returns-in-Err-clause-puts : goal.returns-in-Err-clause-puts
 returns-in-Err-clause-puts g c = both _ _ _ _ _ _ _ _ c.loop-turn.invariant.puts c.flush_if.ensures
@@ -31,14 +32,14 @@ returns-in-Over-clause-puts g c = both _ _ _ _ _ _ _ _ c.loop-turn.invariant.put
 
 pub returns-in-End-clause-read : goal.returns-in-End-clause-read
 returns-in-End-clause-read g c =
-    let end = rw (c.in-Ok.is, c.in-End.is) at c.take_piece.ensures in
-    (open_more _ _ _ _ c.loop-turn.invariant.some end.0, end.1)
+    let end = rw (c.in-Ok.is, c.in-End.is) at c.take_piece.ensures.takes in
+    (open_more _ _ _ _ _ c.loop-turn.invariant.some end.0, end.1)
 
 pub returns-in-End-clause-puts : goal.returns-in-End-clause-puts
 returns-in-End-clause-puts g c = both _ _ _ _ _ _ _ _ c.loop-turn.invariant.puts c.flush_if.ensures
 
 pub returns-clause-read : goal.returns-clause-read
-returns-clause-read g c = open_of _ _ _ c.loop-turn.invariant.some
+returns-clause-read g c = open_of _ _ _ _ c.loop-turn.invariant.some
 
 pub returns-clause-puts : goal.returns-clause-puts
 returns-clause-puts g c = c.loop-turn.invariant.puts
