@@ -1,8 +1,7 @@
 //! Follows the lines of a trace or of a mark log, for what is left at its end.
-use arrayvec::ArrayVec;
-use indexmap::IndexMap;
 use ra_text::cut;
 use std::alloc::Global;
+use std::collections::HashMap;
 
 /// The most bytes of a mark after its first word.
 const MAX_WORDS: usize = 71;
@@ -10,8 +9,8 @@ const MAX_WORDS: usize = 71;
 /// The most clients that are followed at once.
 const MAX_OPEN: usize = 65_536;
 
-/// The words of a line after its first word.
-pub type Words = ArrayVec<u8, MAX_WORDS>;
+/// The words of a line after its first word, with zeros after them.
+pub type Words = [u8; MAX_WORDS];
 
 /// What a client does between its ask and its release.
 #[derive(Clone, Copy, PartialEq, Eq)]
@@ -173,17 +172,17 @@ impl Counts {
 
 /// Returns words as far as they are kept.
 fn kept(words: &[u8]) -> Words {
-    let mut first = ArrayVec::new();
-    let fitting = &words[..words.len().min(MAX_WORDS)];
-    first.try_extend_from_slice(fitting).ok();
+    let mut first = [0; MAX_WORDS];
+    let fitting = words.len().min(MAX_WORDS);
+    first[..fitting].copy_from_slice(&words[..fitting]);
     first
 }
 
 /// Returns the words before the last one.
 fn without_last(words: &[u8]) -> &[u8] {
     let mut end = words.len();
-    for (place, byte) in words.iter().enumerate() {
-        if *byte == b' ' {
+    for place in 0..words.len() {
+        if words[place] == b' ' {
             end = place;
         }
     }
@@ -201,7 +200,7 @@ pub struct OpenText {
     pub(crate) lines: u64,
     pub(crate) counts: Counts,
     /// The clients that wait, are queued or hold: by the words of the ask if queued, and otherwise by those of the marks.
-    pub(crate) open: IndexMap<Words, Open>,
+    pub(crate) open: HashMap<Words, Open>,
     /// Whether these are all: memory never ran out, and they were never too many.
     pub(crate) is_whole: bool,
 }
@@ -222,7 +221,7 @@ impl OpenText {
                 losses: 0,
                 repeats: 0,
             },
-            open: IndexMap::new(alloc),
+            open: HashMap::new(alloc),
             is_whole: true,
         }
     }
@@ -273,6 +272,6 @@ impl OpenText {
 
     /// Forgets the client with these words.
     fn forget(&mut self, words: &[u8]) {
-        self.open.swap_remove(&kept(words));
+        self.open.remove(&kept(words));
     }
 }

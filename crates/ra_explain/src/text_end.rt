@@ -3,10 +3,10 @@ use crate::before::{entry_of, mark_in};
 use crate::claim::{Claim, want_text};
 use crate::open_text::{Left, Open, OpenText, Stage, Words};
 use arrayvec::ArrayVec;
-use indexmap::IndexMap;
 use ra_stamp::Memory;
-use ra_text::Note;
+use ra_text::{Note, cut};
 use std::alloc::Global;
+use std::collections::HashMap;
 
 /// The most bytes of a mark.
 const MAX_LINE: usize = 79;
@@ -23,6 +23,15 @@ struct Client {
     /// Its request. If the client is queued it has none yet, and the number in this one has no meaning.
     claim: Claim,
     stage: Stage,
+}
+
+/// Which clients are looked for.
+#[derive(Clone, Copy)]
+enum Sought<'a> {
+    /// Those at this stage.
+    At(Stage),
+    /// Those in the way of this one.
+    InTheWayOf(&'a Client),
 }
 
 /// The end of a text.
@@ -61,9 +70,11 @@ fn client_of(words: &[u8], open: &Open) -> Option<Client> {
 }
 
 /// Returns the clients with these words. If memory runs out, the note records it.
-fn clients_of(alloc: Global, note: &mut Note, all: &IndexMap<Words, Open>) -> Vec<Client> {
+fn clients_of(alloc: Global, note: &mut Note, all: &HashMap<Words, Open>) -> Vec<Client> {
     let mut clients = Vec::new(alloc);
     for (words, open) in all.iter() {
+        // Zeros come after the words, which have none.
+        let (words, _) = cut(words, 0);
         if let Some(client) = client_of(words, open) {
             note.refuse_if(clients.push(client).is_err());
         }
@@ -87,6 +98,14 @@ impl Client {
         }
     }
 
+    /// Returns whether it is one of these.
+    fn is_one_of(&self, sought: Sought) -> bool {
+        match sought {
+            Sought::At(stage) => self.stage == stage,
+            Sought::InTheWayOf(other) => self.is_in_the_way(other),
+        }
+    }
+
     /// Adds what it does, and since which line.
     fn push(&self, note: &mut Note) {
         let does = match self.stage {
@@ -98,26 +117,13 @@ impl Client {
     }
 }
 
-/// Returns the first client after a line that is at this stage.
-fn next_at(clients: &[Client], after: u64, stage: Stage) -> Option<Client> {
+/// Returns the first client after a line that is one of these.
+fn next_of<'a>(clients: &'a [Client], after: u64, sought: Sought) -> Option<&'a Client> {
     let (mut found, mut first) = (None, u64::MAX);
     for client in clients {
         let since = client.claim.since;
-        if after < since && since < first && client.stage == stage {
-            found = Some(*client);
-            first = since;
-        }
-    }
-    found
-}
-
-/// Returns the first client after a line that is in the way of another one.
-fn next_in_the_way(clients: &[Client], after: u64, other: &Client) -> Option<Client> {
-    let (mut found, mut first) = (None, u64::MAX);
-    for client in clients {
-        let since = client.claim.since;
-        if after < since && since < first && client.is_in_the_way(other) {
-            found = Some(*client);
+        if after < since && since < first && client.is_one_of(sought) {
+            found = Some(client);
             first = since;
         }
     }
@@ -149,7 +155,7 @@ impl TextEnd {
     fn push_in_the_way(&self, note: &mut Note, client: &Client) {
         let mut after = 0;
         for named in 0..MAX_BLOCKERS {
-            let Some(other) = next_in_the_way(&self.clients, after, client) else {
+            let Some(other) = next_of(&self.clients, after, Sought::InTheWayOf(client)) else {
                 break;
             };
             note.push(if named == 0 { ": " } else { ", " });
@@ -170,12 +176,12 @@ impl TextEnd {
     fn push_clients(&self, note: &mut Note, stage: Stage, before: u64) -> u64 {
         let (mut after, mut named) = (0, before);
         for _ in 0..MAX_CLIENTS {
-            let Some(client) = next_at(&self.clients, after, stage) else {
+            let Some(client) = next_of(&self.clients, after, Sought::At(stage)) else {
                 break;
             };
             note.push(if named == 0 { ": " } else { "; " });
             client.push(note);
-            self.push_in_the_way(note, &client);
+            self.push_in_the_way(note, client);
             after = client.claim.since;
             named = u64::saturating_add(named, 1);
         }
