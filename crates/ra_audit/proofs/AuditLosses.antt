@@ -157,6 +157,10 @@ puts_first nodes old new (inr here) = record {
   reached = All-nil (IsReached nodes);
 }
 
+pub noted_as : (nodes : List ProgressState) (old new : LossState) → LooksAtFirst nodes old new → new.noted ≡ old.noted
+noted_as nodes old new (inl here) = here.0.noted
+noted_as nodes old new (inr here) = here.0.noted
+
 -- ---- All of them, one after the other
 
 pub none_looked_at : (nodes : List ProgressState) (left : ℕ) (losing : List Frame) → left ≡ length losing → AreLookedAt nodes left losing

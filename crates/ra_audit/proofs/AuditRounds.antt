@@ -1,18 +1,23 @@
 -- Rounds of an audit: the events that were taken of each node go on.
-use Rattle.std.proofs.Common.{◌≡◌, ℕ, zero, suc, ◌+◌, ◌-◌, ◌<◌, List, [], ◌∷◌, ◌++◌, map, drop, length, get_or, set, Option, Some, Result, Ok, Err, refl, sym, ap, ◌∙◌, subst, append_assoc, inl, inr, arith}
-use Rattle.std.specs.Prelude.{slice_get, All, IsOk, OnOk, OnErr}
+use Rattle.std.proofs.Common.{◌≡◌, ℕ, zero, suc, ◌+◌, ◌-◌, ◌<◌, List, [], ◌∷◌, ◌++◌, map, drop, length, get_or, set, Option, Some, Result, Ok, Err, refl, sym, ap, ◌∙◌, subst, append_assoc, ◌↔◌, ◌⊎◌, ◌≤◌, inl, inr, arith}
+use Rattle.std.specs.Prelude.{slice_get, All, IsOk, IsErrOf, OnOk, OnErr}
 use Rattle.std.specs.List.{AllWithin, range_with_len}
-use Rattle.std.proofs.lemmas.List.{append-nil, length-map}
-use Rattle.std.proofs.lemmas.List.Elements.{All-cons, All-head, All-tail, AllWithin-more_set}
+use Rattle.std.proofs.lemmas.List.{append-nil, length-map, length-set, get_or-map, get_or-set_same}
+use Rattle.std.proofs.lemmas.List.Elements.{All-cons, All-head, All-tail, AllWithin-more_set, AllWithin-kept}
 use Rattle.std.proofs.lemmas.List.FromFn.{length-range_with_len}
-use Rattle.std.proofs.lemmas.Option.{same_Some, none-some, slice_get_read}
+use Rattle.std.proofs.lemmas.Option.{same_Some, none-some, slice_get_read, slice_get_within, slice_get-get_or}
 use Rattle.ra_stamp.specs.declared.entry.Mark.{Mark}
 use Rattle.ra_audit.specs.declared.audit_error.AuditError.{AuditError}
 use Rattle.ra_audit.specs.declared.audit_error.AuditFault.{AuditFault}
+use Rattle.ra_audit.specs.declared.audit_error.RoundError.{RoundError}
+use Rattle.ra_audit.specs.declared.audit_error.FinishError.{FinishError}
+use Rattle.ra_audit.specs.declared.audit_error.FinishError.TheVariants as finish
 use Rattle.ra_cluster.specs.declared.take_error.TakeError.{TakeError}
-use Rattle.ra_cluster.specs.declared.take_error.TakeError.TheVariants.{NoNode}
+use Rattle.ra_cluster.specs.declared.take_error.TakeError.TheVariants.{NoNode, OutOfTurn, NotNext, Memory}
+use Rattle.ra_frame.specs.declared.frame.Frame.{Frame}
 use Rattle.ra_history.specs.declared.event.BookEvent.{BookEvent}
-use Rattle.ra_audit.specs.Audit.{ProgressState, AuditState, NoneIsReady, NoneIsReached, MayBePut, IsAudited, HasLost, Advances, PutsLosses, Audits, TakenGoOn, TakesMore, TakesHanded, TakesAllAt, NoneIsKept, GoesOnFrom, taken_of, handed_over}
+use Rattle.ra_history.specs.History.{clock_of}
+use Rattle.ra_audit.specs.Audit.{ProgressState, AuditState, NoneIsReady, NoneIsReached, MayBePut, IsAudited, HasLost, Advances, PutsLosses, Audits, TakenGoOn, TakesMore, TakesHanded, TakesOver, TakesAllAt, NotTakenAt, IsNotTaken, IsCauseAt, KeptAreNext, AreNextAt, NoneIsKept, GoesOnFrom, taken_of, handed_over}
 use Rattle.ra_world.specs.World.{WorldState}
 use Rattle.ra_audit.proofs.AuditLosses.{puts_none}
 
@@ -77,6 +82,73 @@ accepted p q r events (Err e) none is ok err =
       tt,
     )
 
+-- ---- What the site of a node hands over
+
+module _ (p q : ProgressState) (answer : Result (Unit {0}) TakeError) (next : IsErrOf answer NotNext ↔ (KeptAreNext q → ⊥)) (memory : IsErrOf answer Memory → KeptAreNext q)
+    (others : (IsErrOf answer NoNode → ⊥) × (IsErrOf answer OutOfTurn → ⊥))
+  where
+    pub takes_over : (handed : List Frame) → GoesOnFrom p q → q.settled ≡ p.settled → OnOk answer (q.kept ≡ []) → TakesOver p q handed answer
+    takes_over handed from settled ok = record {
+      goes_on = from;
+      settled = settled;
+      ok = ok;
+      no_node = others.0;
+      out_of_turn = λ is. absurd (others.1 is);
+      not_next = next;
+      memory = memory;
+    }
+
+-- what was kept was not taken, so the site was not asked
+pub refuses_kept : (p q : ProgressState) (e : TakeError) → q ≡ p → IsErrOf {T = Unit {0}} (Err e) NotNext ↔ (KeptAreNext q → ⊥) → (IsErrOf {T = Unit {0}} (Err e) Memory → KeptAreNext q)
+    → (IsErrOf {T = Unit {0}} (Err e) NoNode → ⊥) × (IsErrOf {T = Unit {0}} (Err e) OutOfTurn → ⊥) → TakesOver p q [] (Err e)
+refuses_kept p q e same next memory others =
+    takes_over p q (Err e) next memory others [] (subst (GoesOnFrom p) (sym same) (from_same p p refl refl refl)) (ap (λ (x : ProgressState). x.settled) same) tt
+
+module _ (p q : ProgressState) (is : q ≡ record p { waiting = p.waiting ++ p.kept; kept = [] }) where
+  settled_as : q.settled ≡ p.settled
+  settled_as = ap (λ (x : ProgressState). x.settled) is
+
+  handed_as : handed_over q ≡ handed_over p
+  handed_as = ap handed_over is ∙ append-nil (p.settled ++ (p.waiting ++ p.kept)) ∙ sym (append_assoc p.settled p.waiting p.kept)
+
+  -- what was kept was taken, and then this came of what the site has
+  pub took_kept : (r : ProgressState) (handed : List Frame) (answer : Result (Unit {0}) TakeError) → TakesOver q r handed answer → TakesOver p r handed answer
+  took_kept r handed answer t = record {
+    goes_on = from_further p q r (from_kept p q is) t.goes_on;
+    settled = t.settled ∙ settled_as;
+    ok = t.ok;
+    no_node = t.no_node;
+    out_of_turn = λ turn. ((t.out_of_turn turn).0, (t.out_of_turn turn).1 ∙ handed_as, (t.out_of_turn turn).2);
+    not_next = t.not_next;
+    memory = t.memory;
+  }
+
+  none_kept : q.kept ≡ []
+  none_kept = ap (λ (x : ProgressState). x.kept) is
+
+  kept_next : KeptAreNext q
+  kept_next = subst (λ (es : List BookEvent). AreNextAt q.node (clock_of (taken_of q)) es) (sym none_kept) tt
+
+  -- nothing was handed over
+  pub took_no_more : (e : TakeError) → (e ≡ OutOfTurn) ⊎ (e ≡ Memory) → TakesOver p q [] (Err e)
+  took_no_more e why = record {
+    goes_on = from_kept p q is;
+    settled = settled_as;
+    ok = tt;
+    no_node = λ none. never e why none;
+    out_of_turn = λ _. (none_kept, handed_as, refl);
+    not_next = ((λ bad. absurd (never_next e why bad)), λ bad. absurd (bad kept_next));
+    memory = λ _. kept_next;
+  }
+    where
+      never : (e : TakeError) → (e ≡ OutOfTurn) ⊎ (e ≡ Memory) → IsErrOf {T = Unit {0}} (Err e) NoNode → ⊥
+      never e (inl turn) none = cc
+      never e (inr memory) none = cc
+
+      never_next : (e : TakeError) → (e ≡ OutOfTurn) ⊎ (e ≡ Memory) → IsErrOf {T = Unit {0}} (Err e) NotNext → ⊥
+      never_next e (inl turn) none = cc
+      never_next e (inr memory) none = cc
+
 -- ---- All nodes
 
 pub go_nowhere : (nodes : List ProgressState) → TakenGoOn nodes nodes
@@ -109,39 +181,51 @@ go_as_before (p ∷ ps) (q ∷ qs) numbers taken kept = (
 -- ---- What is taken
 
 pub took_nothing : (old : AuditState) → IsAudited old.world old.nodes → TakesMore old old
-took_nothing old audited = record { taken = go_nowhere old.nodes; rest = refl; audited = audited }
+took_nothing old audited = record { taken = go_nowhere old.nodes; handed = []; losing = sym (append-nil old.losing); rest = refl; audited = audited }
 
 pub took_further : (a b c : AuditState) → TakesMore a b → TakesMore b c → TakesMore a c
 took_further a b c first second = record {
   taken = go_further a.nodes b.nodes c.nodes first.taken second.taken;
-  rest = second.rest ∙ (λ i. record (first.rest i) { nodes = c.nodes });
+  handed = first.handed ++ second.handed;
+  losing = second.losing ∙ ap (λ (fs : List Frame). fs ++ second.handed) first.losing ∙ append_assoc a.losing first.handed second.handed;
+  rest = second.rest ∙ (λ i. record (first.rest i) { nodes = c.nodes; losing = c.losing });
   audited = second.audited;
 }
 
-pub handed_at : (nodes nodes' : List ProgressState) (node place : ℕ) (p q : ProgressState) (answer : Result (Unit {0}) TakeError)
+pub handed_at : (nodes nodes' : List ProgressState) (losing losing' : List Frame) (node place : ℕ) (p q : ProgressState) (answer : Result (Unit {0}) TakeError)
     → place + 1 ≡ node → place < length nodes → p ≡ get_or nodes place p → nodes' ≡ set nodes place q
-    → GoesOnFrom p q → q.settled ≡ p.settled → OnOk answer (q.kept ≡ []) → TakesHanded nodes node answer nodes'
-handed_at nodes nodes' node place p q answer number within at is from settled ok =
+    → (handed : List Frame) × TakesOver p q handed answer × (losing' ≡ losing ++ handed) → TakesHanded nodes losing node answer nodes' losing'
+handed_at nodes nodes' losing losing' node place p q answer number within at is takes =
     let place_is : place ≡ node - 1 = omega (arith, number) in
     let found : slice_get nodes (node - 1) ≡ Some p = ap (slice_get nodes) (sym place_is) ∙ slice_get_read nodes (length nodes) place p refl within at in
-    inr (p, found, (q, from, settled, is ∙ ap (λ (i : ℕ). set nodes i q) place_is, ok))
+    inr (p, found, (q, takes.0, takes.1, is ∙ ap (λ (i : ℕ). set nodes i q) place_is, takes.2))
 
-pub took_by_handing : (old new : AuditState) (node : ℕ) (answer : Result (Unit {0}) TakeError) → TakesHanded old.nodes node answer new.nodes
-    → new ≡ record old { nodes = new.nodes } → IsAudited new.world new.nodes → TakesMore old new
-took_by_handing old new node answer handed rest audited = record { taken = of handed; rest = rest; audited = audited }
-  where
-    of : TakesHanded old.nodes node answer new.nodes → TakenGoOn old.nodes new.nodes
-    of (inl none) = subst (TakenGoOn old.nodes) (sym none.2) (go_nowhere old.nodes)
-    of (inr some) = subst (TakenGoOn old.nodes) (sym some.2.3) (go_on_at old.nodes (node - 1) some.0 some.2.0 some.1 some.2.1)
+pub took_by_handing : (old new : AuditState) (node : ℕ) (answer : Result (Unit {0}) TakeError) → TakesHanded old.nodes old.losing node answer new.nodes new.losing
+    → new ≡ record old { nodes = new.nodes; losing = new.losing } → IsAudited new.world new.nodes → TakesMore old new
+took_by_handing old new node answer (inl none) rest audited = record {
+  taken = subst (TakenGoOn old.nodes) (sym none.2) (go_nowhere old.nodes);
+  handed = [];
+  losing = none.3 ∙ sym (append-nil old.losing);
+  rest = rest;
+  audited = audited;
+}
+took_by_handing old new node answer (inr some) rest audited = record {
+  taken = subst (TakenGoOn old.nodes) (sym some.2.3) (go_on_at old.nodes (node - 1) some.0 some.2.0 some.1 some.2.2.goes_on);
+  handed = some.2.1;
+  losing = some.2.4;
+  rest = rest;
+  audited = audited;
+}
 
 -- ---- What is kept
 
-pub takes_all_at : (nodes nodes' : List ProgressState) (node number : ℕ) (x : Unit {0}) → node ≡ number → TakesHanded nodes node (Ok x) nodes' → TakesAllAt nodes number nodes'
-takes_all_at nodes nodes' node number x same (inl none) =
+pub takes_all_at : (nodes nodes' : List ProgressState) (losing losing' : List Frame) (node number : ℕ) (x : Unit {0}) → node ≡ number → TakesHanded nodes losing node (Ok x) nodes' losing'
+    → TakesAllAt nodes number nodes'
+takes_all_at nodes nodes' losing losing' node number x same (inl none) =
     let is : Ok x ≡ Err NoNode = none.1 in
     absurd (cc)
-takes_all_at nodes nodes' node number x same (inr some) =
-    subst (λ (n : ℕ). TakesAllAt nodes n nodes') same (some.2.0, some.2.4, some.2.3)
+takes_all_at nodes nodes' losing losing' node number x same (inr some) =
+    subst (λ (n : ℕ). TakesAllAt nodes n nodes') same (some.2.0, some.2.2.ok, some.2.3)
 
 pub none_kept_more : (nodes nodes' : List ProgressState) (place : ℕ) → place < length nodes → AllWithin (λ p. p.kept ≡ []) nodes 0 place → TakesAllAt nodes (place + 1) nodes'
     → AllWithin (λ p. p.kept ≡ []) nodes' 0 (place + 1)
@@ -161,6 +245,92 @@ none_kept_after (p ∷ ps) (q ∷ qs) same none =
     All-cons (λ p. p.kept ≡ []) q qs (ap (λ (es : List (List BookEvent)). get_or es 0 []) same ∙ All-head (λ p. p.kept ≡ []) p ps none)
     (none_kept_after ps qs (ap (λ (es : List (List BookEvent)). drop 1 es) same) (All-tail (λ p. p.kept ≡ []) p ps none))
 
+-- ---- The node whose events were not taken
+
+cause_of : (p q : ProgressState) (handed : List Frame) (cause : TakeError) → TakesOver p q handed (Err cause) → IsCauseAt cause q
+cause_of p q handed NoNode t = t.no_node refl
+cause_of p q handed OutOfTurn t = (t.out_of_turn refl).0
+cause_of p q handed NotNext t = t.not_next.0 refl
+cause_of p q handed Memory t = t.memory refl
+
+pub not_taken_at : (nodes nodes' : List ProgressState) (losing losing' : List Frame) (node number : ℕ) (cause : TakeError) → node ≡ number → number ≤ length nodes
+    → TakesHanded nodes losing node (Err cause) nodes' losing' → NotTakenAt nodes number cause nodes'
+not_taken_at nodes nodes' losing losing' node number cause same within (inl none) = absurd (omega (arith, same, within, none.0))
+not_taken_at nodes nodes' losing losing' node number cause same within (inr some) =
+    subst (λ (n : ℕ). NotTakenAt nodes n cause nodes') same (some.0, some.1, some.2.0, cause_of some.0 some.2.0 some.2.1 cause some.2.2, some.2.3)
+
+same_pair : (a b : ℕ × TakeError) → ◌≡◌ {A = Result (Unit {0}) (ℕ × TakeError)} (Err a) (Err b) → a ≡ b
+same_pair a b e = cc
+
+-- the same, if the node and the cause are returned
+pub not_taken_by : (nodes nodes' : List ProgressState) (losing losing' : List Frame) (site number : ℕ) (found given : ℕ × TakeError) → site ≡ number → found.0 ≡ number → number ≤ length nodes
+    → TakesHanded nodes losing site (Err found.1) nodes' losing' → ◌≡◌ {A = Result (Unit {0}) (ℕ × TakeError)} (Err found) (Err given)
+    → (given.0 ≡ number) × NotTakenAt nodes number given.1 nodes'
+not_taken_by nodes nodes' losing losing' site number found given same node within takes is =
+    subst (λ (x : ℕ × TakeError). (x.0 ≡ number) × NotTakenAt nodes number x.1 nodes') (same_pair found given is)
+    (node, not_taken_at nodes nodes' losing losing' site number found.1 same within takes)
+
+-- nothing is kept of the nodes before it
+pub not_taken_from : (nodes nodes' : List ProgressState) (place : ℕ) (cause : TakeError) → place < length nodes → AllWithin (λ p. p.kept ≡ []) nodes 0 place
+    → NotTakenAt nodes (place + 1) cause nodes' → IsNotTaken nodes' (place + 1) cause
+not_taken_from nodes nodes' place cause within so_far at =
+    let q = at.2 in
+    let here : place + 1 - 1 ≡ place = omega arith in
+    let is : nodes' ≡ set nodes place q = at.4 ∙ ap (λ (i : ℕ). set nodes i q) here in
+    let there : place < length (set nodes place q) = omega (arith, within, length-set nodes place q) in
+    let found : slice_get nodes' (place + 1 - 1) ≡ Some q =
+    (λ j. slice_get (is j) (here j)) ∙ slice_get-get_or (set nodes place q) place q there ∙ ap (λ (x : ProgressState). Some x) (get_or-set_same nodes place q q within)
+    in
+    record {
+      at_node = (q, found, at.3);
+      before = λ k d low high.
+          subst (λ (ns : List ProgressState). (get_or ns k d).kept ≡ []) (sym is) (AllWithin-kept nodes place q within (λ p. p.kept ≡ []) so_far k d low (omega (arith, high)));
+    }
+
+-- the same is kept of the same nodes, after the same events
+next_as : (p q : ProgressState) → q.node ≡ p.node → taken_of q ≡ taken_of p → q.kept ≡ p.kept → KeptAreNext p → KeptAreNext q
+next_as p q node taken kept next =
+    subst (λ (es : List BookEvent). AreNextAt q.node (clock_of (taken_of q)) es) (sym kept)
+    (subst (λ (es : List BookEvent). AreNextAt q.node (clock_of es) p.kept) (sym taken) (subst (λ (n : ℕ). AreNextAt n (clock_of (taken_of p)) p.kept) (sym node) next))
+
+cause_as : (cause : TakeError) (p q : ProgressState) → q.node ≡ p.node → taken_of q ≡ taken_of p → q.kept ≡ p.kept → IsCauseAt cause p → IsCauseAt cause q
+cause_as NoNode p q node taken kept why = why
+cause_as OutOfTurn p q node taken kept why = kept ∙ why
+cause_as NotNext p q node taken kept why = λ next. why (next_as q p (sym node) (sym taken) (sym kept) next)
+cause_as Memory p q node taken kept why = next_as p q node taken kept why
+
+cause_at_as : (cause : TakeError) (a b : List ProgressState) (place : ℕ) → map (λ p. p.node) b ≡ map (λ p. p.node) a → map taken_of b ≡ map taken_of a
+    → map (λ p. p.kept) b ≡ map (λ p. p.kept) a → (p : ProgressState) × (slice_get a place ≡ Some p) × IsCauseAt cause p
+    → (q : ProgressState) × (slice_get b place ≡ Some q) × IsCauseAt cause q
+cause_at_as cause [] b place numbers taken kept at = absurd (none-some at.0 at.1)
+cause_at_as cause (p ∷ ps) [] place numbers taken kept at = absurd (cc)
+cause_at_as cause (p ∷ ps) (q ∷ qs) zero numbers taken kept at = (
+  q,
+  refl,
+  cause_as cause p q (ap (λ (ns : List ℕ). get_or ns 0 0) numbers) (ap (λ (es : List (List BookEvent)). get_or es 0 []) taken)
+      (ap (λ (es : List (List BookEvent)). get_or es 0 []) kept) (subst (IsCauseAt cause) (sym (same_Some p at.0 at.1)) at.2),
+)
+cause_at_as cause (p ∷ ps) (q ∷ qs) (suc place) numbers taken kept at =
+    cause_at_as cause ps qs place (ap (λ (ns : List ℕ). drop 1 ns) numbers) (ap (λ (es : List (List BookEvent)). drop 1 es) taken)
+    (ap (λ (es : List (List BookEvent)). drop 1 es) kept) at
+
+before_as : (a b : List ProgressState) (high : ℕ) → map (λ p. p.kept) b ≡ map (λ p. p.kept) a → high ≤ length a → AllWithin (λ p. p.kept ≡ []) a 0 high → AllWithin (λ p. p.kept ≡ []) b 0 high
+before_as a b high kept few none k d low below =
+    let within : k < length a = omega (arith, few, below) in
+    let many : length b ≡ length a = sym (length-map b (λ (p : ProgressState). p.kept)) ∙ ap (λ (es : List (List BookEvent)). length es) kept ∙ length-map a (λ (p : ProgressState). p.kept) in
+    let within' : k < length b = omega (arith, within, many) in
+    sym (get_or-map (λ (p : ProgressState). p.kept) b k d [] within') ∙ ap (λ (es : List (List BookEvent)). get_or es k []) kept ∙ get_or-map (λ (p : ProgressState). p.kept) a k d [] within ∙ none k d low below
+
+-- events that are put into the run change none of that
+pub not_taken_as : (a b : List ProgressState) (node : ℕ) (cause : TakeError) → map (λ p. p.node) b ≡ map (λ p. p.node) a → map taken_of b ≡ map taken_of a
+    → map (λ p. p.kept) b ≡ map (λ p. p.kept) a → IsNotTaken a node cause → IsNotTaken b node cause
+not_taken_as a b node cause numbers taken kept not = record {
+  at_node = cause_at_as cause a b (node - 1) numbers taken kept not.at_node;
+  before =
+      let within = slice_get_within a (node - 1) not.at_node.0 not.at_node.1 in
+      before_as a b (node - 1) kept (omega (arith, within)) not.before;
+}
+
 pub length_of : (w : WorldState) (nodes : List ProgressState) → IsAudited w nodes → length nodes ≡ w.count
 length_of w nodes a = sym (length-map nodes (λ (p : ProgressState). p.node)) ∙ ap (λ (ns : List ℕ). length ns) a.numbers ∙ length-range_with_len 1 w.count
 
@@ -176,9 +346,15 @@ audits_nothing old told audited lost = record {
   goes_on = sym (append-nil old.world.moves);
   told_are = sym (append-nil told);
   taken = go_nowhere old.nodes;
-  losses = puts_none old.nodes old.losing old.lost;
+  handed = [];
+  losses = subst (λ (fs : List Frame). PutsLosses old.nodes fs old.lost old.losing old.lost) (sym (append-nil old.losing)) (puts_none old.nodes old.losing old.lost);
   lost = lost;
 }
+
+-- the nodes have the same numbers
+pub numbers_as : (old mid new : AuditState) (told told' : List Mark) → TakesMore old mid → Advances mid.world mid.nodes told new.world new.nodes told'
+    → map (λ p. p.node) new.nodes ≡ map (λ p. p.node) mid.nodes
+numbers_as old mid new told told' takes advances = advances.audited.numbers ∙ ap (λ (n : ℕ). range_with_len 1 n) advances.count ∙ sym takes.audited.numbers
 
 pub audits_all : (old mid new : AuditState) (told told' : List Mark) → TakesMore old mid
     → Advances mid.world mid.nodes told new.world new.nodes told' → PutsLosses new.nodes mid.losing mid.lost new.losing new.lost → HasLost new.world.moves new.lost
@@ -190,11 +366,11 @@ audits_all old mid new told told' takes advances losses lost = record {
   moves = advances.moves;
   goes_on = advances.goes_on ∙ ap (λ (a : AuditState). a.world.moves ++ advances.moves) takes.rest;
   told_are = advances.told_are;
-  taken =
-      go_further old.nodes mid.nodes new.nodes takes.taken
-      (go_as_before mid.nodes new.nodes
-      (advances.audited.numbers ∙ ap (λ (n : ℕ). range_with_len 1 n) advances.count ∙ sym takes.audited.numbers) advances.taken advances.kept);
-  losses = subst (λ (a : AuditState). PutsLosses new.nodes a.losing a.lost new.losing new.lost) takes.rest losses;
+  taken = go_further old.nodes mid.nodes new.nodes takes.taken (go_as_before mid.nodes new.nodes (numbers_as old mid new told told' takes advances) advances.taken advances.kept);
+  handed = takes.handed;
+  losses =
+      subst (λ (fs : List Frame). PutsLosses new.nodes fs old.lost new.losing new.lost) takes.losing
+      (subst (λ (a : AuditState). PutsLosses new.nodes mid.losing a.lost new.losing new.lost) takes.rest losses);
   lost = lost;
 }
 
@@ -215,6 +391,7 @@ audits_noted old new noted told told' fault same a = subst (λ (x : AuditState).
   goes_on = a.goes_on;
   told_are = a.told_are;
   taken = a.taken;
+  handed = a.handed;
   losses = a.losses;
   lost = a.lost;
 })
@@ -242,3 +419,8 @@ none_kept_as new noted same = subst (λ (a : AuditState). NoneIsKept a.nodes) (s
 pub if_taken : {E : Type 0} (A : Type 0) (r : Result (Unit {0}) E) → IsOk r → OnOk r A → A
 if_taken A (Ok x) done h = h
 if_taken A (Err e) done h = absurd cc
+
+-- ---- The round at the end
+
+pub round_of : (a b : RoundError) → ◌≡◌ {A = Result (Unit {0}) FinishError} (Err (finish.Round a)) (Err (finish.Round b)) → IsErrOf {T = Unit {0}} (Err a) b
+round_of a b e = cc

@@ -330,14 +330,15 @@ taken_audited w nodes nodes' node after events answer a takes = of answer takes.
           unrepeated = a.unrepeated;
         })
 
-pub handed_audited : (w : WorldState) (nodes nodes' : List ProgressState) (node : ℕ) (answer : Result (Unit {0}) TakeError) → IsAudited w nodes → TakesHanded nodes node answer nodes' → IsAudited w nodes'
-handed_audited w nodes nodes' node answer a (inl none) = subst (IsAudited w) (sym none.2) a
-handed_audited w nodes nodes' node answer a (inr some) =
+pub handed_audited : (w : WorldState) (nodes nodes' : List ProgressState) (losing losing' : List Frame) (node : ℕ) (answer : Result (Unit {0}) TakeError) → IsAudited w nodes
+    → TakesHanded nodes losing node answer nodes' losing' → IsAudited w nodes'
+handed_audited w nodes nodes' losing losing' node answer a (inl none) = subst (IsAudited w) (sym none.2) a
+handed_audited w nodes nodes' losing losing' node answer a (inr some) =
     let p = some.0 in
     let found = some.1 in
     let q = some.2.0 in
-    let from = some.2.1 in
-    let settled = some.2.2 in
+    let from = some.2.2.goes_on in
+    let settled = some.2.2.settled in
     let is = some.2.3 in
     let within : node - 1 < length nodes = slice_get_within nodes (node - 1) p found in
     let at : get_or nodes (node - 1) p ≡ p = get_or_from_slice_get nodes (node - 1) p p found in

@@ -1,6 +1,6 @@
 -- An auditor as contracts see it: what has happened so far at running nodes, put into one run of the cluster.
 use Rattle.std.specs.Prelude.{◌≡◌, ◌≢◌, ◌↔◌, ◌⊎◌, ℕ, true, ◌-◌, ◌<◌, ◌≤◌, ◌^◌, Option, Some, Result, IsErrOf, OnOk, OnErr, List, [], ◌∷◌, ◌++◌, length, map, All, Contains, slice_get, slice_index_or, slice_set}
-use Rattle.std.specs.List.{Any, range_with_len}
+use Rattle.std.specs.List.{Any, AllWithin, range_with_len}
 use Rattle.std.specs.List.Sorted.{IsPermutation}
 use Rattle.ra_stamp.specs.declared.entry.Mark.{Mark}
 use Rattle.ra_stamp.specs.NodeId.{IsNodeNumber}
@@ -15,7 +15,7 @@ use Rattle.ra_world.specs.MainTheorem.{AreGrantedInOrder}
 use Rattle.ra_frame.specs.declared.frame.Frame.{Frame}
 use Rattle.ra_audit.specs.declared.audit_error.AuditFault.{AuditFault}
 use Rattle.ra_cluster.specs.declared.take_error.TakeError.{TakeError}
-use Rattle.ra_cluster.specs.declared.take_error.TakeError.TheVariants.{NoNode, OutOfTurn, NotNext}
+use Rattle.ra_cluster.specs.declared.take_error.TakeError.TheVariants.{NoNode, OutOfTurn, NotNext, Memory}
 use Rattle.ra_history.specs.declared.event.BookKind.{BookKind}
 use Rattle.ra_history.specs.declared.event.BookKind.TheVariants.{Asked, Gave, Got}
 use Rattle.ra_history.specs.declared.event.BookEvent.{BookEvent}
@@ -176,10 +176,13 @@ TakenGoOn (old ∷ olds) (new ∷ news) = GoesOnFrom old new × TakenGoOn olds n
 abbrev pub NoneIsKept : List ProgressState → Type 0
 NoneIsKept nodes = All (λ p. p.kept ≡ []) nodes
 
--- Further events were taken of nodes, and nothing else has changed.
+-- Further events were taken of nodes, and frames that they handed over as lost are still to be lost, after the others.
+-- Nothing else has changed.
 pub record TakesMore (old new : AuditState) : Type 0 where
   pub taken : TakenGoOn old.nodes new.nodes
-  pub rest : new ≡ record old { nodes = new.nodes }
+  pub handed : List Frame
+  pub losing : new.losing ≡ old.losing ++ handed
+  pub rest : new ≡ record old { nodes = new.nodes; losing = new.losing }
   pub audited : IsAudited new.world new.nodes
 
 -- Some of the losses that were still to be put are in the run now, or none more: each only after the run has come to its
@@ -190,8 +193,9 @@ pub record PutsLosses (nodes : List ProgressState) (losing lost losing' lost' : 
   pub same : IsPermutation losing (put ++ losing')
   pub reached : All (IsReached nodes) put
 
--- A round of the audit of a cluster: further events were taken of its nodes, and the run went on by some moves, whose marks
--- were told in their order, and by some of the losses that were still to be put.
+-- A round of the audit of a cluster: further events were taken of its nodes, and frames that they handed over as lost were
+-- noted. The run went on by some moves, whose marks were told in their order, and by some of the losses that were still to be
+-- put, those of these frames among them.
 pub record Audits (old : AuditState) (told : List Mark) (new : AuditState) (told' : List Mark) : Type 0 where
   pub audited : IsAudited new.world new.nodes
   pub count : new.world.count ≡ old.world.count
@@ -200,7 +204,8 @@ pub record Audits (old : AuditState) (told : List Mark) (new : AuditState) (told
   pub goes_on : new.world.moves ≡ old.world.moves ++ moves
   pub told_are : told' ≡ told ++ marks_of moves
   pub taken : TakenGoOn old.nodes new.nodes
-  pub losses : PutsLosses new.nodes old.losing old.lost new.losing new.lost
+  pub handed : List Frame
+  pub losses : PutsLosses new.nodes (old.losing ++ handed) old.lost new.losing new.lost
   pub lost : HasLost new.world.moves new.lost
 
 -- ---- What holds of the run
@@ -243,18 +248,53 @@ pub record Takes (nodes : List ProgressState) (node after : ℕ) (events : List 
       × (AreNextAt p.node (clock_of (taken_of p)) events → ⊥))
   pub err : OnErr answer (nodes' ≡ nodes)
 
+-- the events that are kept of the node can be its next ones, after those that were taken
+abbrev pub KeptAreNext : ProgressState → Type 0
+KeptAreNext p = AreNextAt p.node (clock_of (taken_of p)) p.kept
+
+-- What is known of a node after its site was to hand over what has happened and these frames, which were lost. It goes on
+-- from before, with the same events in the run. If the answer is Ok, nothing is kept. If it is OutOfTurn, nothing is kept
+-- either, and nothing was handed over. It is NotNext exactly if what is kept can't be the node's next events. Memory is the
+-- only other error, after which what is kept can be.
+pub record TakesOver (p q : ProgressState) (handed : List Frame) (answer : Result (Unit {0}) TakeError) : Type 0 where
+  pub goes_on : GoesOnFrom p q
+  pub settled : q.settled ≡ p.settled
+  pub ok : OnOk answer (q.kept ≡ [])
+  pub no_node : IsErrOf answer NoNode → ⊥
+  pub out_of_turn : IsErrOf answer OutOfTurn → (q.kept ≡ []) × (handed_over q ≡ handed_over p) × (handed ≡ [])
+  pub not_next : IsErrOf answer NotNext ↔ (KeptAreNext q → ⊥)
+  pub memory : IsErrOf answer Memory → KeptAreNext q
+
 -- What comes of taking what the site of a node hands over. If there is no such node, it says so, and nothing changes.
--- Otherwise the node goes on from before, with the same events in the run, and the other nodes are as before. If it is Ok,
--- nothing is kept of the node.
-abbrev pub TakesHanded : List ProgressState → ℕ → Result (Unit {0}) TakeError → List ProgressState → Type 0
-TakesHanded nodes node answer nodes' =
-    ((length nodes < node) × IsErrOf answer NoNode × (nodes' ≡ nodes))
-    ⊎ AtNumber nodes node (λ p. (q : ProgressState) × GoesOnFrom p q × (q.settled ≡ p.settled)
-    × (nodes' ≡ slice_set nodes (node - 1) q) × OnOk answer (q.kept ≡ []))
+-- Otherwise the node goes on from before, and the other nodes are as before. The frames that were handed over as lost are
+-- still to be lost, after the others, whatever the answer.
+abbrev pub TakesHanded : List ProgressState → List Frame → ℕ → Result (Unit {0}) TakeError → List ProgressState → List Frame → Type 0
+TakesHanded nodes losing node answer nodes' losing' =
+    ((length nodes < node) × IsErrOf answer NoNode × (nodes' ≡ nodes) × (losing' ≡ losing))
+    ⊎ AtNumber nodes node (λ p. (q : ProgressState) × (handed : List Frame) × TakesOver p q handed answer
+    × (nodes' ≡ slice_set nodes (node - 1) q) × (losing' ≡ losing ++ handed))
 
 -- nothing is kept of the node any more, and the other nodes are as before
 abbrev pub TakesAllAt : List ProgressState → ℕ → List ProgressState → Type 0
 TakesAllAt nodes node nodes' = (q : ProgressState) × (q.kept ≡ []) × (nodes' ≡ slice_set nodes (node - 1) q)
+
+-- Why the events of a node were not taken, by what is known of it now. OutOfTurn: nothing is kept, and its site still has
+-- what it has. NotNext: what is kept can't be its next events. Memory: what is kept can be.
+abbrev pub IsCauseAt : TakeError → ProgressState → Type 0
+IsCauseAt NoNode p = ⊥
+IsCauseAt OutOfTurn p = p.kept ≡ []
+IsCauseAt NotNext p = KeptAreNext p → ⊥
+IsCauseAt Memory p = KeptAreNext p
+
+-- the events of the node were not taken for this cause, and the other nodes are as before
+abbrev pub NotTakenAt : List ProgressState → ℕ → TakeError → List ProgressState → Type 0
+NotTakenAt nodes node cause nodes' = (p : ProgressState) × (slice_get nodes (node - 1) ≡ Some p)
+    × (q : ProgressState) × IsCauseAt cause q × (nodes' ≡ slice_set nodes (node - 1) q)
+
+-- The events of this node were not taken for this cause. Nothing is kept of the nodes before it.
+pub record IsNotTaken (nodes : List ProgressState) (node : ℕ) (cause : TakeError) : Type 0 where
+  pub at_node : AtNumber nodes node (IsCauseAt cause)
+  pub before : AllWithin (λ p. p.kept ≡ []) nodes 0 (node - 1)
 
 -- ---- What is left at the end
 

@@ -47,14 +47,16 @@ IsOfNone nodes NoneComes kind = (frame : Frame) × (kind ≡ Got frame)
 
 -- ---- Losses
 
--- of the frames that were noted as lost, those whose loss is still to be put into the run, and those whose loss is in it
+-- Of the frames that were noted as lost: those whose loss is still to be put into the run, the last ones of them that are not
+-- among those in turn yet, and those whose loss is in the run.
 pub record LossState : Type 0 where
   pub losing : List Frame
+  pub noted : List Frame
   pub lost : List Frame
 
 -- what the fields represent
 abbrev pub losses_of : LossesInside → LossState
-losses_of l = record { losing = l.losing.items; lost = l.lost.items }
+losses_of l = record { losing = l.losing.items ++ l.noted.items; noted = l.noted.items; lost = l.lost.items }
 
 -- the count is that of the losses in the run
 abbrev pub IsKeptLosses : LossesInside → Type 0
@@ -63,11 +65,13 @@ IsKeptLosses l = l.count ≡ length l.lost.items
 -- the first of the frames that are still to be lost is lost now
 pub record LosesFirst (old new : LossState) : Type 0 where
   pub losing : new.losing ≡ drop 1 old.losing
+  pub noted : new.noted ≡ old.noted
   pub lost : new.lost ≡ old.lost ++ take 1 old.losing
 
 -- it is the last one now
 pub record DefersFirst (old new : LossState) : Type 0 where
   pub losing : new.losing ≡ drop 1 old.losing ++ take 1 old.losing
+  pub noted : new.noted ≡ old.noted
   pub lost : new.lost ≡ old.lost
 
 -- the first one is lost if the run has come to it, and otherwise it is the last one now

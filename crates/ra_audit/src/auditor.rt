@@ -111,7 +111,8 @@ impl Auditor {
 
     /// Notes that these frames are lost, such as those that could not be sent. `advance` puts their losses into the run, each once
     /// all events of the frame's sender up to the frame's clock are in it. Note each frame once, and of each node only frames that
-    /// it sent. The cost is linear in their number.
+    /// it sent. One whose sender is no node of the cluster has no such events, so the next `advance` says `NotLost` of it. A round
+    /// notes the frames that the nodes hand over as lost by itself. The cost is linear in their number.
     ///
     /// # Errors
     ///
@@ -133,22 +134,23 @@ impl Auditor {
         self.count == nodes && self.start == start
     }
 
-    /// Has a site hand over what has happened since the last time, and takes it, as [`Progress::take_handed`] does.
+    /// Has a site hand over what has happened since the last time, and takes it and notes the lost frames, as
+    /// [`Progress::take_handed`] does.
     ///
     /// # Errors
     ///
-    /// `NoNode` if the auditor has no such node, or those of [`Progress::take_handed`].
+    /// `NoNode` exactly if the auditor has no such node, or those of [`Progress::take_handed`].
     pub(crate) fn take_handed<R: Wait>(
         &mut self,
         rt: &R,
         alloc: Global,
         site: &Site,
     ) -> Result<(), TakeError>
-        ensures handed { TakesHanded self.old.nodes site.now result self.new.nodes }
-        ensures rest { self.new ≡ record self.old { nodes = self.new.nodes } }
+        ensures handed { TakesHanded self.old.nodes self.old.losing site.now result self.new.nodes self.new.losing }
+        ensures rest { self.new ≡ record self.old { nodes = self.new.nodes; losing = self.new.losing } }
         ensures audited { IsAudited self.new.world self.new.nodes }
     {
-        take_handed_into(rt, alloc, self.nodes.as_mut_slice(), site)
+        take_handed_into(rt, alloc, self.nodes.as_mut_slice(), &mut self.losses, site)
     }
 
     /// Returns, of each node, the clock of the last event that was taken from it, or 0 before the first.
@@ -375,9 +377,11 @@ fn take_handed_into<R: Wait>(
     rt: &R,
     alloc: Global,
     nodes: &mut [Progress],
+    losses: &mut Losses,
     site: &Site,
 ) -> Result<(), TakeError>
-    ensures { TakesHanded nodes.old site.now result nodes.new }
+    ensures handed { TakesHanded nodes.old losses.old.losing site.now result nodes.new losses.new.losing }
+    ensures lost { losses.new.lost ≡ losses.old.lost }
 {
     // Nodes are counted from 1.
     let place = usize::from(site.node().get()) - 1;
@@ -385,7 +389,7 @@ fn take_handed_into<R: Wait>(
         return Err(TakeError::NoNode);
     }
     let progress = &mut nodes[place];
-    progress.take_handed(rt, alloc, site)
+    progress.take_handed(rt, alloc, site, losses)
 }
 
 /// Returns, for each of this many nodes, that nothing was taken from it.

@@ -43,6 +43,7 @@ pub fn put_events_and_losses<O: MarkObserver>(
         → NoneIsReady nodes.new × IsNotLost world.new nodes.new losses.new.losing frame }
 {
     put_all(alloc, world, nodes, observer)?;
+    losses.take_noted()?;
     put_losses(alloc, world, nodes, losses)
 }
 
@@ -63,6 +64,7 @@ fn put_losses(
 ) -> Result<(), AuditError>
     requires audited { IsAudited world.old nodes.now }
     requires lost { HasLost world.old.moves losses.old.lost }
+    requires taken { losses.old.noted ≡ [] }
     ensures advances { (told : List Mark) → Advances world.old nodes.now told world.new nodes.now told }
     ensures losses { PutsLosses nodes.now losses.old.losing losses.old.lost losses.new.losing losses.new.lost }
     ensures lost { HasLost world.new.moves losses.new.lost }
@@ -98,6 +100,7 @@ fn put_first(
 ) -> Result<(), AuditError>
     requires audited { IsAudited world.old nodes.now }
     requires lost { HasLost world.old.moves losses.old.lost }
+    requires taken { losses.old.noted ≡ [] }
     requires some { 0 < length losses.old.losing }
     ensures advances { (told : List Mark) → Advances world.old nodes.now told world.new nodes.now told }
     ensures lost { HasLost world.new.moves losses.new.lost }

@@ -12,7 +12,11 @@ use std::marker::Model;
 /// and those whose loss is still to be put into it.
 #[derive(Drop)]
 pub struct Losses {
+    /// Those that are looked at in turn.
     losing: VecDeque<Frame>,
+    /// Those that were noted last and are still to be put after these. A list that was handed over is taken as it is, so that
+    /// noting it takes no memory.
+    noted: Vec<Frame>,
     /// How many losses are in the run.
     count: u64,
     /// The frames whose loss is in the run, for proofs alone.
@@ -32,10 +36,11 @@ impl Model for Losses {
 impl Losses {
     /// Makes those of a run in which nothing was lost. It does not allocate.
     pub fn new(alloc: Global) -> Losses
-        ensures { result ≡ record { losing = []; lost = [] } }
+        ensures { result ≡ record { losing = []; noted = []; lost = [] } }
     {
         Losses {
             losing: VecDeque::new(alloc),
+            noted: Vec::new(alloc),
             count: 0,
             lost: GhostList::new(),
         }
@@ -52,14 +57,14 @@ impl Losses {
     pub fn losing(&self) -> usize
         ensures { result ≡ length self.now.losing }
     {
-        self.losing.len()
+        self.losing.len() + self.noted.len()
     }
 
     /// Returns the first frame whose loss is still to be put into the run, or `None` if there is none.
     pub fn first(&self) -> Option<Frame>
         ensures { result ≡ slice_get self.now.losing 0 }
     {
-        first_of(&self.losing)
+        first_of(&self.losing, &self.noted)
     }
 
     /// Notes further frames, after the others whose loss is still to be put into the run.
@@ -68,14 +73,35 @@ impl Losses {
     ///
     /// `Memory`: there is no room for them, and none is noted.
     pub fn note(&mut self, frames: &[Frame]) -> Result<(), Memory>
-        ensures ok { OnOk result (self.new ≡ record self.old { losing = self.old.losing ++ frames.now }) }
+        ensures ok { OnOk result (self.new ≡ record self.old { losing = self.old.losing ++ frames.now; noted = self.old.noted ++ frames.now }) }
         ensures err { OnErr result (self.new ≡ self.old) }
     {
-        append(&mut self.losing, frames)
+        add(&mut self.noted, frames)
+    }
+
+    /// Notes the frames of this list, which takes no memory. [`Losses::take_noted`] comes first.
+    pub fn note_list(&mut self, frames: Vec<Frame>)
+        requires { self.old.noted ≡ [] }
+        ensures { self.new ≡ record self.old { losing = self.old.losing ++ frames.items; noted = frames.items } }
+    {
+        self.noted = frames;
+    }
+
+    /// Puts the frames that were noted last after those that are looked at in turn.
+    ///
+    /// # Errors
+    ///
+    /// `Memory`: there is no room for them there, and nothing has changed.
+    pub fn take_noted(&mut self) -> Result<(), Memory>
+        ensures ok { OnOk result (self.new ≡ record self.old { noted = [] }) }
+        ensures err { OnErr result (self.new ≡ self.old) }
+    {
+        move_all(&mut self.noted, &mut self.losing)
     }
 
     /// The loss of the first frame is in the run now.
     pub fn put(&mut self)
+        requires taken { self.old.noted ≡ [] }
         requires some { 0 < length self.old.losing }
         requires room { length self.old.lost + 1 < 2 ^ 64 }
         ensures { LosesFirst self.old self.new }
@@ -89,21 +115,44 @@ impl Losses {
 
     /// Leaves the loss of the first frame for later, after the others.
     pub fn defer(&mut self)
-        requires { 0 < length self.old.losing }
+        requires taken { self.old.noted ≡ [] }
+        requires some { 0 < length self.old.losing }
         ensures { DefersFirst self.old self.new }
     {
         self.losing.rotate_left(1);
     }
 }
 
-/// Returns the first frame, or `None` if there is none.
-fn first_of(losing: &VecDeque<Frame>) -> Option<Frame>
-    ensures { result ≡ slice_get losing.now.items 0 }
+/// Returns the first frame of these two lists, one after the other, or `None` if there is none.
+fn first_of(losing: &VecDeque<Frame>, noted: &Vec<Frame>) -> Option<Frame>
+    ensures { result ≡ slice_get (losing.now.items ++ noted.now.items) 0 }
 {
-    losing.front().copied()
+    match losing.front() {
+        Some(frame) => Some(*frame),
+        None => noted.first().copied(),
+    }
 }
 
-/// Puts frames at the end of those whose loss is still to be put into the run, or, if there is no memory, none.
+/// Puts frames at the end of a list, or, if there is no memory, none.
+fn add(noted: &mut Vec<Frame>, frames: &[Frame]) -> Result<(), Memory>
+    ensures ok { OnOk result (noted.new.items ≡ noted.old.items ++ frames.now) }
+    ensures err { OnErr result (noted.new.items ≡ noted.old.items) }
+{
+    noted.extend_from_slice(frames)?;
+    Ok(())
+}
+
+/// Moves all frames of a list to the end of those that are looked at in turn, or, if there is no memory, none.
+fn move_all(noted: &mut Vec<Frame>, losing: &mut VecDeque<Frame>) -> Result<(), Memory>
+    ensures ok { OnOk result ((losing.new.items ≡ losing.old.items ++ noted.old.items) × (noted.new.items ≡ [])) }
+    ensures err { OnErr result ((losing.new.items ≡ losing.old.items) × (noted.new.items ≡ noted.old.items)) }
+{
+    append(losing, noted)?;
+    noted.clear();
+    Ok(())
+}
+
+/// Puts frames at the end of those that are looked at in turn, or, if there is no memory, none.
 fn append(losing: &mut VecDeque<Frame>, frames: &[Frame]) -> Result<(), Memory>
     ensures ok { OnOk result (losing.new.items ≡ losing.old.items ++ frames.now) }
     ensures err { OnErr result (losing.new.items ≡ losing.old.items) }

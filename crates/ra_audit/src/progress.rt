@@ -1,9 +1,11 @@
 //! How far the events of a node are in the run of an auditor.
-ghost use Rattle.std.specs.Prelude.{◌≡◌, ◌≢◌, ◌↔◌, ◌<◌, ◌∷◌, ◌++◌, [], Some, length, slice_get, IsTrue, IsErrOf, IfSome, IfErr, OnOk, OnErr, MatchOption};
+ghost use Rattle.std.specs.Prelude.{◌≡◌, ◌≢◌, ◌↔◌, ◌⊎◌, ◌<◌, ◌∷◌, ◌++◌, [], List, Some, length, slice_get, IsTrue, IsErrOf, IfSome, IfErr, OnOk, OnErr, MatchOption};
 ghost use Rattle.ra_history.specs.History.{clock_of, clock_from};
 ghost use Rattle.ra_history.specs.declared.event.BookEvent.{BookEvent};
-ghost use Rattle.ra_audit.specs.Audit.{AreNextAt, IsNextAt, IsForNumber, GoesOnFrom, fresh_progress, handed_over, taken_of};
+ghost use Rattle.ra_frame.specs.declared.frame.Frame.{Frame};
+ghost use Rattle.ra_audit.specs.Audit.{AreNextAt, IsNextAt, IsForNumber, KeptAreNext, TakesOver, fresh_progress, handed_over, taken_of};
 
+use crate::losses::Losses;
 use ra_cluster::{BookEvent, BookKind, Events, Handed, Site, TakeError, clock_after};
 use ra_stamp::{GhostList, NodeId};
 use std::alloc::Global;
@@ -124,6 +126,8 @@ impl Progress {
             ↔ ((after ≡ clock_of (taken_of self.old))
             × (AreNextAt self.old.node (clock_of (taken_of self.old)) events.now → ⊥)) }
         ensures no_node { IsErrOf result TakeError.NoNode → ⊥ }
+        ensures memory { IsErrOf result TakeError.Memory
+            → AreNextAt self.old.node (clock_of (taken_of self.old)) events.now }
         ensures err { OnErr result (self.new ≡ self.old) }
     {
         if after != self.latest {
@@ -140,48 +144,60 @@ impl Progress {
 
 impl Progress {
     /// Has the site of the node hand over what has happened since the last time, and takes it. What it handed over before and was
-    /// not taken for lack of memory comes first.
+    /// not taken for lack of memory comes first. The frames that it hands over as lost are noted.
     ///
     /// # Errors
     ///
-    /// The first that holds:
+    /// The first that holds. What was handed over is noted, and kept if it was not taken, and the site still has what was not:
     ///
-    /// 1. `NotNext`: a clock does not follow the one before, or a frame is for another node. What was handed over is kept.
-    /// 2. `OutOfTurn`: the site has handed over its last events elsewhere. It still has those after them.
-    /// 3. `Memory`: what was handed over is kept, and the site still has what was not.
+    /// 1. `NotNext`: of the events that are kept, a clock does not follow the one before, or a frame is for another node.
+    /// 2. `Memory`: there is no room for these, or for the frames that were noted last.
+    /// 3. `OutOfTurn`: the site has handed over its last events elsewhere.
+    /// 4. `Memory`: the site has none to hand them over.
+    /// 5. `NotNext` or `Memory` for the events that were handed over.
     pub fn take_handed<R: Wait>(
         &mut self,
         rt: &R,
         alloc: Global,
         site: &Site,
+        losses: &mut Losses,
     ) -> Result<(), TakeError>
-        ensures goes_on { GoesOnFrom self.old self.new }
-        ensures settled { self.new.settled ≡ self.old.settled }
-        ensures ok { OnOk result (self.new.kept ≡ []) }
+        ensures takes { (handed : List Frame) × TakesOver self.old self.new handed result
+            × (losses.new.losing ≡ losses.old.losing ++ handed) }
+        ensures lost { losses.new.lost ≡ losses.old.lost }
     {
         self.take_kept(alloc)?;
-        let handed = site.hand_over(rt, alloc, self.latest())?;
-        self.accept(alloc, handed)
+        losses.take_noted()?;
+        match site.hand_over(rt, alloc, self.latest()) {
+            Ok(handed) => self.accept(alloc, handed, losses),
+            Err(refused) => Err(refusal_of(refused)),
+        }
     }
 
-    /// Takes what the book of the node handed over.
+    /// Takes what the book of the node handed over, and notes the frames that were lost.
     ///
     /// # Errors
     ///
-    /// Those of `take_kept`.
-    fn accept(&mut self, alloc: Global, handed: Handed) -> Result<(), TakeError>
-        requires { self.old.kept ≡ [] }
-        ensures goes_on { GoesOnFrom self.old self.new }
+    /// Those of `take_kept`. The frames are noted all the same.
+    fn accept(
+        &mut self,
+        alloc: Global,
+        handed: Handed,
+        losses: &mut Losses,
+    ) -> Result<(), TakeError>
+        requires kept { self.old.kept ≡ [] }
+        requires noted { losses.old.noted ≡ [] }
+        ensures takes { TakesOver self.old self.new handed.lost.items result }
         ensures handed { handed_over self.new ≡ handed_over self.old ++ handed.events.items }
-        ensures settled { self.new.settled ≡ self.old.settled }
-        ensures ok { OnOk result (self.new.kept ≡ []) }
+        ensures losing { losses.new.losing ≡ losses.old.losing ++ handed.lost.items }
+        ensures lost { losses.new.lost ≡ losses.old.lost }
     {
-        // Losses are not yet put into the run.
         let Handed {
             after: _,
             events,
-            lost: _,
+            lost,
         } = handed;
+        losses.note_list(lost);
         self.keep(events);
         self.take_kept(alloc)
     }
@@ -200,6 +216,9 @@ impl Progress {
     /// `NotNext` or `Memory`, as `take` does, and they are still kept.
     fn take_kept(&mut self, alloc: Global) -> Result<(), TakeError>
         ensures ok { OnOk result (self.new ≡ record self.old { waiting = self.old.waiting ++ self.old.kept; kept = [] }) }
+        ensures not_next { IsErrOf result TakeError.NotNext ↔ (KeptAreNext self.new → ⊥) }
+        ensures memory { IsErrOf result TakeError.Memory → KeptAreNext self.new }
+        ensures others { (IsErrOf result TakeError.NoNode → ⊥) × (IsErrOf result TakeError.OutOfTurn → ⊥) }
         ensures err { OnErr result (self.new ≡ self.old) }
     {
         let latest = self.latest();
@@ -211,6 +230,19 @@ impl Progress {
                 Err(cause)
             }
         }
+    }
+}
+
+/// Returns why a site handed over nothing: the auditor has not taken its last events, or memory ran out.
+fn refusal_of(refused: TakeError) -> TakeError
+    ensures turn { refused ≡ TakeError.OutOfTurn → result ≡ TakeError.OutOfTurn }
+    ensures other { refused ≢ TakeError.OutOfTurn → result ≡ TakeError.Memory }
+    ensures either { (result ≡ TakeError.OutOfTurn) ⊎ (result ≡ TakeError.Memory) }
+{
+    match refused {
+        TakeError::OutOfTurn => TakeError::OutOfTurn,
+        // A site has no other cause.
+        TakeError::NoNode | TakeError::NotNext | TakeError::Memory => TakeError::Memory,
     }
 }
 

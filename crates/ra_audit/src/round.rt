@@ -1,10 +1,10 @@
 //! A round of the audit of a cluster whose threads go on.
-ghost use Rattle.std.specs.Prelude.{◌≡◌, ◌↔◌, ◌⊎◌, ◌≤◌, true, false, [], ℕ, All, None, Some, IsOk, IsErrOf, OnOk};
+ghost use Rattle.std.specs.Prelude.{◌≡◌, ◌↔◌, ◌⊎◌, ◌≤◌, true, false, [], ℕ, length, All, None, Some, IsOk, IsErrOf, OnOk};
 ghost use Rattle.ra_audit.specs.declared.audit_error.AuditFault as audit_fault;
 ghost use Rattle.ra_cluster.specs.declared.take_error.TakeError.{TakeError};
 ghost use Rattle.ra_frame.specs.declared.frame.Frame.{Frame};
 ghost use Rattle.ra_audit.specs.declared.audit_error.RoundError as round_error;
-ghost use Rattle.ra_audit.specs.Audit.{NoneIsReady, NoneIsReached, NoneWaits, IsNeverSent, IsAhead, IsMisfit, IsNotLost, IsUnsent, MayBePut, IsAudited, HasLost, IsAuditorOf, RunTheorem, Audits, TakesMore, TakesAllAt, NoneIsKept, clocks_taken};
+ghost use Rattle.ra_audit.specs.Audit.{NoneIsReady, NoneIsReached, NoneWaits, IsNeverSent, IsAhead, IsMisfit, IsNotLost, IsUnsent, MayBePut, IsAudited, HasLost, IsAuditorOf, RunTheorem, Audits, TakesMore, TakesAllAt, NotTakenAt, IsNotTaken, NoneIsKept, clocks_taken};
 ghost use Rattle.ra_stamp.specs.NodeId.{IsNodeNumber};
 
 use crate::audit_laws::runs_meet_the_theorem;
@@ -15,8 +15,9 @@ use std::alloc::Global;
 use std::sync::Wait;
 
 impl Auditor {
-    /// Takes what has happened at each node since the round before, from node 1 up. Then it puts all that it can into the run of
-    /// the auditor, and tells the observer its marks, as [`Auditor::advance`] does. The cluster goes on meanwhile: a round
+    /// Takes what has happened at each node since the round before, from node 1 up, and notes the frames that it hands over as
+    /// lost. Then it puts all that it can into the run of the auditor, events first and then losses, and tells the observer its
+    /// marks, as [`Auditor::advance`] does. The cluster goes on meanwhile: a round
     /// has one node's lock at a time, for a time that does not grow with the history, and puts with no lock held. A frame whose
     /// sender was looked at too early in the round is put in the next one.
     ///
@@ -38,12 +39,14 @@ impl Auditor {
     /// 2. `OtherCluster`: the auditor was made for another number of nodes, or with another start. Nothing has changed.
     /// 3. `Fault`: an event does not fit, as [`Auditor::advance`] says. If it was found by an earlier round, nothing has
     ///    changed.
-    /// 4. `NotLost`: a frame that was noted as lost came or was lost before, or was never sent, as [`Auditor::advance`] says. All
-    ///    events that were taken and can be put are in the run. The loss of the frame still waits, so that each later round tries it.
+    /// 4. `NotLost`: a frame that was handed over or noted as lost came or was lost before, or was never sent, as
+    ///    [`Auditor::advance`] says. All events that were taken and can be put are in the run. The loss of the frame still waits, so
+    ///    that each later round tries it.
     /// 5. `Memory`: memory ran out before events were taken, or while they or losses were put. The next round goes on.
     /// 6. `NotTaken`: the events of a node were not taken, nor those of the nodes after it. What was taken or noted as lost is in
-    ///    the run, as far as it can be. If the cause is `Memory`, the next round takes them. Any other cause says that the
-    ///    auditor is not that of the round before; the node still has its events.
+    ///    the run, as far as it can be. If the cause is `Memory`, the next round takes them. If it is `OutOfTurn`, the auditor is
+    ///    not that of the round before, and the node still has its events and losses. If it is `NotNext`, what the node handed
+    ///    over is kept and can't be its next events, so that no later round takes events of it. `NoNode` never comes.
     /// 7. `Fault`: a frame that waits as the next event of its node was never sent.
     pub fn audit<R: Wait, G: Gate + Drop, O: MarkObserver>(
         &mut self,
@@ -72,7 +75,7 @@ impl Auditor {
         ensures not_lost { (frame : Frame) → IsErrOf result (RoundError.NotLost frame)
             → NoneIsReady self.new.nodes × IsNotLost self.new.world self.new.nodes self.new.losing frame }
         ensures not_taken { (node : ℕ) (cause : TakeError) → IsErrOf result (RoundError.NotTaken node cause)
-            → NoneIsReady self.new.nodes × NoneIsReached self.new.nodes self.new.losing }
+            → NoneIsReady self.new.nodes × NoneIsReached self.new.nodes self.new.losing × IsNotTaken self.new.nodes node cause }
     {
         runs_meet_the_theorem();
         match check_round(cluster, self) {
@@ -82,7 +85,8 @@ impl Auditor {
     }
 
     /// Ends the audit of a cluster that its caller alone has, so that all threads have ended: takes what is left at the nodes, as
-    /// a round does. If it is Ok, all that was taken is in the run, and the losses of all frames that were noted as lost. After
+    /// a round does. If it is Ok, all that was taken is in the run, and the losses of all frames that were handed over or noted as
+    /// lost. After
     /// `NotTaken` for `Memory`, and after `Memory`, it can be called again.
     ///
     /// The cost is that of a round, and then linear in the number of nodes.
@@ -109,10 +113,14 @@ impl Auditor {
         ensures not_audited { IsErrOf result (FinishError.Round RoundError.NotAudited) ↔ (cluster.old.audited ≡ false) }
         ensures other_cluster { IsErrOf result (FinishError.Round RoundError.OtherCluster)
             ↔ ((cluster.old.audited ≡ true) × (IsAuditorOf cluster.old self.old → ⊥)) }
+        ensures not_lost { (frame : Frame) → IsErrOf result (FinishError.Round (RoundError.NotLost frame))
+            → NoneIsReady self.new.nodes × IsNotLost self.new.world self.new.nodes self.new.losing frame }
+        ensures not_taken { (node : ℕ) (cause : TakeError) → IsErrOf result (FinishError.Round (RoundError.NotTaken node cause))
+            → NoneIsReady self.new.nodes × NoneIsReached self.new.nodes self.new.losing × IsNotTaken self.new.nodes node cause }
         ensures never_sent { (fault : audit_fault.AuditFault) → IsErrOf result (FinishError.NeverSent fault)
-            → IsNeverSent self.new.nodes fault }
+            → NoneIsKept self.new.nodes × IsNeverSent self.new.nodes fault }
         ensures lost_unsent { (frame : Frame) → IsErrOf result (FinishError.LostUnsent frame)
-            → NoneWaits self.new.nodes × IsAhead self.new.nodes self.new.losing frame }
+            → NoneIsKept self.new.nodes × NoneWaits self.new.nodes × IsAhead self.new.nodes self.new.losing frame }
     {
         match self.audit(rt, alloc, cluster, observer) {
             Ok(()) => all_settled(self),
@@ -213,7 +221,8 @@ fn go_round<R: Wait, G: Gate + Drop, O: MarkObserver>(
     ensures not_lost { (frame : Frame) → IsErrOf result (RoundError.NotLost frame)
         → NoneIsReady auditor.new.nodes × IsNotLost auditor.new.world auditor.new.nodes auditor.new.losing frame }
     ensures not_taken { (node : ℕ) (cause : TakeError) → IsErrOf result (RoundError.NotTaken node cause)
-        → NoneIsReady auditor.new.nodes × NoneIsReached auditor.new.nodes auditor.new.losing }
+        → NoneIsReady auditor.new.nodes × NoneIsReached auditor.new.nodes auditor.new.losing
+        × IsNotTaken auditor.new.nodes node cause }
 {
     // A frame that was taken by now came before this round takes its sender's events.
     let Ok(clocks) = auditor.clocks(alloc) else {
@@ -242,7 +251,8 @@ fn answer_of(
         → IsErrOf advanced (AuditError.Fault fault) }
     ensures not_lost { (frame : Frame) → IsErrOf result (RoundError.NotLost frame)
         → IsErrOf advanced (AuditError.NotLost frame) }
-    ensures not_taken { (node : ℕ) (cause : TakeError) → IsErrOf result (RoundError.NotTaken node cause) → IsOk advanced }
+    ensures not_taken { (node : ℕ) (cause : TakeError) → IsErrOf result (RoundError.NotTaken node cause)
+        → IsOk advanced × IsErrOf taken (node, cause) }
 {
     match (advanced, taken) {
         (Err(AuditError::Fault(fault)), _) => Err(RoundError::Fault(fault)),
@@ -267,6 +277,7 @@ fn take_all<R: Wait, G: Gate + Drop>(
     requires { auditor.old.world.count ≡ cluster.now.nodes }
     ensures more { TakesMore auditor.old auditor.new }
     ensures kept { OnOk result (NoneIsKept auditor.new.nodes) }
+    ensures not_taken { (node : ℕ) (cause : TakeError) → IsErrOf result (node, cause) → IsNotTaken auditor.new.nodes node cause }
 {
     // Each reader tells what holds of every auditor.
     let _fault = auditor.fault();
@@ -293,6 +304,9 @@ fn take_from<R: Wait, G: Gate + Drop>(
     requires member { number ≤ cluster.now.nodes }
     ensures more { TakesMore auditor.old auditor.new }
     ensures all { OnOk result (TakesAllAt auditor.old.nodes number auditor.new.nodes) }
+    ensures not_taken { (node : ℕ) (cause : TakeError) → IsErrOf result (node, cause)
+        → number ≤ length auditor.old.nodes
+        → (node ≡ number) × NotTakenAt auditor.old.nodes number cause auditor.new.nodes }
 {
     let Some(node) = NodeId::new(number) else {
         unreachable!()

@@ -3,13 +3,13 @@ use Rattle.std.proofs.lemmas.List.{get_or_default}
 use Rattle.ra_audit.proofs.AuditRounds.{handed_at}
 use Rattle.ra_audit.proofs.auditor.take_handed_into.Goals as goal
 
-pub returns : goal.returns
-returns r c =
+pub returns-clause-handed : goal.returns-clause-handed
+returns-clause-handed r c =
     let nodes = c.args.nodes.now in
     let place = c.from-place.result - 1 in
     let number : place + 1 ≡ c.args.site.now = omega (arith, c.get.ensures.value, c.get.ensures.valid.0, c.from-place.ensures, c.node.ensures) in
     let within : place < length nodes = omega (arith, c.if-place-nodes.false) in
     let x = c.index-nodes-place.result in
     let p = get_or nodes place x in
-    handed_at nodes _ c.args.site.now place p c.take_handed.new.self c.take_handed.result number within (get_or_default nodes place x p within) refl
-    c.take_handed.ensures.goes_on c.take_handed.ensures.settled c.take_handed.ensures.ok
+    handed_at nodes _ c.args.losses.now.losing c.take_handed.new.losses.losing c.args.site.now place p c.take_handed.new.self c.take_handed.result number within
+    (get_or_default nodes place x p within) refl c.take_handed.ensures.takes

@@ -24,6 +24,7 @@ returns-then-not-is_reached-clause-ok c =
 
 pub put-requires : goal.put-requires
 put-requires c = record {
+  taken = c.requires.taken;
   some = c.requires.some;
   room = room_for_one c.args.world.now.moves c.put_loss.new.world.moves c.args.losses.now.lost c.in-Some.frame.message c.requires.lost c.in-Ok.ensures.lost c.in-Ok.ensures.few;
 }

@@ -1,8 +1,8 @@
-use Rattle.std.proofs.Common.{◌<◌, [], arith, subst, sym}
+use Rattle.std.proofs.Common.{◌<◌, [], arith, subst, sym, ◌∙◌}
 use Rattle.ra_audit.specs.AuditKeeping.{LossState}
 use Rattle.ra_audit.specs.Audit.{PutsLosses}
 use Rattle.ra_audit.proofs.AuditSteps.{advances_none, advances_then}
-use Rattle.ra_audit.proofs.AuditLosses.{puts_none, puts_first, puts_further, none_looked_at, one_looked_at, all_looked_at, some_left}
+use Rattle.ra_audit.proofs.AuditLosses.{puts_none, puts_first, puts_further, noted_as, none_looked_at, one_looked_at, all_looked_at, some_left}
 use Rattle.ra_audit.proofs.losing.put_losses.Goals as goal
 
 pub loop-left-init : goal.loop-left-init
@@ -10,6 +10,7 @@ loop-left-init c = record {
   advances = λ told. advances_none c.args.world.now c.args.nodes.now told c.requires.audited;
   losses = puts_none c.args.nodes.now c.args.losses.now.losing c.args.losses.now.lost;
   lost = c.requires.lost;
+  taken = c.requires.taken;
   looked = none_looked_at c.args.nodes.now c.losing-left.result c.args.losses.now.losing c.losing-left.ensures;
 }
 
@@ -20,6 +21,7 @@ put_first-requires c =
     record {
       audited = (i.advances []).audited;
       lost = i.lost;
+      taken = i.taken;
       some = some_left c.args.nodes.now c.loop-left.left c.loop-left.losses.losing i.looked some;
     }
 
@@ -34,6 +36,7 @@ loop-left-preserved c =
       advances = λ told. advances_then _ _ _ _ _ _ _ _ _ (i.advances told) (c.in-Ok.ensures.advances told);
       losses = puts_further nodes c.args.losses.now.losing c.args.losses.now.lost old.losing old.lost new.losing new.lost i.losses (puts_first nodes old new c.in-Ok.ensures.ok);
       lost = c.in-Ok.ensures.lost;
+      taken = noted_as nodes old new c.in-Ok.ensures.ok ∙ i.taken;
       looked = one_looked_at nodes c.loop-left.left old new some i.looked c.in-Ok.ensures.ok;
     }
 

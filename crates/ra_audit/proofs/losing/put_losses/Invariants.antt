@@ -1,4 +1,4 @@
-use Rattle.std.proofs.Common.{List}
+use Rattle.std.proofs.Common.{◌≡◌, List, []}
 use Rattle.ra_stamp.specs.declared.entry.Mark.{Mark}
 use Rattle.ra_audit.specs.Audit.{Advances, HasLost, PutsLosses}
 use Rattle.ra_audit.specs.AuditKeeping.{AreLookedAt}
@@ -10,6 +10,7 @@ invariant-loop-left l = record {
   advances : (told : List Mark) → Advances l.fn.world l.nodes told l.world l.nodes told;
   losses : PutsLosses l.nodes l.fn.losses.losing l.fn.losses.lost l.losses.losing l.losses.lost;
   lost : HasLost l.world.moves l.losses.lost;
+  taken : l.losses.noted ≡ [];
   looked : AreLookedAt l.nodes l.left l.losses.losing;
 }
 

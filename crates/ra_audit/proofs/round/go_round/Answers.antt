@@ -1,5 +1,5 @@
 use Rattle.std.proofs.Common.{refl, ◌∙◌}
-use Rattle.ra_audit.proofs.AuditRounds.{audits_nothing, audits_all, audits_as, audits_noted, none_ready_as, none_reached_as, none_kept_as, none_kept_after, may_be_put_as, if_done, if_taken}
+use Rattle.ra_audit.proofs.AuditRounds.{audits_nothing, audits_all, audits_as, audits_noted, none_ready_as, none_reached_as, none_kept_as, none_kept_after, may_be_put_as, not_taken_as, numbers_as, if_done, if_taken}
 use Rattle.ra_audit.proofs.round.go_round.Goals as goal
 
 pub returns-in_default-clause-audits : goal.returns-in_default-clause-audits
@@ -47,9 +47,13 @@ returns-clause-fault g c fault is = (c.advance-advanced.ensures.fault fault).0 (
 
 pub returns-clause-not_taken : goal.returns-clause-not_taken
 returns-clause-not_taken g c node cause is =
-    let done = c.in-Err.ensures.not_taken node cause is in (
-      if_done _ c.advance-advanced.result done c.advance-advanced.ensures.ok,
-      if_done _ c.advance-advanced.result done c.advance-advanced.ensures.none_reached,
+    let done = c.in-Err.ensures.not_taken node cause is in
+    let advances = c.advance-advanced.ensures.advances in (
+      if_done _ c.advance-advanced.result done.0 c.advance-advanced.ensures.ok,
+      if_done _ c.advance-advanced.result done.0 c.advance-advanced.ensures.none_reached,
+      not_taken_as c.take_all-taken.new.auditor.nodes c.advance-advanced.new.self.nodes node cause
+          (numbers_as c.args.auditor.now c.take_all-taken.new.auditor c.advance-advanced.new.self _ _ c.take_all-taken.ensures.more advances) advances.taken advances.kept
+          (c.take_all-taken.ensures.not_taken node cause done.1),
     )
 
 pub returns-in-Ok-answer_of-clause-none_reached : goal.returns-in-Ok-answer_of-clause-none_reached

@@ -1,7 +1,8 @@
-use Rattle.std.proofs.Common.{◌≡◌, ◌<◌, ◌≤◌, [], length, ap, ◌∙◌, arith}
+use Rattle.std.proofs.Common.{◌≡◌, ℕ, ◌<◌, ◌≤◌, [], length, Err, ap, sym, ◌∙◌, subst, arith}
+use Rattle.std.proofs.lemmas.Result.{err_from_is_err_and}
 use Rattle.std.proofs.lemmas.List.Elements.{AllWithin-none, AllWithin-upto, All-from_all_within}
-use Rattle.ra_audit.specs.Audit.{AuditState, ProgressState}
-use Rattle.ra_audit.proofs.AuditRounds.{took_nothing, took_further, none_kept_more, length_of}
+use Rattle.ra_audit.specs.Audit.{AuditState, ProgressState, IsNotTaken}
+use Rattle.ra_audit.proofs.AuditRounds.{took_nothing, took_further, none_kept_more, not_taken_from, length_of}
 use Rattle.ra_audit.proofs.round.take_all.Goals as goal
 
 pub loop-place-init : goal.loop-place-init
@@ -21,6 +22,18 @@ loop-place-preserved g c =
       more = took_further _ _ _ more c.in_ok-take_from.ensures.more;
       kept = none_kept_more mid.nodes c.take_from.new.auditor.nodes c.loop-place.place within c.loop-place.invariant.kept c.in_ok-take_from.ensures.all;
     }
+
+pub returns-in_err-take_from-clause-not_taken : goal.returns-in_err-take_from-clause-not_taken
+returns-in_err-take_from-clause-not_taken g c = λ node cause is.
+    let mid = c.loop-place.auditor in
+    let more = c.loop-place.invariant.more in
+    let count = ap (λ (a : AuditState). a.world.count) more.rest in
+    let long = length_of mid.world mid.nodes more.audited in
+    let within : c.loop-place.place < length mid.nodes = omega (arith, long, count, c.requires, c.nodes-place-end.ensures, c.loop-place-test.true) in
+    let p = err_from_is_err_and c.from_residual.result c.from_residual.ensures.1 in
+    let at = c.in_err-take_from.ensures.not_taken node cause (sym (ap (λ x. Err x) p.2) ∙ sym p.1 ∙ is) (omega (arith, within)) in
+    subst (λ (n : ℕ). IsNotTaken c.take_from.new.auditor.nodes n cause) (sym at.0)
+    (not_taken_from mid.nodes c.take_from.new.auditor.nodes c.loop-place.place cause within c.loop-place.invariant.kept at.1)
 
 pub returns-in_err-take_from-clause-more : goal.returns-in_err-take_from-clause-more
 returns-in_err-take_from-clause-more g c = took_further _ _ _ c.loop-place.invariant.more c.in_err-take_from.ensures.more

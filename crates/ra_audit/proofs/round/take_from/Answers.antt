@@ -1,5 +1,5 @@
 use Rattle.std.proofs.Common.{◌∙◌}
-use Rattle.ra_audit.proofs.AuditRounds.{took_by_handing, takes_all_at}
+use Rattle.ra_audit.proofs.AuditRounds.{took_by_handing, takes_all_at, not_taken_by}
 use Rattle.ra_audit.proofs.round.take_from.Goals as goal
 
 pub returns-in-Ok-clause-more : goal.returns-in-Ok-clause-more
@@ -12,4 +12,9 @@ returns-in-Err-clause-more g c =
 
 pub returns-in-Ok-clause-all : goal.returns-in-Ok-clause-all
 returns-in-Ok-clause-all g c =
-    takes_all_at c.args.auditor.now.nodes c.take_handed.new.self.nodes _ c.args.number tt (c.in-Some-site.ensures.found ∙ c.in-Some.ensures.value) c.in-Ok.ensures.handed
+    takes_all_at c.args.auditor.now.nodes c.take_handed.new.self.nodes _ _ _ c.args.number tt (c.in-Some-site.ensures.found ∙ c.in-Some.ensures.value) c.in-Ok.ensures.handed
+
+pub returns-in-Err-clause-not_taken : goal.returns-in-Err-clause-not_taken
+returns-in-Err-clause-not_taken g c = λ node cause is long.
+    not_taken_by c.args.auditor.now.nodes c.take_handed.new.self.nodes _ _ _ c.args.number (c.in-Some.node, c.in-Err.cause) (node, cause)
+    (c.in-Some-site.ensures.found ∙ c.in-Some.ensures.value) c.in-Some.ensures.value long c.in-Err.ensures.handed is

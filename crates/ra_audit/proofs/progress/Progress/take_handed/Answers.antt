@@ -1,12 +1,43 @@
-use Rattle.std.proofs.Common.{subst, sym}
-use Rattle.ra_audit.specs.Audit.{ProgressState, GoesOnFrom}
-use Rattle.ra_audit.proofs.AuditRounds.{from_kept, from_further}
+use Rattle.std.proofs.Common.{◌≡◌, List, [], ◌++◌, Result, Err, ap, sym, ◌∙◌, subst, inr}
+use Rattle.std.proofs.lemmas.Result.{err_from_is_err_and}
+use Rattle.std.proofs.lemmas.List.{append-nil}
+use Rattle.ra_frame.specs.declared.frame.Frame.{Frame}
+use Rattle.ra_cluster.specs.declared.take_error.TakeError.{TakeError}
+use Rattle.ra_audit.specs.Audit.{TakesOver}
+use Rattle.ra_audit.specs.AuditKeeping.{LossState}
+use Rattle.ra_audit.proofs.AuditRounds.{refuses_kept, took_kept, took_no_more}
 use Rattle.ra_audit.proofs.progress.Progress.take_handed.Goals as goal
 
-pub returns-clause-goes_on : goal.returns-clause-goes_on
-returns-clause-goes_on r c =
-    from_further c.args.self.now c.take_kept.new.self c.accept.new.self (from_kept c.args.self.now c.take_kept.new.self c.in_ok-take_kept.ensures.ok)
-    c.accept.ensures.goes_on
+pub returns-in_err-take_kept-clause-takes : goal.returns-in_err-take_kept-clause-takes
+returns-in_err-take_kept-clause-takes r c =
+    let p = err_from_is_err_and c.from_residual.result c.from_residual.ensures.1 in
+    let is : c.from_residual.result ≡ Err c.in_err-take_kept.field-0.0 = p.1 ∙ ap (λ (e : TakeError). Err e) p.2 in (
+      [],
+      subst (λ (a : Result (Unit {0}) TakeError). TakesOver c.args.self.now c.take_kept.new.self [] a) (sym is)
+          (refuses_kept c.args.self.now c.take_kept.new.self c.in_err-take_kept.field-0.0 c.in_err-take_kept.ensures.err c.in_err-take_kept.ensures.not_next
+          c.in_err-take_kept.ensures.memory c.in_err-take_kept.ensures.others),
+      sym (append-nil c.args.losses.now.losing),
+    )
 
-pub returns-in_err-handed-clause-goes_on : goal.returns-in_err-handed-clause-goes_on
-returns-in_err-handed-clause-goes_on r c = from_kept c.args.self.now c.take_kept.new.self c.in_ok-take_kept.ensures.ok
+pub returns-in_err-take_noted-clause-takes : goal.returns-in_err-take_noted-clause-takes
+returns-in_err-take_noted-clause-takes r c =
+    let p = err_from_is_err_and c.from_residual-in_err-take_noted.result c.from_residual-in_err-take_noted.ensures.1 in (
+      [],
+      subst (λ (a : Result (Unit {0}) TakeError). TakesOver c.args.self.now c.take_kept.new.self [] a) (sym p.1)
+          (took_no_more c.args.self.now c.take_kept.new.self c.in_ok-take_kept.ensures.ok p.0 (inr p.2)),
+      ap (λ (l : LossState). l.losing) c.in_err-take_noted.ensures.err ∙ sym (append-nil c.args.losses.now.losing),
+    )
+
+pub returns-in-Ok-clause-takes : goal.returns-in-Ok-clause-takes
+returns-in-Ok-clause-takes r c = (
+  c.in-Ok.handed.lost.items,
+  took_kept c.args.self.now c.take_kept.new.self c.in_ok-take_kept.ensures.ok c.accept.new.self c.in-Ok.handed.lost.items c.accept.result c.accept.ensures.takes,
+  c.accept.ensures.losing ∙ ap (λ (l : LossState). l.losing ++ c.in-Ok.handed.lost.items) c.in_ok-take_noted.ensures.ok,
+)
+
+pub returns-in-Err-clause-takes : goal.returns-in-Err-clause-takes
+returns-in-Err-clause-takes r c = (
+  [],
+  took_no_more c.args.self.now c.take_kept.new.self c.in_ok-take_kept.ensures.ok _ c.refusal_of.ensures.either,
+  ap (λ (l : LossState). l.losing) c.in_ok-take_noted.ensures.ok ∙ sym (append-nil c.args.losses.now.losing),
+)
