@@ -86,8 +86,7 @@ impl Auditor {
 
     /// Ends the audit of a cluster that its caller alone has, so that all threads have ended: takes what is left at the nodes, as
     /// a round does. If it is Ok, all that was taken is in the run, and the losses of all frames that were handed over or noted as
-    /// lost. After
-    /// `NotTaken` for `Memory`, and after `Memory`, it can be called again.
+    /// lost. After `NotTaken` for `Memory`, and after `Memory`, it can be called again.
     ///
     /// The cost is that of a round, and then linear in the number of nodes.
     ///
@@ -113,6 +112,15 @@ impl Auditor {
         ensures not_audited { IsErrOf result (FinishError.Round RoundError.NotAudited) ↔ (cluster.old.audited ≡ false) }
         ensures other_cluster { IsErrOf result (FinishError.Round RoundError.OtherCluster)
             ↔ ((cluster.old.audited ≡ true) × (IsAuditorOf cluster.old self.old → ⊥)) }
+        ensures unchanged { (IsAuditorOf cluster.old self.old → ⊥) → self.new ≡ self.old }
+        ensures known { (fault : audit_fault.AuditFault) → IsAuditorOf cluster.old self.old → self.old.fault ≡ Some fault
+            → IsErrOf result (FinishError.Round (RoundError.Fault fault)) × (self.new ≡ self.old) }
+        ensures found { (fault : audit_fault.AuditFault) → self.old.fault ≡ None
+            → IsErrOf result (FinishError.Round (RoundError.Fault fault))
+            → IsMisfit self.new.world self.new.nodes fault
+            ⊎ IsUnsent (clocks_taken self.old.nodes) self.new.nodes fault }
+        ensures fault { (fault : audit_fault.AuditFault) → IsErrOf result (FinishError.Round (RoundError.Fault fault))
+            → self.new.fault ≡ Some fault }
         ensures not_lost { (frame : Frame) → IsErrOf result (FinishError.Round (RoundError.NotLost frame))
             → NoneIsReady self.new.nodes × IsNotLost self.new.world self.new.nodes self.new.losing frame }
         ensures not_taken { (node : ℕ) (cause : TakeError) → IsErrOf result (FinishError.Round (RoundError.NotTaken node cause))
