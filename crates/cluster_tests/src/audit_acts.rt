@@ -1,21 +1,27 @@
 //! What a cluster, its clients and its auditor do and show, act by act. Frames come that no node sent.
-use crate::audits::{Came, Shown, fault_of};
+use crate::audits::{Came, Shown, fault_of, has_losses, lose};
 use crate::cluster_calls::{books_at_the_end, clusters_of, lock, site_of, unlock};
 use crate::helpers::{in_a_thread, r, request};
 use crate::shown::{Ended, have_ended};
 use crate::site_cluster;
 use crate::site_cluster::{make_cluster, send};
 use Act::{
-    Asks, Audits, AuditsAnew, Comes, Ends, Enters, HasAt, IsRefused, Leaves, Shows, Stops, Waits,
+    Asks, Audits, AuditsAnew, Comes, Ends, Enters, HasAt, HasLosses, IsRefused, Leaves, Loses,
+    Shows, Stops, Waits,
 };
-use Answer::{Finds, Fine, NeverSent, NotAudited, OtherCluster, OutOfTurn};
+use Answer::{Finds, Fine, LostUnsent, NeverSent, NotAudited, NotLost, OtherCluster, OutOfTurn};
 use ra_audit::{Auditor, FinishError, RoundError, TakeError, Told};
 use ra_cluster::{BookError, CallError, Cluster, NewPostError, OpenGate, Site, SiteError, Stop};
+use ra_frame::Frame;
 use ra_stamp::{Message, Mode, Name, NodeId};
 use std::alloc::Global;
 use std::process::Abort;
 use std::sync::Wait;
 use std::thread::Threads;
+
+/// The REQUEST of an exclusive request with number 1, in a frame with this clock, from the first node to the second.
+#[derive(Clone, Copy)]
+pub struct Sends(pub u64, pub u16, pub u16);
 
 /// What a round answers, or the end of an audit.
 #[derive(Clone, Copy)]
@@ -32,6 +38,10 @@ pub enum Answer {
     OtherCluster,
     /// The events of this node are out of turn.
     OutOfTurn(u16),
+    /// This frame was not lost.
+    NotLost(Sends),
+    /// This frame is noted as lost and was never sent, which the end of an audit says.
+    LostUnsent(Sends),
 }
 
 /// What a cluster, its clients and its auditor do or show. All is about the name `r`.
@@ -41,7 +51,7 @@ pub enum Act {
     Enters,
     /// Client 1 of node 1 unlocks it.
     Leaves,
-    /// The post is closed, and client 1 of this node asks in this mode. Its REQUEST is lost, which stops all nodes.
+    /// The post is closed, and client 1 of this node asks in this mode. Its REQUESTs are lost, which stops all nodes.
     Asks(u16, Mode),
     /// Client 1 of this node asks for the name, and is refused for this cause.
     IsRefused(u16, BookError),
@@ -61,6 +71,10 @@ pub enum Act {
     HasAt(u16, u64, u64),
     /// All nodes are stopped for this cause.
     Stops(Stop),
+    /// This frame is noted as lost.
+    Loses(Sends),
+    /// So many losses are in the run, and so many wait.
+    HasLosses(u64, usize),
 }
 
 /// For which cluster an auditor is made: of how many nodes, whether it is audited, and of how many nodes and with which start the auditor
@@ -118,11 +132,20 @@ pub fn new_audited(alloc: Global, nodes: u16) -> Result<Cluster<OpenGate>, NewPo
     Cluster::new_audited(alloc, nodes, 0, OpenGate)
 }
 
+/// Returns the frame, or `None` if there are no such nodes.
+fn frame_of(name: Name, sends: Sends) -> Option<Frame> {
+    let Sends(clock, from, to) = sends;
+    let message = request(name, from, to, Mode::Exclusive)?;
+    Some(Frame { clock, message })
+}
+
 /// Returns the fault or refusal that the end of an audit is to answer, or that of a round within it, or `None` if it is `Ok`.
 fn due(name: Name, answer: Answer) -> Option<FinishError> {
     let refusal = match answer {
         Fine => return None,
         NeverSent(came) => return Some(FinishError::NeverSent(fault_of(name, came)?)),
+        LostUnsent(sends) => return Some(FinishError::LostUnsent(frame_of(name, sends)?)),
+        NotLost(sends) => RoundError::NotLost(frame_of(name, sends)?),
         Finds(came) => RoundError::Fault(fault_of(name, came)?),
         NotAudited => RoundError::NotAudited,
         OtherCluster => RoundError::OtherCluster,
@@ -252,6 +275,14 @@ fn waits(auditor: &Auditor, events: u128) -> bool {
     auditor.waiting() == events
 }
 
+/// Notes a frame as lost. Returns whether there is such a frame, and room for it.
+fn loses(auditor: &mut Auditor, frame: Option<Frame>) -> bool {
+    match frame {
+        Some(frame) => lose(auditor, &frame),
+        None => false,
+    }
+}
+
 /// Returns whether the site of a node shows this clock, and this many events.
 fn has_at<R: Wait>(
     rt: &R,
@@ -304,6 +335,8 @@ fn does<R: Wait>(
         Ends(answer) => is_due(name, answer, last_round(rt, alloc, cluster, auditor)),
         Shows(shown) => shows(auditor, shown),
         Waits(events) => waits(auditor, events),
+        Loses(sends) => loses(auditor, frame_of(name, sends)),
+        HasLosses(lost, losing) => has_losses(auditor, lost, losing),
         other => happens(rt, alloc, cluster, name, other),
     }
 }

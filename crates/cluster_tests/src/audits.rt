@@ -234,12 +234,13 @@ fn leaves(
     left(alloc, auditor, observer) == Some(due)
 }
 
-fn has_losses(auditor: &Auditor, lost: u64, losing: usize) -> bool {
+/// Returns whether so many losses are in the run, and so many wait.
+pub fn has_losses(auditor: &Auditor, lost: u64, losing: usize) -> bool {
     auditor.lost() == lost && auditor.losing() == losing
 }
 
 /// Notes a frame as lost, of which callers know the answer alone, so that their proofs are short.
-fn lose(auditor: &mut Auditor, frame: &Frame) -> bool {
+pub fn lose(auditor: &mut Auditor, frame: &Frame) -> bool {
     auditor.lose(&[*frame]).is_ok()
 }
 

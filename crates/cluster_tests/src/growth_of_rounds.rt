@@ -15,7 +15,7 @@ use test_support::{Tried, again, both};
 
 /// What is done with the cluster and its auditor.
 #[derive(Clone, Copy)]
-enum Act {
+pub enum Act {
     /// Client 1 locks the name.
     Locks,
     /// Client 1 unlocks it, which may not be refused, whichever growth is.
@@ -81,7 +81,7 @@ fn try_once<R: Wait>(
 }
 
 /// Does this, and once more if memory ran out.
-fn try_act<R: Wait>(
+pub fn try_act<R: Wait>(
     rt: &R,
     alloc: Global,
     cluster: &mut Cluster<OpenGate>,

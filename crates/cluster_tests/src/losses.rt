@@ -1,7 +1,10 @@
-//! The frames that an audited cluster loses are handed over, each once, whatever its rounds took before.
-use crate::audit_acts::{TWO_NODES, clusters_as};
+//! The frames that an audited cluster loses are handed over, each once, whatever its rounds took before. Rounds of an auditor put
+//! them into the run.
+use crate::audit_acts::{TWO_NODES, clusters_as, last_round, round, shows};
+use crate::audits::{Shown, has_losses};
 use crate::cluster_calls::{lock, site_of, unlock};
 use crate::helpers::{in_a_thread, r, reply, request};
+use ra_audit::Auditor;
 use ra_cluster::{CallError, Cluster, Handed, OpenGate, Site, SiteError, Stop, TakeError};
 use ra_frame::Frame;
 use ra_stamp::{Message, Mode, Name};
@@ -221,5 +224,62 @@ fn a_loss_is_handed_over_once_after_rounds(rt: HostRuntime) {
     assert!(rt;
         in_a_thread(&rt, || have_one_loss(make_rounds(&rt, rt.alloc()))),
         "clocks 5 and 2, and one loss, that of the second REQUEST"
+    );
+}
+
+/// Has the client use the name once and then ask in vain, and makes a round after each. Returns whether that is so, and both rounds are
+/// `Ok`.
+fn audits_a_loss<R: Wait>(
+    rt: &R,
+    alloc: Global,
+    cluster: &Cluster<OpenGate>,
+    auditor: &mut Auditor,
+    name: Name,
+) -> bool {
+    lock(rt, alloc, cluster, 1, 1, &name, Mode::Exclusive).is_ok()
+        && unlock(rt, alloc, cluster, 1, 1, &name).is_ok()
+        && round(rt, alloc, cluster, auditor).is_ok()
+        && has_losses(auditor, 0, 0)
+        && ask_in_vain(rt, alloc, cluster, name) == IN_VAIN
+        && round(rt, alloc, cluster, auditor).is_ok()
+}
+
+/// Does this while the threads of the nodes run, and ends the audit. Returns whether the run has all: an ask, a REQUEST, a REPLY and a
+/// leave, and then an ask and the loss of its REQUEST.
+fn has_the_loss<R: Threads + Wait + Sync>(
+    rt: &R,
+    alloc: Global,
+    cluster: &mut Cluster<OpenGate>,
+    auditor: &mut Auditor,
+) -> bool {
+    let Some(name) = r() else {
+        return false;
+    };
+    let shared = &*cluster;
+    let is_lost = shared.run(
+        rt,
+        alloc,
+        || audits_a_loss(rt, alloc, shared, auditor, name),
+    );
+    is_lost
+        && last_round(rt, alloc, cluster, auditor).is_ok()
+        && has_losses(auditor, 1, 0)
+        && shows(auditor, Shown(6, 2, 3, 0, 0))
+}
+
+/// Makes the cluster and its auditor, and returns whether the auditor has the loss.
+fn is_audited<R: Threads + Wait + Sync>(rt: &R, alloc: Global) -> bool {
+    let mut clusters = clusters_as(alloc, TWO_NODES);
+    match (clusters.get_mut(0), Auditor::new(alloc, 2, 0)) {
+        (Some(cluster), Ok(mut auditor)) => has_the_loss(rt, alloc, cluster, &mut auditor),
+        _ => false,
+    }
+}
+
+#[test]
+fn a_loss_is_put_into_the_run_by_rounds_of_a_running_cluster(rt: HostRuntime) {
+    assert!(rt;
+        in_a_thread(&rt, || is_audited(&rt, rt.alloc())),
+        "6 steps, 2 requests, 3 messages, none under way, one lost"
     );
 }

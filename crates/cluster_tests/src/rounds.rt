@@ -1,10 +1,13 @@
 //! Rounds of the audit of a cluster: what they take, what they answer, and what is left in the books.
 use crate::audit_acts::Act::{
-    Asks, Audits, AuditsAnew, Comes, Ends, Enters, HasAt, IsRefused, Leaves, Shows, Stops, Waits,
+    Asks, Audits, AuditsAnew, Comes, Ends, Enters, HasAt, HasLosses, IsRefused, Leaves, Loses,
+    Shows, Stops, Waits,
 };
-use crate::audit_acts::Answer::{Finds, Fine, NeverSent, NotAudited, OtherCluster, OutOfTurn};
+use crate::audit_acts::Answer::{
+    Finds, Fine, LostUnsent, NeverSent, NotAudited, NotLost, OtherCluster, OutOfTurn,
+};
 use crate::audit_acts::{
-    Made, ONE_NODE, Row, TWO_NODES, assert_does, clusters_as, last_round, round, shows,
+    Made, ONE_NODE, Row, Sends, TWO_NODES, assert_does, clusters_as, last_round, round, shows,
 };
 use crate::audits::{Came, Shown};
 use crate::books::Wire;
@@ -31,8 +34,18 @@ const LAST_CLOCK: u64 = 1 << 62;
 /// The book of a node from which no round took anything.
 const WHOLE: Ended = Ended(None, 2);
 
+/// A cluster of three nodes, and its auditor.
+const THREE_NODES: Made = Made {
+    nodes: 3,
+    auditor: (3, 0),
+    ..TWO_NODES
+};
+
 /// The REQUEST with clock 1 comes to node 2 first.
 const FIRST: Came = Came(2, 2, 1, Wire::Asks);
+
+/// That REQUEST is the first frame that node 1 sends.
+const REQUEST: Sends = Sends(1, 1, 2);
 
 /// The same frame comes to it again.
 const SECOND: Came = Came(2, 3, 1, Wire::Asks);
@@ -51,10 +64,11 @@ const FRAMES: &[Row] = &[
             Waits(1),
             Shows(Shown(0, 0, 0, 0, 0)),
             Asks(1, Mode::Exclusive),
-            Audits(Fine),
+            // It is flagged lost, and came.
+            Audits(NotLost(REQUEST)),
             Waits(0),
             Shows(Shown(2, 1, 2, 1, 0)),
-            Ends(Fine),
+            Ends(NotLost(REQUEST)),
         ],
         ended: &[LOST, LOST],
     },
@@ -103,7 +117,8 @@ const FRAMES: &[Row] = &[
             Comes(100, 1, 2),
             Asks(1, Mode::Exclusive),
             Audits(Fine),
-            Shows(Shown(1, 1, 1, 1, 0)),
+            // The ask, and the loss of its REQUEST.
+            Shows(Shown(2, 1, 1, 0, 0)),
             Audits(Finds(AHEAD)),
         ],
         ended: &[LOST, LOST],
@@ -138,6 +153,137 @@ const FRAMES: &[Row] = &[
 #[test]
 fn rounds_find_frames_that_no_node_sent(rt: HostRuntime) {
     assert_does(&rt, FRAMES);
+}
+
+/// The REQUEST with clock 7 of node 1, which sends no such frame.
+const UNSENT: Sends = Sends(7, 1, 2);
+
+/// The REQUEST with clock 1 of node 3, of which there are two.
+const OF_NOBODY: Sends = Sends(1, 3, 1);
+
+/// Frames that are lost.
+const LOSSES: &[Row] = &[
+    Row {
+        words: "a lost frame is lost in the run once, whatever rounds come",
+        made: TWO_NODES,
+        acts: &[
+            Audits(Fine),
+            HasLosses(0, 0),
+            Asks(1, Mode::Exclusive),
+            Audits(Fine),
+            HasLosses(1, 0),
+            Shows(Shown(2, 1, 1, 0, 0)),
+            Audits(Fine),
+            Ends(Fine),
+            HasLosses(1, 0),
+            Shows(Shown(2, 1, 1, 0, 0)),
+        ],
+        ended: &[LOST, LOST],
+    },
+    Row {
+        words: "two frames of one event are lost",
+        made: THREE_NODES,
+        acts: &[
+            Asks(3, Mode::Exclusive),
+            Audits(Fine),
+            HasLosses(2, 0),
+            Shows(Shown(3, 1, 2, 0, 0)),
+        ],
+        ended: &[LOST, LOST, LOST],
+    },
+    Row {
+        words: "the end of the audit puts a loss",
+        made: TWO_NODES,
+        acts: &[
+            Asks(1, Mode::Exclusive),
+            Ends(Fine),
+            HasLosses(1, 0),
+            Shows(Shown(2, 1, 1, 0, 0)),
+        ],
+        ended: &[LOST, LOST],
+    },
+    Row {
+        words: "the end of the audit finds that a lost frame came",
+        made: TWO_NODES,
+        acts: &[
+            Comes(1, 1, 2),
+            Asks(1, Mode::Exclusive),
+            Ends(NotLost(REQUEST)),
+            HasLosses(0, 1),
+            Audits(NotLost(REQUEST)),
+            HasLosses(0, 1),
+        ],
+        ended: &[LOST, LOST],
+    },
+    Row {
+        words: "a loss waits if an event does not fit",
+        made: TWO_NODES,
+        acts: &[
+            Comes(1, 1, 2),
+            Asks(1, Mode::Shared),
+            Audits(Finds(FIRST)),
+            HasLosses(0, 1),
+            Audits(Finds(FIRST)),
+            HasLosses(0, 1),
+        ],
+        ended: &[LOST, LOST],
+    },
+    Row {
+        words: "a frame that a node hands over was noted before",
+        made: TWO_NODES,
+        acts: &[
+            Loses(REQUEST),
+            Audits(Fine),
+            HasLosses(0, 1),
+            Asks(1, Mode::Exclusive),
+            Audits(NotLost(REQUEST)),
+            HasLosses(1, 1),
+            Shows(Shown(2, 1, 1, 0, 0)),
+        ],
+        ended: &[LOST, LOST],
+    },
+    Row {
+        words: "a lost frame was never sent",
+        made: TWO_NODES,
+        acts: &[
+            Loses(UNSENT),
+            Asks(1, Mode::Exclusive),
+            Audits(Fine),
+            HasLosses(1, 1),
+            Ends(LostUnsent(UNSENT)),
+            HasLosses(1, 1),
+        ],
+        ended: &[LOST, LOST],
+    },
+    Row {
+        words: "a lost frame is of no node",
+        made: TWO_NODES,
+        acts: &[
+            Loses(OF_NOBODY),
+            Audits(NotLost(OF_NOBODY)),
+            HasLosses(0, 1),
+            Ends(NotLost(OF_NOBODY)),
+        ],
+        ended: &[TAKEN, TAKEN],
+    },
+    Row {
+        words: "an auditor that is out of turn takes no loss",
+        made: TWO_NODES,
+        acts: &[
+            Comes(1, 1, 2),
+            Audits(Fine),
+            Asks(2, Mode::Exclusive),
+            AuditsAnew(OutOfTurn(2)),
+            Audits(Finds(FIRST)),
+            HasLosses(0, 1),
+        ],
+        ended: &[LOST, LOST],
+    },
+];
+
+#[test]
+fn rounds_put_the_losses_that_nodes_hand_over(rt: HostRuntime) {
+    assert_does(&rt, LOSSES);
 }
 
 /// Auditors that a cluster may have or not.
