@@ -1,6 +1,6 @@
 //! The commands of `ra`, each a row of a table, so that the same few lines make them all.
 use crate::helps::{help_on, status_help, summary_help};
-use crate::option_rows::{options_of, with_options};
+use crate::option_rows::{options, options_of};
 use clap::Command;
 use std::alloc::{AllocError, Global};
 
@@ -78,10 +78,20 @@ fn command_of<'a>(
     } else {
         help_on(row.kind)
     };
-    let command = Command::new(alloc, row.name)
+    let options = options(alloc, options_of(row.kind))?;
+    command_without_options(alloc, row, after).args(options)
+}
+
+/// Makes a command without its options. Its help ends with this text.
+fn command_without_options<'a>(
+    alloc: Global,
+    row: &CommandRow<'a>,
+    after: &'static str,
+) -> Command<'a> {
+    Command::new(alloc, row.name)
         .about(row.about)
-        .after_help(after);
-    with_options(alloc, command, options_of(row.kind))
+        .after_help(after)
+        .disable_help_flag(true)
 }
 
 /// Makes the program with its version and its help.
@@ -99,12 +109,17 @@ fn program<'a>(alloc: Global) -> Command<'a> {
         .subcommand_required(true)
 }
 
+/// Makes the commands, in the order of help.
+fn commands<'a>(alloc: Global, is_summary: bool) -> Result<Vec<Command<'a>>, AllocError> {
+    let mut commands = Vec::new(alloc);
+    for row in COMMANDS {
+        commands.push(command_of(alloc, row, is_summary)?)?;
+    }
+    Ok(commands)
+}
+
 /// Makes the command line that `ra` understands, with the whole help of each command or with its summary.
 pub fn command<'a>(alloc: Global, is_summary: bool) -> Result<Command<'a>, AllocError> {
-    let mut ra = program(alloc);
-    for row in COMMANDS {
-        let made = command_of(alloc, row, is_summary)?;
-        ra = ra.subcommand(made)?;
-    }
-    Ok(ra)
+    let commands = commands(alloc, is_summary)?;
+    program(alloc).subcommands(commands)
 }

@@ -1,7 +1,7 @@
 //! The options of the commands, each a row of a table, so that the same few lines make them all.
 use crate::command_rows::CommandKind;
 use clap::builder::ValueParser;
-use clap::{Arg, ArgAction, Command};
+use clap::{Arg, ArgAction};
 use std::alloc::{AllocError, Global};
 
 /// The words for the policies.
@@ -223,15 +223,12 @@ fn option_of<'a>(alloc: Global, row: &OptionRow<'a>) -> Arg<'a> {
         .default_values(row.defaults)
 }
 
-/// Gives a command its options, in their order, and after them the one for help.
-pub fn with_options<'a>(
-    alloc: Global,
-    command: Command<'a>,
-    rows: &[OptionRow<'a>],
-) -> Result<Command<'a>, AllocError> {
-    let mut command = command.disable_help_flag(true);
+/// Makes the options of these rows, in their order, and after them the one for help.
+pub fn options<'a>(alloc: Global, rows: &[OptionRow<'a>]) -> Result<Vec<Arg<'a>>, AllocError> {
+    let mut options = Vec::new(alloc);
     for row in rows {
-        command = command.arg(option_of(alloc, row))?;
+        options.push(option_of(alloc, row))?;
     }
-    command.arg(option_of(alloc, &HELP_OPTION).short('h'))
+    options.push(option_of(alloc, &HELP_OPTION).short('h'))?;
+    Ok(options)
 }
