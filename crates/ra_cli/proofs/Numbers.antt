@@ -44,3 +44,9 @@ broken_at_least_1 status h = omega arith
 
 pub broken_not_2 : {A : Type 0} (status : ℕ) → status ≡ 1 → status ≡ 2 → A
 broken_not_2 status h is = absurd (omega (arith, h, is))
+
+pub broken_not_0 : {A : Type 0} (status : ℕ) → status ≡ 1 → status ≡ 0 → A
+broken_not_0 status h is = absurd (omega (arith, h, is))
+
+pub broken_not_3 : {A : Type 0} (status : ℕ) → status ≡ 1 → status ≡ 3 → A
+broken_not_3 status h is = absurd (omega (arith, h, is))

@@ -1,4 +1,4 @@
-use Rattle.std.proofs.Common.{◌≡◌, ◌≤◌, sym, ℕ, Bool, true, false, List, length, Option, Some, None, inl, inr, arith, refl, subst, ◌∙◌}
+use Rattle.std.proofs.Common.{◌≡◌, ◌≤◌, sym, ℕ, Bool, true, false, List, length, Option, Some, None, inl, inr, refl, subst, ◌∙◌}
 use Rattle.std.specs.Prelude.{IfSome}
 use Rattle.std.specs.Io.KnownBytes.{Consumes, Appends}
 use Rattle.ra_trace.specs.declared.verdict.Verdict.{Verdict}
@@ -9,7 +9,7 @@ use Rattle.ra_trace.specs.declared.error.TraceError.TheVariants.{Memory}
 use Rattle.ra_cli.specs.declared.refusal.Refusal.TheVariants.{Check}
 use Rattle.ra_cli.proofs.Statuses.{none_of_check, of_verdict, broken, prefix_of}
 use Rattle.ra_cli.proofs.TaskLemmas.{refused_for}
-use Rattle.ra_cli.proofs.Numbers.{at_most_3, none_of_done, none_of_3}
+use Rattle.ra_cli.proofs.Numbers.{at_most_3, none_of_done, none_of_3, done_not_1, done_not_2, done_not_3, left_not_0, left_not_1, left_not_2, broken_not_0, broken_not_2, broken_not_3}
 use Rattle.ra_cli.proofs.serving.judge.Goals as goal
 
 -- what is valid was read to its end
@@ -38,9 +38,9 @@ returns-in-Ok-verdict_text-clause-valid g c is =
       | inl all ↦ elim c.status_of.ensures [
         | inl status ↦ checks 16777216 (g.R.Read.remaining c.args.reader.now) (g.R.Read.remaining c.check_buffered.new.reader) before after c.in-Ok.verdict true c.in-Ok.ensures.ok
             c.in-Ok.ensures.valid c.in-Ok.ensures.alone status.1 (subst (Appends before after) (c.as_bytes.ensures.value ∙ c.in-Ok-verdict_text.ensures) all.1)
-        | inr status ↦ absurd (omega (arith, all.0, status.0, is))
+        | inr status ↦ left_not_0 _ (c.judged.ensures ∙ all.0 ∙ status.0) is
       ]
-      | inr part ↦ absurd (omega (arith, part.0, is))
+      | inr part ↦ broken_not_0 _ (c.judged.ensures ∙ part.0) is
     ]
 
 pub returns-in-Ok-verdict_text-clause-invalid : goal.returns-in-Ok-verdict_text-clause-invalid
@@ -49,11 +49,11 @@ returns-in-Ok-verdict_text-clause-invalid g c is =
     let after = g.W.Write.contents c.written-status.new.writer in
     elim c.written-status.ensures.value [
       | inl all ↦ elim c.status_of.ensures [
-        | inl status ↦ absurd (omega (arith, all.0, status.0, is))
+        | inl status ↦ done_not_3 _ (c.judged.ensures ∙ all.0 ∙ status.0) is
         | inr status ↦ checks 16777216 (g.R.Read.remaining c.args.reader.now) (g.R.Read.remaining c.check_buffered.new.reader) before after c.in-Ok.verdict false c.in-Ok.ensures.ok
             c.in-Ok.ensures.valid c.in-Ok.ensures.alone status.1 (subst (Appends before after) (c.as_bytes.ensures.value ∙ c.in-Ok-verdict_text.ensures) all.1)
       ]
-      | inr part ↦ absurd (omega (arith, part.0, is))
+      | inr part ↦ broken_not_3 _ (c.judged.ensures ∙ part.0) is
     ]
 
 pub returns-in-Err-clause-refused : goal.returns-in-Err-clause-refused
@@ -85,10 +85,10 @@ pub returns-in-Ok-verdict_text-clause-refused : goal.returns-in-Ok-verdict_text-
 returns-in-Ok-verdict_text-clause-refused g c two =
     elim c.written-status.ensures.value [
       | inl all ↦ elim c.status_of.ensures [
-        | inl status ↦ absurd (omega (arith, all.0, status.0, two))
-        | inr status ↦ absurd (omega (arith, all.0, status.0, two))
+        | inl status ↦ done_not_2 _ (c.judged.ensures ∙ all.0 ∙ status.0) two
+        | inr status ↦ left_not_2 _ (c.judged.ensures ∙ all.0 ∙ status.0) two
       ]
-      | inr part ↦ absurd (omega (arith, part.0, two))
+      | inr part ↦ broken_not_2 _ (c.judged.ensures ∙ part.0) two
     ]
 
 pub returns-in-Ok-verdict_text-clause-broken : goal.returns-in-Ok-verdict_text-clause-broken
@@ -96,8 +96,8 @@ returns-in-Ok-verdict_text-clause-broken g c words trace one =
     let old = g.R.Read.remaining c.args.reader.now in
     elim c.written-status.ensures.value [
       | inl all ↦ elim c.status_of.ensures [
-        | inl status ↦ absurd (omega (arith, all.0, status.0, one))
-        | inr status ↦ absurd (omega (arith, all.0, status.0, one))
+        | inl status ↦ done_not_1 _ (c.judged.ensures ∙ all.0 ∙ status.0) one
+        | inr status ↦ left_not_1 _ (c.judged.ensures ∙ all.0 ∙ status.0) one
       ]
       | inr part ↦
           let (is_one, prefix, rest, is, left, some) = part in
