@@ -28,7 +28,7 @@ use std::io::Write;
 use test_support::{FailingWriter, Tried, again, both};
 
 /// Returns the result of a call, by whether it did what it should.
-fn tried_if(good: bool) -> Tried {
+pub fn tried_if(good: bool) -> Tried {
     if good { Tried::AtOnce } else { Tried::Wrong }
 }
 

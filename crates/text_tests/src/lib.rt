@@ -1,5 +1,5 @@
-//! Tests of `ra_text`, `ra_trace`, `ra_draw`, `ra_script`, `ra_explain` and `ra_book` through their public calls, of what no command
-//! shows. The tables of `cases/` have what commands print.
+//! Tests of `ra_text`, `ra_trace`, `ra_draw`, `ra_script`, `ra_explain`, `ra_book` and `ra_settle` through their public calls, of
+//! what no command shows. The tables of `cases/` have what commands print.
 #![tactic(auto)]
 
 #[cfg(test)]
@@ -20,6 +20,10 @@ mod explained;
 mod growth;
 #[cfg(test)]
 mod growth_of_books;
+#[cfg(test)]
+mod growth_of_settling;
+#[cfg(test)]
+mod growth_of_written_books;
 #[cfg(test)]
 mod helpers;
 #[cfg(test)]

@@ -13,11 +13,11 @@ const REPLY: [u8; 25] = [
 
 /// A text, and after it the book of node 1 of 2 with a start of 5. A client asks for `r`, another one is queued there, node 2
 /// replies, the first one leaves, and it asks for another name.
-const TEXT: &str = "earlier\nbook 1 1 2 5\nask 7 r X\nask 4294967295 r SIX\n\
+pub const TEXT: &str = "earlier\nbook 1 1 2 5\nask 7 r X\nask 4294967295 r SIX\n\
     receive 02020002000100000000000000000600000000000000090172\nrelease 7 r\nask 0 a-B_9.z IS\n";
 
 /// Does to a book what the text says. Returns whether all of it was done.
-fn is_filled(alloc: Global, book: &mut Book) -> bool {
+pub fn is_filled(alloc: Global, book: &mut Book) -> bool {
     let last = 4_294_967_295;
     book.ask(alloc, 7, r(), Mode::Exclusive).is_ok()
         && book
