@@ -93,6 +93,11 @@ pub fn entry(name: Name, node: u16, client: u32, mode: Mode, seq: u64) -> Option
 
 /// Returns the REQUEST with number 1 for a name between these nodes, or `None` if there is no such node.
 pub fn request(name: Name, from: u16, to: u16, mode: Mode) -> Option<Message> {
+    request_with(name, from, to, mode, 1)
+}
+
+/// Returns such a REQUEST with this number.
+pub fn request_with(name: Name, from: u16, to: u16, mode: Mode, seq: u64) -> Option<Message> {
     let Some(from) = NodeId::new(from) else {
         return None;
     };
@@ -104,7 +109,7 @@ pub fn request(name: Name, from: u16, to: u16, mode: Mode) -> Option<Message> {
         to,
         name,
         mode,
-        seq: 1,
+        seq,
     })
 }
 

@@ -3,7 +3,7 @@
 use crate::audit_acts::{TWO_NODES, clusters_as, last_round, round, shows};
 use crate::audits::{Shown, has_losses};
 use crate::cluster_calls::{lock, site_of, unlock};
-use crate::helpers::{in_a_thread, r, reply, request};
+use crate::helpers::{in_a_thread, r, reply, request, request_with};
 use ra_audit::Auditor;
 use ra_cluster::{CallError, Cluster, Handed, OpenGate, Site, SiteError, Stop, TakeError};
 use ra_frame::Frame;
@@ -36,24 +36,7 @@ pub const NO_ROUND: Rounds = Rounds {
 
 /// Returns the REQUEST with number 2 of node 1 to node 2.
 fn second_request(name: Name) -> Option<Message> {
-    match request(name, 1, 2, Mode::Exclusive) {
-        Some(
-            Message::Request {
-                from,
-                to,
-                name,
-                mode,
-                seq: _,
-            },
-        ) => Some(Message::Request {
-            from,
-            to,
-            name,
-            mode,
-            seq: 2,
-        }),
-        _ => None,
-    }
+    request_with(name, 1, 2, Mode::Exclusive, 2)
 }
 
 /// Returns whether this frame is sent if a client of node 1 locks the name, unlocks it and asks again: a REQUEST of node 1, or the first
