@@ -354,14 +354,17 @@ pub fn audited(alloc: Global, books: &[Book], all: &[Act]) -> Option<Result<Trie
 }
 
 /// What is done to the books of two nodes, in a few words, and what an auditor does and shows then.
-struct Row {
-    words: &'static str,
-    done: &'static [Done],
-    acts: &'static [Act],
+pub struct Row {
+    /// What is done, in a few words.
+    pub words: &'static str,
+    /// What is done to the books.
+    pub done: &'static [Done],
+    /// What the auditor does and shows.
+    pub acts: &'static [Act],
 }
 
 /// Ends the test unless an auditor does and shows all of a row.
-fn assert_audited<R: Abort + AllocGlobal>(rt: &R, row: &Row) {
+pub fn assert_audited<R: Abort + AllocGlobal>(rt: &R, row: &Row) {
     let past = books_after(rt.alloc(), &[ONE, TWO], row.done);
     assert_at(
         rt,

@@ -21,6 +21,8 @@ mod clusters;
 #[cfg(test)]
 mod endings;
 #[cfg(test)]
+mod frame_clocks;
+#[cfg(test)]
 mod gates;
 #[cfg(test)]
 mod growth;

@@ -23,7 +23,7 @@ use Rattle.ra_world.proofs.Moves.{fits_split}
 use Rattle.ra_history.specs.History.{clock_of}
 use Rattle.ra_audit.specs.declared.audit_error.AuditError.{AuditError}
 use Rattle.ra_audit.specs.declared.audit_error.AuditError.TheVariants as audit
-use Rattle.ra_audit.specs.Audit.{ProgressState, IsAudited, HasLost, Advances, PutsLosses, IsReached, NoneIsReached, IsNotLost, IsAhead}
+use Rattle.ra_audit.specs.Audit.{ProgressState, IsAudited, HasLost, Advances, PutsLosses, IsReached, NoneIsReached, IsNotLost, IsAhead, WasSentIn}
 use Rattle.ra_audit.specs.AuditKeeping.{LossState, LooksAtFirst, AreLookedAt}
 use Rattle.ra_audit.proofs.AuditSteps.{happened_more, repeated_more, lost_more, due_at, number_of}
 
@@ -230,11 +230,11 @@ match_ahead nodes n losing (Some frame) numbers none is = ahead_of nodes n losin
 -- ---- The frame that is not lost
 
 pub not_lost : (w : WorldState) (nodes : List ProgressState) (losing losing' : List Frame) (frame found : Frame) → losing' ≡ losing → Some frame ≡ slice_get losing 0 → IsReached nodes frame
-    → (found ≡ frame) × (IsUnderWay w.moves frame.message → ⊥) → IsNotLost w nodes losing' found
+    → (found ≡ frame) × (IsUnderWay w.moves frame.message → WasSentIn nodes w.moves frame → ⊥) → IsNotLost w nodes losing' found
 not_lost w nodes losing losing' frame found same is reached why =
     subst (IsNotLost w nodes losing') (sym why.0)
     (subst (λ (fs : List Frame). IsNotLost w nodes fs frame) (sym same)
-    (record { is_losing = first_in losing frame is; reached = reached; not_under_way = why.1 }))
+    (record { is_losing = first_in losing frame is; reached = reached; misfit = why.1 }))
 
 -- ---- One of them
 
@@ -267,12 +267,17 @@ same_error a b e = cc
 memory_is_not_lost : (frame : Frame) → audit.Memory ≡ audit.NotLost frame → ⊥
 memory_is_not_lost frame e = cc
 
-pub loss_refused : (w new : WorldState) (frame found : Frame) (refused : StepError) (answer : AuditError) → new ≡ w
+pub loss_refused : (w new : WorldState) (nodes : List ProgressState) (frame found : Frame) (refused : StepError) (answer : AuditError) → new ≡ w
     → (refused ≡ refusal.Memory → answer ≡ audit.Memory) → (refused ≢ refusal.Memory → answer ≡ audit.NotLost frame)
     → ((cause : StepError) → cause ≢ refusal.Memory → refused ≡ cause → HasCause w.count w.start w.moves (Lose frame.message) cause)
-    → answer ≡ audit.NotLost found → (found ≡ frame) × (IsUnderWay new.moves frame.message → ⊥)
-loss_refused w new frame found refused answer same memory other cause is =
+    → answer ≡ audit.NotLost found → (found ≡ frame) × (IsUnderWay new.moves frame.message → WasSentIn nodes new.moves frame → ⊥)
+loss_refused w new nodes frame found refused answer same memory other cause is =
     let not_memory : refused ≢ refusal.Memory = λ m. memory_is_not_lost found (sym (memory m) ∙ is) in (
       same_frame found frame (sym is ∙ other not_memory),
-      subst (λ (v : WorldState). IsUnderWay v.moves frame.message → ⊥) (sym same) (not_under_way w frame.message refused not_memory cause),
+      λ under sent.
+          not_under_way w frame.message refused not_memory cause (subst (λ (v : WorldState). IsUnderWay v.moves frame.message) same under),
     )
+
+pub loss_unfit : (w : WorldState) (nodes : List ProgressState) (frame found : Frame) → (IsUnderWay w.moves frame.message → WasSentIn nodes w.moves frame → ⊥)
+    → audit.NotLost frame ≡ audit.NotLost found → (found ≡ frame) × (IsUnderWay w.moves frame.message → WasSentIn nodes w.moves frame → ⊥)
+loss_unfit w nodes frame found unfit is = (same_frame found frame (sym is), unfit)

@@ -17,7 +17,7 @@ use Rattle.ra_cluster.specs.declared.take_error.TakeError.TheVariants.{NoNode, O
 use Rattle.ra_frame.specs.declared.frame.Frame.{Frame}
 use Rattle.ra_history.specs.declared.event.BookEvent.{BookEvent}
 use Rattle.ra_history.specs.History.{clock_of}
-use Rattle.ra_audit.specs.Audit.{ProgressState, AuditState, NoneIsReady, NoneIsReached, MayBePut, IsAudited, HasLost, Advances, PutsLosses, Audits, TakenGoOn, TakesMore, TakesHanded, TakesOver, TakesAllAt, NotTakenAt, IsNotTaken, IsCauseAt, KeptAreNext, AreNextAt, NoneIsKept, GoesOnFrom, taken_of, handed_over}
+use Rattle.ra_audit.specs.Audit.{ProgressState, AuditState, NoneIsReady, NoneIsReached, MayBePut, IsAudited, HasLost, AllWereSent, Advances, PutsLosses, Audits, TakenGoOn, TakesMore, TakesHanded, TakesOver, TakesAllAt, NotTakenAt, IsNotTaken, IsCauseAt, KeptAreNext, AreNextAt, NoneIsKept, GoesOnFrom, taken_of, handed_over}
 use Rattle.ra_world.specs.World.{WorldState}
 use Rattle.ra_audit.proofs.AuditLosses.{puts_none}
 
@@ -337,8 +337,9 @@ length_of w nodes a = sym (length-map nodes (λ (p : ProgressState). p.node)) �
 -- ---- A round
 
 -- in which nothing was done
-pub audits_nothing : (old : AuditState) (told : List Mark) → IsAudited old.world old.nodes → HasLost old.world.moves old.lost → Audits old told old told
-audits_nothing old told audited lost = record {
+pub audits_nothing : (old : AuditState) (told : List Mark) → IsAudited old.world old.nodes → HasLost old.world.moves old.lost → AllWereSent old.nodes old.world.moves old.lost
+    → Audits old told old told
+audits_nothing old told audited lost sent = record {
   audited = audited;
   count = refl;
   start = refl;
@@ -349,6 +350,7 @@ audits_nothing old told audited lost = record {
   handed = [];
   losses = subst (λ (fs : List Frame). PutsLosses old.nodes fs old.lost old.losing old.lost) (sym (append-nil old.losing)) (puts_none old.nodes old.losing old.lost);
   lost = lost;
+  sent = sent;
 }
 
 -- the nodes have the same numbers
@@ -358,8 +360,8 @@ numbers_as old mid new told told' takes advances = advances.audited.numbers ∙ 
 
 pub audits_all : (old mid new : AuditState) (told told' : List Mark) → TakesMore old mid
     → Advances mid.world mid.nodes told new.world new.nodes told' → PutsLosses new.nodes mid.losing mid.lost new.losing new.lost → HasLost new.world.moves new.lost
-    → Audits old told new told'
-audits_all old mid new told told' takes advances losses lost = record {
+    → AllWereSent new.nodes new.world.moves new.lost → Audits old told new told'
+audits_all old mid new told told' takes advances losses lost sent = record {
   audited = advances.audited;
   count = advances.count ∙ ap (λ (a : AuditState). a.world.count) takes.rest;
   start = advances.start ∙ ap (λ (a : AuditState). a.world.start) takes.rest;
@@ -372,6 +374,7 @@ audits_all old mid new told told' takes advances losses lost = record {
       subst (λ (fs : List Frame). PutsLosses new.nodes fs old.lost new.losing new.lost) takes.losing
       (subst (λ (a : AuditState). PutsLosses new.nodes mid.losing a.lost new.losing new.lost) takes.rest losses);
   lost = lost;
+  sent = sent;
 }
 
 -- what holds if all that can be put was put
@@ -394,6 +397,7 @@ audits_noted old new noted told told' fault same a = subst (λ (x : AuditState).
   handed = a.handed;
   losses = a.losses;
   lost = a.lost;
+  sent = a.sent;
 })
 
 -- ---- With none

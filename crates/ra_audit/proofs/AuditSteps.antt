@@ -32,7 +32,7 @@ use Rattle.ra_history.specs.declared.event.BookKind.{BookKind}
 use Rattle.ra_history.specs.declared.event.BookKind.TheVariants.{Got}
 use Rattle.ra_history.specs.History.{node_event, clock_of}
 use Rattle.ra_history.specs.Settled.{step_at}
-use Rattle.ra_audit.specs.Audit.{ProgressState, IsAudited, HasSettled, IsForNumber, IsDue, IsReady, IsMisfit, Advances, AreNextAt, AtNumber, Takes, TakesHanded, fresh_progress, taken_of, with_more}
+use Rattle.ra_audit.specs.Audit.{ProgressState, IsAudited, HasSettled, IsForNumber, IsDue, IsReady, IsMisfit, FitsRun, Advances, AreNextAt, AtNumber, Takes, TakesHanded, fresh_progress, taken_of, with_more}
 use Rattle.ra_history.proofs.Projections.{events_by, lost_in_event, repeated_in_event, one_event}
 
 -- the node at a place has the number after it
@@ -194,11 +194,11 @@ fewer_wait nodes place p q within at less =
 
 pub misfit_at : (w : WorldState) (nodes : List ProgressState) (place : ℕ) (p : ProgressState) (fault : AuditFault) → place < length nodes → p ≡ get_or nodes place p
     → p.node ≡ fault.node → slice_get p.waiting 0 ≡ Some fault.event → IsReady nodes p
-    → (GoesOn w.count w.start w.moves (step_at fault.node fault.event.kind) → ⊥) → IsMisfit w nodes fault
-misfit_at w nodes place p fault within at node is ready no_step = record {
+    → (FitsRun w nodes fault.node fault.event.kind → ⊥) → IsMisfit w nodes fault
+misfit_at w nodes place p fault within at node is ready misfit = record {
   at_node = (place, p, within, sym at, (node, is));
   due = subst (λ (e : BookEvent). IsDue nodes e.kind) (same_Some ready.0 fault.event (sym ready.1 ∙ is)) ready.2;
-  no_step = no_step;
+  misfit = misfit;
 }
 
 -- a frame whose sender is found can be put exactly if its clock is not above that of the sender's last settled event
@@ -268,12 +268,22 @@ misfit_of w new nodes nodes' place p node e refused answer result step result_is
     let not_memory : refused ≢ refusal.Memory = λ m. memory_is_no_fault fault (sym (memory m) ∙ answered) in
     let f : AuditFault = record { node = node; event = e } in
     let fault_is : f ≡ fault = same_fault f fault (sym (other not_memory) ∙ answered) in
-    let no_step : GoesOn w.count w.start w.moves (step_at f.node f.event.kind) → ⊥ =
-    λ goes. not_memory (allowed (subst (GoesOn w.count w.start w.moves) (sym step_is) goes))
+    let no_step : FitsRun w nodes f.node f.event.kind → ⊥ =
+    λ fits. not_memory (allowed (subst (GoesOn w.count w.start w.moves) (sym step_is) fits.goes_on))
     in
     subst (IsMisfit new nodes') fault_is
     (subst (λ (v : WorldState). IsMisfit v nodes' f) (sym same)
     (subst (λ (ns : List ProgressState). IsMisfit w ns f) (sym same_nodes) (misfit_at w nodes place p f within at (sym number) is ready no_step)))
+
+-- an event that does not fit, and of which nothing was tried
+pub misfit_now : (w : WorldState) (nodes nodes' : List ProgressState) (place : ℕ) (p : ProgressState) (node : ℕ) (e : BookEvent) → nodes' ≡ nodes → place < length nodes → p ≡ get_or nodes place p
+    → node ≡ p.node → slice_get p.waiting 0 ≡ Some e → IsReady nodes p → (FitsRun w nodes node e.kind → ⊥)
+    → (fault : AuditFault) → ◌≡◌ {A = Result (Unit {0}) AuditError} (Err (Fault (record { node = node; event = e }))) (Err (Fault fault)) → IsMisfit w nodes' fault
+misfit_now w nodes nodes' place p node e same_nodes within at number is ready misfit fault err =
+    let f : AuditFault = record { node = node; event = e } in
+    let fault_is : f ≡ fault = cc in
+    subst (IsMisfit w nodes') fault_is
+    (subst (λ (ns : List ProgressState). IsMisfit w ns f) (sym same_nodes) (misfit_at w nodes place p f within at (sym number) is ready misfit))
 
 -- ---- Taking events
 

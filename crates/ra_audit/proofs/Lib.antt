@@ -6,3 +6,8 @@ mod LeastWaiting
 mod UnsentFrames
 mod AuditRounds
 mod AuditLosses
+mod UnderWay
+mod OwnMessages
+mod SentFrames
+mod Flying
+mod Tracking

@@ -5,6 +5,7 @@ use Rattle.std.specs.List.Sorted.{IsPermutation}
 use Rattle.ra_stamp.specs.declared.entry.Mark.{Mark}
 use Rattle.ra_stamp.specs.NodeId.{IsNodeNumber}
 use Rattle.ra_stamp.specs.Message.{from_of, to_of}
+use Rattle.ra_node.specs.Events.{Happening}
 use Rattle.ra_table.specs.Table.{LockTable, TableRun, MayEnter}
 use Rattle.ra_table.specs.Laws.{IsConflictFree}
 use Rattle.ra_world.specs.Traffic.{Move, IsUnderWay, lost_by, repeated_by}
@@ -19,9 +20,9 @@ use Rattle.ra_cluster.specs.declared.take_error.TakeError.TheVariants.{NoNode, O
 use Rattle.ra_history.specs.declared.event.BookKind.{BookKind}
 use Rattle.ra_history.specs.declared.event.BookKind.TheVariants.{Asked, Gave, Got}
 use Rattle.ra_history.specs.declared.event.BookEvent.{BookEvent}
-use Rattle.ra_history.specs.History.{clock_after, clock_of, node_event}
+use Rattle.ra_history.specs.History.{clock_after, clock_of, frames_at, node_event}
 use Rattle.ra_history.specs.Book.{BookState, whole_events}
-use Rattle.ra_history.specs.Settled.{step_at}
+use Rattle.ra_history.specs.Settled.{step_at, frames_in, received_among}
 use Rattle.ra_cluster.specs.Cluster.{ClusterState}
 
 -- ---- What an auditor knows
@@ -95,6 +96,27 @@ pub record IsAudited (world : WorldState) (nodes : List ProgressState) : Type 0 
 abbrev pub HasLost : List Move → List Frame → Type 0
 HasLost moves lost = lost_by moves ≡ map (λ frame. frame.message) lost
 
+-- ---- Which frames were sent in the run
+
+-- The frames that a node sent, in order, by what happened at it and by its events, which are the same in the same order: each
+-- message that an event sent, with the clock of the event.
+abbrev pub frames_sent : List Happening → List BookEvent → List Frame
+frames_sent [] events = []
+frames_sent (h ∷ happened) [] = []
+frames_sent (h ∷ happened) (event ∷ events) = frames_at event.clock h.sends ++ frames_sent happened events
+
+-- The sender of the message sent the frame in these moves: an event of it that is in the run sent the message, and has the
+-- frame's clock.
+abbrev pub WasSentIn : List ProgressState → List Move → Frame → Type 0
+WasSentIn nodes moves frame =
+    Any (λ p. (p.node ≡ from_of frame.message) × Contains (frames_sent (happened_at p.node moves) p.settled) frame) nodes
+
+-- Each frame that came in the run was sent in it, with the clock of the event that sent it. So was each of these frames,
+-- whose losses are in the run.
+pub record AllWereSent (nodes : List ProgressState) (moves : List Move) (lost : List Frame) : Type 0 where
+  pub came : All (λ p. All (WasSentIn nodes moves) (received_among p.settled)) nodes
+  pub losses : All (WasSentIn nodes moves) lost
+
 -- ---- Which event can be put into the run
 
 -- the run has come to the frame: all events of its sender up to the frame's clock are in the run
@@ -116,13 +138,19 @@ IsReady nodes p = (event : BookEvent) × (slice_get p.waiting 0 ≡ Some event) 
 abbrev pub NoneIsReady : List ProgressState → Type 0
 NoneIsReady nodes = All (λ p. IsReady nodes p → ⊥) nodes
 
--- The event is the next one of its node, and could be put, but the run does not go on with it. If it is a frame, all
--- that its sender sent up to the frame's clock is in the run, and the message is not under way: it was never sent, or
--- it came or was lost before.
+-- An event of this node fits after the run: the run goes on with it, and a frame that came was sent in the run, by the event
+-- of its sender that has its clock.
+pub record FitsRun (world : WorldState) (nodes : List ProgressState) (node : ℕ) (kind : BookKind) : Type 0 where
+  pub goes_on : GoesOn world.count world.start world.moves (step_at node kind)
+  pub sent : All (WasSentIn nodes world.moves) (frames_in kind)
+
+-- The event is the next one of its node, and could be put, but it does not fit after the run. If it is a frame, all that its
+-- sender sent up to the frame's clock is in the run, and the message is not under way, or was not sent with this clock: the
+-- frame was never sent, or its message came or was lost before.
 pub record IsMisfit (world : WorldState) (nodes : List ProgressState) (fault : AuditFault) : Type 0 where
   pub at_node : Any (λ p. (p.node ≡ fault.node) × (slice_get p.waiting 0 ≡ Some fault.event)) nodes
   pub due : IsDue nodes fault.event.kind
-  pub no_step : GoesOn world.count world.start world.moves (step_at fault.node fault.event.kind) → ⊥
+  pub misfit : FitsRun world nodes fault.node fault.event.kind → ⊥
 
 -- ---- Which loss can be put into the run
 
@@ -131,11 +159,12 @@ abbrev pub NoneIsReached : List ProgressState → List Frame → Type 0
 NoneIsReached nodes losing = All (λ frame. IsReached nodes frame → ⊥) losing
 
 -- The loss of the frame is still to be put, and all that its sender sent up to the frame's clock is in the run. But its
--- message is not under way: it came, its loss is in the run already, or it was never sent.
+-- message is not under way, or was not sent with this clock: it came, its loss is in the run already, or the frame was never
+-- sent.
 pub record IsNotLost (world : WorldState) (nodes : List ProgressState) (losing : List Frame) (frame : Frame) : Type 0 where
   pub is_losing : Contains losing frame
   pub reached : IsReached nodes frame
-  pub not_under_way : IsUnderWay world.moves frame.message → ⊥
+  pub misfit : IsUnderWay world.moves frame.message → WasSentIn nodes world.moves frame → ⊥
 
 -- ---- What a round does
 
@@ -207,6 +236,7 @@ pub record Audits (old : AuditState) (told : List Mark) (new : AuditState) (told
   pub handed : List Frame
   pub losses : PutsLosses new.nodes (old.losing ++ handed) old.lost new.losing new.lost
   pub lost : HasLost new.world.moves new.lost
+  pub sent : AllWereSent new.nodes new.world.moves new.lost
 
 -- ---- What holds of the run
 

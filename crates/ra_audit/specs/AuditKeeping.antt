@@ -1,16 +1,25 @@
--- How an auditor keeps what it knows of a node, and of frames that were lost. No public contract speaks of it.
-use Rattle.std.specs.Prelude.{◌≡◌, ◌≢◌, ◌⊎◌, ℕ, ◌<◌, ◌≤◌, ◌++◌, List, Option, Some, None, All, length, take, drop, slice_get}
+-- How an auditor keeps what it knows of a node, of frames that were lost, and of messages under way. No public contract speaks
+-- of it.
+use Rattle.std.specs.Prelude.{◌≡◌, ◌≢◌, ◌⊎◌, ◌↔◌, ℕ, ◌<◌, ◌≤◌, ◌∷◌, ◌++◌, [], List, Option, Some, None, All, AllPairs, Contains, length, take, drop, slice_get}
 use Rattle.std.specs.List.{Any}
 use Rattle.ra_audit.specs.declared.progress.Progress.TheInside.{Inside}
 use Rattle.ra_audit.specs.declared.losses.Losses.TheInside.{Inside as LossesInside}
 use Rattle.ra_stamp.specs.Message.{from_of}
+use Rattle.ra_stamp.specs.declared.message.Message.{Message}
+use Rattle.ra_stamp.specs.contracts.message.MessagePartialEq.TheImpl.{eq-value}
+use Rattle.std.specs.Map.{lookup}
+use Rattle.ra_stamp.specs.NodeId.{IsNodeNumber}
+use Rattle.ra_world.specs.Traffic.{Move, IsUnderWay, sent_by, taken_in, repeated_by}
+use Rattle.ra_world.specs.Run.{IsRun, happened_at}
+use Rattle.ra_world.specs.Fitting.{sent_in}
 use Rattle.ra_frame.specs.declared.frame.Frame.{Frame}
 use Rattle.ra_audit.specs.declared.audit_error.AuditFault.{AuditFault}
 use Rattle.ra_history.specs.declared.event.BookKind.{BookKind}
 use Rattle.ra_history.specs.declared.event.BookKind.TheVariants.{Got}
 use Rattle.ra_history.specs.declared.event.BookEvent.{BookEvent}
 use Rattle.ra_history.specs.History.{clock_of}
-use Rattle.ra_audit.specs.Audit.{ProgressState, AreNextAt, IsReached, NoneIsReached, NoneWaits, taken_of}
+use Rattle.ra_history.specs.Settled.{received_among}
+use Rattle.ra_audit.specs.Audit.{ProgressState, AreNextAt, IsReached, NoneIsReached, NoneWaits, WasSentIn, taken_of}
 
 -- what the fields represent
 abbrev pub progress_of : Inside → ProgressState
@@ -86,3 +95,81 @@ pub record AreLookedAt (nodes : List ProgressState) (left : ℕ) (losing : List 
   pub losing_is : losing ≡ first ++ others
   pub left_is : length first ≡ left
   pub none : NoneIsReached nodes others
+
+-- ---- Frames under way
+
+-- The clocks of the events that sent the messages under way: those that are noted, each with its message; and the messages that
+-- are not noted yet, which one event sent at this clock.
+pub record FlightState : Type 0 where
+  pub entries : List (Message × ℕ)
+  pub clock : ℕ
+  pub last : List Message
+
+-- the clock that is noted for the message
+abbrev pub noted_clock : FlightState → Message → Option ℕ
+noted_clock flights message = lookup (eq-value.it message) flights.entries
+
+-- the message is under way, and an event with this clock sent it
+abbrev pub HasClock : FlightState → Message → ℕ → Type 0
+HasClock flights message clock = (noted_clock flights message ≡ Some clock) ⊎ (Contains flights.last message × (clock ≡ flights.clock))
+
+-- the message is under way
+abbrev pub IsFlying : FlightState → Message → Type 0
+IsFlying flights message = (clock : ℕ) × HasClock flights message clock
+
+-- nothing is under way
+pub record NoneFlies (flights : FlightState) : Type 0 where
+  pub entries : flights.entries ≡ []
+  pub last : flights.last ≡ []
+
+-- the same messages are under way, each with a clock that it had
+pub record FliesOn (old new : FlightState) : Type 0 where
+  pub had : (message : Message) (clock : ℕ) → HasClock new message clock → HasClock old message clock
+  pub all : (message : Message) → IsFlying old message → IsFlying new message
+
+-- each of these frames is noted, with its clock
+abbrev pub AreNoted : FlightState → List Frame → Type 0
+AreNoted flights frames = All (λ frame. noted_clock flights frame.message ≡ Some frame.clock) frames
+
+-- these messages are noted no longer, the others are as before, and an event with this clock sent these messages
+pub record FliesAfter (old : FlightState) (taken : List Message) (clock : ℕ) (sends : List Message) (new : FlightState) : Type 0 where
+  pub only : (message : Message) (clock : ℕ) → noted_clock new message ≡ Some clock
+      → (noted_clock old message ≡ Some clock) × (Contains taken message → ⊥)
+  pub others : (message : Message) → (Contains taken message → ⊥) → noted_clock new message ≡ noted_clock old message
+  pub clock_is : new.clock ≡ clock
+  pub last_is : new.last ≡ sends
+
+-- the message has a clock by this
+abbrev pub IsIn : (Message → Option ℕ) → Message → Type 0
+IsIn noted message = (clock : ℕ) × (noted message ≡ Some clock)
+
+-- some of these messages have this clock now, and what had a clock has one
+pub record NotesSome (old : Message → Option ℕ) (messages : List Message) (clock : ℕ) (new : Message → Option ℕ) : Type 0 where
+  pub had : (message : Message) (has : ℕ) → new message ≡ Some has
+      → (old message ≡ Some has) ⊎ (Contains messages message × (has ≡ clock))
+  pub all : (message : Message) → IsIn old message → IsIn new message
+
+-- ---- What is known of the run
+
+-- What is known of the messages of runs without repeats: all are different, what happened at a node sent messages of that node,
+-- and after one more move a message is under way if it was before and was not taken, or if the move sent it.
+pub record MessagesAreKnown : Type 0 where
+  pub different : (n start : ℕ) (moves : List Move) → IsNodeNumber n → IsRun n start moves → repeated_by moves ≡ []
+      → AllPairs (λ a b. a ≢ b) (sent_by moves)
+  pub own : (n start : ℕ) (moves : List Move) (i : ℕ) → IsNodeNumber n → IsRun n start moves → 1 ≤ i → i ≤ n
+      → All (λ message. from_of message ≡ i) (sent_in (happened_at i moves))
+  pub go_on : (n start : ℕ) (moves : List Move) (move : Move) (message : Message) → IsNodeNumber n
+      → IsRun n start (moves ++ move ∷ []) → repeated_by (moves ++ move ∷ []) ≡ []
+      → IsUnderWay (moves ++ move ∷ []) message
+      ↔ ((IsUnderWay moves message × (Contains (taken_in move.step) message → ⊥)) ⊎ Contains move.sends message)
+
+-- The frames that came in the run were sent in it. The messages under way are known, each with a clock at which it was sent.
+pub record IsTracked (nodes : List ProgressState) (moves : List Move) (flights : FlightState) : Type 0 where
+  pub came : All (λ p. All (WasSentIn nodes moves) (received_among p.settled)) nodes
+  pub sent : (message : Message) (clock : ℕ) → HasClock flights message clock
+      → WasSentIn nodes moves (record { clock = clock; message = message })
+  pub under_way : (message : Message) → IsUnderWay moves message ↔ IsFlying flights message
+
+-- what was sent in the run before was sent in it now
+abbrev pub StaySent : List ProgressState → List Move → List ProgressState → List Move → Type 0
+StaySent nodes moves nodes' moves' = (frame : Frame) → WasSentIn nodes moves frame → WasSentIn nodes' moves' frame

@@ -4,7 +4,10 @@ ghost use Rattle.std.specs.List.{AllWithin, range_with_len};
 ghost use Rattle.ra_frame.specs.declared.frame.Frame.{Frame};
 ghost use Rattle.ra_world.specs.Traffic.{lost_by};
 ghost use Rattle.ra_audit.specs.Audit.{ProgressState, IsAudited, IsReached, IsDue, IsReady, NoneIsReady, IsMisfit, Advances};
+ghost use Rattle.ra_audit.specs.AuditKeeping.{IsTracked, StaySent};
 
+use crate::audit_laws::messages_of_runs_are_known;
+use crate::flights::Flights;
 use crate::progress::Progress;
 use crate::{AuditError, AuditFault, MarkObserver};
 use ra_cluster::{BookEvent, BookKind};
@@ -27,9 +30,13 @@ pub fn put_all<O: MarkObserver>(
     alloc: Global,
     world: &mut MarklessWorld,
     nodes: &mut [Progress],
+    flights: &mut Flights,
     observer: &mut O,
 ) -> Result<(), AuditError>
-    requires { IsAudited world.old nodes.old }
+    requires audited { IsAudited world.old nodes.old }
+    requires tracked { IsTracked nodes.old world.old.moves flights.old }
+    ensures tracked { IsTracked nodes.new world.new.moves flights.new }
+    ensures stay { StaySent nodes.old world.old.moves nodes.new world.new.moves }
     ensures advances { Advances world.old nodes.old (O.told observer.old) world.new nodes.new (O.told observer.new) }
     ensures unlost { lost_by world.new.moves ≡ lost_by world.old.moves }
     ensures ok { OnOk result (NoneIsReady nodes.new) }
@@ -38,7 +45,7 @@ pub fn put_all<O: MarkObserver>(
 {
     let mut near = 0;
     while let Some(place) = ready_near(nodes, near) {
-        put_next(alloc, world, nodes, place, observer)?;
+        put_next(alloc, world, nodes, flights, place, observer)?;
         near = place;
     }
     Ok(())
@@ -48,36 +55,47 @@ pub fn put_all<O: MarkObserver>(
 ///
 /// # Errors
 ///
-/// Nothing has changed:
+/// Nothing has changed in the run:
 ///
-/// 1. `Fault`: the run does not go on with it.
-/// 2. `Memory`.
+/// 1. `Memory`, which may also come in place of a `Fault`.
+/// 2. `Fault`: it does not fit the run.
 fn put_next<O: MarkObserver>(
     alloc: Global,
     world: &mut MarklessWorld,
     nodes: &mut [Progress],
+    flights: &mut Flights,
     place: usize,
     observer: &mut O,
 ) -> Result<(), AuditError>
     requires audited { IsAudited world.old nodes.old }
+    requires tracked { IsTracked nodes.old world.old.moves flights.old }
     requires within { place < length nodes.old }
     requires ready { (d : ProgressState) → IsReady nodes.old (slice_index_or nodes.old place d) }
     ensures advances { Advances world.old nodes.old (O.told observer.old) world.new nodes.new (O.told observer.new) }
     ensures unlost { lost_by world.new.moves ≡ lost_by world.old.moves }
+    ensures tracked { IsTracked nodes.new world.new.moves flights.new }
+    ensures stay { StaySent nodes.old world.old.moves nodes.new world.new.moves }
     ensures fewer { OnOk result (sum_by (λ p. length p.waiting) nodes.new < sum_by (λ p. length p.waiting) nodes.old) }
     ensures fault { (fault : AuditFault) → IsErrOf result (AuditError.Fault fault) → IsMisfit world.new nodes.new fault }
     ensures not_lost { (frame : Frame) → IsErrOf result (AuditError.NotLost frame) → ⊥ }
 {
+    messages_of_runs_are_known();
+    flights.note_last(alloc)?;
     let progress = &mut nodes[place];
     let Some(event) = progress.next() else {
         unreachable!()
     };
     let node = progress.node();
+    // A frame whose clock is not that of the event that sent it was never sent.
+    if !flights.has_frame_of(&event.kind) {
+        return Err(AuditError::Fault(AuditFault { node, event }));
+    }
     let step = step_of(node, &event.kind);
     match world.step(alloc, &step) {
         Ok(outcome) => {
             progress.put();
             tell_all(observer, outcome.marks.as_slice());
+            flights.go_on(&event, outcome.sends);
             Ok(())
         }
         Err(refused) => Err(error_of(refused, AuditFault { node, event })),

@@ -11,6 +11,7 @@ ghost use Rattle.ra_audit.specs.Audit.{Takes, AreAllIn, IsBehind, TakesHanded, N
 
 use crate::audit_laws::runs_meet_the_theorem;
 use crate::closing::check_all;
+use crate::flights::Flights;
 use crate::losing::put_events_and_losses;
 use crate::losses::Losses;
 use crate::never_sent::{clocks_of, first_unsent};
@@ -41,23 +42,27 @@ pub struct Auditor {
     start: u64,
     /// By the nodes' numbers, from 1.
     nodes: Vec<Progress>,
+    /// Of the messages under way, the clocks of the events that sent them.
+    flights: Flights,
     losses: Losses,
     fault: Option<AuditFault>,
 }
 
 impl Model for Auditor {
-    ghost use Rattle.std.specs.Prelude.{◌≡◌};
-    ghost use Rattle.ra_audit.specs.Audit.{AuditState, IsAudited, HasLost};
+    ghost use Rattle.std.specs.Prelude.{◌≡◌, All};
+    ghost use Rattle.ra_audit.specs.Audit.{AuditState, IsAudited, HasLost, WasSentIn};
+    ghost use Rattle.ra_audit.specs.AuditKeeping.{IsTracked};
 
     ghost Value = { AuditState };
 
     ghost view = { λ a. record { world = a.world; nodes = a.nodes.items; losing = a.losses.losing; lost = a.losses.lost; fault = a.fault } };
 
-    ghost invariant = { λ a. IsAudited a.world a.nodes.items × (a.count ≡ a.world.count) × (a.start ≡ a.world.start) × HasLost a.world.moves a.losses.lost };
+    ghost invariant = { λ a. IsAudited a.world a.nodes.items × (a.count ≡ a.world.count) × (a.start ≡ a.world.start) × HasLost a.world.moves a.losses.lost
+        × IsTracked a.nodes.items a.world.moves a.flights × All (WasSentIn a.nodes.items a.world.moves) a.losses.lost };
 }
 
 impl Auditor {
-    ghost use Rattle.ra_audit.specs.Audit.{IsAudited, HasLost, NoneIsReady, NoneIsReached, IsMisfit, IsNotLost, Advances, PutsLosses, RunTheorem};
+    ghost use Rattle.ra_audit.specs.Audit.{IsAudited, HasLost, AllWereSent, NoneIsReady, NoneIsReached, IsMisfit, IsNotLost, Advances, PutsLosses, RunTheorem};
 
     /// Makes the auditor of a cluster of this many nodes, in which nothing has happened yet. The highest number of each
     /// resource begins at `start`, 0 to 2^64-1. The cost is linear in the number of nodes.
@@ -75,16 +80,19 @@ impl Auditor {
         ensures losses { IfOk result (λ auditor. (auditor.losing ≡ []) × (auditor.lost ≡ [])) }
         ensures fault { IfOk result (λ auditor. auditor.fault ≡ None) }
         ensures audited { IfOk result (λ auditor. IsAudited auditor.world auditor.nodes) }
+        ensures sent { IfOk result (λ auditor. AllWereSent auditor.nodes auditor.world.moves auditor.lost) }
         ensures bad_count { IsErrOf result NewError.BadCount ↔ (IsNodeNumber nodes → ⊥) }
     {
         let world = MarklessWorld::new(alloc, nodes, start)?;
         let progress = none_taken(alloc, nodes)?;
+        let flights = Flights::new(alloc);
         let losses = Losses::new(alloc);
         Ok(Auditor {
             world,
             count: nodes,
             start,
             nodes: progress,
+            flights,
             losses,
             fault: None,
         })
@@ -105,6 +113,7 @@ impl Auditor {
         ensures taken { Takes self.old.nodes node after events.now result self.new.nodes }
         ensures rest { self.new ≡ record self.old { nodes = self.new.nodes } }
         ensures audited { IsAudited self.new.world self.new.nodes }
+        ensures sent { AllWereSent self.new.nodes self.new.world.moves self.new.lost }
     {
         take_into(self.nodes.as_mut_slice(), node, after, events)
     }
@@ -122,6 +131,7 @@ impl Auditor {
         ensures err { OnErr result (self.new ≡ self.old) }
         ensures audited { IsAudited self.new.world self.new.nodes }
         ensures lost { HasLost self.new.world.moves self.new.lost }
+        ensures sent { AllWereSent self.new.nodes self.new.world.moves self.new.lost }
     {
         self.losses.note(frames)
     }
@@ -149,6 +159,7 @@ impl Auditor {
         ensures handed { TakesHanded self.old.nodes self.old.losing site.now result self.new.nodes self.new.losing }
         ensures rest { self.new ≡ record self.old { nodes = self.new.nodes; losing = self.new.losing } }
         ensures audited { IsAudited self.new.world self.new.nodes }
+        ensures sent { AllWereSent self.new.nodes self.new.world.moves self.new.lost }
     {
         take_handed_into(rt, alloc, self.nodes.as_mut_slice(), &mut self.losses, site)
     }
@@ -184,12 +195,15 @@ impl Auditor {
     /// # Errors
     ///
     /// 1. `Fault`: an event does not fit, which was found by this call or an earlier one. The node would have
-    ///    refused it; or it is a frame whose message is not under way, though all that its sender sent up to the frame's
-    ///    clock is in the run. Or a round found a frame that was never sent. From then on nothing is put.
-    /// 2. `NotLost`: a frame was noted as lost whose message is not under way, though all that its sender sent up to the frame's
-    ///    clock is in the run: it came or was lost before, or was never sent. All events that can be put are in the run, and some
-    ///    other losses may not be. The loss of this frame is still to be put, so that each later call tries it.
-    /// 3. `Memory`: memory ran out. The events and losses before are in the run, and the call can be made again.
+    ///    refused it; or it is a frame, and all that its sender sent up to the frame's clock is in the run, but its message is not
+    ///    under way, or was sent by an event with another clock. Or a round found a frame that was never sent. From then on
+    ///    nothing is put.
+    /// 2. `NotLost`: a frame was noted as lost, and all that its sender sent up to the frame's clock is in the run, but its message
+    ///    is not under way, or was sent by an event with another clock: it came or was lost before, or the frame was never sent.
+    ///    All events that can be put are in the run, and some other losses may not be. The loss of this frame is still to be put,
+    ///    so that each later call tries it.
+    /// 3. `Memory`: memory ran out, which may come before the others. The events and losses before are in the run, and the call
+    ///    can be made again.
     pub fn advance<O: MarkObserver>(
         &mut self,
         alloc: Global,
@@ -199,6 +213,7 @@ impl Auditor {
             self.new.world self.new.nodes (O.told observer.new) }
         ensures losses { PutsLosses self.new.nodes self.old.losing self.old.lost self.new.losing self.new.lost }
         ensures lost { HasLost self.new.world.moves self.new.lost }
+        ensures sent { AllWereSent self.new.nodes self.new.world.moves self.new.lost }
         ensures theorem { RunTheorem self.new.world.count self.new.world.moves }
         ensures ok { OnOk result (NoneIsReady self.new.nodes) }
         ensures none_reached { OnOk result (NoneIsReached self.new.nodes self.new.losing) }
@@ -218,6 +233,7 @@ impl Auditor {
             alloc,
             &mut self.world,
             self.nodes.as_mut_slice(),
+            &mut self.flights,
             &mut self.losses,
             observer,
         );
@@ -270,6 +286,7 @@ impl Auditor {
         ensures value { result ≡ self.now.fault }
         ensures audited { IsAudited self.now.world self.now.nodes }
         ensures lost { HasLost self.now.world.moves self.now.lost }
+        ensures sent { AllWereSent self.now.nodes self.now.world.moves self.now.lost }
     {
         self.fault
     }

@@ -19,6 +19,7 @@ mod audit_laws;
 mod auditing;
 mod auditor;
 mod closing;
+mod flights;
 mod losing;
 mod losses;
 mod mark_observer;

@@ -4,7 +4,7 @@ ghost use Rattle.ra_audit.specs.declared.audit_error.AuditFault as audit_fault;
 ghost use Rattle.ra_cluster.specs.declared.take_error.TakeError.{TakeError};
 ghost use Rattle.ra_frame.specs.declared.frame.Frame.{Frame};
 ghost use Rattle.ra_audit.specs.declared.audit_error.RoundError as round_error;
-ghost use Rattle.ra_audit.specs.Audit.{NoneIsReady, NoneIsReached, NoneWaits, IsNeverSent, IsAhead, IsMisfit, IsNotLost, IsUnsent, MayBePut, IsAudited, HasLost, IsAuditorOf, RunTheorem, Audits, TakesMore, TakesAllAt, NotTakenAt, IsNotTaken, NoneIsKept, clocks_taken};
+ghost use Rattle.ra_audit.specs.Audit.{NoneIsReady, NoneIsReached, NoneWaits, IsNeverSent, IsAhead, IsMisfit, IsNotLost, IsUnsent, MayBePut, IsAudited, HasLost, AllWereSent, IsAuditorOf, RunTheorem, Audits, TakesMore, TakesAllAt, NotTakenAt, IsNotTaken, NoneIsKept, clocks_taken};
 ghost use Rattle.ra_stamp.specs.NodeId.{IsNodeNumber};
 
 use crate::audit_laws::runs_meet_the_theorem;
@@ -185,6 +185,7 @@ fn check_round<G: Gate + Drop>(cluster: &Cluster<G>, auditor: &Auditor) -> Resul
     ensures taken { (node : ℕ) (cause : TakeError) → IsErrOf result (RoundError.NotTaken node cause) → ⊥ }
     ensures audited { IsAudited auditor.now.world auditor.now.nodes }
     ensures lost { HasLost auditor.now.world.moves auditor.now.lost }
+    ensures sent { AllWereSent auditor.now.nodes auditor.now.world.moves auditor.now.lost }
 {
     let known = auditor.fault();
     if !cluster.is_audited() {
@@ -213,6 +214,7 @@ fn go_round<R: Wait, G: Gate + Drop, O: MarkObserver>(
 ) -> Result<(), RoundError>
     requires audited { IsAudited auditor.old.world auditor.old.nodes }
     requires lost { HasLost auditor.old.world.moves auditor.old.lost }
+    requires sent { AllWereSent auditor.old.nodes auditor.old.world.moves auditor.old.lost }
     requires count { auditor.old.world.count ≡ cluster.now.nodes }
     ensures audits { Audits auditor.old (O.told observer.old) auditor.new (O.told observer.new) }
     ensures ok { OnOk result (NoneIsReady auditor.new.nodes) }

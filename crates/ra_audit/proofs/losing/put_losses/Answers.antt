@@ -11,6 +11,8 @@ loop-left-init c = record {
   losses = puts_none c.args.nodes.now c.args.losses.now.losing c.args.losses.now.lost;
   lost = c.requires.lost;
   taken = c.requires.taken;
+  tracked = c.requires.tracked;
+  sent = c.requires.sent;
   looked = none_looked_at c.args.nodes.now c.losing-left.result c.args.losses.now.losing c.losing-left.ensures;
 }
 
@@ -22,6 +24,8 @@ put_first-requires c =
       audited = (i.advances []).audited;
       lost = i.lost;
       taken = i.taken;
+      tracked = i.tracked;
+      sent = i.sent;
       some = some_left c.args.nodes.now c.loop-left.left c.loop-left.losses.losing i.looked some;
     }
 
@@ -37,6 +41,8 @@ loop-left-preserved c =
       losses = puts_further nodes c.args.losses.now.losing c.args.losses.now.lost old.losing old.lost new.losing new.lost i.losses (puts_first nodes old new c.in-Ok.ensures.ok);
       lost = c.in-Ok.ensures.lost;
       taken = noted_as nodes old new c.in-Ok.ensures.ok ∙ i.taken;
+      tracked = c.in-Ok.ensures.tracked;
+      sent = c.in-Ok.ensures.sent;
       looked = one_looked_at nodes c.loop-left.left old new some i.looked c.in-Ok.ensures.ok;
     }
 

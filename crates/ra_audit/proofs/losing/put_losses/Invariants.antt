@@ -1,7 +1,7 @@
-use Rattle.std.proofs.Common.{◌≡◌, List, []}
+use Rattle.std.proofs.Common.{◌≡◌, All, List, []}
 use Rattle.ra_stamp.specs.declared.entry.Mark.{Mark}
-use Rattle.ra_audit.specs.Audit.{Advances, HasLost, PutsLosses}
-use Rattle.ra_audit.specs.AuditKeeping.{AreLookedAt}
+use Rattle.ra_audit.specs.Audit.{Advances, HasLost, PutsLosses, WasSentIn}
+use Rattle.ra_audit.specs.AuditKeeping.{AreLookedAt, IsTracked}
 use Rattle.ra_audit.proofs.losing.put_losses.Given as goal
 
 -- the run went on by losses, and all frames but those that are left were looked at
@@ -11,6 +11,8 @@ invariant-loop-left l = record {
   losses : PutsLosses l.nodes l.fn.losses.losing l.fn.losses.lost l.losses.losing l.losses.lost;
   lost : HasLost l.world.moves l.losses.lost;
   taken : l.losses.noted ≡ [];
+  tracked : IsTracked l.nodes l.world.moves l.flights;
+  sent : All (WasSentIn l.nodes l.world.moves) l.losses.lost;
   looked : AreLookedAt l.nodes l.left l.losses.losing;
 }
 

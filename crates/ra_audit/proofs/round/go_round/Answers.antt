@@ -4,7 +4,7 @@ use Rattle.ra_audit.proofs.round.go_round.Goals as goal
 
 pub returns-in_default-clause-audits : goal.returns-in_default-clause-audits
 returns-in_default-clause-audits g c =
-    audits_nothing c.args.auditor.now (g.O.MarkObserver.told c.args.observer.now) c.requires.audited c.requires.lost
+    audits_nothing c.args.auditor.now (g.O.MarkObserver.told c.args.observer.now) c.requires.audited c.requires.lost c.requires.sent
 
 pub find_unsent-requires : goal.find_unsent-requires
 find_unsent-requires g c = if_done _ c.advance-advanced.result c.in-Ok-answer_of.ensures.ok.0 c.advance-advanced.ensures.ok
@@ -13,13 +13,13 @@ pub returns-in-Some-clause-audits : goal.returns-in-Some-clause-audits
 returns-in-Some-clause-audits g c =
     audits_noted c.args.auditor.now c.advance-advanced.new.self c.find_unsent.new.self _ _ c.in-Some.fault c.in-Some.ensures.found.0
     (audits_all c.args.auditor.now c.take_all-taken.new.auditor c.advance-advanced.new.self _ _ c.take_all-taken.ensures.more c.advance-advanced.ensures.advances
-    c.advance-advanced.ensures.losses c.advance-advanced.ensures.lost)
+    c.advance-advanced.ensures.losses c.advance-advanced.ensures.lost c.advance-advanced.ensures.sent)
 
 pub returns-in-Ok-answer_of-clause-audits : goal.returns-in-Ok-answer_of-clause-audits
 returns-in-Ok-answer_of-clause-audits g c =
     audits_as c.args.auditor.now c.advance-advanced.new.self c.find_unsent.new.self _ _ (c.in-None.ensures.none refl).0
     (audits_all c.args.auditor.now c.take_all-taken.new.auditor c.advance-advanced.new.self _ _ c.take_all-taken.ensures.more c.advance-advanced.ensures.advances
-    c.advance-advanced.ensures.losses c.advance-advanced.ensures.lost)
+    c.advance-advanced.ensures.losses c.advance-advanced.ensures.lost c.advance-advanced.ensures.sent)
 
 pub returns-in-Ok-answer_of-clause-ok : goal.returns-in-Ok-answer_of-clause-ok
 returns-in-Ok-answer_of-clause-ok g c =
@@ -40,7 +40,7 @@ returns-in-Ok-answer_of-clause-may_be_put g c =
 pub returns-clause-audits : goal.returns-clause-audits
 returns-clause-audits g c =
     audits_all c.args.auditor.now c.take_all-taken.new.auditor c.advance-advanced.new.self _ _ c.take_all-taken.ensures.more c.advance-advanced.ensures.advances
-    c.advance-advanced.ensures.losses c.advance-advanced.ensures.lost
+    c.advance-advanced.ensures.losses c.advance-advanced.ensures.lost c.advance-advanced.ensures.sent
 
 pub returns-clause-fault : goal.returns-clause-fault
 returns-clause-fault g c fault is = (c.advance-advanced.ensures.fault fault).0 (c.in-Err.ensures.fault fault is)

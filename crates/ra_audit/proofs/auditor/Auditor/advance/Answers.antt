@@ -1,5 +1,6 @@
-use Rattle.std.proofs.Common.{◌≡◌, List, ◌++◌, length, take, drop, vec_len, arith, ap, sym, subst}
-use Rattle.ra_audit.specs.Audit.{ProgressState, AuditState, HasLost, PutsLosses, NoneIsReady, NoneIsReached, IsNotLost, RunTheorem}
+use Rattle.std.proofs.Common.{◌≡◌, ◌∙◌, All, List, ◌++◌, length, take, drop, vec_len, arith, ap, sym, subst}
+use Rattle.ra_audit.specs.Audit.{ProgressState, AuditState, IsAudited, AllWereSent, WasSentIn, HasLost, PutsLosses, NoneIsReady, NoneIsReached, IsNotLost, RunTheorem}
+use Rattle.ra_audit.specs.AuditKeeping.{IsTracked}
 use Rattle.ra_audit.proofs.AuditLosses.{puts_none}
 use Rattle.ra_audit.proofs.AuditSteps.{on_done, slice_back}
 use Rattle.ra_audit.proofs.auditor.Auditor.advance.Goals as goal
@@ -77,4 +78,47 @@ returns-clause-not_lost g c frame is =
     let both = c.put_events_and_losses-answer.ensures.not_lost frame is in (
       subst NoneIsReady (sym same) both.0,
       subst (λ (ns : List ProgressState). IsNotLost world ns losses.losing frame) (sym same) both.1,
+    )
+
+pub returns-in-Some-clause-sent : goal.returns-in-Some-clause-sent
+returns-in-Some-clause-sent g c =
+    subst (λ (a : AuditState). AllWereSent a.nodes a.world.moves a.lost) c.self.view_is (record { came = c.self.invariant.4.came; losses = c.self.invariant.5 })
+
+pub returns-clause-sent : goal.returns-clause-sent
+returns-clause-sent g c =
+    let items = c.self.inside.nodes.items in
+    let new = c.put_events_and_losses-answer.new.nodes in
+    let world = c.put_events_and_losses-answer.new.world in
+    let losses = c.put_events_and_losses-answer.new.losses in
+    let len = ap (λ (xs : List ProgressState). length xs) c.as_mut_slice.ensures.value in
+    let back = take (vec_len c.self.inside.nodes) (new ++ drop (length new) items) in
+    let same : back ≡ new =
+    slice_back (vec_len c.self.inside.nodes) new items (omega (arith, c.as_mut_slice.ensures.len, len)) (omega (arith, c.put_events_and_losses-answer.auto.nodes, len))
+    in
+    subst (λ (ns : List ProgressState). AllWereSent ns world.moves losses.lost) (sym same)
+    (record { came = c.put_events_and_losses-answer.ensures.tracked.came; losses = c.put_events_and_losses-answer.ensures.sent })
+
+pub put_events_and_losses-answer-requires-clause-sent : goal.put_events_and_losses-answer-requires-clause-sent
+put_events_and_losses-answer-requires-clause-sent g c =
+    subst (λ (ns : List ProgressState). All (WasSentIn ns c.self.inside.world.moves) c.self.inside.losses.lost) (sym c.as_mut_slice.ensures.value) c.self.invariant.5
+
+pub invariant_of-self : goal.invariant_of-self
+invariant_of-self g c =
+    let items = c.self.inside.nodes.items in
+    let new = c.put_events_and_losses-answer.new.nodes in
+    let world = c.put_events_and_losses-answer.new.world in
+    let losses = c.put_events_and_losses-answer.new.losses in
+    let flights = c.put_events_and_losses-answer.new.flights in
+    let puts = c.put_events_and_losses-answer.ensures in
+    let len = ap (λ (xs : List ProgressState). length xs) c.as_mut_slice.ensures.value in
+    let back = take (vec_len c.self.inside.nodes) (new ++ drop (length new) items) in
+    let same : back ≡ new =
+    slice_back (vec_len c.self.inside.nodes) new items (omega (arith, c.as_mut_slice.ensures.len, len)) (omega (arith, c.put_events_and_losses-answer.auto.nodes, len))
+    in (
+      subst (IsAudited world) (sym same) puts.advances.audited,
+      c.self.invariant.1 ∙ sym puts.advances.count,
+      c.self.invariant.2 ∙ sym puts.advances.start,
+      puts.lost,
+      subst (λ (ns : List ProgressState). IsTracked ns world.moves flights) (sym same) puts.tracked,
+      subst (λ (ns : List ProgressState). All (WasSentIn ns world.moves) losses.lost) (sym same) puts.sent,
     )

@@ -10,7 +10,7 @@ returns-in-Ok-clause-theorem g c =
 
 pub returns-in-Err-clause-audits : goal.returns-in-Err-clause-audits
 returns-in-Err-clause-audits g c =
-    audits_nothing c.args.self.now (g.O.MarkObserver.told c.args.observer.now) c.in-Err.ensures.audited c.in-Err.ensures.lost
+    audits_nothing c.args.self.now (g.O.MarkObserver.told c.args.observer.now) c.in-Err.ensures.audited c.in-Err.ensures.lost c.in-Err.ensures.sent
 
 pub returns-in-Err-clause-theorem : goal.returns-in-Err-clause-theorem
 returns-in-Err-clause-theorem g c =
