@@ -76,6 +76,9 @@ struct Figures {
     requests: u128,
     messages: u128,
     under_way: u64,
+    lost: u64,
+    waiting: u128,
+    queued: u128,
 }
 
 /// Why the service did not do its plan.
@@ -309,6 +312,9 @@ fn figures_of(rounds: &Rounds) -> Figures {
         requests: auditor.requests(),
         messages: auditor.sent(),
         under_way: auditor.under_way(),
+        lost: auditor.lost(),
+        waiting: auditor.requests_waiting(),
+        queued: auditor.clients_queued(),
     }
 }
 
@@ -329,6 +335,10 @@ fn main(rt: HostRuntime) -> Result<()> {
     println!(rt; "marks {}", figures.marks)?;
     println!(rt; "requests {}", figures.requests)?;
     println!(rt; "messages {}", figures.messages)?;
+    println!(rt; "under-way {}", figures.under_way)?;
+    println!(rt; "lost {}", figures.lost)?;
+    println!(rt; "waiting {}", figures.waiting)?;
+    println!(rt; "queued {}", figures.queued)?;
     let all_given = figures.requests == u128::from(plan.locks);
     ensure!(
         all_given && figures.under_way == 0,

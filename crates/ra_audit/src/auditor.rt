@@ -4,6 +4,7 @@ ghost use Rattle.ra_stamp.specs.NodeId.{IsNodeNumber};
 ghost use Rattle.ra_world.specs.Traffic.{LeavesUnderWay, sent_by};
 ghost use Rattle.ra_world.specs.Quiet.{requests_in};
 ghost use Rattle.ra_world.specs.Run.{marks_of};
+ghost use Rattle.ra_world.specs.World.{AreWaiting, AreQueued};
 ghost use Rattle.ra_audit.specs.declared.audit_error.AuditFault as audit_fault;
 ghost use Rattle.ra_stamp.specs.declared.message.Message.{Message};
 ghost use Rattle.ra_frame.specs.declared.frame.Frame.{Frame};
@@ -348,6 +349,22 @@ impl Auditor {
         ensures audited { IsAudited self.now.world self.now.nodes }
     {
         self.world.under_way()
+    }
+
+    /// Returns how many requests wait at the end of the run. The cost is linear in the number of nodes.
+    pub fn requests_waiting(&self) -> u128
+        ensures value { AreWaiting self.now.world.count self.now.world.start self.now.world.moves result }
+        ensures audited { IsAudited self.now.world self.now.nodes }
+    {
+        self.world.waiting()
+    }
+
+    /// Returns how many clients are queued at the end of the run. The cost is linear in the number of nodes.
+    pub fn clients_queued(&self) -> u128
+        ensures value { AreQueued self.now.world.count self.now.world.start self.now.world.moves result }
+        ensures audited { IsAudited self.now.world self.now.nodes }
+    {
+        self.world.queued()
     }
 }
 

@@ -11,7 +11,7 @@ use Rattle.ra_world.specs.declared.step.Step.TheVariants.{Deliver, Lose, Repeat}
 use Rattle.ra_world.specs.Traffic.{Move, IsUnderWay, sent_by, lost_by, repeated_by}
 use Rattle.ra_world.specs.Run.{GoesOn, marks_of}
 use Rattle.ra_world.specs.Quiet.{requests_in}
-use Rattle.ra_world.specs.World.{Reports}
+use Rattle.ra_world.specs.World.{Reports, AreWaiting, AreQueued}
 use Rattle.ra_world.specs.Keeping.{nodes_of, Keeps}
 
 -- ---- The beginning
@@ -43,6 +43,19 @@ reported start nodes left moves report keeps at_all marks sent requests under_wa
   repeated = repeated;
   at_nodes = (nodes_of nodes, keeps.ends, waiting ∙ sym (at_all nodes waiting_count), queued ∙ sym (at_all nodes queued_count));
 }
+
+-- so many requests wait at the nodes of the list, and so many clients are queued, as at the nodes by their numbers
+pub waiting_here : (start : ℕ) (nodes : List NodeState) (left : List Message) (moves : List Move) (waiting : ℕ)
+    → Keeps start nodes left moves
+    → ((ns : List NodeState) (f : NodeState → ℕ) → sum_by (λ i. f (nodes_of ns i)) (range_with_len 1 (length ns)) ≡ sum_by f ns)
+    → waiting ≡ sum_by waiting_count nodes → AreWaiting (length nodes) start moves waiting
+waiting_here start nodes left moves waiting keeps at_all is = (nodes_of nodes, keeps.ends, is ∙ sym (at_all nodes waiting_count))
+
+pub queued_here : (start : ℕ) (nodes : List NodeState) (left : List Message) (moves : List Move) (queued : ℕ)
+    → Keeps start nodes left moves
+    → ((ns : List NodeState) (f : NodeState → ℕ) → sum_by (λ i. f (nodes_of ns i)) (range_with_len 1 (length ns)) ≡ sum_by f ns)
+    → queued ≡ sum_by queued_count nodes → AreQueued (length nodes) start moves queued
+queued_here start nodes left moves queued keeps at_all is = (nodes_of nodes, keeps.ends, is ∙ sym (at_all nodes queued_count))
 
 -- ---- Which steps are accepted
 

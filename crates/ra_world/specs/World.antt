@@ -103,6 +103,14 @@ pub record AnswersStep (old : WorldState) (step : Step) (result : Result Outcome
   pub err : OnErr result (new ≡ old)
   pub memory : IsErrOf result Memory → MayNeedMemory old.count old.start old.moves step ⊎ IsFull old.moves
 
+-- at the nodes at the end of a run, this many requests wait
+abbrev pub AreWaiting : ℕ → ℕ → List Move → ℕ → Type 0
+AreWaiting n start moves waiting = (nodes : ℕ → NodeState) × EndsWith n start moves nodes × (waiting ≡ waiting_at_all n nodes)
+
+-- at the nodes at the end of a run, this many clients are queued
+abbrev pub AreQueued : ℕ → ℕ → List Move → ℕ → Type 0
+AreQueued n start moves queued = (nodes : ℕ → NodeState) × EndsWith n start moves nodes × (queued ≡ queued_at_all n nodes)
+
 -- the report of a run: each of its figures is what the definitions say
 pub record Reports (n start : ℕ) (moves : List Move) (report : Report) : Type 0 where
   pub marks : report.marks.items ≡ marks_of moves

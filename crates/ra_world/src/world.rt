@@ -52,7 +52,7 @@ impl<const KEEPS_MARKS: u8> WorldOf<KEEPS_MARKS> {
     ghost use Rattle.ra_world.specs.Traffic.{LeavesUnderWay, sent_by};
     ghost use Rattle.ra_world.specs.Quiet.{requests_in};
     ghost use Rattle.ra_world.specs.Run.{IsRun, GoesOn, marks_of};
-    ghost use Rattle.ra_world.specs.World.{AnswersStep};
+    ghost use Rattle.ra_world.specs.World.{AnswersStep, AreWaiting, AreQueued};
     ghost use Rattle.ra_world.specs.Keeping.{Tries};
 
     /// Makes a world of this many nodes, in which nothing has happened yet. The highest number of each resource begins
@@ -177,6 +177,28 @@ impl<const KEEPS_MARKS: u8> WorldOf<KEEPS_MARKS> {
         ensures count { IsNodeNumber self.now.count }
     {
         self.under_way.len()
+    }
+
+    /// Returns how many requests wait. It does not allocate. The cost is linear in the number of nodes.
+    pub fn waiting(&self) -> u128
+        ensures value { AreWaiting self.now.count self.now.start self.now.moves result }
+        ensures run { IsRun self.now.count self.now.start self.now.moves }
+        ensures count { IsNodeNumber self.now.count }
+    {
+        kept_runs_go_on();
+        waiting_at(&self.nodes)
+    }
+
+    /// Returns how many clients are queued. It does not allocate. The cost is linear in the number of nodes.
+    pub fn queued(&self) -> u128
+        ensures value { AreQueued self.now.count self.now.start self.now.moves result }
+        ensures run { IsRun self.now.count self.now.start self.now.moves }
+        ensures count { IsNodeNumber self.now.count }
+    {
+        kept_runs_go_on();
+        // There are at most as many queued clients as steps, so their count fits.
+        let _steps = self.log.len();
+        queued_at(&self.nodes)
     }
 
     /// Returns how many steps were made. It does not allocate.
