@@ -18,7 +18,7 @@ impl Sending {
         Sending { lock }
     }
 
-    /// Waits until no round is at work here. None begins as long as the caller has what is returned.
+    /// Waits until no round is at work here. While the caller keeps the guard, none begins.
     pub fn share<R: Wait>(&self, rt: &R) -> Option<RwLockReadGuard<'_, ()>> {
         match &self.lock {
             Some(lock) => Some(lock.read(rt)),
@@ -26,7 +26,7 @@ impl Sending {
         }
     }
 
-    /// Waits until no thread is sending. None begins as long as the caller has what is returned.
+    /// Waits until no thread is sending. While the caller keeps the guard, none begins.
     pub fn alone<R: Wait>(&self, rt: &R) -> Option<RwLockWriteGuard<'_, ()>> {
         match &self.lock {
             Some(lock) => Some(lock.write(rt)),

@@ -327,8 +327,8 @@ impl Site {
     }
 
     /// Does the same for a site that is one of this many, from this start. No contract tells what is under a lock, so the book is
-    /// looked at. If it is not whole, or were it another one, as it never is, an empty book of the node is returned, which is
-    /// stopped: for the cause of the book, or `Refused` if it has none.
+    /// looked at. If it is not whole, an empty book of the node is returned, which is stopped: for the cause of the book, or
+    /// `Refused` if it has none. The same would come of the book of another node or cluster, which is never there.
     pub(crate) fn close_as(self, alloc: Global, nodes: u16, start: u64) -> Book
         requires count { IsNodeNumber nodes }
         requires member { self ≤ nodes }

@@ -212,7 +212,7 @@ impl Book {
         self.add(alloc, clock, BookKind::Got(frame))
     }
 
-    /// Flags the sent frame that is equal to this one as lost; were there equal ones, the first. It does not allocate. The
+    /// Flags the sent frame that is equal to this one as lost, or the first of several equal ones. It does not allocate. The
     /// cost is logarithmic in the number of the sent frames, and linear in the number of nodes.
     ///
     /// # Errors

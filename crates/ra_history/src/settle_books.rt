@@ -56,7 +56,7 @@ fn is_member(book: &Book, place: usize, count: usize, start: u64) -> bool
 /// what happened at the nodes. Books settle, unless memory runs out, exactly if none of the first four errors below holds. With n
 /// events and frames sent, m grants and k books the cost is that of the run, plus n log n, m log m and k n. That of the
 /// run is linear in n, on average. If there was no memory to know the clients of a long queue, each ask looks through its name's
-/// queue, too. If there was none to know where each message under way is, each frame that came looks through those under way.
+/// queue, too. If there was none for an index of the messages under way, each frame that came looks through those under way.
 ///
 /// # Errors
 ///

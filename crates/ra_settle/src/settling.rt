@@ -106,7 +106,7 @@ fn settle_ordered(
 }
 
 /// Settles the books that were gathered from a text, in which the line after the last one would have this number, with what came to
-/// them. They are lent, so that each is dropped at one exit.
+/// them. They are borrowed, so that each is dropped in one place only.
 ///
 /// # Errors
 ///
