@@ -30,6 +30,9 @@ NOT_A_MARK = """not a mark: expected request, enter or leave and then NODE CLIEN
 ended by a line feed alone
 """
 NOT_SENT = "its sender's book did not send this frame with this clock: expected one that ra node prints for that book\n"
+NO_CLUSTER = """a node has two books, or books name different numbers of nodes or starts, or the book of a node is missing: \
+expected one book of each node, with one NODES and one START
+"""
 
 
 def is_refused(words, done):
@@ -179,3 +182,8 @@ class Growth(PreloadTest):
         line = "receive 02020002000100000000000000000100000000000000020172"
         cause = f", in the book of node 1, a frame of node 2 with clock 2: {NOT_SENT.rstrip()}"
         self.expect_of_line("settle", TEXTS["BOOKS_UNASKED"], "invalid 3 NotSent\n", line, cause, NOT_SENT, quotes=False)
+
+    def test_growth_of_a_note_on_a_second_book(self):
+        line = "book 1 1 2 0"
+        cause = ": this node has a book already, which begins at line 1: expected one book of each node"
+        self.expect_of_line("settle", f"{line}\n{line}\n", "invalid 2 Books\n", line, cause, NO_CLUSTER, quotes=False)

@@ -1,7 +1,7 @@
-"""Books of 64 nodes, and lines of any bytes."""
+"""Books of 64 nodes, lines of any bytes, and what is said of wrong lines far on in a long text."""
 import unittest
 
-from cases import run
+from cases import RaTest, run
 
 
 def answer(book):
@@ -45,3 +45,67 @@ class Books(unittest.TestCase):
 
     def test_the_book_of_each_node_is_needed(self):
         self.assertEqual((3, b"invalid 127 Books\n"), run("settle", highest_books(63))[:2])
+
+
+# Client 0 of node 1 of 2 asks at clock 1, and 5999 others are queued: 6001 lines of 76903 bytes. Notes on other commands remember
+# 65537 bytes of an input.
+LONG = "book 1 1 2 0\n" + "".join(f"ask {client} r X\n" for client in range(6000))
+# The REQUEST of client 0 with its clock, and with another one.
+REQUEST = "receive 02010001000201000000000000000100000000000000010172"
+REQUEST_AT_2 = "receive 02010001000201000000000000000100000000000000020172"
+NO_LINE = "not a line of a book (see ra settle --help); each line ends with a line feed alone, and the text begins with the \
+first line of a book"
+NOT_TAKEN = "the node of this book does not take this event: give the book to ra node to see why"
+ONE_EACH = "expected one book of each node"
+NOT_SENT = "its sender's book did not send this frame with this clock: expected one that ra node prints for that book"
+TWICE = "this message came by an earlier line: expected each message once, unless --repeats is given"
+
+
+class LongBooks(RaTest):
+    """What is said of a wrong line does not depend on how long the text before it is."""
+
+    def expect_note(self, books, line, cause, note, words="settle"):
+        """Fails unless this line of the books is wrong for this cause, and this is said of it."""
+        self.expect(words=words, input=books, status=3, output=f"invalid {line} {cause}\n", note=f"ra: line {line}{note}\n")
+
+    def test_the_text_is_long(self):
+        self.assertEqual((6001, 76903), (LONG.count("\n"), len(LONG)))
+
+    def test_a_line_of_no_form(self):
+        self.expect_note(f"{LONG}what\n", 6002, "Line", f", 'what', in the book of node 1: {NO_LINE}")
+        # The first 60 bytes of a line are quoted.
+        for count in (60, 61, 256, 257, 100000):
+            shown = "w" * 60 + (".." if count > 60 else "")
+            self.expect_note(f"{LONG}{'w' * count}\n", 6002, "Line", f", '{shown}', in the book of node 1: {NO_LINE}")
+
+    def test_an_event_that_is_refused(self):
+        self.expect_note(f"{LONG}release 9 r\n", 6002, "Refused", f", 'release 9 r', in the book of node 1: {NOT_TAKEN}")
+        frame = f", '{REQUEST}', in the book of node 1, a frame of node 1 with clock 1"
+        self.expect_note(f"{LONG}{REQUEST}\n", 6002, "Refused", f"{frame}: {NOT_TAKEN}")
+
+    def test_a_second_book(self):
+        again = "this node has a book already, which begins at line"
+        self.expect_note(f"{LONG}book 1 1 2 0\n", 6002, "Books", f", 'book 1 1 2 0': {again} 1: {ONE_EACH}")
+        books = f"book 1 2 2 0\n{LONG}book 1 1 2 0\n"
+        self.expect_note(books, 6003, "Books", f", 'book 1 1 2 0': {again} 2: {ONE_EACH}")
+
+    def test_a_book_of_another_cluster(self):
+        expected = "expected NODES 2 and START 0, as at line 1"
+        for first in ("book 1 2 3 0", "book 1 2 2 5"):
+            self.expect_note(f"{LONG}{first}\n", 6002, "Books", f", '{first}': {expected}")
+
+    def test_a_book_is_missing(self):
+        expected = "expected one book of each of 2 nodes"
+        self.expect_note(LONG, 6002, "Books", f": the book of node 2 is missing: {expected}")
+        # A line without a line feed is passed over.
+        self.expect_note(f"{LONG}what", 6002, "Books", f": the book of node 2 is missing: {expected}")
+
+    def test_a_frame_that_was_not_sent(self):
+        frame = f", '{REQUEST_AT_2}', in the book of node 2, a frame of node 1 with clock 2: {NOT_SENT}"
+        books = f"{LONG}book 1 2 2 0\n{REQUEST_AT_2}\n"
+        self.expect_note(books, 6003, "NotSent", frame)
+        self.expect_note(books, 6003, "NotSent", frame, "settle --repeats --trace")
+
+    def test_a_message_that_comes_again(self):
+        books = f"{LONG}book 1 2 2 0\n{REQUEST}\n{REQUEST}\n"
+        self.expect_note(books, 6004, "Twice", f", '{REQUEST}', in the book of node 2, a frame of node 1 with clock 1: {TWICE}")

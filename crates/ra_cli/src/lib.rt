@@ -34,6 +34,7 @@ mod survey_text;
 mod surveying;
 mod usage;
 mod verdict;
+mod wrong_line;
 
 pub use answering::answer;
 pub use command_line::CommandFault;

@@ -107,7 +107,7 @@ fn cause_of(alloc: Global, words: &[String], seen: &Seen, remark: &Remark) -> Sa
             text: NO_BOOK,
         },
         Remark::Unread => Said::Text(NO_INPUT),
-        Remark::Unsettled { line, cause } => Said::Line {
+        Remark::Unsettled { line, cause, .. } => Said::Line {
             line: *line,
             text: text_cause_text(*cause),
         },

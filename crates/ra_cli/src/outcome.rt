@@ -2,6 +2,7 @@
 ghost use Rattle.std.specs.Prelude.{◌≡◌};
 
 use crate::refusal::Refusal;
+use crate::wrong_line::WrongLine;
 use ra_settle::TextCause;
 use ra_trace::{Cause, MarkCause, MarksVerdict, Verdict};
 
@@ -19,19 +20,31 @@ pub enum Remark {
     /// The run of some seed ended so.
     SomeUnfinished,
     /// The text is no trace: its first wrong line, and why.
-    NoTrace { line: u64, cause: Cause },
+    NoTrace {
+        line: u64,
+        cause: Cause,
+    },
     /// The text is not a book: its first line is not that of a book.
     NoBook,
     /// The reader of a book failed.
     Unread,
-    /// The books of a text do not settle: the line that is wrong, and why.
-    Unsettled { line: u64, cause: TextCause },
+    /// The books of a text do not settle: the line that is wrong, why, and what is known of it.
+    Unsettled {
+        line: u64,
+        cause: TextCause,
+        place: WrongLine,
+    },
     /// The text of books is too long.
     TooManyBooks,
     /// The log is no run of the lock table: its first wrong line, and why.
-    NoLog { line: u64, cause: MarkCause },
+    NoLog {
+        line: u64,
+        cause: MarkCause,
+    },
     /// The text is a trace in which this many messages were sent, or a run of the lock table, in which none is.
-    Ends { sent: u128 },
+    Ends {
+        sent: u128,
+    },
 }
 
 /// Returns whether a status says that nothing was refused, and neither the input nor the output failed.

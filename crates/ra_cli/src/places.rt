@@ -185,7 +185,7 @@ pub fn place_of(
             let text = mark_cause_text(cause);
             line_place(alloc, seen, line, LineCause::Marks(cause), text)
         }
-        Remark::Unsettled { line, cause } => unsettled_note(alloc, seen.bytes()?, line, cause),
+        Remark::Unsettled { line, cause, place } => unsettled_note(alloc, line, cause, &place),
         _ => place_in(alloc, words, seen.bytes()?, remark, last_seed),
     };
     said.unwrap_or(None)

@@ -10,6 +10,7 @@ use crate::outcome::{Outcome, Remark, UNFINISHED};
 use crate::refusal::Refusal;
 use crate::serving::{DONE, refuse, written};
 use crate::verdict::push_invalid;
+use crate::wrong_line::{WrongLine, wrong_line};
 use ra_settle::{SettleTextError, SettledText, TextCause, settle_text};
 use ra_stamp::Memory;
 use ra_trace::{TraceError, trace_text};
@@ -196,15 +197,21 @@ fn show<W: Write>(alloc: Global, asked: SettleTask, text: &SettledText, writer: 
     }
 }
 
-/// Prints the line of a text that does not settle.
-fn contradict<W: Write>(alloc: Global, line: u64, cause: TextCause, writer: &mut W) -> Outcome
+/// Prints the line of a text that does not settle, of which this is known.
+fn contradict<W: Write>(
+    alloc: Global,
+    line: u64,
+    cause: TextCause,
+    place: WrongLine,
+    writer: &mut W,
+) -> Outcome
     ensures { (asked : SettleTask) (input : List ℕ) → IsWrong asked.repeats input line cause
         → TellsSettled asked input (W.contents writer.old) (W.contents writer.new) result.status }
 {
     match unsettled_text(alloc, line, cause) {
         Ok(text) => {
             let status = written(writer, text.as_bytes(), UNFINISHED);
-            Outcome::judged(status, Some(Remark::Unsettled { line, cause }))
+            Outcome::judged(status, Some(Remark::Unsettled { line, cause, place }))
         }
         Err(_) => refuse_memory(writer),
     }
@@ -216,7 +223,9 @@ fn settle_input<W: Write>(alloc: Global, asked: SettleTask, input: &[u8], writer
 {
     match settle_text(alloc, input, asked.repeats) {
         Ok(text) => show(alloc, asked, &text, writer),
-        Err(SettleTextError::Invalid { line, cause }) => contradict(alloc, line, cause, writer),
+        Err(SettleTextError::Invalid { line, cause }) => {
+            contradict(alloc, line, cause, wrong_line(input, line), writer)
+        }
         Err(SettleTextError::Memory) => refuse_memory(writer),
     }
 }
