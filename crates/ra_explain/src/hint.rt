@@ -21,6 +21,16 @@ const REPORT: &str =
 const SURVEY: &str =
     "this looks like the output of ra sim --seeds: use --seed and --trace to print the trace of one seed";
 
+/// The hint for the line that says that no run was found.
+const NONE: &str =
+    "this looks like the output of ra sim --find, which found no such run and so printed no trace";
+
+/// The hint for a line of a book.
+const BOOK: &str = "this looks like a book, which ra node and ra settle read";
+
+/// What is said of a tab in a line.
+pub const TAB: &str = "a tab does not separate fields: fields are separated by one space";
+
 /// The hint for a refusal.
 const REFUSAL: &str = "this looks like a refusal by the command that should have printed the text";
 
@@ -42,6 +52,18 @@ pub const AT_FIRST: &[Hint] = &[
     Hint {
         prefix: "\u{feff}",
         text: ENCODED,
+    },
+    Hint {
+        prefix: "trace\t",
+        text: TAB,
+    },
+    Hint {
+        prefix: "trace 1\t",
+        text: TAB,
+    },
+    Hint {
+        prefix: "trace 2\t",
+        text: TAB,
     },
     Hint {
         prefix: "trace",
@@ -74,6 +96,14 @@ pub const AT_FIRST: &[Hint] = &[
     Hint {
         prefix: "limit ",
         text: SURVEY,
+    },
+    Hint {
+        prefix: "none",
+        text: NONE,
+    },
+    Hint {
+        prefix: "book ",
+        text: BOOK,
     },
     Hint {
         prefix: "refused ",
@@ -110,6 +140,14 @@ pub const AT_MARKS: &[Hint] = &[
     Hint {
         prefix: "requests ",
         text: TOTALS,
+    },
+    Hint {
+        prefix: "none",
+        text: NONE,
+    },
+    Hint {
+        prefix: "book ",
+        text: BOOK,
     },
     Hint {
         prefix: "refused ",

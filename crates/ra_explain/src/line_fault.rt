@@ -1,12 +1,17 @@
 //! Which field of a line of a trace or mark log is wrong, and what it may contain.
+use crate::hint::TAB;
 use crate::line_field::LineField;
 use crate::line_form::{LineForm, form_of};
 use ra_text::{Note, cut};
 use ra_trace::Version;
 use std::alloc::Global;
 
-/// Adds what a field contains and what it must be.
+/// Adds what a field contains and what it must be, or that a tab does not separate fields.
 fn push_wrong(note: &mut Note, field: LineField, text: &[u8], version: Option<Version>) {
+    if text.contains(&b'\t') {
+        note.push(TAB);
+        return;
+    }
     note.push(field.name());
     if text.is_empty() {
         note.push(" is empty (a single space separates fields): must be ");

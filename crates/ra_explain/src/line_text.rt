@@ -1,5 +1,5 @@
 //! The texts for lines that do not belong in a trace or mark log, or that are out of place.
-use crate::hint::{AT_FIRST, AT_LATER, AT_MARKS, hint_at};
+use crate::hint::{AT_FIRST, AT_LATER, AT_MARKS, TAB, hint_at};
 use crate::line_fault::push_line_fault;
 use crate::line_form::{FIRST_FORMS, MARK_FORMS, STEP_FORMS, form_of};
 use crate::tail::Tail;
@@ -48,6 +48,12 @@ fn end_text(tail: &Tail<'_>) -> Option<&'static str> {
     }
 }
 
+/// Returns what is said of a line that has none of the words that it may begin with: that a tab does not separate fields if it has
+/// one, and otherwise `text`.
+fn unless_tab<'a>(line: &[u8], text: &'a str) -> &'a str {
+    if line.contains(&b'\t') { TAB } else { text }
+}
+
 /// Adds the text for a first line that does not begin a trace.
 fn push_first_line(alloc: Global, note: &mut Note, text: &[u8]) {
     if !push_line_fault(alloc, note, FIRST_FORMS, text, version_of(text)) {
@@ -88,7 +94,7 @@ fn push_later_line(
     if let Some(misplaced) = misplaced_text(text, version) {
         note.push(misplaced);
     } else if form_of(MARK_FORMS, text).is_none() && form_of(STEP_FORMS, text).is_none() {
-        note.push(hint_at(AT_LATER, text).unwrap_or(WORDS));
+        note.push(unless_tab(text, hint_at(AT_LATER, text).unwrap_or(WORDS)));
     } else if !push_line_fault(alloc, note, MARK_FORMS, text, version)
         && !push_line_fault(alloc, note, STEP_FORMS, text, version)
     {
@@ -122,6 +128,6 @@ pub fn push_mark_text(alloc: Global, note: &mut Note, tail: &Tail<'_>, other: &s
     if let Some(text) = end_text(tail) {
         note.push(text);
     } else if !push_line_fault(alloc, note, MARK_FORMS, tail.line, Some(Version::Two)) {
-        note.push(hint_at(AT_MARKS, tail.line).unwrap_or(other));
+        note.push(hint_at(AT_MARKS, tail.line).unwrap_or(unless_tab(tail.line, other)));
     }
 }

@@ -37,6 +37,21 @@ fn claim_of(claims: &[Claim], entry: &Entry) -> Option<Claim> {
     None
 }
 
+/// Returns the first claim at the node of an entry, or if there is none, the first of its client, if there is one.
+fn nearest_of(claims: &[Claim], entry: &Entry) -> Option<Claim> {
+    for claim in claims {
+        if claim.entry.stamp.node == entry.stamp.node {
+            return Some(*claim);
+        }
+    }
+    for claim in claims {
+        if claim.entry.client == entry.client {
+            return Some(*claim);
+        }
+    }
+    None
+}
+
 /// Returns whether an entry waits.
 fn is_waiting(claims: &[Claim], entry: &Entry) -> bool {
     match claim_of(claims, entry) {
@@ -88,8 +103,21 @@ fn push_granted(note: &mut Note, before: &Before) {
     note.number(before.granted_at);
 }
 
+/// Adds that an entry was never requested. If there is a claim like it, adds that claim in its place, with its number.
+fn push_nearest(note: &mut Note, entry: &Entry, claims: &[Claim]) {
+    match nearest_of(claims, entry) {
+        Some(claim) => {
+            note.push(": ");
+            claim.push_in_the_way(note);
+            note.push(", with number ");
+            note.number(claim.entry.stamp.seq);
+        }
+        None => note.push(": it was never requested"),
+    }
+}
+
 /// Adds what became of an entry that should wait or hold and does not: it already holds, still waits, was released, or
-/// was never requested.
+/// was never requested. In the last case, a claim like it is named.
 fn push_fate(note: &mut Note, line: u64, text: &[u8], entry: &Entry, before: &Before) {
     if let Some(claim) = claim_of(&before.claims, entry) {
         note.push(if claim.holds {
@@ -101,7 +129,7 @@ fn push_fate(note: &mut Note, line: u64, text: &[u8], entry: &Entry, before: &Be
         return;
     }
     match last_line_with(line, text, &Mark::Left(*entry)) {
-        0 => note.push(": it was never requested"),
+        0 => push_nearest(note, entry, &before.claims),
         left => {
             note.push(": it was released in line ");
             note.number(left);

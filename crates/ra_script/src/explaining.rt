@@ -9,7 +9,43 @@ use ra_text::Note;
 use std::alloc::Global;
 use toml::Table;
 
-/// Repeats what the parser says of a text that is not a TOML document.
+/// What a text looks like that begins with a word.
+struct Look {
+    prefix: &'static str,
+    text: &'static str,
+}
+
+/// What a text looks like that is no script.
+const LOOKS: &[Look] = &[
+    Look {
+        prefix: "trace ",
+        text: "; it looks like a trace, which ra check reads",
+    },
+    Look {
+        prefix: "request ",
+        text: "; it looks like marks, which ra check --marks reads without the six totals of a report",
+    },
+    Look {
+        prefix: "requests ",
+        text: "; it looks like the output of ra sim or ra cluster",
+    },
+    Look {
+        prefix: "book ",
+        text: "; it looks like a book, which ra node and ra settle read",
+    },
+];
+
+/// Says what a text looks like, if that is known.
+fn say_look(note: &mut Note, text: &str) {
+    for look in LOOKS {
+        if text.starts_with(look.prefix) {
+            note.push(look.text);
+            return;
+        }
+    }
+}
+
+/// Repeats what the parser says of a text that is not a TOML document, and says what the text looks like.
 fn say_toml(alloc: Global, note: &mut Note, text: &str, fault: &toml::de::Error) {
     note.refuse_if(fault.is_memory());
     note.push("the script is not valid TOML: ");
@@ -17,9 +53,7 @@ fn say_toml(alloc: Global, note: &mut Note, text: &str, fault: &toml::de::Error)
         Ok(said) => note.lines(said.trim_end()),
         Err(_) => note.refuse_if(true),
     }
-    if text.starts_with("trace ") {
-        note.push("; it looks like a trace, which ra check reads");
-    }
+    say_look(note, text);
 }
 
 /// Returns what is said of a refused operation.
