@@ -10,7 +10,7 @@ use crate::serving::policy_of;
 use crate::settle_notes::unsettled_note;
 use ra_cluster::ClusterError;
 use ra_explain::{
-    LineCause, Unanswered, choices_note, digits_note, frame_note, line_note, order_note,
+    LineCause, OpenText, Unanswered, choices_note, digits_note, frame_note, line_note, order_note,
     unanswered_note, unfinished_note, version_of,
 };
 use ra_schedule::{Policy, chance};
@@ -127,6 +127,30 @@ fn last_line_place(
         line,
         &tail,
         seen.feeds(),
+        seen.open(),
+        cause,
+        text,
+    )
+}
+
+/// Returns what is said of a wrong line at the end of these lines, which are remembered from the first one on.
+fn known_place(
+    alloc: Global,
+    read: &[u8],
+    line: u64,
+    feeds: u64,
+    cause: LineCause,
+    text: &str,
+) -> Said {
+    // A text that is drawn is not read line by line, so its lines are followed now.
+    let before = OpenText::before(alloc, read, line);
+    line_note(
+        alloc,
+        version_of(read),
+        line,
+        read,
+        feeds,
+        &before,
         cause,
         text,
     )
@@ -142,7 +166,7 @@ fn line_place(alloc: Global, seen: &Seen, line: u64, cause: LineCause, text: &st
         let (read, feeds) = through_line(bytes, line);
         // Of a longer text only the first bytes are remembered.
         if feeds >= line || bytes.len() < Seen::MAX_BYTES {
-            return line_note(alloc, version_of(bytes), line, read, feeds, cause, text);
+            return known_place(alloc, read, line, feeds, cause, text);
         }
     }
     match seen.line() {

@@ -28,7 +28,7 @@ pub struct Seen {
     feeds: u64,
     /// Whether the line before was `end`.
     is_after_end: bool,
-    /// What is open after the lines that were looked at and taken whole.
+    /// What is open after the lines that were looked at and taken whole, but for the last one if nothing was read after it.
     open: OpenText,
 }
 
@@ -102,7 +102,7 @@ impl Seen {
         self.is_after_end
     }
 
-    /// Returns what is open after the lines that were looked at and taken whole.
+    /// Returns what is open after the lines that were looked at and taken whole, but for the last one if nothing was read after it.
     pub fn open(&self) -> &OpenText {
         &self.open
     }
@@ -126,8 +126,7 @@ impl Seen {
     /// Remembers what comes next, of which nothing is taken yet.
     fn show(&mut self, next: &[u8]) {
         if self.is_over() {
-            self.is_after_end = self.taken_line() == b"end\n".as_slice();
-            self.taken = 0;
+            self.end_line();
         }
         self.line.truncate(self.taken);
         let room = self.line.remaining_capacity();
@@ -151,8 +150,7 @@ impl Seen {
     fn show_read(&mut self, read: &[u8]) {
         match self.shown_behind(read) {
             Some(line) => {
-                self.is_after_end = self.taken_line() == b"end\n".as_slice();
-                self.taken = 0;
+                self.end_line();
                 self.line = line;
             }
             None => self.show(read),
@@ -168,17 +166,17 @@ impl Seen {
                 None => false,
             };
         self.take(count);
-        if count > 0 && self.is_over() {
-            self.follow_line();
-        }
     }
 
-    /// Follows the last line, which was taken with its line feed.
-    fn follow_line(&mut self) {
+    /// Follows the last line, which was taken with its line feed, and goes on to the next one. So what is open is known as it was
+    /// before a wrong line, after which nothing is read.
+    fn end_line(&mut self) {
+        self.is_after_end = self.taken_line() == b"end\n".as_slice();
         let end = self.taken.saturating_sub(1);
-        if let Some(line) = self.line.as_slice().get(..end) {
+        if let (true, Some(line)) = (self.is_by_lines, self.line.as_slice().get(..end)) {
             self.open.take_line(line);
         }
+        self.taken = 0;
     }
 
     /// Remembers that `count` bytes of what was shown are taken.

@@ -1,108 +1,117 @@
-//! What the marks before a line of a text say of one name.
-use crate::claim::{Claim, note_mark};
-use crate::lines::{is_one_line, next_line};
-use ra_stamp::{Entry, Mark, Name};
+//! What the lines before a mark say of its name.
+use crate::claim::Claim;
+use crate::open_client::{Client, client_of, released_of};
+use crate::open_text::{OpenText, Past, Stage};
+use ra_stamp::Entry;
 use ra_text::Note;
-use ra_trace::Line;
 use std::alloc::Global;
 
-/// What the marks before a line say of one name.
+/// What the lines before a mark say of its name.
 #[derive(Drop)]
 pub struct Before {
-    name: Name,
-    /// The requests that wait and hold there, in the order of the requests.
+    /// The requests that wait and hold there, in the order of the lines since which they do.
     pub claims: Vec<Claim>,
-    /// The greatest number that was granted, and its line. Both are 0 if no number was.
+    /// The greatest number that is known to be granted, and its line. Both are 0 if none is known.
     pub granted: u64,
     pub granted_at: u64,
+    /// The request of the mark, if it was released, and otherwise the last one that its node released there, with the line in
+    /// which that was, if that is known.
+    pub released: Option<Claim>,
+    /// Whether each release is known.
+    pub is_past_whole: bool,
 }
 
-/// Returns the entry of a mark.
-pub fn entry_of(mark: &Mark) -> &Entry {
-    match mark {
-        Mark::Requested(entry) | Mark::Entered(entry) | Mark::Left(entry) => entry,
-    }
-}
-
-/// Returns the mark of a line, if it is one.
-fn mark_of(line: &Line) -> Option<Mark> {
-    match line {
-        Line::Marked(mark) => Some(*mark),
-        Line::First { .. } | Line::Stepped(_) | Line::Last => None,
-    }
-}
-
-/// Returns the mark that a text without its line feed is, if it is one.
-pub fn mark_in(text: &[u8]) -> Option<Mark> {
-    match &Line::parse(text) {
-        Some(line) => mark_of(line),
-        None => None,
-    }
-}
-
-/// Returns the last line before the one with the number `line` that is this mark, or 0 if no line is.
-pub fn last_line_with(line: u64, text: &[u8], mark: &Mark) -> u64 {
-    let mut last = 0;
-    let mut rest = text;
-    for number in 1..line {
-        let Some((shown, behind)) = next_line(rest) else {
-            break;
-        };
-        rest = behind;
-        if mark_in(shown) == Some(*mark) {
-            last = number;
+/// Returns the place of the first claim that is there since a line after this one, or the number of claims.
+fn place_after(claims: &[Claim], line: u64) -> usize {
+    for (place, claim) in claims.iter().enumerate() {
+        if claim.since > line {
+            return place;
         }
     }
-    last
+    claims.len()
 }
 
 impl Before {
-    /// Takes a mark on the name, which is in the line with the number `line`.
-    fn take_mark(&mut self, note: &mut Note, line: u64, mark: &Mark) {
-        let noted = note_mark(&mut self.claims, mark, line);
-        note.refuse_if(!noted);
-        if let Mark::Entered(entry) = mark {
-            if entry.stamp.seq > self.granted {
-                self.granted = entry.stamp.seq;
-                self.granted_at = line;
+    /// Notes that a number was granted in a line.
+    fn note_grant(&mut self, number: u64, line: u64) {
+        let is_first = number == self.granted && line < self.granted_at;
+        if number > self.granted || is_first {
+            self.granted = number;
+            self.granted_at = line;
+        }
+    }
+
+    /// Takes a client that waits, is queued or holds. If memory runs out, the note records it.
+    fn take_client(&mut self, note: &mut Note, client: &Client) {
+        if client.stage == Stage::Queued {
+            return;
+        }
+        let claim = client.claim;
+        if claim.holds {
+            self.note_grant(claim.entry.stamp.seq, claim.since);
+        }
+        let place = place_after(&self.claims, claim.since).min(self.claims.len());
+        note.refuse_if(self.claims.insert(place, claim).is_err());
+    }
+
+    /// Returns whether a request that the node of an entry released says more of that entry than the one that is known.
+    fn is_nearer(&self, released: &Claim, entry: &Entry) -> bool {
+        match &self.released {
+            Some(known) => {
+                released.entry == *entry || (known.entry != *entry && known.since < released.since)
+            }
+            None => true,
+        }
+    }
+
+    /// Takes a request that was released.
+    fn take_past(&mut self, past: &Past, entry: &Entry) {
+        let Some(released) = released_of(past) else {
+            return;
+        };
+        let other = &released.entry;
+        if other.name == entry.name {
+            self.note_grant(other.stamp.seq, past.granted);
+            if other.stamp.node == entry.stamp.node && self.is_nearer(&released, entry) {
+                self.released = Some(released);
             }
         }
     }
 
-    /// Takes the line with the number `line`.
-    fn take(&mut self, note: &mut Note, line: u64, shown: &[u8]) {
-        if let Some(mark) = mark_in(shown) {
-            if entry_of(&mark).name == self.name {
-                self.take_mark(note, line, &mark);
+    /// Takes what waits and holds. If memory runs out, the note records it.
+    fn take_open(&mut self, note: &mut Note, text: &OpenText, entry: &Entry) {
+        for (words, open) in text.open.iter() {
+            if let Some(client) = client_of(words, open) {
+                if client.claim.entry.name == entry.name {
+                    self.take_client(note, &client);
+                }
             }
         }
     }
 
-    /// Returns what comes before the line with the number `line` of a text that goes up to its line feed, or `None` if the text
-    /// does not begin with its first line. The cost is the number of lines times that of the requests that wait and hold at once.
+    /// Returns what comes before the mark of an entry in the line with the number `line`, or `None` if that is not known. If memory
+    /// runs out, the note records it. The cost is linear in how many wait, are queued, hold or were released last.
     pub fn at_line(
         alloc: Global,
         note: &mut Note,
         line: u64,
-        text: &[u8],
-        name: Name,
+        text: &OpenText,
+        entry: &Entry,
     ) -> Option<Before> {
+        if !text.is_before(line) {
+            return None;
+        }
         let mut before = Before {
-            name,
             claims: Vec::new(alloc),
             granted: 0,
             granted_at: 0,
+            released: None,
+            is_past_whole: text.is_past_whole,
         };
-        let mut rest = text;
-        for number in 1..line {
-            let (shown, behind) = next_line(rest)?;
-            rest = behind;
-            before.take(note, number, shown);
+        before.take_open(note, text, entry);
+        for past in &text.past {
+            before.take_past(past, entry);
         }
-        if is_one_line(rest) {
-            Some(before)
-        } else {
-            None
-        }
+        Some(before)
     }
 }

@@ -3,7 +3,7 @@ use crate::lines::{is_one_line, next_line};
 use ra_stamp::{Mark, Marks};
 use ra_text::Note;
 use ra_trace::Line;
-use ra_world::{MarklessWorld, Step, StepError};
+use ra_world::{MarklessWorld, Step};
 use std::alloc::Global;
 
 /// A run, as far as the lines of its trace were followed.
@@ -11,8 +11,6 @@ use std::alloc::Global;
 pub struct Course {
     /// The world after the steps so far.
     world: MarklessWorld,
-    /// How many nodes there are.
-    nodes: u16,
     /// The marks of the last step.
     marks: Marks,
     /// How many of them have come.
@@ -54,7 +52,6 @@ impl Course {
         match MarklessWorld::new(alloc, nodes, start) {
             Ok(world) => Some(Course {
                 world,
-                nodes,
                 marks: Marks::new(alloc),
                 come: 0,
             }),
@@ -118,11 +115,5 @@ impl Course {
     /// Returns the next mark of the last step, if one has not come yet.
     pub fn due(&self) -> Option<Mark> {
         self.marks.at(self.come)
-    }
-
-    /// Returns why a step is not made, and how many nodes there are, or `None` if it is made.
-    pub fn refusal(&mut self, alloc: Global, step: &Step) -> Option<(StepError, u16)> {
-        let why = self.world.step(alloc, step).err()?;
-        Some((why, self.nodes))
     }
 }

@@ -3,6 +3,7 @@ use crate::due::push_due;
 use crate::line_text::{push_mark_text, push_trace_text};
 use crate::not_under_way::push_not_under_way;
 use crate::obstacle::push_obstacle;
+use crate::open_text::OpenText;
 use crate::refused_step::push_refused;
 use crate::tail::{Tail, tail_of};
 use ra_stamp::Memory;
@@ -36,6 +37,7 @@ fn push_cause(
     line: u64,
     tail: &Tail<'_>,
     read: &[u8],
+    before: &OpenText,
     cause: LineCause,
     text: &str,
 ) {
@@ -44,13 +46,13 @@ fn push_cause(
             push_trace_text(alloc, note, line, tail, version, text);
         }
         LineCause::Trace(Cause::Marks) => push_due(alloc, note, line, read, text),
-        LineCause::Trace(Cause::Refused) => push_refused(alloc, note, line, read, tail.line, text),
+        LineCause::Trace(Cause::Refused) => push_refused(note, line, before, tail.line, text),
         LineCause::Trace(Cause::NotUnderWay) => {
             push_not_under_way(note, line, read, tail.line, text);
         }
         LineCause::Marks(MarkCause::Line) => push_mark_text(alloc, note, tail, text),
         LineCause::Trace(_) | LineCause::Marks(_) => {
-            push_obstacle(alloc, note, line, read, tail.line, cause, text);
+            push_obstacle(alloc, note, line, before, tail.line, cause, text);
         }
     }
 }
@@ -59,10 +61,11 @@ fn push_cause(
 /// itself, and what is wrong with it. The last is `text` if nothing more precise is found. `version` is that which the first line
 /// of a trace names, as far as it is known ([`version_of`](crate::version_of)). `read` are the last bytes that were read, up to
 /// the end of that line. If they begin with the line before, what comes after `end` is known as such. If they are all that were
-/// read, it is said what is in the way of a mark, which mark is due, why a node refuses a step, and why a message is not under
-/// way. `feeds` is how many line feeds were read in all: as many as `line` if the line was read to its line feed, and fewer if it
-/// has none or the text ends before it. The cost is the number of lines times that of the requests that wait and hold the line's
-/// name at once. For a step and the mark that is due, it is the cost of the steps before it.
+/// read, it is said which mark is due, and why a message is not under way. `feeds` is how many line feeds were read in all: as
+/// many as `line` if the line was read to its line feed, and fewer if it has none or the text ends before it. `before` has
+/// followed the lines before that one. If it has, it is said what is in the way of a mark, and why a node refuses a step. The cost
+/// is linear in `read`, plus that of the steps in it for the mark that is due; and linear in how many wait, are queued, hold or
+/// were released last.
 ///
 /// # Errors
 ///
@@ -73,12 +76,15 @@ pub fn line_note(
     line: u64,
     read: &[u8],
     feeds: u64,
+    before: &OpenText,
     cause: LineCause,
     text: &str,
 ) -> Result<Option<String>, Memory> {
     let mut note = Note::new(alloc);
     let tail = tail_of(read, feeds >= line);
     push_line(&mut note, line, &tail);
-    push_cause(alloc, &mut note, version, line, &tail, read, cause, text);
+    push_cause(
+        alloc, &mut note, version, line, &tail, read, before, cause, text,
+    );
     note.finish()
 }

@@ -1,7 +1,9 @@
 //! What is in the way of a mark that a lock table does not allow.
-use crate::before::{Before, entry_of, last_line_with, mark_in};
+use crate::before::Before;
 use crate::claim::Claim;
 use crate::line::LineCause;
+use crate::mark::{entry_of, mark_in};
+use crate::open_text::OpenText;
 use ra_stamp::{Entry, Mark};
 use ra_text::Note;
 use ra_trace::MarkCause;
@@ -95,57 +97,66 @@ fn cause_text(cause: MarkCause) -> &'static str {
     }
 }
 
-/// Adds the number that a request must exceed.
-fn push_granted(note: &mut Note, before: &Before) {
-    note.push(": ");
-    note.number(before.granted);
-    note.push(" was granted in line ");
-    note.number(before.granted_at);
+/// Adds the number that a request must exceed, if it is known.
+fn push_granted(note: &mut Note, entry: &Entry, before: &Before) {
+    if before.granted >= entry.stamp.seq {
+        note.push(": ");
+        note.number(before.granted);
+        note.push(" was granted in line ");
+        note.number(before.granted_at);
+    }
 }
 
-/// Adds that an entry was never requested. If there is a claim like it, adds that claim in its place, with its number.
-fn push_nearest(note: &mut Note, entry: &Entry, claims: &[Claim]) {
-    match nearest_of(claims, entry) {
-        Some(claim) => {
-            note.push(": ");
-            claim.push_in_the_way(note);
-            note.push(", with number ");
-            note.number(claim.entry.stamp.seq);
-        }
-        None => note.push(": it was never requested"),
+/// Adds the number of a request.
+fn push_number(note: &mut Note, claim: &Claim) {
+    note.push(", with number ");
+    note.number(claim.entry.stamp.seq);
+}
+
+/// Adds that an entry was never requested, if that is known. If there is a claim like it, adds that claim in its place, and if its
+/// node released another one before, adds that one.
+fn push_nearest(note: &mut Note, entry: &Entry, before: &Before) {
+    if let Some(claim) = nearest_of(&before.claims, entry) {
+        note.push(": ");
+        claim.push_in_the_way(note);
+        push_number(note, &claim);
+    } else if let Some(released) = &before.released {
+        note.push(": ");
+        released.push(note, " last released ", " in line ");
+        push_number(note, released);
+    } else if before.is_past_whole {
+        note.push(": it was never requested");
     }
+}
+
+/// Adds what became of an entry that has a claim: it holds, or still waits.
+fn push_claim(note: &mut Note, claim: &Claim) {
+    note.push(if claim.holds {
+        ": it was granted in line "
+    } else {
+        ": it has waited since line "
+    });
+    note.number(claim.since);
 }
 
 /// Adds what became of an entry that should wait or hold and does not: it already holds, still waits, was released, or
 /// was never requested. In the last case, a claim like it is named.
-fn push_fate(note: &mut Note, line: u64, text: &[u8], entry: &Entry, before: &Before) {
+fn push_fate(note: &mut Note, entry: &Entry, before: &Before) {
     if let Some(claim) = claim_of(&before.claims, entry) {
-        note.push(if claim.holds {
-            ": it was granted in line "
-        } else {
-            ": it has waited since line "
-        });
-        note.number(claim.since);
+        push_claim(note, &claim);
         return;
     }
-    match last_line_with(line, text, &Mark::Left(*entry)) {
-        0 => push_nearest(note, entry, &before.claims),
-        left => {
+    match &before.released {
+        Some(released) if released.entry == *entry => {
             note.push(": it was released in line ");
-            note.number(left);
+            note.number(released.since);
         }
+        _ => push_nearest(note, entry, before),
     }
 }
 
 /// Adds what is in the way of a mark, for this cause.
-fn push_details(
-    note: &mut Note,
-    line: u64,
-    text: &[u8],
-    entry: &Entry,
-    before: &Before,
-    cause: MarkCause,
-) {
+fn push_details(note: &mut Note, entry: &Entry, before: &Before, cause: MarkCause) {
     match cause {
         MarkCause::NodeBusy | MarkCause::Held | MarkCause::Earlier => {
             if let Some(claim) = first_in_the_way(&before.claims, entry, cause) {
@@ -153,22 +164,14 @@ fn push_details(
                 claim.push_in_the_way(note);
             }
         }
-        MarkCause::NotAbove => push_granted(note, before),
-        MarkCause::NotWaiting | MarkCause::NotHeld => push_fate(note, line, text, entry, before),
+        MarkCause::NotAbove => push_granted(note, entry, before),
+        MarkCause::NotWaiting | MarkCause::NotHeld => push_fate(note, entry, before),
         MarkCause::Line => {}
     }
 }
 
 /// Adds why a mark is wrong (in a mark log, `other`) and what is in its way.
-fn push_mark_fault(
-    note: &mut Note,
-    line: u64,
-    text: &[u8],
-    mark: &Mark,
-    before: &Before,
-    cause: LineCause,
-    other: &str,
-) {
+fn push_mark_fault(note: &mut Note, mark: &Mark, before: &Before, cause: LineCause, other: &str) {
     let why = match cause {
         LineCause::Marks(why) => {
             note.push(other);
@@ -181,16 +184,16 @@ fn push_mark_fault(
             why
         }
     };
-    push_details(note, line, text, entry_of(mark), before, why);
+    push_details(note, entry_of(mark), before, why);
 }
 
-/// Adds why the mark in line `line` is wrong and what is in its way, or `other` if that is not known. It is known if
-/// the text begins with its first line and ends with line `line`.
+/// Adds why the mark in line `line` is wrong and what is in its way, or `other` if that is not known. It is known if the lines
+/// before it were followed. The cost is linear in how many wait, are queued, hold or were released last.
 pub fn push_obstacle(
     alloc: Global,
     note: &mut Note,
     line: u64,
-    text: &[u8],
+    text: &OpenText,
     shown: &[u8],
     cause: LineCause,
     other: &str,
@@ -199,9 +202,8 @@ pub fn push_obstacle(
         note.push(other);
         return;
     };
-    let name = entry_of(&mark).name;
-    match Before::at_line(alloc, note, line, text, name) {
-        Some(before) => push_mark_fault(note, line, text, &mark, &before, cause, other),
+    match Before::at_line(alloc, note, line, text, entry_of(&mark)) {
+        Some(before) => push_mark_fault(note, &mark, &before, cause, other),
         None => note.push(other),
     }
 }

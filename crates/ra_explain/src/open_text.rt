@@ -9,6 +9,9 @@ const MAX_WORDS: usize = 71;
 /// The most clients that are followed at once.
 const MAX_OPEN: usize = 65_536;
 
+/// How many of the last releases are kept.
+const MAX_PAST: usize = 1024;
+
 /// The words of a line after its first word, with zeros after them.
 pub type Words = [u8; MAX_WORDS];
 
@@ -28,6 +31,16 @@ pub enum Stage {
 pub struct Open {
     pub stage: Stage,
     pub since: u64,
+}
+
+/// A request that was released.
+#[derive(Clone, Copy)]
+pub struct Past {
+    /// The words of its marks.
+    pub words: Words,
+    /// The lines in which it was granted and released.
+    pub granted: u64,
+    pub left: u64,
 }
 
 /// How much is left at the end of a text.
@@ -191,18 +204,26 @@ fn without_last(words: &[u8]) -> &[u8] {
 
 /// Follows a text line by line, and knows what is left at its end if it is a trace or a mark log. It does not check that.
 /// So it only looks at the first word of a line, and compares the others as they are. It counts what is left without
-/// memory. For the clients that wait, are queued or hold it needs memory, at most for 65,536 of them at once.
+/// memory. For the clients that wait, are queued or hold it needs memory, at most for 65,536 of them at once, and for the last
+/// 1,024 releases.
 #[derive(Drop)]
 pub struct OpenText {
     /// Whether each line began as one of a trace or of a mark log does.
     goes_on: bool,
     pub(crate) is_trace: bool,
+    /// The words of the first line of a trace.
+    pub(crate) first: Words,
     pub(crate) lines: u64,
     pub(crate) counts: Counts,
     /// The clients that wait, are queued or hold: by the words of the ask if queued, and otherwise by those of the marks.
     pub(crate) open: HashMap<Words, Open>,
     /// Whether these are all: memory never ran out, and they were never too many.
     pub(crate) is_whole: bool,
+    /// The last releases: the next one comes to the place `next_past`.
+    pub(crate) past: Vec<Past>,
+    next_past: usize,
+    /// Whether these are all: memory never ran out, and they were never too many.
+    pub(crate) is_past_whole: bool,
 }
 
 impl OpenText {
@@ -211,6 +232,7 @@ impl OpenText {
         OpenText {
             goes_on: true,
             is_trace: false,
+            first: [0; MAX_WORDS],
             lines: 0,
             counts: Counts {
                 asks: 0,
@@ -223,7 +245,30 @@ impl OpenText {
             },
             open: HashMap::new(alloc),
             is_whole: true,
+            past: Vec::new(alloc),
+            next_past: 0,
+            is_past_whole: true,
         }
+    }
+
+    /// Makes one that has taken the lines of a text before the one with this number, as far as the text has them. The cost is linear
+    /// in the text.
+    pub fn before(alloc: Global, text: &[u8], line: u64) -> OpenText {
+        let mut open = OpenText::new(alloc);
+        let mut rest = text;
+        for _ in 1..line {
+            let (shown, Some(after)) = cut(rest, b'\n') else {
+                break;
+            };
+            open.take_line(shown);
+            rest = after;
+        }
+        open
+    }
+
+    /// Returns whether all that waits, is queued or holds before the line with this number is known, which comes next.
+    pub(crate) fn is_before(&self, line: u64) -> bool {
+        self.goes_on && self.is_whole && self.lines.saturating_add(1) == line
     }
 
     /// Takes the next line, without its line feed. After a line that belongs neither to a trace nor to a mark log it takes
@@ -241,14 +286,20 @@ impl OpenText {
     /// Takes a line that does this and has these words after its first one, once it is counted.
     fn take(&mut self, act: Act, words: &[u8]) {
         match act {
-            Act::Begin => self.is_trace = true,
+            Act::Begin => self.begin(words),
             Act::Ask => self.keep(words, Stage::Queued),
             Act::Request => self.take_request(words),
             Act::Enter => self.keep(words, Stage::Holds),
-            Act::Leave => self.forget(words),
+            Act::Leave => self.take_leave(words),
             Act::Deliver | Act::Lose | Act::Repeat | Act::Pass => {}
             Act::Stray => self.goes_on = false,
         }
+    }
+
+    /// Takes the first line of a trace.
+    fn begin(&mut self, words: &[u8]) {
+        self.is_trace = true;
+        self.first = kept(words);
     }
 
     /// Takes that a request is made. In a trace its client asked before.
@@ -268,6 +319,35 @@ impl OpenText {
             since: self.lines,
         };
         self.is_whole = self.is_whole && has_room && self.open.insert(kept(words), open).is_ok();
+    }
+
+    /// Takes that a client leaves.
+    fn take_leave(&mut self, words: &[u8]) {
+        let kept = kept(words);
+        if let Some(open) = self.open.remove(&kept) {
+            self.keep_past(Past {
+                words: kept,
+                granted: open.since,
+                left: self.lines,
+            });
+        }
+    }
+
+    /// Keeps a release, in place of the oldest one if there are too many, unless memory runs out.
+    fn keep_past(&mut self, past: Past) {
+        if self.past.len() < MAX_PAST {
+            self.is_past_whole = self.past.push(past).is_ok() && self.is_past_whole;
+            return;
+        }
+        self.is_past_whole = false;
+        if let Some(oldest) = self.past.get_mut(self.next_past) {
+            *oldest = past;
+        }
+        self.next_past = if self.next_past < MAX_PAST - 1 {
+            self.next_past + 1
+        } else {
+            0
+        };
     }
 
     /// Forgets the client with these words.

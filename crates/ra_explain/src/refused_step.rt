@@ -1,12 +1,12 @@
 //! Why a node refuses what a client wants at a line of a trace.
-use crate::before::Before;
 use crate::claim::Claim;
-use crate::course::Course;
+use crate::open_client::{Client, client_of};
+use crate::open_text::{OpenText, Stage};
+use arrayvec::ArrayVec;
 use ra_stamp::{Name, NodeId};
-use ra_text::Note;
+use ra_text::{Note, cut};
 use ra_trace::Line;
-use ra_world::{NodeRefusal, Step, StepError};
-use std::alloc::Global;
+use ra_world::Step;
 
 /// What a client wants from its node.
 #[derive(Clone, Copy)]
@@ -43,15 +43,19 @@ fn step_in(text: &[u8]) -> Option<Step> {
 }
 
 impl Wish {
-    /// Returns the claim of the client at its node, if it has one.
-    fn claim_in(&self, claims: &[Claim]) -> Option<Claim> {
-        for claim in claims {
-            let entry = &claim.entry;
-            if entry.client == self.client
-                && entry.stamp.node == self.node
-                && entry.name == self.name
-            {
-                return Some(*claim);
+    /// Returns whether it is what this client wants at its node.
+    fn is_of(&self, client: &Client) -> bool {
+        let entry = &client.claim.entry;
+        entry.client == self.client && entry.stamp.node == self.node && entry.name == self.name
+    }
+
+    /// Returns the client, if it waits, is queued or holds.
+    fn client_in(&self, text: &OpenText) -> Option<Client> {
+        for (words, open) in text.open.iter() {
+            if let Some(client) = client_of(words, open) {
+                if self.is_of(&client) {
+                    return Some(client);
+                }
             }
         }
         None
@@ -111,81 +115,80 @@ impl Wish {
         note.push(": the greatest is 18446744073709551615");
     }
 
-    /// Adds why the node refuses it.
-    fn push_refusal(&self, note: &mut Note, why: NodeRefusal, claim: &Option<Claim>) {
-        match why {
-            NodeRefusal::Busy => self.push_busy(note, claim),
-            NodeRefusal::Exhausted => self.push_exhausted(note),
-            NodeRefusal::NotHeld => self.push_not_held(note, claim),
+    /// Adds why the node refuses that the client asks, which waits, is queued or holds if it is given.
+    fn push_no_ask(&self, note: &mut Note, client: &Option<Client>) {
+        match client {
+            Some(client) => self.push_busy(note, &claim_of(client)),
+            None => self.push_exhausted(note),
+        }
+    }
+
+    /// Adds why the node refuses that the client leaves, which waits or is queued if it is given.
+    fn push_no_leave(&self, note: &mut Note, client: &Option<Client>) {
+        match client {
+            Some(client) => self.push_not_held(note, &claim_of(client)),
+            None => self.push_not_held(note, &None),
         }
     }
 }
 
-/// Returns what a client wants, why it is refused, and how many nodes there are, if that is known.
-fn refusal_of(
-    alloc: Global,
-    note: &mut Note,
-    line: u64,
-    text: &[u8],
-    shown: &[u8],
-) -> Option<(Wish, StepError, u16)> {
-    let step = step_in(shown)?;
-    let wish = wish_of(&step)?;
-    match Course::at_line(alloc, note, line, text) {
-        Some(mut course) => refusal_after(alloc, &mut course, wish, &step),
+/// Returns the claim of a client, or `None` if the client is queued.
+fn claim_of(client: &Client) -> Option<Claim> {
+    if client.stage == Stage::Queued {
+        None
+    } else {
+        Some(client.claim)
+    }
+}
+
+/// Returns the number of nodes, if this is the first line of a trace.
+fn count_of(line: &Line) -> Option<u16> {
+    match line {
+        Line::First { nodes, .. } => Some(nodes.get()),
+        Line::Stepped(_) | Line::Marked(_) | Line::Last => None,
+    }
+}
+
+/// Returns the number of nodes of a trace, if its first line was followed.
+fn nodes_of(text: &OpenText) -> Option<u16> {
+    // Zeros come after the words, which have none.
+    let (words, _) = cut(&text.first, 0);
+    let mut line: ArrayVec<u8, 77> = ArrayVec::new();
+    line.try_extend_from_slice(b"trace ").ok();
+    line.try_extend_from_slice(words).ok();
+    match &Line::parse(&line) {
+        Some(first) => count_of(first),
         None => None,
     }
 }
 
-/// Returns what a client wants with a step, why it is refused after a course, and how many nodes there are.
-fn refusal_after(
-    alloc: Global,
-    course: &mut Course,
-    wish: Wish,
-    step: &Step,
-) -> Option<(Wish, StepError, u16)> {
-    let (why, nodes) = course.refusal(alloc, step)?;
-    Some((wish, why, nodes))
-}
-
-/// Returns the claim of a client before line `line`, if it has one.
-fn claim_before(
-    alloc: Global,
-    note: &mut Note,
-    line: u64,
-    text: &[u8],
-    wish: &Wish,
-) -> Option<Claim> {
-    match Before::at_line(alloc, note, line, text, wish.name) {
-        Some(before) => wish.claim_in(&before.claims),
-        None => None,
-    }
-}
-
-/// Adds why the step in line `line` of a trace is refused, or `other` if that is not known. It is known if the text
-/// begins with the first line and ends with line `line`. If memory runs out, the note records it. The cost is that of
-/// the steps before it, plus the number of lines times the number of requests that wait and hold at once.
-pub fn push_refused(
-    alloc: Global,
-    note: &mut Note,
-    line: u64,
-    text: &[u8],
-    shown: &[u8],
-    other: &str,
-) {
-    let Some((wish, why, nodes)) = refusal_of(alloc, note, line, text, shown) else {
-        note.push(other);
+/// Adds why a node of these refuses a step of a client after a text.
+fn push_refusal(note: &mut Note, text: &OpenText, nodes: u16, step: &Step, wish: &Wish) {
+    if wish.node.get() > nodes {
+        wish.push_no_node(note, nodes);
         return;
-    };
-    match why {
-        StepError::NoNode => wish.push_no_node(note, nodes),
-        StepError::Node(why) => {
-            let claim = claim_before(alloc, note, line, text, &wish);
-            wish.push_refusal(note, why, &claim);
+    }
+    let client = wish.client_in(text);
+    match step {
+        Step::Ask { .. } => wish.push_no_ask(note, &client),
+        _ => wish.push_no_leave(note, &client),
+    }
+}
+
+/// Returns a step, and what the client of it wants, if a line without its line feed is a step of a client.
+fn wished_in(text: &[u8]) -> Option<(Step, Wish)> {
+    let step = step_in(text)?;
+    let wish = wish_of(&step)?;
+    Some((step, wish))
+}
+
+/// Adds why the step in line `line` of a trace is refused, or `other` if that is not known. It is known if the lines before it
+/// were followed. The cost is linear in how many wait, are queued and hold.
+pub fn push_refused(note: &mut Note, line: u64, text: &OpenText, shown: &[u8], other: &str) {
+    match (wished_in(shown), nodes_of(text)) {
+        (Some((step, wish)), Some(nodes)) if text.is_before(line) => {
+            push_refusal(note, text, nodes, &step, &wish);
         }
-        // No step of a client takes a message.
-        StepError::NotUnderWay => note.push(other),
-        // A refused step needs no memory, so this step would be made if there were enough.
-        StepError::Memory => note.refuse_if(true),
+        _ => note.push(other),
     }
 }

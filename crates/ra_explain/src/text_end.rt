@@ -1,29 +1,17 @@
 //! What is left at the end of a trace or of a mark log.
-use crate::before::{entry_of, mark_in};
-use crate::claim::{Claim, want_text};
+use crate::claim::want_text;
+use crate::open_client::{Client, client_of};
 use crate::open_text::{Left, Open, OpenText, Stage, Words};
-use arrayvec::ArrayVec;
 use ra_stamp::Memory;
-use ra_text::{Note, cut};
+use ra_text::Note;
 use std::alloc::Global;
 use std::collections::HashMap;
-
-/// The most bytes of a mark.
-const MAX_LINE: usize = 79;
 
 /// The most clients that are named at each stage.
 const MAX_CLIENTS: u64 = 4;
 
 /// The most requests that are named as blocking one request.
 const MAX_BLOCKERS: u64 = 3;
-
-/// A client that waits, is queued or holds.
-#[derive(Clone, Copy)]
-struct Client {
-    /// Its request. If the client is queued it has none yet, and the number in this one has no meaning.
-    claim: Claim,
-    stage: Stage,
-}
 
 /// Which clients are looked for.
 #[derive(Clone, Copy)]
@@ -42,39 +30,10 @@ struct TextEnd {
     is_trace: bool,
 }
 
-/// Returns the line that requests what a client with these words wants, without its line feed. A client that is queued gets
-/// the number 1.
-fn line_of(words: &[u8], stage: Stage) -> ArrayVec<u8, MAX_LINE> {
-    let mut line = ArrayVec::new();
-    line.try_extend_from_slice(b"request ").ok();
-    line.try_extend_from_slice(words).ok();
-    if let Stage::Queued = stage {
-        line.try_extend_from_slice(b" 1").ok();
-    }
-    line
-}
-
-/// Returns the client with these words.
-fn client_of(words: &[u8], open: &Open) -> Option<Client> {
-    match mark_in(&line_of(words, open.stage)) {
-        Some(mark) => Some(Client {
-            claim: Claim {
-                entry: *entry_of(&mark),
-                holds: open.stage == Stage::Holds,
-                since: open.since,
-            },
-            stage: open.stage,
-        }),
-        None => None,
-    }
-}
-
 /// Returns the clients with these words. If memory runs out, the note records it.
 fn clients_of(alloc: Global, note: &mut Note, all: &HashMap<Words, Open>) -> Vec<Client> {
     let mut clients = Vec::new(alloc);
     for (words, open) in all.iter() {
-        // Zeros come after the words, which have none.
-        let (words, _) = cut(words, 0);
         if let Some(client) = client_of(words, open) {
             note.refuse_if(clients.push(client).is_err());
         }

@@ -178,9 +178,14 @@ fn growth_of_a_performance(rt: HostRuntime) {
     assert_grown(&rt, both(both(lines, trace), choices));
 }
 
-/// Checks what is said. If the note was refused, returns that memory ran out.
+/// What is said of a line if nothing more precise is known.
+const LESS: &str = ": said of all";
+
+/// Checks what is said. If the note was refused, or says less since there was no memory for the lines before, returns that memory ran
+/// out.
 fn try_note(told: Told, text: &str) -> Result<Tried, bool> {
     match told {
+        Ok(Some(note)) if note.as_str().ends_with(LESS) && !text.ends_with(LESS) => Err(true),
         Ok(Some(note)) => Ok(tried_if(note.as_str() == text)),
         Ok(None) => Ok(Tried::Wrong),
         Err(Memory) => Err(true),

@@ -3,8 +3,8 @@ use crate::asserting::assert_row;
 use crate::choice_words::choices_of;
 use Asked::{Choice, Digits, Field, Frame, Kept, Line, Order, Script, Unanswered, Unfinished};
 use ra_explain::{
-    LineCause, choices_note, digits_note, frame_note, line_note, order_note, script_end_note,
-    unanswered_note, unfinished_note, version_of,
+    LineCause, OpenText, choices_note, digits_note, frame_note, line_note, order_note,
+    script_end_note, unanswered_note, unfinished_note, version_of,
 };
 use ra_frame::FrameError;
 use ra_schedule::Policy;
@@ -44,7 +44,17 @@ pub type Told = Result<Option<String>, Memory>;
 /// Returns what is said of a wrong line.
 fn said_of_line(alloc: Global, number: u64, tail: &[u8], feeds: u64, cause: LineCause) -> Told {
     let version = version_of(tail);
-    line_note(alloc, version, number, tail, feeds, cause, "said of all")
+    let before = OpenText::before(alloc, tail, number);
+    line_note(
+        alloc,
+        version,
+        number,
+        tail,
+        feeds,
+        &before,
+        cause,
+        "said of all",
+    )
 }
 
 /// Returns what is said of a run by a policy that does not finish.
