@@ -4,7 +4,7 @@ ghost use Rattle.std.specs.Io.KnownBytes.{Consumes, IsAtEnd};
 ghost use Rattle.ra_book.specs.Input.{KeepsShown, TakesShown, TakesPiece};
 
 use crate::line::Line;
-use ra_text::cut;
+use ra_world::cut;
 use std::io::{BufRead, Read};
 
 /// What was taken.

@@ -19,8 +19,8 @@ use ra_draw::DrawError;
 use ra_explain::end_note;
 use ra_schedule::DriveError;
 use ra_script::{ChoicesError, PerformError, read_choices};
-use ra_text::Note;
 use ra_trace::TraceError;
+use ra_world::Note;
 use std::alloc::Global;
 use std::io::Write;
 

@@ -16,8 +16,8 @@ use ra_explain::{
 use ra_schedule::{Policy, chance};
 use ra_script::{PerformError, explain_script};
 use ra_stamp::Memory;
-use ra_text::cut;
 use ra_trace::Version;
+use ra_world::cut;
 use std::alloc::Global;
 
 /// What is said of a place, or nothing, if there is nothing to say or no memory for it: then the cause alone is named.

@@ -3,7 +3,7 @@ ghost use Rattle.std.specs.Prelude.{◌≡◌};
 
 use arrayvec::ArrayVec;
 use ra_explain::OpenText;
-use ra_text::cut;
+use ra_world::cut;
 use std::alloc::Global;
 use std::io;
 use std::io::{BufRead, Read};

@@ -3,7 +3,7 @@ use crate::note_texts::text_cause_text;
 use crate::wrong_line::{BooksFault, WrongLine};
 use ra_settle::TextCause;
 use ra_stamp::Memory;
-use ra_text::Note;
+use ra_world::Note;
 use std::alloc::Global;
 
 /// Adds what a line begins with, in which book it is, and which frame comes by it, if one does.

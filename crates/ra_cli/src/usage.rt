@@ -6,7 +6,7 @@ use crate::notes::is_choice;
 use crate::said::Said;
 use clap::error::ErrorKind;
 use clap::{ArgMatches, Command, Error as ParseError};
-use ra_text::Note;
+use ra_world::Note;
 use std::alloc::Global;
 
 /// What is said about rates of faults that are out of range.

@@ -3,7 +3,7 @@ use ra_book::{First, MAX_LINE, event_of};
 use ra_frame::Frame;
 use ra_history::BookKind;
 use ra_stamp::NodeId;
-use ra_text::cut;
+use ra_world::cut;
 
 /// The most bytes of a line that are kept: one more than a note quotes, so that it tells that there are more.
 const MAX_SHOWN: usize = 61;

@@ -6,9 +6,8 @@ use crate::seat::Seat;
 use crate::stays::Stays;
 use crate::ways::{Fate, Moment, Start, Ways};
 use ra_stamp::{Mark, Memory, Message, Mode};
-use ra_text::cut;
 use ra_trace::Line;
-use ra_world::{MarklessWorld, Step};
+use ra_world::{MarklessWorld, Step, cut};
 use std::alloc::Global;
 
 /// The most marks of a step: a client leaves, and the next one of its node gets a number and enters.

@@ -11,8 +11,8 @@ use crate::pen::Piece::{Number, Text};
 use crate::shapes::Sheet;
 use crate::words::ending_of;
 use ra_stamp::Memory;
-use ra_text::cut;
 use ra_trace::Line;
+use ra_world::cut;
 use std::alloc::Global;
 
 /// How many requests the whole run has, and how many messages, if it is a trace, or grants, if it is a mark log.

@@ -3,7 +3,7 @@ use crate::claim::Claim;
 use crate::open_client::{Client, client_of, released_of};
 use crate::open_text::{OpenText, Past, Stage};
 use ra_stamp::Entry;
-use ra_text::Note;
+use ra_world::Note;
 use std::alloc::Global;
 
 /// What the lines before a mark say of its name.

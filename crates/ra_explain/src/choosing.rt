@@ -4,7 +4,7 @@ use crate::standing::RunEnd;
 use ra_schedule::{Choice, Choices, Policy, Script};
 use ra_script::{ChoicesError, read_choices};
 use ra_stamp::Memory;
-use ra_text::Note;
+use ra_world::Note;
 use std::alloc::Global;
 
 /// Returns the policy of the first `count` choices.

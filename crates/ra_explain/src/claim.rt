@@ -1,6 +1,6 @@
 //! The requests that wait and hold, by the marks that came.
 use ra_stamp::{Entry, Mark, conflicts};
-use ra_text::Note;
+use ra_world::Note;
 use std::alloc::Global;
 
 /// A request that was made and not given back.

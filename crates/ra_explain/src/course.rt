@@ -1,9 +1,8 @@
 //! The run of a trace, as far as its lines go.
 use crate::lines::{is_one_line, next_line};
 use ra_stamp::{Mark, Marks};
-use ra_text::Note;
 use ra_trace::Line;
-use ra_world::{MarklessWorld, Step};
+use ra_world::{MarklessWorld, Note, Step};
 use std::alloc::Global;
 
 /// A run, as far as the lines of its trace were followed.

@@ -1,8 +1,7 @@
 //! Which mark is due at a line of a trace.
 use crate::course::Course;
 use ra_stamp::Mark;
-use ra_text::Note;
-use ra_world::mark_line;
+use ra_world::{Note, mark_line};
 use std::alloc::Global;
 
 /// Adds a mark as its line, in quotes.

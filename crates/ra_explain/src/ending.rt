@@ -3,7 +3,7 @@ use crate::held::{Lock, held_at_end};
 use crate::script::script_in;
 use ra_schedule::Script;
 use ra_stamp::Memory;
-use ra_text::Note;
+use ra_world::Note;
 use std::alloc::Global;
 
 /// The most clients that a note names, and the most names of each.

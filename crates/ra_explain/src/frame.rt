@@ -4,7 +4,7 @@ use crate::frame_field::{Field, fields_of, place_of};
 use crate::hexadecimal::first_line;
 use ra_frame::FrameError;
 use ra_stamp::Memory;
-use ra_text::Note;
+use ra_world::Note;
 use std::alloc::Global;
 
 /// What a name may contain.

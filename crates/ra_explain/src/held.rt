@@ -1,7 +1,7 @@
 //! Which names a client of a script holds, operation by operation.
 use ra_schedule::{Op, Script};
 use ra_stamp::{Mode, Name};
-use ra_text::Note;
+use ra_world::Note;
 use std::alloc::Global;
 
 /// A name that a client locks, and the place of the operation that does so, counted from 0.

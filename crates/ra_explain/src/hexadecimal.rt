@@ -1,6 +1,6 @@
 //! Why an input is not a line of hexadecimal digits.
 use ra_stamp::Memory;
-use ra_text::{Note, cut};
+use ra_world::{Note, cut};
 use std::alloc::Global;
 
 /// The most bytes that a line may have, without its line feed.

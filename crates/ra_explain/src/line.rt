@@ -7,8 +7,8 @@ use crate::open_text::OpenText;
 use crate::refused_step::push_refused;
 use crate::tail::{Tail, tail_of};
 use ra_stamp::Memory;
-use ra_text::Note;
 use ra_trace::{Cause, MarkCause, Version};
+use ra_world::Note;
 use std::alloc::Global;
 
 /// Why a line is wrong: of a trace, or of a mark log.

@@ -2,8 +2,8 @@
 use crate::hint::TAB;
 use crate::line_field::LineField;
 use crate::line_form::{LineForm, form_of};
-use ra_text::{Note, cut};
 use ra_trace::Version;
+use ra_world::{Note, cut};
 use std::alloc::Global;
 
 /// Adds what a field contains and what it must be, or that a tab does not separate fields.

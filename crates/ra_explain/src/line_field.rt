@@ -1,6 +1,6 @@
 //! The fields of the lines of traces and mark logs, and what they may contain.
-use ra_text::Note;
 use ra_trace::{Line, Version};
+use ra_world::Note;
 use std::alloc::Global;
 
 /// A field of a line.

@@ -1,6 +1,6 @@
 //! The forms of the lines of traces and of mark logs.
 use crate::line_field::LineField;
-use ra_text::Note;
+use ra_world::Note;
 
 /// How the lines of a kind are made: by these words, and then these fields, with one space before each.
 #[derive(Clone, Copy)]

@@ -3,8 +3,8 @@ use crate::hint::{AT_FIRST, AT_LATER, AT_MARKS, TAB, hint_at};
 use crate::line_fault::push_line_fault;
 use crate::line_form::{FIRST_FORMS, MARK_FORMS, STEP_FORMS, form_of};
 use crate::tail::Tail;
-use ra_text::Note;
 use ra_trace::Version;
+use ra_world::Note;
 use std::alloc::Global;
 
 /// How many bytes of a line without a line feed are read.

@@ -1,5 +1,5 @@
 //! The lines of a text, one after the other.
-use ra_text::cut;
+use ra_world::cut;
 
 /// Returns the first line of a text, without its line feed, and what follows that. Returns `None` if the text has no line
 /// feed. The cost is linear in the line.

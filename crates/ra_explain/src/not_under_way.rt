@@ -1,6 +1,6 @@
 //! Why a message is not under way at a line of a trace.
 use crate::lines::{is_one_line, next_line};
-use ra_text::Note;
+use ra_world::Note;
 
 /// Returns the message that a line delivers or loses, or `None` for any other line.
 fn taken_in(line: &[u8]) -> Option<&[u8]> {

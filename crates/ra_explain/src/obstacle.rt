@@ -5,8 +5,8 @@ use crate::line::LineCause;
 use crate::mark::{entry_of, mark_in};
 use crate::open_text::OpenText;
 use ra_stamp::{Entry, Mark};
-use ra_text::Note;
 use ra_trace::MarkCause;
+use ra_world::Note;
 use std::alloc::Global;
 
 /// Returns whether this claim is why a lock table does not allow the mark of an entry, given the cause.

@@ -3,7 +3,7 @@ use crate::claim::Claim;
 use crate::mark::{entry_of, mark_in};
 use crate::open_text::{Open, Past, Stage, Words};
 use arrayvec::ArrayVec;
-use ra_text::cut;
+use ra_world::cut;
 
 /// The most bytes of a mark.
 const MAX_LINE: usize = 79;

@@ -1,5 +1,5 @@
 //! Follows the lines of a trace or of a mark log, for what is left at its end.
-use ra_text::cut;
+use ra_world::cut;
 use std::alloc::Global;
 use std::collections::HashMap;
 

@@ -3,7 +3,7 @@ use crate::held::{Held, Lock, held_at_end};
 use crate::script::script_in;
 use ra_schedule::{Op, Script};
 use ra_stamp::Memory;
-use ra_text::Note;
+use ra_world::Note;
 use std::alloc::Global;
 
 /// Returns the first operation of a client that locks a name while it holds that name or a greater one, and the first

@@ -4,9 +4,8 @@ use crate::open_client::{Client, client_of};
 use crate::open_text::{OpenText, Stage};
 use arrayvec::ArrayVec;
 use ra_stamp::{Name, NodeId};
-use ra_text::{Note, cut};
 use ra_trace::Line;
-use ra_world::Step;
+use ra_world::{Note, Step, cut};
 
 /// What a client wants from its node.
 #[derive(Clone, Copy)]

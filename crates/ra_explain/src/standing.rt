@@ -2,8 +2,7 @@
 use crate::claim::{Claim, claims_after};
 use ra_schedule::{Choice, Choices, Op, Policy, Script};
 use ra_stamp::{Entry, Mark, Mode, Name};
-use ra_text::Note;
-use ra_world::Report;
+use ra_world::{Note, Report};
 use std::alloc::Global;
 
 /// The end of a run.

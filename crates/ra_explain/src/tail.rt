@@ -1,5 +1,5 @@
 //! The end of what was read of a text.
-use ra_text::cut;
+use ra_world::cut;
 
 /// The line of a text at which the reading ended.
 #[derive(Clone, Copy)]

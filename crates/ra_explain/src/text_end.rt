@@ -3,7 +3,7 @@ use crate::claim::want_text;
 use crate::open_client::{Client, client_of};
 use crate::open_text::{Left, Open, OpenText, Stage, Words};
 use ra_stamp::Memory;
-use ra_text::Note;
+use ra_world::Note;
 use std::alloc::Global;
 use std::collections::HashMap;
 

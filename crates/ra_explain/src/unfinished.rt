@@ -4,7 +4,7 @@ use crate::script::{run_of, script_in};
 use crate::standing::{RunEnd, Standing};
 use ra_schedule::{Policy, Script};
 use ra_stamp::{Entry, Memory, Name, NodeId};
-use ra_text::Note;
+use ra_world::Note;
 use std::alloc::Global;
 
 /// The most clients that are described.

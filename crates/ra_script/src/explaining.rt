@@ -5,7 +5,7 @@ use crate::reading::{MAX_TEXT, add_op};
 use crate::shape_note::say_shape;
 use ra_schedule::Script;
 use ra_stamp::{Memory, NodeId};
-use ra_text::Note;
+use ra_world::Note;
 use std::alloc::Global;
 use toml::Table;
 

@@ -6,7 +6,7 @@ ghost use Rattle.ra_script.specs.Operation.{spelling, name_in};
 
 use ra_schedule::Op;
 use ra_stamp::{Mode, Name};
-use ra_text::cut;
+use ra_world::cut;
 
 /// Returns the operation that a string spells, or `None` if it spells none: a word, one space and a name. The word of a mode,
 /// `X`, `S`, `IS`, `IX` or `SIX`, locks the name in that mode, and `U` unlocks it. It does not allocate.

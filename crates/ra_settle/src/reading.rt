@@ -11,7 +11,7 @@ use crate::came::CameList;
 use crate::gathering::{Gathered, LineFault, opened};
 use crate::{SettleTextError, TextCause};
 use ra_book::{First, MAX_LINE};
-use ra_text::cut;
+use ra_world::cut;
 use std::alloc::Global;
 
 /// Returns what the first line of a text says, or `None` if it is not that of a book.

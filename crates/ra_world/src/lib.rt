@@ -1,7 +1,9 @@
 //! What a run of the cluster is, what holds of every run, and a cluster in one thread that makes such runs. Also the
-//! lines in which its report is printed, and how bytes are read and written.
+//! lines in which its report is printed, how bytes are read and written, how a text is cut apart, and how a note to a person is
+//! made.
 #![tactic(auto)]
 
+mod cutting;
 mod error;
 mod fitting;
 mod input;
@@ -9,6 +11,7 @@ mod keeping;
 mod laws;
 mod lines;
 mod log;
+mod note;
 mod numbering;
 mod output;
 mod report;
@@ -18,6 +21,7 @@ mod step;
 mod target;
 mod world;
 
+pub use cutting::cut;
 pub use error::{NewError, NodeRefusal, ReadFault, RunError, StepError, WriteFault};
 pub use fitting::{steps_that_fit_together_are_runs, steps_that_fit_with_copies_are_runs};
 pub use input::read_up_to;
@@ -34,6 +38,7 @@ pub use laws::{
 pub use lines::{
     mark_line, mode_word, push_field, push_mark_line, push_number, report_text, text_of,
 };
+pub use note::Note;
 pub use output::write_out;
 pub use report::Report;
 pub use running::run;

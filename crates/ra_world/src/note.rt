@@ -1,7 +1,7 @@
 //! A note to a person as it is made, part by part.
+use crate::{mode_word, text_of};
 use itoa::{Buffer, Integer};
 use ra_stamp::{Memory, Mode, Name};
-use ra_world::{mode_word, text_of};
 use std::alloc::Global;
 
 /// The most bytes or characters of an input that are quoted at once.
