@@ -5,6 +5,7 @@ ghost use Rattle.ra_history.specs.Keeping.{Ascends, StandsFirst};
 
 use crate::Sent;
 use ra_frame::Frame;
+use ra_stamp::{Message, NodeId};
 
 /// Returns the place of the first sent frame that is equal to this one, or `None`. The cost is logarithmic in the number of the
 /// sent frames, and linear in how many of them have its clock, which are those of one event.
@@ -24,11 +25,16 @@ pub fn place_of(sent: &[Sent], frame: &Frame) -> Option<usize>
     None
 }
 
-/// Returns whether this frame is among those that were sent, and not flagged lost. The cost is that of [`place_of`].
+/// Returns whether this frame is among those that were sent, and not flagged lost. If the frames of one clock are in the order of
+/// [`rank_of`], as those of an event of a node are, the cost of a frame that is there is logarithmic in the number of the sent
+/// frames. Otherwise it is that of [`place_of`].
 pub fn is_kept(sent: &[Sent], frame: &Frame) -> bool
     requires { Ascends sent.now }
     ensures { IsTrue result ↔ Contains sent.now (record { frame = frame.now; lost = false }) }
 {
+    if is_kept_at(sent, likely_place(sent, frame), frame) {
+        return true;
+    }
     for place in first_at(sent, frame.clock)..sent.len() {
         let other = &sent[place];
         if is_kept_of(other, frame) {
@@ -47,6 +53,36 @@ fn first_at(sent: &[Sent], clock: u64) -> usize
     ensures { (k : ℕ) (d : Sent) → k < result → (slice_index_or sent.now k d).frame.clock < clock }
 {
     sent.partition_point(|other| other.frame.clock < clock)
+}
+
+/// Returns the place of a frame that was sent, if the frames of its clock are in the order of [`rank_of`]. Otherwise it may be any
+/// place.
+fn likely_place(sent: &[Sent], frame: &Frame) -> usize {
+    let clock = frame.clock;
+    let rank = rank_of(&frame.message);
+    sent.partition_point(|other| {
+        let other = &other.frame;
+        other.clock < clock || (other.clock == clock && rank_of(&other.message) < rank)
+    })
+}
+
+/// Returns which one of the messages of an event a message is: each REPLY comes before each REQUEST, and those of one kind ascend
+/// by the node that they are for.
+fn rank_of(message: &Message) -> u16 {
+    match *message {
+        Message::Reply { to, .. } => to.get(),
+        Message::Request { to, .. } => NodeId::MAX + to.get(),
+    }
+}
+
+/// Returns whether it is this frame that is at this place, and it is not flagged lost.
+fn is_kept_at(sent: &[Sent], place: usize, frame: &Frame) -> bool
+    ensures { IsTrue result → Contains sent.now (record { frame = frame.now; lost = false }) }
+{
+    match sent.get(place) {
+        Some(other) => is_kept_of(other, frame),
+        None => false,
+    }
 }
 
 /// Returns whether it is this frame that was sent, and it is not flagged lost.

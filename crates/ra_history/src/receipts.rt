@@ -14,8 +14,8 @@ use std::alloc::Global;
 use std::collections::BTreeSet;
 
 /// Checks that each frame that came was sent and not lost, and that no message came twice. The frames that a book sent ascend by
-/// clock, so that the cost of each that came is logarithmic, and linear in the number of nodes. The messages are in a set, so
-/// that the cost of each is logarithmic.
+/// clock, and a node sends those of one event in order, so that the cost of each that came is logarithmic. The messages are in a
+/// set, so that the cost of each is logarithmic, too.
 ///
 /// # Errors
 ///

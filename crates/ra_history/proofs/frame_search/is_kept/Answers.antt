@@ -12,6 +12,9 @@ loop-place-preserved c =
     none_kept_more c.args.sent.now c.args.frame.now c.loop-place.place c.index-sent-place.result c.loop-place-test.true c.index-sent-place.is c.loop-place.invariant
     (λ same. false≢true (sym c.if-is_kept_of.false ∙ c.is_kept_of.ensures.1 same))
 
+pub returns-then-is_kept_at : goal.returns-then-is_kept_at
+returns-then-is_kept_at c = yes (c.is_kept_at.ensures c.if-is_kept_at.true)
+
 pub returns-then-is_kept_of : goal.returns-then-is_kept_of
 returns-then-is_kept_of c =
     yes (stands_kept c.args.sent.now c.args.frame.now c.loop-place.place c.index-sent-place.result c.loop-place-test.true c.index-sent-place.is
