@@ -16,6 +16,7 @@ mod WasSent
 mod LostSteps
 mod Taking
 pub mod Merging
+mod NextEvents
 mod Whole
 pub mod Projections
 mod NodeMarks

@@ -3,7 +3,7 @@ use Rattle.std.proofs.Common.{◌≡◌, ◌≢◌, ◌⊎◌, ℕ, zero, suc, �
 use Rattle.std.specs.Prelude.{All, AllPairs, slice_get}
 use Rattle.std.specs.List.{filter}
 use Rattle.std.proofs.lemmas.Bool.{eq-eqb, ne_eqb, cases_eq, cases_lt}
-use Rattle.std.proofs.lemmas.List.{map-append, append-nil, take_more, take_all, get_or-set_same, get_or-set_other, length-set, get_or-replicate, length-replicate, get_or-map, get_or_read}
+use Rattle.std.proofs.lemmas.List.{map-append, append-nil, take_more, take_all, get_or-set_same, get_or-set_other, length-set, get_or-replicate, length-replicate, get_or-map}
 use Rattle.std.proofs.lemmas.List.Elements.{All-push, All-nil, All-weaker, filter-append}
 use Rattle.std.proofs.lemmas.List.Quantifiers.{all_pairs_push}
 use Rattle.std.proofs.lemmas.List.FromFn.{get_or-range_with_len}
@@ -14,7 +14,7 @@ use Rattle.ra_history.specs.declared.event_merge.PlacedEvent.{PlacedEvent}
 use Rattle.ra_history.specs.declared.event_merge.Turn.{Turn}
 use Rattle.ra_history.specs.Book.{BookState, IsWhole, HasHistory}
 use Rattle.ra_history.specs.Settled.{IsCluster, IsSettledOrder, Placed, IsBefore, events_of, steps_of, step_at}
-use Rattle.ra_history.specs.EventMerge.{IsNextOfBook, IsNotAfter, IsEarliest, placed_at, all_placed_at}
+use Rattle.ra_history.specs.EventMerge.{IsNextOfBook, IsNotAfter, IsEarliest, with_one_more, placed_at, all_placed_at}
 use Rattle.ra_history.proofs.Taking.{clocks_rise}
 use Rattle.ra_history.proofs.Whole.{HasWholeHistory, whole_history}
 
@@ -178,10 +178,6 @@ all_merged books taken placed cluster merged none =
         some_left (e ∷ events) m low none_at = none_at (get_or (e ∷ events) m e) (slice_get-get_or (e ∷ events) m e low)
     all_taken k b within at (inr all) = all
 
--- a place among the books is one of those counted
-pub within_taken : (place books count len : ℕ) → len ≡ count → count ≡ books → place < books → place < len
-within_taken place books count len is same low = omega (arith, is, same, low)
-
 -- ---- How many events are left
 
 abbrev pub left : List BookState → List ℕ → ℕ
@@ -203,44 +199,41 @@ one_less (b ∷ books) (n ∷ taken) (suc k) e low is =
 -- ---- One turn of the loop
 
 -- the earliest event is taken, and comes after the others; fewer events are left then
-pub event_taken : (books : List BookState) (taken seen : List ℕ) (placed : List Placed) (turn : Turn) (book : BookState) (written node : ℕ)
-    → IsCluster books → Merges books taken placed → seen ≡ taken → IsEarliest books seen (length books) (Some turn) → book ≡ get_or books turn.place book → HasHistory book
-    → written ≡ get_or taken turn.place written → node ≡ book.me
-    → Merges books (set taken turn.place (written + 1)) (placed ++ record { node = node; event = turn.event } ∷ [])
-    × (left books (set taken turn.place (written + 1)) < left books taken)
-event_taken books taken seen placed turn book written node cluster before same found is history wrote node_is =
+pub event_taken : (books : List BookState) (taken taken' : List ℕ) (placed : List Placed) (turn : Turn) (book : BookState) (node : ℕ)
+    → IsCluster books → Merges books taken placed → IsEarliest books taken (length books) (Some turn) → taken' ≡ with_one_more taken turn.place
+    → book ≡ get_or books turn.place book → HasHistory book → node ≡ book.me
+    → Merges books taken' (placed ++ record { node = node; event = turn.event } ∷ []) × (left books taken' < left books taken)
+event_taken books taken taken' placed turn book node cluster before earliest then is history node_is =
     let place = turn.place in
-    let earliest : IsEarliest books taken (length books) (Some turn) = subst (λ (ts : List ℕ). IsEarliest books ts (length books) (Some turn)) same found in
     let within : place < length taken = omega (arith, earliest.0, before.long) in
     let at : slice_get books place ≡ Some book = slice_get_read books (length books) place book refl earliest.0 is in
-    let value : slice_index taken place ≡ written = sym (get_or_read taken place written within wrote 0) in
     let one : earliest.1.0 ≡ book = same_Some earliest.1.0 book (sym earliest.1.1 ∙ at) in
     let here : slice_get book.events (slice_index taken place) ≡ Some turn.event = ap (λ (b : BookState). slice_get b.events (slice_index taken place)) (sym one) ∙ earliest.1.2 in
     let number : node ≡ place + 1 = node_is ∙ ap (λ (b : BookState). b.me) is ∙ number_at books cluster place book earliest.0 in
     let whole : IsWhole book = subst IsWhole (sym is) (cluster.whole place book earliest.0) in
     let merged = merges_more books taken placed turn book (whole_history book whole history) at here earliest.2 before in (
-      subst (λ (n : ℕ). Merges books (set taken place (n + 1)) (placed ++ record { node = node; event = turn.event } ∷ [])) value
-          (subst (λ (n : ℕ). Merges books (set taken place (slice_index taken place + 1)) (placed ++ record { node = n; event = turn.event } ∷ [])) (sym number) merged),
-      subst (λ (n : ℕ). left books (set taken place (n + 1)) < left books taken) value (one_less books taken place turn.event within earliest.1),
+      subst (λ (ts : List ℕ). Merges books ts (placed ++ record { node = node; event = turn.event } ∷ [])) (sym then)
+          (subst (λ (n : ℕ). Merges books (with_one_more taken place) (placed ++ record { node = n; event = turn.event } ∷ [])) (sym number) merged),
+      subst (λ (ts : List ℕ). left books ts < left books taken) (sym then) (one_less books taken place turn.event within earliest.1),
     )
 
 -- the same, of the steps that the events are
-pub turn_taken : (books : List BookState) (taken seen : List ℕ) (placed : List Placed) (turn : Turn) (book : BookState) (written node : ℕ) (step : Step) (steps steps' : List Step)
-    → IsCluster books → Merges books taken placed → seen ≡ taken → IsEarliest books seen (length books) (Some turn) → book ≡ get_or books turn.place book → HasHistory book
-    → written ≡ get_or taken turn.place written → node ≡ book.me → step ≡ step_at node turn.event.kind → steps ≡ steps_of placed → steps' ≡ steps ++ step ∷ []
-    → ((more : List Placed) × (steps' ≡ steps_of more) × Merges books (set taken turn.place (written + 1)) more) × (left books (set taken turn.place (written + 1)) < left books taken)
-turn_taken books taken seen placed turn book written node step steps steps' cluster before same found is history wrote node_is step_is steps_are more =
+pub turn_taken : (books : List BookState) (taken taken' : List ℕ) (placed : List Placed) (turn : Turn) (book : BookState) (node : ℕ) (step : Step) (steps steps' : List Step)
+    → IsCluster books → Merges books taken placed → IsEarliest books taken (length books) (Some turn) → taken' ≡ with_one_more taken turn.place
+    → book ≡ get_or books turn.place book → HasHistory book → node ≡ book.me → step ≡ step_at node turn.event.kind → steps ≡ steps_of placed → steps' ≡ steps ++ step ∷ []
+    → ((more : List Placed) × (steps' ≡ steps_of more) × Merges books taken' more) × (left books taken' < left books taken)
+turn_taken books taken taken' placed turn book node step steps steps' cluster before earliest then is history node_is step_is steps_are more =
     let this : Placed = record { node = node; event = turn.event } in
-    let one = event_taken books taken seen placed turn book written node cluster before same found is history wrote node_is in
+    let one = event_taken books taken taken' placed turn book node cluster before earliest then is history node_is in
     ((placed ++ this ∷ [], more ∙ (λ i. steps_are i ++ step_is i ∷ []) ∙ sym (map-append (λ (p : Placed). step_at p.node p.event.kind) placed (this ∷ [])), one.0), one.1)
 
 -- the same, of a list of the events with their nodes
-pub placed_more : (books : List BookState) (taken seen : List ℕ) (placed : List Placed) (turn : Turn) (book : BookState) (written node : ℕ) (events events' : List PlacedEvent)
-    → IsCluster books → Merges books taken placed → seen ≡ taken → IsEarliest books seen (length books) (Some turn) → book ≡ get_or books turn.place book → HasHistory book
-    → written ≡ get_or taken turn.place written → node ≡ book.me → all_placed_at events ≡ placed → events' ≡ events ++ record { node = node; event = turn.event } ∷ []
-    → ((more : List Placed) × (all_placed_at events' ≡ more) × Merges books (set taken turn.place (written + 1)) more) × (left books (set taken turn.place (written + 1)) < left books taken)
-placed_more books taken seen placed turn book written node events events' cluster before same found is history wrote node_is events_are more =
+pub placed_more : (books : List BookState) (taken taken' : List ℕ) (placed : List Placed) (turn : Turn) (book : BookState) (node : ℕ) (events events' : List PlacedEvent)
+    → IsCluster books → Merges books taken placed → IsEarliest books taken (length books) (Some turn) → taken' ≡ with_one_more taken turn.place
+    → book ≡ get_or books turn.place book → HasHistory book → node ≡ book.me → all_placed_at events ≡ placed → events' ≡ events ++ record { node = node; event = turn.event } ∷ []
+    → ((more : List Placed) × (all_placed_at events' ≡ more) × Merges books taken' more) × (left books taken' < left books taken)
+placed_more books taken taken' placed turn book node events events' cluster before earliest then is history node_is events_are more =
     let this : Placed = record { node = node; event = turn.event } in
-    let one = event_taken books taken seen placed turn book written node cluster before same found is history wrote node_is in
+    let one = event_taken books taken taken' placed turn book node cluster before earliest then is history node_is in
     let last : PlacedEvent = record { node = node; event = turn.event } in
     ((placed ++ this ∷ [], ap all_placed_at more ∙ map-append placed_at events (last ∷ []) ∙ ap (λ (ps : List Placed). ps ++ this ∷ []) events_are, one.0), one.1)

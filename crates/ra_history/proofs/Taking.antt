@@ -1,6 +1,6 @@
 -- The events of all books, taken one after the other, each time the earliest.
 use Rattle.std.proofs.Common.{◌≡◌, ℕ, zero, suc, ◌+◌, ◌<◌, ◌≤◌, Bool, true, false, cond, leb, List, [], ◌∷◌, Option, Some, None, slice_index, refl, sym, ap, ◌∙◌, subst, inl, inr, arith}
-use Rattle.std.specs.Prelude.{◌^◌, option_map, slice_get, IfSome, IsNone}
+use Rattle.std.specs.Prelude.{option_map, slice_get}
 use Rattle.std.proofs.lemmas.Bool.{leb-true, leb-false, cases_lt}
 use Rattle.std.proofs.lemmas.Option.{same_Some, none-some}
 use Rattle.ra_history.specs.declared.event.BookKind.{BookKind}
@@ -189,16 +189,3 @@ no_clock_no_next books taken k book at is none e next =
     let same = same_Some book next.0 (sym at ∙ next.1) in
     let read : slice_get book.events (slice_index taken k) ≡ Some e = ap (λ (b : BookState). slice_get b.events (slice_index taken k)) same ∙ next.2 in
     none e.clock (is ∙ ap (λ (o : Option BookEvent). option_map (λ (e : BookEvent). e.clock) o) read)
-
--- what is found at the place of the head
-module _ (books : List BookState) (taken : List ℕ) (count : ℕ) (head : Head) where
-  abbrev Found : Option Turn → Type 0
-  Found o = IfSome o (λ turn. (turn.place ≡ head.place) × IsNextOfBook books taken head.place turn.event × (slice_index taken head.place + 1 < 2 ^ 64))
-
-  pub turn_found : IsHeadOfEarliest books taken count (Some head) → (o : Option Turn) → Found o → (IsNone o → (e : BookEvent) → IsNextOfBook books taken head.place e → ⊥) → IsEarliest books taken count o
-  turn_found heads None found none = absurd (head_is_next books taken count head heads (none refl))
-  turn_found heads (Some turn) found none = turn_of_head books taken count head turn heads found.0 found.1
-
-  pub turn_fits : (o : Option Turn) → Found o → IfSome o (λ turn. slice_index taken turn.place + 1 < 2 ^ 64)
-  turn_fits None found = tt
-  turn_fits (Some turn) found = subst (λ (k : ℕ). slice_index taken k + 1 < 2 ^ 64) (sym found.0) found.2

@@ -1,7 +1,8 @@
 -- How the events of books are put in order, when this many of each book are taken. No public contract speaks of it.
-use Rattle.std.specs.Prelude.{◌≡◌, ◌⊎◌, ℕ, ◌<◌, ◌≤◌, List, map, Option, Some, None, if◌then◌else◌, nat_le, option_map, slice_get, slice_index}
+use Rattle.std.specs.Prelude.{◌≡◌, ◌⊎◌, ℕ, ◌+◌, ◌<◌, ◌≤◌, List, length, map, set, Option, Some, None, if◌then◌else◌, nat_le, option_map, slice_get, slice_index, slice_index_or}
 use Rattle.ra_history.specs.declared.event.BookEvent.{BookEvent}
 use Rattle.ra_history.specs.declared.event_merge.Head.{Head}
+use Rattle.ra_history.specs.declared.event_merge.Next.{Next}
 use Rattle.ra_history.specs.declared.event_merge.Turn.{Turn}
 use Rattle.ra_history.specs.declared.event_merge.PlacedEvent.{PlacedEvent}
 use Rattle.ra_history.specs.Book.{BookState}
@@ -12,6 +13,24 @@ abbrev pub IsNextOfBook : List BookState → List ℕ → ℕ → BookEvent → 
 IsNextOfBook books taken place event =
     (book : BookState) × (slice_get books place ≡ Some book)
     × (slice_get book.events (slice_index taken place) ≡ Some event)
+
+-- what comes next of a book after so many events
+abbrev pub next_of_book : BookState → ℕ → Next
+next_of_book book taken = record { taken = taken; clock = option_map (λ e. e.clock) (slice_get book.events taken) }
+
+-- how many events of each book are taken
+abbrev pub taken_of : List Next → List ℕ
+taken_of nexts = map (λ next. next.taken) nexts
+
+-- the same after one more event of the book at this place
+abbrev pub with_one_more : List ℕ → ℕ → List ℕ
+with_one_more taken place = set taken place (slice_index taken place + 1)
+
+-- what is noted of each book is what comes next of it, after as many events as are taken
+pub record AreNext (books : List BookState) (nexts : List Next) : Type 0 where
+  pub long : length nexts ≡ length books
+  pub each : (place : ℕ) (book : BookState) (d : Next) → slice_get books place ≡ Some book
+      → slice_index_or nexts place d ≡ next_of_book book (slice_index_or nexts place d).taken
 
 -- the clock of the turn is less than that of the event, or they are equal and the turn's place is not after this one
 abbrev pub IsNotAfter : Turn → ℕ → BookEvent → Type 0

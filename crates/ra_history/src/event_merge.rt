@@ -1,15 +1,15 @@
 //! The events of all books in one list, by clock and then by node.
-ghost use Rattle.std.specs.Prelude.{◌≡◌, ◌+◌, ◌<◌, ◌^◌, ℕ, List, length, option_map, replicate, slice_get, slice_index, IfOk, IfSome, IsNone, IsSome};
+ghost use Rattle.std.specs.Prelude.{◌≡◌, ◌+◌, ◌<◌, ◌^◌, ℕ, List, length, map, slice_get, IfOk, IfSome, IsSome};
 ghost use Rattle.ra_history.specs.declared.event.BookEvent.{BookEvent};
-ghost use Rattle.ra_history.specs.Book.{HasHistory};
+ghost use Rattle.ra_history.specs.Book.{BookState, HasHistory};
 ghost use Rattle.ra_history.specs.Settled.{IsCluster, IsSettledOrder, Placed, steps_of, step_at};
-ghost use Rattle.ra_history.specs.EventMerge.{IsNextOfBook, IsEarliest, IsHeadOfEarliest, all_placed_at};
+ghost use Rattle.ra_history.specs.EventMerge.{IsEarliest, IsHeadOfEarliest, AreNext, taken_of, with_one_more, next_of_book, all_placed_at};
 ghost use Rattle.ra_history.specs.EventMerge as spec;
 
 use crate::{Book, BookEvent, BookKind};
 use ra_stamp::{Memory, NodeId, Sequence};
 use ra_world::{Step, Steps};
-use std::alloc::{AllocError, Global};
+use std::alloc::Global;
 
 /// An event, and the node at which it happened.
 #[derive(Clone, Copy)]
@@ -25,6 +25,13 @@ struct Turn {
     event: BookEvent,
 }
 
+/// How many events of a book are taken, and the clock of the one after them, or `None` if all are taken.
+#[derive(Clone, Copy)]
+struct Next {
+    taken: u64,
+    clock: Option<u64>,
+}
+
 /// The place of a book, and the clock of its next event.
 #[derive(Clone, Copy)]
 struct Head {
@@ -32,19 +39,17 @@ struct Head {
     clock: u64,
 }
 
-/// Returns the steps that the events of all books are, by clock and then by node. Each turn reads the clock of the next event of
-/// each book, and takes one event.
+/// Returns the steps that the events of all books are, by clock and then by node. Each turn looks through the clocks of the next
+/// events of the books, which are in a list of their own, and takes one event.
 pub fn steps_in_order(alloc: Global, books: &[Book]) -> Result<Steps, Memory>
     requires { IsCluster books.now }
     ensures { IfOk result (λ steps. (placed : List Placed) × IsSettledOrder books.now placed
         × (steps.items ≡ steps_of placed)) }
 {
     let mut steps = Steps::new(alloc);
-    let mut taken = none_taken(alloc, books.len())?;
-    while let Some(turn) = earliest(books, &taken) {
-        let node = books[turn.place].me();
-        steps.push(step_of(node, &turn.event.kind))?;
-        taken[turn.place] += 1;
+    let mut nexts = first_events(alloc, books)?;
+    while let Some(turn) = take_earliest(books, &mut nexts) {
+        steps.push(step_of(books[turn.place].me(), &turn.event.kind))?;
     }
     Ok(steps)
 }
@@ -55,62 +60,58 @@ pub fn events_in_order(alloc: Global, books: &[Book]) -> Result<Sequence<PlacedE
     ensures { IfOk result (λ events. IsSettledOrder books.now (all_placed_at events.items)) }
 {
     let mut events = Sequence::new(alloc);
-    let mut taken = none_taken(alloc, books.len())?;
-    while let Some(turn) = earliest(books, &taken) {
+    let mut nexts = first_events(alloc, books)?;
+    while let Some(turn) = take_earliest(books, &mut nexts) {
         events.push(PlacedEvent {
             node: books[turn.place].me(),
             event: turn.event,
         })?;
-        taken[turn.place] += 1;
     }
     Ok(events)
 }
 
-/// Returns a list of this many zeros.
-fn none_taken(alloc: Global, count: usize) -> Result<Vec<u64>, Memory>
-    ensures { IfOk result (λ taken. taken.items ≡ replicate count 0) }
+/// Returns what comes next of each book when nothing is taken yet.
+fn first_events(alloc: Global, books: &[Book]) -> Result<Vec<Next>, Memory>
+    ensures { IfOk result (λ nexts. nexts.items ≡ map (λ book. next_of_book book 0) books.now) }
 {
-    match vec![in alloc; 0u64; count] {
-        Ok(taken) => Ok(taken),
-        Err(AllocError) => Err(Memory),
+    let mut nexts = Vec::new(alloc);
+    for book in books {
+        nexts.push(next_after(book, 0))?;
     }
+    Ok(nexts)
 }
 
-/// Returns the next event of all books, when this many of each are taken already: the one with the least clock, and of those the
-/// one at the least node. Returns `None` if all are taken. Of the other events it reads the clock alone.
-fn earliest(books: &[Book], taken: &[u64]) -> Option<Turn>
-    requires { length taken.now ≡ length books.now }
-    ensures earliest { IsEarliest books.now taken.now (length books.now) result }
-    ensures fits { IfSome result (λ turn. slice_index taken.now turn.place + 1 < 2 ^ 64) }
+/// Takes the next event of all books: the one with the least clock, and of those the one at the least node. Returns `None` if all
+/// are taken. It looks through the clocks, and reads two events of the one book.
+fn take_earliest(books: &[Book], nexts: &mut [Next]) -> Option<Turn>
+    requires { AreNext books.now nexts.old }
+    ensures earliest { IsEarliest books.now (taken_of nexts.old) (length books.now) result }
+    ensures taken { IfSome result (λ turn. taken_of nexts.new ≡ with_one_more (taken_of nexts.old) turn.place) }
+    ensures next { AreNext books.now nexts.new }
 {
-    match first_head(books, taken) {
-        Some(head) => turn_at(books, taken, head.place),
-        None => None,
-    }
-}
-
-/// Returns the next event of the book at a place, or `None` if all of its events are taken.
-fn turn_at(books: &[Book], taken: &[u64], place: usize) -> Option<Turn>
-    requires within { place < length books.now }
-    requires long { length taken.now ≡ length books.now }
-    ensures some { IfSome result (λ turn. (turn.place ≡ place) × IsNextOfBook books.now taken.now place turn.event
-        × (slice_index taken.now place + 1 < 2 ^ 64)) }
-    ensures none { IsNone result → (event : BookEvent) → IsNextOfBook books.now taken.now place event → ⊥ }
-{
-    match next_of(&books[place], taken[place]) {
-        Some(event) => Some(Turn { place, event }),
-        None => None,
-    }
+    let Some(head) = first_head(nexts) else {
+        return None;
+    };
+    let book = &books[head.place];
+    let taken = nexts[head.place].taken;
+    let Some(event) = next_of(book, taken) else {
+        return None;
+    };
+    nexts[head.place] = next_after(book, taken + 1);
+    Some(Turn {
+        place: head.place,
+        event,
+    })
 }
 
 /// Returns the place of the book that has the next event of all books, and the clock of that event, or `None` if all are taken.
-fn first_head(books: &[Book], taken: &[u64]) -> Option<Head>
-    requires { length taken.now ≡ length books.now }
-    ensures { IsHeadOfEarliest books.now taken.now (length books.now) result }
+fn first_head(nexts: &[Next]) -> Option<Head>
+    ensures { (books : List BookState) → AreNext books nexts.now
+        → IsHeadOfEarliest books (taken_of nexts.now) (length books) result }
 {
     let mut first = None;
-    for (place, book) in books.iter().enumerate() {
-        if let Some(clock) = next_clock(book, taken[place]) {
+    for (place, next) in nexts.iter().enumerate() {
+        if let Some(clock) = next.clock {
             first = Some(lesser_of(first, Head { place, clock }));
         }
     }
@@ -133,14 +134,15 @@ fn lesser_of(first: Option<Head>, other: Head) -> Head
     }
 }
 
-/// Returns the clock of the event of a book after as many as are taken, or `None` if all are.
-fn next_clock(book: &Book, taken: u64) -> Option<u64>
-    ensures { result ≡ option_map (λ e. e.clock) (slice_get book.now.events taken) }
+/// Returns what comes next of a book after as many events as are taken.
+fn next_after(book: &Book, taken: u64) -> Next
+    ensures { result ≡ next_of_book book.now taken }
 {
-    match book.events().as_slice().get(taken as usize) {
+    let clock = match book.events().as_slice().get(taken as usize) {
         Some(event) => Some(event.clock),
         None => None,
-    }
+    };
+    Next { taken, clock }
 }
 
 /// Returns the event of a book after as many as are taken, or `None` if all are.

@@ -1,43 +1,47 @@
-use Rattle.std.proofs.Common.{ℕ, List, [], None, vec_len, ap, subst, ◌∙◌, length}
-use Rattle.ra_history.specs.EventMerge.{IsEarliest}
-use Rattle.ra_history.proofs.Merging.{nothing_merged, turn_taken, all_merged, within_taken}
+use Rattle.std.proofs.Common.{List, [], None, length, subst}
+use Rattle.ra_history.specs.declared.event_merge.Next.{Next}
+use Rattle.ra_history.specs.EventMerge.{IsEarliest, taken_of}
+use Rattle.ra_history.proofs.Merging.{nothing_merged, turn_taken, all_merged}
+use Rattle.ra_history.proofs.NextEvents.{nothing_taken, next_turn}
 use Rattle.ra_history.proofs.Departing.{not_made}
 use Rattle.ra_history.proofs.event_merge.steps_in_order.Goals as goal
 
 pub loop-turn-init : goal.loop-turn-init
-loop-turn-init c = ([], c.new-steps.ensures, nothing_merged c.args.books.now c.in_ok-taken.taken.items c.in_ok-taken.ensures)
+loop-turn-init c =
+    let books = c.args.books.now in
+    let nexts = c.in_ok-nexts.nexts.items in
+    let none = nothing_taken books nexts c.in_ok-nexts.ensures in
+    ([], c.new-steps.ensures, nothing_merged books (taken_of nexts) none.1, none.0)
 
 pub loop-turn-smaller : goal.loop-turn-smaller
 loop-turn-smaller c =
-    (turn_taken c.args.books.now c.loop-turn.taken.items c.deref.result.now c.loop-turn.invariant.0 c.in-Some.turn c.index-books-turn.result c.index_mut.result.now c.me-node.result
-    c.step_of.result c.loop-turn.steps.items c.push.new.self.items c.requires c.loop-turn.invariant.2 c.deref.ensures.value c.in-Some.ensures.earliest c.index-books-turn.is c.me-node.ensures.history
-    c.index_mut.ensures.value c.me-node.ensures.value c.step_of.ensures c.loop-turn.invariant.1 c.in_ok-push.ensures.ok).1
+    let books = c.args.books.now in
+    let loop = c.loop-turn in
+    let turn = c.in-Some.turn in
+    let next = next_turn books loop.nexts c.deref_mut.result.now c.take_earliest.new.nexts turn loop.invariant.3 c.deref_mut.ensures.value c.in-Some.ensures.earliest c.in-Some.ensures.taken c.in-Some.ensures.next in
+    (turn_taken books (taken_of loop.nexts.items) _ loop.invariant.0 turn c.index-books-turn.result c.me.result c.step_of.result loop.steps.items c.push.new.self.items c.requires loop.invariant.2 next.0 next.1
+    c.index-books-turn.is c.me.ensures.history c.me.ensures.value c.step_of.ensures loop.invariant.1 c.in_ok-push.ensures.ok).1
 
 pub loop-turn-preserved : goal.loop-turn-preserved
 loop-turn-preserved c =
-    (turn_taken c.args.books.now c.loop-turn.taken.items c.deref.result.now c.loop-turn.invariant.0 c.in-Some.turn c.index-books-turn.result c.index_mut.result.now c.me-node.result
-    c.step_of.result c.loop-turn.steps.items c.push.new.self.items c.requires c.loop-turn.invariant.2 c.deref.ensures.value c.in-Some.ensures.earliest c.index-books-turn.is c.me-node.ensures.history
-    c.index_mut.ensures.value c.me-node.ensures.value c.step_of.ensures c.loop-turn.invariant.1 c.in_ok-push.ensures.ok).0
+    let books = c.args.books.now in
+    let loop = c.loop-turn in
+    let turn = c.in-Some.turn in
+    let next = next_turn books loop.nexts c.deref_mut.result.now c.take_earliest.new.nexts turn loop.invariant.3 c.deref_mut.ensures.value c.in-Some.ensures.earliest c.in-Some.ensures.taken c.in-Some.ensures.next in
+    let more =
+    turn_taken books (taken_of loop.nexts.items) _ loop.invariant.0 turn c.index-books-turn.result c.me.result c.step_of.result loop.steps.items c.push.new.self.items c.requires loop.invariant.2 next.0 next.1
+    c.index-books-turn.is c.me.ensures.history c.me.ensures.value c.step_of.ensures loop.invariant.1 c.in_ok-push.ensures.ok
+    in
+    (more.0.0, more.0.1, more.0.2, next.2)
 
 pub returns : goal.returns
 returns c =
     let books = c.args.books.now in
-    let none = subst (λ (ts : List ℕ). IsEarliest books ts (length books) None) c.deref.ensures.value c.in_default.ensures.earliest in
-    (c.loop-turn.invariant.0, all_merged books c.loop-turn.taken.items c.loop-turn.invariant.0 c.requires c.loop-turn.invariant.2 none, c.loop-turn.invariant.1)
+    let none = subst (λ (ns : List Next). IsEarliest books (taken_of ns) (length books) None) c.deref_mut.ensures.value c.in_default.ensures.earliest in
+    (c.loop-turn.invariant.0, all_merged books (taken_of c.loop-turn.nexts.items) c.loop-turn.invariant.0 c.requires c.loop-turn.invariant.2 none, c.loop-turn.invariant.1)
 
-pub earliest-requires : goal.earliest-requires
-earliest-requires c = ap length c.deref.ensures.value ∙ c.loop-turn.invariant.2.long
-
-pub bounds-books-turn : goal.bounds-books-turn
-bounds-books-turn c = c.in-Some.ensures.earliest.0
-
-pub index_mut-requires : goal.index_mut-requires
-index_mut-requires c =
-    within_taken c.in-Some.turn.place (length c.args.books.now) (length c.loop-turn.taken.items) (vec_len c.loop-turn.taken) c.loop-turn.taken.ok.0
-    c.loop-turn.invariant.2.long c.in-Some.ensures.earliest.0
-
-pub returns-in_err-taken : goal.returns-in_err-taken
-returns-in_err-taken c = not_made _ _ c.from_residual.result c.from_residual.ensures.1
+pub returns-in_err-nexts : goal.returns-in_err-nexts
+returns-in_err-nexts c = not_made _ _ c.from_residual.result c.from_residual.ensures.1
 
 pub returns-in_err-push : goal.returns-in_err-push
 returns-in_err-push c = not_made _ _ c.from_residual-in_err-push.result c.from_residual-in_err-push.ensures.1
