@@ -6,3 +6,18 @@ pub mod Pieces
 pub mod Served
 pub mod Told
 pub mod WrittenLines
+mod Last
+mod Lines
+mod BookTexts
+mod Order
+mod Sent
+mod Taken
+mod Outcome
+mod Settlements
+mod ListPieces
+mod OneReading
+mod OneHistory
+mod OneBooks
+mod OneCame
+mod OneVerdict
+mod Exact

@@ -9,3 +9,6 @@ pub mod NextLine
 pub mod Book
 pub mod Serving
 pub mod Written
+pub mod Texts
+pub mod Verdicts
+pub mod Gathering

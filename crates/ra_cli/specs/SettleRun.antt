@@ -4,10 +4,10 @@ use Rattle.std.specs.Io.KnownBytes.{Appends, Consumes, IsAtEnd}
 use Rattle.ra_world.specs.Lines.{field, report_text}
 use Rattle.ra_world.specs.Traffic.{Move}
 use Rattle.ra_trace.specs.TraceText.{IsTrace}
-use Rattle.ra_settle.specs.declared.error.TextCause.{TextCause}
-use Rattle.ra_settle.specs.declared.error.TextCause.TheVariants as cause
-use Rattle.ra_settle.specs.declared.settling.SettledText.{SettledText}
-use Rattle.ra_settle.specs.Verdicts.{IsSettledText, IsWrong}
+use Rattle.ra_book.specs.declared.settle_error.TextCause.{TextCause}
+use Rattle.ra_book.specs.declared.settle_error.TextCause.TheVariants as cause
+use Rattle.ra_book.specs.declared.settling.SettledText.{SettledText}
+use Rattle.ra_book.specs.Verdicts.{IsSettledText, IsWrong}
 use Rattle.ra_trace.specs.declared.error.TraceError.{TraceError}
 use Rattle.ra_trace.specs.declared.error.TraceError.TheVariants as trace_fault
 use Rattle.ra_cli.specs.declared.settle_task.SettleOutput.{SettleOutput}

@@ -3,7 +3,7 @@ ghost use Rattle.std.specs.Prelude.{◌≡◌};
 
 use crate::refusal::Refusal;
 use crate::wrong_line::WrongLine;
-use ra_settle::TextCause;
+use ra_book::TextCause;
 use ra_trace::{Cause, MarkCause, MarksVerdict, Verdict};
 
 /// The run ended with something left to do, the text is no trace or no mark log, or the books do not settle.

@@ -1,7 +1,7 @@
 //! What is said of the line at which a text of books is wrong.
 use crate::note_texts::text_cause_text;
 use crate::wrong_line::{BooksFault, WrongLine};
-use ra_settle::TextCause;
+use ra_book::TextCause;
 use ra_stamp::Memory;
 use ra_world::Note;
 use std::alloc::Global;

@@ -1,6 +1,6 @@
 //! The command `settle`.
 ghost use Rattle.std.specs.Prelude.{◌≡◌, ◌↔◌, ◌∷◌, [], List, ℕ, map, string_bytes, IfOk, IsTrue, MatchOption};
-ghost use Rattle.ra_settle.specs.Verdicts.{IsSettledText, IsWrong};
+ghost use Rattle.ra_book.specs.Verdicts.{IsSettledText, IsWrong};
 ghost use Rattle.ra_cli.specs.declared.settle_task.SettleOutput.{SettleOutput};
 ghost use Rattle.ra_cli.specs.declared.settle_task.SettleTask.{SettleTask};
 ghost use Rattle.ra_cli.specs.SettleRun as spec;
@@ -11,7 +11,7 @@ use crate::refusal::Refusal;
 use crate::serving::{DONE, refuse, written};
 use crate::verdict::push_invalid;
 use crate::wrong_line::{WrongLine, wrong_line};
-use ra_settle::{SettleTextError, SettledText, TextCause, settle_text};
+use ra_book::{SettleTextError, SettledText, TextCause, settle_text};
 use ra_stamp::Memory;
 use ra_trace::{TraceError, trace_text};
 use ra_world::{ReadFault, read_up_to, report_text};

@@ -1,7 +1,7 @@
 //! If a growth is refused, books do not settle for lack of memory, and what comes of them is the same when they are read again.
 use crate::asserting::assert_grown;
 use crate::growth::tried_if;
-use ra_settle::{SettleTextError, SettledText, TextCause, settle_text};
+use ra_book::{SettleTextError, SettledText, TextCause, settle_text};
 use ra_trace::trace_text;
 use std::alloc::Global;
 use std::process::Abort;

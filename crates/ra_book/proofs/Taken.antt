@@ -1,0 +1,19 @@
+-- An event that a book takes.
+use Rattle.std.proofs.Common.{◌≡◌, List, ℕ, Result, Ok, Err, refl, subst}
+use Rattle.std.specs.Prelude.{IfOk}
+use Rattle.ra_frame.specs.declared.frame.Frame.{Frame}
+use Rattle.ra_frame.specs.FrameText.{IsFrameText}
+use Rattle.ra_history.specs.declared.error.BookError.{BookError}
+use Rattle.ra_history.specs.declared.event.BookKind.TheVariants.{Got}
+use Rattle.ra_history.specs.declared.event_effect.Posted.{Posted}
+use Rattle.ra_history.specs.Book.{BookState, Adds, HasHistory}
+use Rattle.ra_book.specs.Gathering.{HasTaken}
+
+-- the frame that a book reads is the one that was written
+pub received : (old new : BookState) (frame : Frame) (bytes : List ℕ) (r : Result Posted BookError)
+    → ((bytes : List ℕ) (a b : Frame) → IsFrameText bytes a → IsFrameText bytes b → a ≡ b) → IsFrameText bytes frame
+    → IfOk r (λ posted. (came : Frame) × IsFrameText bytes came × Adds old (Got came) posted.frames.items posted.marks.items new)
+    → HasHistory new → ((why : BookError) → r ≡ Err why → ⊥) → HasTaken old (Got frame) new
+received old new frame bytes (Err why) one text ok history not_err = absurd (not_err why refl)
+received old new frame bytes (Ok posted) one text (came, came_text, adds) history not_err =
+    subst (λ (f : Frame). HasTaken old (Got f) new) (one bytes came frame came_text text) (_, _, adds.new_is, history)

@@ -1,0 +1,172 @@
+-- The parts of reading a text of books and of settling it. No public contract speaks of them.
+use Rattle.std.specs.Prelude.{◌≡◌, ◌≢◌, ◌⊎◌, ℕ, ◌+◌, ◌≤◌, Bool, false, List, [], ◌∷◌, ◌++◌, All, Contains, Result, Ok, Err, length, map}
+use Rattle.std.specs.List.{Any, range_with_len}
+use Rattle.std.specs.List.Sorted.{IsPermutation}
+use Rattle.ra_stamp.specs.Message.{from_of}
+use Rattle.ra_frame.specs.declared.frame.Frame.{Frame}
+use Rattle.ra_history.specs.declared.error.BookError.{BookError}
+use Rattle.ra_history.specs.declared.error.BookError.TheVariants as refused
+use Rattle.ra_history.specs.declared.error.SettleError.{SettleError}
+use Rattle.ra_history.specs.declared.error.SettleError.TheVariants.{Twice}
+use Rattle.ra_history.specs.declared.event.BookKind.{BookKind}
+use Rattle.ra_history.specs.Book.{BookState, HasHistory, opening_book, with_event}
+use Rattle.ra_history.specs.Settled.{HasUnsent}
+use Rattle.ra_book.specs.BookText.{IsEvent, IsFirst}
+use Rattle.ra_book.specs.declared.came.Came.{Came}
+use Rattle.ra_book.specs.declared.settle_error.SettleTextError.{SettleTextError}
+use Rattle.ra_book.specs.declared.settle_error.SettleTextError.TheVariants as fault
+use Rattle.ra_book.specs.declared.settle_error.TextCause.TheVariants as cause
+use Rattle.ra_book.specs.declared.gathering.Gathered.{Gathered}
+use Rattle.ra_book.specs.declared.gathering.LineFault.{LineFault}
+use Rattle.ra_book.specs.declared.gathering.LineFault.TheVariants as line_fault
+use Rattle.ra_book.specs.Texts.{AreRight, CanTake, IsBeside, IsText, came_by, came_in}
+use Rattle.ra_book.specs.Verdicts.{IsFirstAgain, IsFirstUnsent, IsWrongLine}
+
+-- ---- An event
+
+-- the book has one more event of this kind, and is a history
+abbrev pub HasTaken : BookState → BookKind → BookState → Type 0
+HasTaken old kind new = (clock : ℕ) × (frames : List Frame) × (new ≡ with_event old clock kind frames) × HasHistory new
+
+-- what comes of an event at a book: it has it, or the node does not take it, or memory ran out
+abbrev pub Comes : BookState → BookKind → BookState → Result (Unit {0}) BookError → Type 0
+Comes old kind new (Ok done) = HasTaken old kind new
+Comes old kind new (Err why) = why ≢ refused.Memory → CanTake old kind → ⊥
+
+-- ---- What was gathered
+
+-- the books that were read so far, in the order of the text
+abbrev pub books_of : Gathered → List BookState
+books_of g = g.earlier.items ++ g.last ∷ []
+
+-- the lines were read, and this was gathered
+pub record IsGathered (lines : List (List ℕ)) (g : Gathered) : Type 0 where
+  pub right : AreRight lines (books_of g)
+  pub came_is : g.came.items ≡ came_in (books_of g)
+
+-- a first line begins a book beside those before it
+pub record IsOpened (old : Gathered) (line : List ℕ) (new : Gathered) : Type 0 where
+  pub node : ℕ
+  pub nodes : ℕ
+  pub start : ℕ
+  pub is_first : IsFirst line node nodes start
+  pub beside : All (IsBeside node nodes start) (books_of old)
+  pub earlier_is : new.earlier.items ≡ books_of old
+  pub last_is : new.last ≡ opening_book node nodes start
+  pub came_is : new.came.items ≡ old.came.items
+  pub history : HasHistory new.last
+
+-- an event happens in the last book
+pub record HasHappened (old : Gathered) (number : ℕ) (line : List ℕ) (new : Gathered) : Type 0 where
+  pub kind : BookKind
+  pub is_event : IsEvent line kind
+  pub taken : HasTaken old.last kind new.last
+  pub earlier_is : new.earlier.items ≡ old.earlier.items
+  pub came_is : new.came.items ≡ old.came.items ++ came_by number kind
+
+-- what comes of the line of this number: it is taken, or it is wrong, or memory ran out
+abbrev pub TakesLine : Gathered → ℕ → List ℕ → Gathered → Result (Unit {0}) LineFault → Type 0
+TakesLine old number line new (Ok done) = IsOpened old line new ⊎ HasHappened old number line new
+TakesLine old number line new (Err (line_fault.Wrong why)) = IsWrongLine (books_of old) line why
+TakesLine old number line new (Err line_fault.Memory) = Unit {0}
+
+-- the same of a first line, and of another line
+abbrev pub TakesEvent : Gathered → ℕ → List ℕ → Gathered → Result (Unit {0}) LineFault → Type 0
+TakesEvent old number line new (Ok done) = HasHappened old number line new
+TakesEvent old number line new (Err (line_fault.Wrong why)) = IsWrongLine (books_of old) line why
+TakesEvent old number line new (Err line_fault.Memory) = Unit {0}
+
+abbrev pub TakesFirst : Gathered → List ℕ → Gathered → Result (Unit {0}) LineFault → Type 0
+TakesFirst old line new (Ok done) = IsOpened old line new
+TakesFirst old line new (Err (line_fault.Wrong why)) = IsWrongLine (books_of old) line why
+TakesFirst old line new (Err line_fault.Memory) = Unit {0}
+
+-- ---- What is read of a text
+
+-- this first line was read, and this was gathered
+abbrev pub HasBegun : List ℕ → Gathered → Type 0
+HasBegun line g = IsGathered (line ∷ []) g
+
+-- it is no first line, and that is said
+abbrev pub IsNoBeginning : List ℕ → SettleTextError → Type 0
+IsNoBeginning line (fault.Invalid number why) =
+    (number ≡ 1) × (why ≡ cause.Line) × ((node nodes start : ℕ) → IsFirst line node nodes start → ⊥)
+IsNoBeginning line fault.Memory = Unit {0}
+
+-- all lines of the text were read and this was gathered, and the line after them would have this number
+pub record HasGathered (text : List ℕ) (g : Gathered) (next : ℕ) : Type 0 where
+  pub lines : List (List ℕ)
+  pub is_text : IsText text lines
+  pub gathered : IsGathered lines g
+  pub next_is : next ≡ length lines + 1
+
+-- these are the books that were gathered, of so many nodes, and what came to them
+pub record IsMadeOf (g : Gathered) (books : List BookState) (nodes : ℕ) (came : List Came) : Type 0 where
+  pub books_are : books ≡ books_of g
+  pub count : nodes ≡ g.last.nodes
+  pub came_are : came ≡ g.came.items
+
+-- ---- The order of the nodes
+
+-- a node of these many has no book
+abbrev pub LacksNode : List BookState → ℕ → Type 0
+LacksNode books nodes = (node : ℕ) × (1 ≤ node) × (node ≤ nodes) × All (λ book. book.me ≢ node) books
+
+-- those of the books that are of the nodes 1 to this many, in order
+pub record IsArranged (books : List BookState) (nodes : ℕ) (ordered : List BookState) : Type 0 where
+  pub left : List BookState
+  pub same : IsPermutation books (ordered ++ left)
+  pub numbers : map (λ book. book.me) ordered ≡ range_with_len 1 nodes
+
+-- all of them are
+pub record IsAllArranged (books : List BookState) (nodes : ℕ) (ordered : List BookState) : Type 0 where
+  pub same : IsPermutation books ordered
+  pub numbers : map (λ book. book.me) ordered ≡ range_with_len 1 nodes
+
+abbrev pub LacksSome : List BookState → ℕ → Type 0
+LacksSome books nodes = (nodes ≢ length books) ⊎ LacksNode books nodes
+
+-- ---- Searches
+
+-- a node, and the frames that its book sent, lost or not
+pub record Sender : Type 0 where
+  pub me : ℕ
+  pub frames : List Frame
+
+abbrev pub sender_of : BookState → Sender
+sender_of book = record { me = book.me; frames = map (λ sent. sent.frame) book.sent }
+
+abbrev pub senders_of : List BookState → List Sender
+senders_of books = map sender_of books
+
+-- they are the nodes from 1 on
+abbrev pub AreNumbered : List Sender → Type 0
+AreNumbered senders = map (λ sender. sender.me) senders ≡ range_with_len 1 (length senders)
+
+-- the frame's sender sent it
+abbrev pub IsSentBy : List Sender → Frame → Type 0
+IsSentBy senders frame = Any (λ sender. (sender.me ≡ from_of frame.message) × Contains sender.frames frame) senders
+
+-- this is the first that its sender did not send
+pub record IsUnsentAmong (senders : List Sender) (came : List Came) (number : ℕ) : Type 0 where
+  pub before : List Came
+  pub this : Came
+  pub after : List Came
+  pub came_is : came ≡ before ++ this ∷ after
+  pub number_is : number ≡ this.line
+  pub unsent : IsSentBy senders this.frame → ⊥
+  pub sent : All (λ earlier. IsSentBy senders earlier.frame) before
+
+-- why books of a cluster do not settle, with what came to them in the order of the text
+abbrev pub IsUnfit : (repeats : Bool) → List BookState → List Came → SettleTextError → Type 0
+IsUnfit repeats ordered came (fault.Invalid number cause.NotSent) = IsFirstUnsent ordered came number
+IsUnfit repeats ordered came (fault.Invalid number cause.Twice) =
+    (repeats ≡ false) × (HasUnsent ordered → ⊥) × IsFirstAgain came number
+IsUnfit repeats ordered came (fault.Invalid number cause.Line) = ⊥
+IsUnfit repeats ordered came (fault.Invalid number cause.Books) = ⊥
+IsUnfit repeats ordered came (fault.Invalid number cause.Refused) = ⊥
+IsUnfit repeats ordered came fault.Memory = Unit {0}
+
+-- books are refused as `Twice` only if no message may come again, and each frame that came was sent
+abbrev pub IsTwiceBy : (repeats : Bool) → List BookState → SettleError → Type 0
+IsTwiceBy repeats books why = why ≡ Twice → (repeats ≡ false) × (HasUnsent books → ⊥)

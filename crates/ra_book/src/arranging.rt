@@ -1,0 +1,71 @@
+//! Books in the order of their nodes.
+ghost use Rattle.std.specs.Prelude.{◌≡◌, ◌≢◌, ◌<◌, All, length, slice_index_or, MatchOption, MatchResult};
+ghost use Rattle.ra_history.specs.Book.{BookState};
+ghost use Rattle.ra_book.specs.Gathering.{IsAllArranged, IsArranged, LacksNode, LacksSome};
+
+use ra_history::Book;
+use std::alloc::Global;
+
+/// Why books are not put in order.
+#[derive(Clone, Copy)]
+pub enum Unarranged {
+    /// They are not as many as the nodes, or one of the nodes has none.
+    Missing,
+    /// Memory ran out.
+    Memory,
+}
+
+/// Returns where the book of the node of this number is, or `None` if it has none. It does not allocate.
+fn place_of(books: &[Book], node: usize) -> Option<usize>
+    ensures { MatchOption result (All (λ book. book.me ≢ node) books.now)
+        (λ place. (place < length books.now) × ((d : BookState) → (slice_index_or books.now place d).me ≡ node)) }
+{
+    for place in 0..books.len() {
+        if usize::from(books[place].me().get()) == node {
+            return Some(place);
+        }
+    }
+    None
+}
+
+/// Takes the books of the nodes 1 to `nodes` out of these, and returns them in this order. There are at most 64, so that they are
+/// looked through for each.
+///
+/// # Errors
+///
+/// `Missing`: one of the nodes has none. `Memory`.
+fn arranged(alloc: Global, left: &mut Vec<Book>, nodes: usize) -> Result<Vec<Book>, Unarranged>
+    ensures { MatchResult result (λ ordered. IsArranged left.old.items nodes ordered.items)
+        (λ why. why ≡ Unarranged.Missing → LacksNode left.old.items nodes) }
+{
+    let mut ordered = Vec::new(alloc);
+    if ordered.reserve(nodes).is_err() {
+        return Err(Unarranged::Memory);
+    }
+    for before in 0..nodes {
+        let Some(place) = place_of(left, before + 1) else {
+            return Err(Unarranged::Missing);
+        };
+        ordered.push_reserved(left.remove(place));
+    }
+    Ok(ordered)
+}
+
+/// Takes the books out of these, and returns them in the order of their nodes, 1 to `nodes`.
+///
+/// # Errors
+///
+/// `Missing`: they are not as many, or one of the nodes has none. `Memory`.
+pub fn all_arranged(
+    alloc: Global,
+    books: &mut Vec<Book>,
+    nodes: usize,
+) -> Result<Vec<Book>, Unarranged>
+    ensures { MatchResult result (λ ordered. IsAllArranged books.old.items nodes ordered.items)
+        (λ why. why ≡ Unarranged.Missing → LacksSome books.old.items nodes) }
+{
+    if books.len() != nodes {
+        return Err(Unarranged::Missing);
+    }
+    arranged(alloc, books, nodes)
+}
