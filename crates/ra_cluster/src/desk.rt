@@ -7,11 +7,20 @@ ghost use Rattle.ra_cluster.specs.Losses.{lost_frames};
 
 use crate::losses::lost_of;
 use crate::ticket::SharedTicket;
-use crate::{Book, BookError, Events, Frames, Grant, Posted, Sent, Stop, TakeError};
+use crate::{Book, BookError, Events, Frames, Gate, Grant, Posted, Sent, Stop, TakeError};
 use ra_frame::Frame;
-use ra_stamp::{Entry, Mark, Memory, Mode, Name};
+use ra_stamp::{Entry, Mark, Memory, Mode, Name, NodeId};
 use std::alloc::Global;
 use std::mem;
+
+/// Why a node did not make a step.
+#[derive(Clone, Copy)]
+pub enum Halt {
+    /// The gate answered `false`.
+    Gate,
+    /// The book refused it.
+    Refused(BookError),
+}
 
 /// A client that waits, and the ticket by which its thread is told what came of its request. A client has at most one
 /// request on a name, so the two name the request.
@@ -138,6 +147,34 @@ impl Desk {
     pub fn receive(&mut self, alloc: Global, bytes: &[u8]) -> Result<Stepped, BookError> {
         let posted = self.book.receive(alloc, bytes)?;
         Ok(self.stepped(posted))
+    }
+
+    /// Hands the book frames, and asks the gate of this node before each. Puts what came of each into the list.
+    ///
+    /// # Errors
+    ///
+    /// Why one of them was not received. Those before it were.
+    pub fn receive_all<G: Gate>(
+        &mut self,
+        alloc: Global,
+        node: NodeId,
+        taken: &[Vec<u8>],
+        stepped: &mut Vec<Stepped>,
+        gate: &G,
+    ) -> Result<(), Halt> {
+        for bytes in taken {
+            if stepped.reserve(1).is_err() {
+                return Err(Halt::Refused(BookError::Memory));
+            }
+            if !gate.step(node) {
+                return Err(Halt::Gate);
+            }
+            match self.receive(alloc, bytes.as_slice()) {
+                Ok(step) => stepped.push_reserved(step),
+                Err(refused) => return Err(Halt::Refused(refused)),
+            }
+        }
+        Ok(())
     }
 
     /// Gives the book a fault, if it has none. Returns the cause that the book has then, and the clients that waited. They

@@ -137,17 +137,10 @@ impl Post {
         ensures fit { IfSome result (λ left. All Fits left.1.now) }
     {
         let senders = self.senders.read(rt);
-        for place in 0..frames.len() {
-            let frame = &frames[place];
-            let is_sent = match senders.as_ref() {
-                Some(senders) => send_frame(rt, alloc, senders, frame),
-                None => false,
-            };
-            if !is_sent {
-                return Some((frame, &frames[place + 1..]));
-            }
+        match senders.as_ref() {
+            Some(senders) => send_each(rt, alloc, senders, frames),
+            None => first_and_rest(frames),
         }
-        None
     }
 
     /// Closes the post: no frame is sent from now on, and each inbox is closed once it is empty. It may wait for other calls
@@ -155,6 +148,39 @@ impl Post {
     pub fn close<R: Wait>(&self, rt: &R) {
         *self.senders.write(rt) = None;
     }
+}
+
+/// Returns the first of the frames and those after it, or `None` if there are none.
+fn first_and_rest(frames: &[Frame]) -> Option<(&Frame, &[Frame])>
+    requires { All Fits frames.now }
+    ensures fewer { IfSome result (λ left. length left.1.now < length frames.now) }
+    ensures fit { IfSome result (λ left. All Fits left.1.now) }
+{
+    if frames.is_empty() {
+        return None;
+    }
+    Some((&frames[0], &frames[1..]))
+}
+
+/// Sends frames one after the other, up to the first that is refused. Returns that one and those after it, or `None` if all
+/// were sent.
+fn send_each<'a, R: Wait>(
+    rt: &R,
+    alloc: Global,
+    senders: &[FrameSender],
+    frames: &'a [Frame],
+) -> Option<(&'a Frame, &'a [Frame])>
+    requires { All Fits frames.now }
+    ensures fewer { IfSome result (λ left. length left.1.now < length frames.now) }
+    ensures fit { IfSome result (λ left. All Fits left.1.now) }
+{
+    for place in 0..frames.len() {
+        let frame = &frames[place];
+        if !send_frame(rt, alloc, senders, frame) {
+            return Some((frame, &frames[place + 1..]));
+        }
+    }
+    None
 }
 
 /// Sends the bytes of a frame to the inbox of its node. Returns whether that succeeded.

@@ -3,7 +3,7 @@ ghost use Rattle.ra_stamp.specs.NodeId.{IsNodeNumber};
 ghost use Rattle.ra_frame.specs.Fits.{Fits};
 
 use crate::call::Call;
-use crate::desk::{Desk, Handed, Stepped};
+use crate::desk::{Desk, Halt, Handed, Stepped};
 use crate::sending::Sending;
 use crate::sites::{stop_after, stop_all};
 use crate::ticket::Ticket;
@@ -27,15 +27,6 @@ pub enum SiteError {
     /// The node is stopped, for this cause, and takes no call any more.
     #[error(transparent)]
     Stopped(Stop),
-}
-
-/// Why a node did not make a step.
-#[derive(Clone, Copy)]
-enum Halt {
-    /// The gate answered `false`.
-    Gate,
-    /// The book refused it.
-    Refused(BookError),
 }
 
 /// A node that threads share: its number, and its book under a lock, with the clients that wait. Contracts see the number.
@@ -225,10 +216,37 @@ impl Site {
     )
         requires { AreSitesWith self.now sites.now }
     {
+        // They are lent, so that they are dropped at one exit.
         let (mut taken, mut stepped) = (Vec::new(alloc), Vec::new(alloc));
+        self.pump_with(
+            rt,
+            alloc,
+            inbox,
+            &mut taken,
+            &mut stepped,
+            post,
+            sites,
+            gate,
+        );
+    }
+
+    /// Does as `pump`, with two empty lists: of the frames that are taken at once, and of what came of each.
+    fn pump_with<R: Wait, G: Gate>(
+        &self,
+        rt: &R,
+        alloc: Global,
+        inbox: &Inbox,
+        taken: &mut Vec<Vec<u8>>,
+        stepped: &mut Vec<Stepped>,
+        post: &Post,
+        sites: &[Site],
+        gate: &G,
+    )
+        requires { AreSitesWith self.now sites.now }
+    {
         for _ in rt.forever() {
-            let (are_sent, received) = match inbox.take(rt, &mut taken) {
-                Ok(true) => self.carry(rt, alloc, &taken, &mut stepped, post, gate),
+            let (are_sent, received) = match inbox.take(rt, taken) {
+                Ok(true) => self.carry(rt, alloc, taken.as_slice(), stepped, post, gate),
                 Ok(false) => return,
                 Err(Memory) => (true, Err(Halt::Refused(BookError::Memory))),
             };
@@ -494,19 +512,7 @@ impl Site {
         gate: &G,
     ) -> Result<(), Halt> {
         let mut desk = self.desk.lock(rt);
-        for bytes in taken {
-            if stepped.reserve(1).is_err() {
-                return Err(Halt::Refused(BookError::Memory));
-            }
-            if !gate.step(self.node) {
-                return Err(Halt::Gate);
-            }
-            match desk.receive(alloc, bytes.as_slice()) {
-                Ok(step) => stepped.push_reserved(step),
-                Err(refused) => return Err(Halt::Refused(refused)),
-            }
-        }
-        Ok(())
+        desk.receive_all(alloc, self.node, taken, stepped, gate)
     }
 
     /// Tells the client that an event let in, and sends the event's frames. Returns whether all were sent.
