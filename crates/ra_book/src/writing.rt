@@ -1,5 +1,5 @@
 //! The text of a book.
-ghost use Rattle.std.specs.Prelude.{◌≡◌, ◌<◌, ◌≤◌, ◌^◌, ◌++◌, ℕ, List, codes, decimal, length, string_bytes, IsErrOf, OnOk};
+ghost use Rattle.std.specs.Prelude.{◌≡◌, ◌<◌, ◌≤◌, ◌^◌, ◌++◌, [], ℕ, List, codes, decimal, length, string_bytes, IfOk, IsErrOf, OnOk, OnErr};
 ghost use Rattle.std.specs.List.{Any};
 ghost use Rattle.hex.specs.Hex.{IsBytes, encode_lower};
 ghost use Rattle.ra_stamp.specs.Name.{IsName};
@@ -15,7 +15,7 @@ use ra_frame::{Frame, MAX_FRAME, encoded};
 use ra_history::{Book, BookEvent, BookKind};
 use ra_stamp::{Memory, Mode, Name, NodeId};
 use ra_world::{mode_word, push_field, push_number, text_of};
-use std::alloc::AllocError;
+use std::alloc::{AllocError, Global};
 use thiserror::Error;
 
 /// Why the text of a book is not written.
@@ -159,22 +159,40 @@ fn push_first(text: &mut String, node: NodeId, nodes: u16, start: u64) -> Result
     Ok(())
 }
 
-/// Adds the text of a book, which `ra settle` reads as this book: its first line, and then a line for each event in order. The
-/// frames that came are in version 2, in lower case. What the node sent is in no line, as the events decide it, nor are the
-/// frames that are flagged lost, a fault, or what was taken from the book. The cost is linear in the number of events, and the
-/// text grows in amortized linear time.
+/// Returns the text of a book.
 ///
 /// # Errors
 ///
-/// After either the text has grown by a part of the book.
+/// Those of `push_book`.
+fn book_text(alloc: Global, book: &Book) -> Result<String, WriteBookError>
+    ensures ok { IfOk result (λ text. (lines : List (List ℕ)) × IsWrittenBook lines book.now
+        × AddsLines [] (string_bytes text) lines) }
+    ensures unfit { IsErrOf result WriteBookError.Unfit → Any (λ event. IsUnfit event.kind) book.now.events }
+{
+    let mut text = String::new(alloc);
+    push_first(&mut text, book.me(), book.nodes(), book.start())?;
+    push_events(&mut text, book.events().as_slice())?;
+    Ok(text)
+}
+
+/// Adds the text of a book, which `ra settle` reads as this book: its first line, and then a line for each event in order. The
+/// frames that came are in version 2, in lower case. What the node sent is in no line, as the events decide it, nor are the
+/// frames that are flagged lost, a fault, or what was taken from the book. The cost is linear in the number of events, and the
+/// text grows in amortized linear time. The book is written by itself first, so it takes room for its text twice.
+///
+/// # Errors
+///
+/// The text is as before.
 ///
 /// 1. `Unfit`: a frame that came does not fit. No frame that [`Book::receive`] took is one.
 /// 2. `Memory`, which may come before it.
 pub fn push_book(text: &mut String, book: &Book) -> Result<(), WriteBookError>
     ensures ok { OnOk result ((lines : List (List ℕ)) × IsWrittenBook lines book.now
         × AddsLines (string_bytes text.old) (string_bytes text.new) lines) }
+    ensures err { OnErr result (string_bytes text.new ≡ string_bytes text.old) }
     ensures unfit { IsErrOf result WriteBookError.Unfit → Any (λ event. IsUnfit event.kind) book.now.events }
 {
-    push_first(text, book.me(), book.nodes(), book.start())?;
-    push_events(text, book.events().as_slice())
+    let written = book_text(*text.allocator(), book)?;
+    text.push_str(written.as_str())?;
+    Ok(())
 }

@@ -1,4 +1,4 @@
-//! If a growth is refused, a book is not written for lack of memory, and its text has grown by a part of the book.
+//! If a growth is refused, a book is not written for lack of memory, and the text is as before.
 use crate::asserting::assert_grown;
 use crate::growth::tried_if;
 use crate::written_books::{TEXT, is_filled};
@@ -22,13 +22,7 @@ fn filled(alloc: Global) -> Option<Book> {
     }
 }
 
-/// Returns whether a text still begins with what it had, and goes on with a part of the book.
-fn has_part(text: &str) -> bool {
-    text.starts_with(EARLIER) && TEXT.starts_with(text)
-}
-
-/// Writes the book after another text. If that is refused, returns whether memory ran out and the text has no more than a part
-/// of the book.
+/// Writes the book after another text. If that is refused, returns whether memory ran out and the text is as before.
 fn try_push(alloc: Global, book: &Book) -> Result<Tried, bool> {
     let mut text = String::new(alloc);
     if text.push_str(EARLIER).is_err() {
@@ -36,7 +30,7 @@ fn try_push(alloc: Global, book: &Book) -> Result<Tried, bool> {
     }
     match push_book(&mut text, book) {
         Ok(()) => Ok(tried_if(text.as_str() == TEXT)),
-        Err(why) => Err(why == WriteBookError::Memory && has_part(text.as_str())),
+        Err(why) => Err(why == WriteBookError::Memory && text.as_str() == EARLIER),
     }
 }
 
