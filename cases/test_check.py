@@ -81,17 +81,17 @@ class Ends(RaTest):
         """Fails unless this is said of a log in which so many clients wait, each for a name of its own."""
         log = "".join(f"request 1 7 r{it} X 1\n" for it in range(count))
         verdict = f"valid\nrequests {count}\ngrants 0\n"
-        self.expect(words="check --marks", input=log, output=verdict, note=f"ra: the log ends with {count} requests waiting, {note}\n")
+        self.expect(words="check --marks", input=log, output=verdict, note=f"ra: the log ends with {count} requests waiting{note}\n")
 
     def test_no_more_than_65536_clients_are_followed(self):
         waits = [f"client 7 at node 1 has waited for 'r{it}' (X) since line {it + 1}: no client blocks it" for it in range(4)]
-        self.expect_log(65_536, f"0 requests holding: {'; '.join(waits)}")
-        self.expect_log(65_537, "0 requests holding; there was no room to name them")
+        self.expect_log(65_536, f": {'; '.join(waits)}")
+        self.expect_log(65_537, "; there was no room to name them")
 
     def test_what_came_long_before_the_end_is_said(self):
         done = "".join(f"request 2 8 r X {it}\nenter 2 8 r X {it}\nleave 2 8 r X {it}\n" for it in range(1, 4000))
         given = f"request 1 7 a X 1\n{done}request 3 9 a X 2\n"
-        note = "ra: the log ends with 2 requests waiting, 0 requests holding: client 7 at node 1 has waited for 'a' (X) since line 1: "
+        note = "ra: the log ends with 2 requests waiting: client 7 at node 1 has waited for 'a' (X) since line 1: "
         note += "no client blocks it; client 9 at node 3 has waited for 'a' (X) since line 11999: "
         note += "client 7 at node 1 asked for 'a' (X) in line 1\n"
         self.assertGreater(len(given), 65_537)

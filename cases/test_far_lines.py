@@ -5,9 +5,12 @@ from cases import RaTest
 ROUNDS = 5000
 # How often a message is repeated before the wrong line of a trace, which takes 25 bytes each time.
 REPEATS = 2700
-# The most requests that are followed at once, and how many of the last releases are kept.
+# The most requests that are followed at once, and how many are kept of the last releases, and of the last messages that
+# were delivered or lost.
 MOST_OPEN = 65536
-MOST_PAST = 1024
+MOST_RELEASED = 2048
+MOST_TAKEN = 4096
+NOT_UNDER_WAY = "this message is not under way: "
 
 # Lines after those of a mark log, the cause for which the last of them is wrong, and what is said of it.
 WRONG_MARKS = [
@@ -60,19 +63,19 @@ WRONG_MARKS = [
         "NotWaiting",
         "no such request waits for the name: client 8 at node 1 asked for 'r' (X) in line 15001, with number 5001",
     ),
-    # It may have been released before the last 1,024 releases.
+    # It may have been released before the last 2,048 releases.
     (
         ["leave 1 7 s X 1"],
         "NotHeld",
         "no such request holds the name",
     ),
     (
-        ["leave 1 7 r X 3977"],
+        ["leave 1 7 r X 2953"],
         "NotHeld",
-        "no such request holds the name: it was released in line 11931",
+        "no such request holds the name: it was released in line 8859",
     ),
     (
-        ["leave 1 7 r X 3976"],
+        ["leave 1 7 r X 2952"],
         "NotHeld",
         "no such request holds the name: client 7 at node 1 last released 'r' (X) in line 15000, with number 5000",
     ),
@@ -105,6 +108,26 @@ WRONG_STEPS = [
         "Table",
         "the lock table does not allow this mark: its node already waits for the name or holds it: "
         "client 1 at node 1 asked for 'r' (X) in line 3",
+    ),
+    (
+        ["deliver reply 2 1 r 1"],
+        "NotUnderWay",
+        NOT_UNDER_WAY + "its request has not come to node 2",
+    ),
+    (
+        ["deliver request 1 2 r X 1", "deliver reply 2 1 r 1", "enter 1 1 r X 1", "deliver reply 2 1 r 1"],
+        "NotUnderWay",
+        NOT_UNDER_WAY + "it was last delivered in line 2705; a copy needs a repeat line before that",
+    ),
+    (
+        (REPEATS + 1) * ["lose request 1 2 r X 1"] + ["lose request 1 2 r X 1"],
+        "NotUnderWay",
+        NOT_UNDER_WAY + "it was lost in line 5404",
+    ),
+    (
+        ["ask 2 2 r X", "request 2 2 r X 1", "deliver request 2 1 r X 1", "deliver reply 1 2 r 1"],
+        "NotUnderWay",
+        NOT_UNDER_WAY + "node 1 deferred it in line 2706, as its own request 1 is earlier",
     ),
 ]
 
@@ -150,8 +173,24 @@ class FarLines(RaTest):
         self.expect_said("check --marks", open_ones + ["request 1 7 more X 1"] + again, "NodeBusy", busy)
 
     def test_no_more_releases_are_kept_than_there_is_room_for(self):
-        past = rounds([f"n{place}" for place in range(MOST_PAST)], [1])
+        past = rounds([f"n{place}" for place in range(MOST_RELEASED)], [1])
         held = "no such request holds the name"
         never = ["leave 1 7 s X 1"]
         self.expect_said("check --marks", past + never, "NotHeld", held + ": it was never requested")
         self.expect_said("check --marks", past + rounds(["more"], [1]) + never, "NotHeld", held)
+
+    def test_no_more_messages_are_kept_than_there_is_room_for(self):
+        begins = ["trace 2 2 0", "ask 1 1 r X", "request 1 1 r X 1"]
+        came = ["repeat request 1 2 r X 1", "deliver request 1 2 r X 1"]
+        never = ["deliver reply 2 1 s 1"]
+        self.expect_said("check", begins + MOST_TAKEN * came + never, "NotUnderWay", NOT_UNDER_WAY + "it was never sent")
+        more = begins + (MOST_TAKEN + 1) * came
+        unknown = "it was never sent, or was already delivered or lost"
+        self.expect_said("check", more + never, "NotUnderWay", NOT_UNDER_WAY + unknown)
+        # The last ones are kept, and the first one is not.
+        lost = begins + ["repeat request 1 2 r X 1", "lose request 1 2 r X 1", "deliver request 1 2 r X 1"]
+        again = ["ask 2 2 s X", "request 2 2 s X 1"] + MOST_TAKEN * ["repeat request 2 1 s X 1", "lose request 2 1 s X 1"]
+        self.expect_said("check", lost + again + ["deliver request 1 2 r X 1"], "NotUnderWay", NOT_UNDER_WAY + unknown)
+        kept = lost + again[:-2] + ["deliver request 1 2 r X 1"]
+        said = "it was last delivered in line 6; a copy needs a repeat line before that"
+        self.expect_said("check", kept, "NotUnderWay", NOT_UNDER_WAY + said)

@@ -70,14 +70,16 @@ class Growth(PreloadTest):
 
         self.expect_all(words, given, is_answer, f"status {status}, {output!r} and {[note, *less]}, or that memory ran out")
 
-    def expect_of_line(self, words, given, output, line, cause, general, quotes=True):
+    def expect_of_line(self, words, given, output, line, cause, general, quotes=True, less=None):
         """Refuses each allocation of a command that says what is wrong with a line, and may say less: a general cause of the
-        line, which it quotes or not."""
+        line, which it quotes or not, or another cause, if one is given."""
         number = output.split(" ")[1]
-        less = [f"ra: line {number}: {general}"]
+        said = [f"ra: line {number}: {general}"]
         if quotes:
-            less.append(f"ra: line {number}, '{line}': {general}")
-        self.expect_growth(words, given, output, 3, f"ra: line {number}, '{line}'{cause}\n", less)
+            said.append(f"ra: line {number}, '{line}': {general}")
+        if less:
+            said.append(f"ra: line {number}, '{line}'{less}\n")
+        self.expect_growth(words, given, output, 3, f"ra: line {number}, '{line}'{cause}\n", said)
 
     def test_growth_of_answer(self):
         self.expect_growth(ANSWER, TEXTS["REQUEST"], TEXTS["REPLY"])
@@ -153,8 +155,10 @@ class Growth(PreloadTest):
 
     def test_growth_of_a_note_on_a_message_that_is_not_under_way(self):
         given = "trace 2 2 0\nask 1 1 r X\nrequest 1 1 r X 1\ndeliver reply 2 1 r 1\n"
-        cause = ": this message is not under way: it was never sent"
-        self.expect_of_line("check", given, "invalid 4 NotUnderWay\n", "deliver reply 2 1 r 1", cause, NOT_UNDER_WAY)
+        cause = ": this message is not under way: its request has not come to node 2"
+        # Without memory for the request, only that the REPLY was never sent is known.
+        less = ": this message is not under way: it was never sent"
+        self.expect_of_line("check", given, "invalid 4 NotUnderWay\n", "deliver reply 2 1 r 1", cause, NOT_UNDER_WAY, less=less)
 
     def test_growth_of_a_note_on_a_mark_that_the_table_does_not_allow(self):
         given = "trace 2 2 0\nask 1 1 r S\nrequest 1 1 r S 1\nrequest 1 2 r S 2\n"
@@ -168,7 +172,7 @@ class Growth(PreloadTest):
         self.expect_of_line("check --marks", f"{line}\n", "invalid 1 Line\n", line, cause, NOT_A_MARK, quotes=False)
 
     def test_growth_of_a_note_on_the_end_of_a_trace(self):
-        counts = "ra: the trace ends with 0 messages under way, 0 messages lost, 0 requests waiting, 1 client queued, 1 request holding"
+        counts = "ra: the trace ends with 1 client queued, 1 request holding"
         queued = "client 2 at node 1 has been queued for 'r' (S) since line 5: client 1 at node 1 has held 'r' (X) since line 4"
         note = f"{counts}: {queued}; client 1 at node 1 has held 'r' (X) since line 4\n"
         less = [f"{counts}; there was no room to name them\n", NO_MORE]

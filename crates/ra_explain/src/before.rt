@@ -1,7 +1,8 @@
 //! What the lines before a mark say of its name.
 use crate::claim::Claim;
 use crate::open_client::{Client, client_of, released_of};
-use crate::open_text::{OpenText, Past, Stage};
+use crate::open_text::{OpenText, Stage};
+use crate::past::{End, Past};
 use ra_stamp::Entry;
 use ra_world::Note;
 use std::alloc::Global;
@@ -71,7 +72,9 @@ impl Before {
         };
         let other = &released.entry;
         if other.name == entry.name {
-            self.note_grant(other.stamp.seq, past.granted);
+            if let End::Released { granted } = past.end {
+                self.note_grant(other.stamp.seq, granted);
+            }
             if other.stamp.node == entry.stamp.node && self.is_nearer(&released, entry) {
                 self.released = Some(released);
             }
@@ -98,7 +101,7 @@ impl Before {
         text: &OpenText,
         entry: &Entry,
     ) -> Option<Before> {
-        if !text.is_before(line) {
+        if !text.is_whole_before(line) {
             return None;
         }
         let mut before = Before {
@@ -106,10 +109,10 @@ impl Before {
             granted: 0,
             granted_at: 0,
             released: None,
-            is_past_whole: text.is_past_whole,
+            is_past_whole: text.released.is_whole,
         };
         before.take_open(note, text, entry);
-        for past in &text.past {
+        for past in &text.released.last {
             before.take_past(past, entry);
         }
         Some(before)

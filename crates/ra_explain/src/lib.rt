@@ -26,6 +26,7 @@ mod obstacle;
 mod open_client;
 mod open_text;
 mod order;
+mod past;
 mod refused_step;
 mod script;
 mod standing;
@@ -33,6 +34,7 @@ mod tail;
 mod text_end;
 mod unanswered;
 mod unfinished;
+mod words;
 
 pub use choosing::choices_note;
 pub use ending::script_end_note;

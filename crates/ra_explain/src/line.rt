@@ -48,7 +48,7 @@ fn push_cause(
         LineCause::Trace(Cause::Marks) => push_due(alloc, note, line, read, text),
         LineCause::Trace(Cause::Refused) => push_refused(note, line, before, tail.line, text),
         LineCause::Trace(Cause::NotUnderWay) => {
-            push_not_under_way(note, line, read, tail.line, text);
+            push_not_under_way(note, line, version, before, tail.line, text);
         }
         LineCause::Marks(MarkCause::Line) => push_mark_text(alloc, note, tail, text),
         LineCause::Trace(_) | LineCause::Marks(_) => {
@@ -61,11 +61,10 @@ fn push_cause(
 /// itself, and what is wrong with it. The last is `text` if nothing more precise is found. `version` is that which the first line
 /// of a trace names, as far as it is known ([`version_of`](crate::version_of)). `read` are the last bytes that were read, up to
 /// the end of that line. If they begin with the line before, what comes after `end` is known as such. If they are all that were
-/// read, it is said which mark is due, and why a message is not under way. `feeds` is how many line feeds were read in all: as
-/// many as `line` if the line was read to its line feed, and fewer if it has none or the text ends before it. `before` has
-/// followed the lines before that one. If it has, it is said what is in the way of a mark, and why a node refuses a step. The cost
-/// is linear in `read`, plus that of the steps in it for the mark that is due; and linear in how many wait, are queued, hold or
-/// were released last.
+/// read, it is said which mark is due. `feeds` is how many line feeds were read in all: as many as `line` if the line was read to
+/// its line feed, and fewer if it has none or the text ends before it. `before` has followed the lines before that one. If it has,
+/// it is said what is in the way of a mark, why a node refuses a step, and why a message is not under way. The cost is linear in
+/// `read`, plus that of the steps in it for the mark that is due; and linear in how much `before` keeps.
 ///
 /// # Errors
 ///

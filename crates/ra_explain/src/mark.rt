@@ -1,6 +1,7 @@
-//! The marks in lines.
+//! The marks and the steps in lines.
 use ra_stamp::{Entry, Mark};
 use ra_trace::Line;
+use ra_world::Step;
 
 /// Returns the entry of a mark.
 pub fn entry_of(mark: &Mark) -> &Entry {
@@ -22,5 +23,13 @@ pub fn mark_in(text: &[u8]) -> Option<Mark> {
     match &Line::parse(text) {
         Some(line) => mark_of(line),
         None => None,
+    }
+}
+
+/// Returns the step that a text without its line feed is, if it is one.
+pub fn step_in(text: &[u8]) -> Option<Step> {
+    match &Line::parse(text) {
+        Some(Line::Stepped(step)) => Some(*step),
+        _ => None,
     }
 }

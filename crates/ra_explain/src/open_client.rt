@@ -1,7 +1,9 @@
 //! The clients that wait, are queued or hold, by the words that are kept of them.
 use crate::claim::Claim;
 use crate::mark::{entry_of, mark_in};
-use crate::open_text::{Open, Past, Stage, Words};
+use crate::open_text::{Open, Stage};
+use crate::past::Past;
+use crate::words::Words;
 use arrayvec::ArrayVec;
 use ra_world::cut;
 
@@ -51,7 +53,7 @@ pub fn released_of(past: &Past) -> Option<Claim> {
         &past.words,
         &Open {
             stage: Stage::Waits,
-            since: past.left,
+            since: past.line,
         },
     )?;
     Some(client.claim)

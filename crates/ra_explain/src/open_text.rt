@@ -1,19 +1,18 @@
-//! Follows the lines of a trace or of a mark log, for what is left at its end.
+//! Follows the lines of a trace or of a mark log, for what comes before a wrong line and what is left at the end.
+use crate::past::{End, Past, Pasts};
+use crate::words::{Words, kept};
 use ra_world::cut;
 use std::alloc::Global;
 use std::collections::HashMap;
-
-/// The most bytes of a mark after its first word.
-const MAX_WORDS: usize = 71;
 
 /// The most clients that are followed at once.
 const MAX_OPEN: usize = 65_536;
 
 /// How many of the last releases are kept.
-const MAX_PAST: usize = 1024;
+const MAX_RELEASED: usize = 2048;
 
-/// The words of a line after its first word, with zeros after them.
-pub type Words = [u8; MAX_WORDS];
+/// How many of the last messages that were delivered or lost are kept.
+const MAX_TAKEN: usize = 4096;
 
 /// What a client does between its ask and its release.
 #[derive(Clone, Copy, PartialEq, Eq)]
@@ -31,16 +30,6 @@ pub enum Stage {
 pub struct Open {
     pub stage: Stage,
     pub since: u64,
-}
-
-/// A request that was released.
-#[derive(Clone, Copy)]
-pub struct Past {
-    /// The words of its marks.
-    pub words: Words,
-    /// The lines in which it was granted and released.
-    pub granted: u64,
-    pub left: u64,
 }
 
 /// How much is left at the end of a text.
@@ -183,14 +172,6 @@ impl Counts {
     }
 }
 
-/// Returns words as far as they are kept.
-fn kept(words: &[u8]) -> Words {
-    let mut first = [0; MAX_WORDS];
-    let fitting = words.len().min(MAX_WORDS);
-    first[..fitting].copy_from_slice(&words[..fitting]);
-    first
-}
-
 /// Returns the words before the last one.
 fn without_last(words: &[u8]) -> &[u8] {
     let mut end = words.len();
@@ -204,8 +185,8 @@ fn without_last(words: &[u8]) -> &[u8] {
 
 /// Follows a text line by line, and knows what is left at its end if it is a trace or a mark log. It does not check that.
 /// So it only looks at the first word of a line, and compares the others as they are. It counts what is left without
-/// memory. For the clients that wait, are queued or hold it needs memory, at most for 65,536 of them at once, and for the last
-/// 1,024 releases.
+/// memory. For the clients that wait, are queued or hold it needs memory, at most for 65,536 of them at once, for the last
+/// 2,048 releases, and for the last 4,096 messages that were delivered or lost.
 #[derive(Drop)]
 pub struct OpenText {
     /// Whether each line began as one of a trace or of a mark log does.
@@ -219,11 +200,10 @@ pub struct OpenText {
     pub(crate) open: HashMap<Words, Open>,
     /// Whether these are all: memory never ran out, and they were never too many.
     pub(crate) is_whole: bool,
-    /// The last releases: the next one comes to the place `next_past`.
-    pub(crate) past: Vec<Past>,
-    next_past: usize,
-    /// Whether these are all: memory never ran out, and they were never too many.
-    pub(crate) is_past_whole: bool,
+    /// The last requests that were released.
+    pub(crate) released: Pasts,
+    /// The last messages that were delivered or lost.
+    pub(crate) taken: Pasts,
 }
 
 impl OpenText {
@@ -232,7 +212,7 @@ impl OpenText {
         OpenText {
             goes_on: true,
             is_trace: false,
-            first: [0; MAX_WORDS],
+            first: kept(b""),
             lines: 0,
             counts: Counts {
                 asks: 0,
@@ -245,9 +225,8 @@ impl OpenText {
             },
             open: HashMap::new(alloc),
             is_whole: true,
-            past: Vec::new(alloc),
-            next_past: 0,
-            is_past_whole: true,
+            released: Pasts::new(alloc, MAX_RELEASED),
+            taken: Pasts::new(alloc, MAX_TAKEN),
         }
     }
 
@@ -266,9 +245,14 @@ impl OpenText {
         open
     }
 
-    /// Returns whether all that waits, is queued or holds before the line with this number is known, which comes next.
+    /// Returns whether it has taken the lines before the one with this number, and no others.
     pub(crate) fn is_before(&self, line: u64) -> bool {
-        self.goes_on && self.is_whole && self.lines.saturating_add(1) == line
+        self.goes_on && self.lines.saturating_add(1) == line
+    }
+
+    /// Returns whether all that waits, is queued or holds before the line with this number is known.
+    pub(crate) fn is_whole_before(&self, line: u64) -> bool {
+        self.is_whole && self.is_before(line)
     }
 
     /// Takes the next line, without its line feed. After a line that belongs neither to a trace nor to a mark log it takes
@@ -291,7 +275,9 @@ impl OpenText {
             Act::Request => self.take_request(words),
             Act::Enter => self.keep(words, Stage::Holds),
             Act::Leave => self.take_leave(words),
-            Act::Deliver | Act::Lose | Act::Repeat | Act::Pass => {}
+            Act::Deliver => self.keep_taken(words, End::Delivered),
+            Act::Lose => self.keep_taken(words, End::Lost),
+            Act::Repeat | Act::Pass => {}
             Act::Stray => self.goes_on = false,
         }
     }
@@ -325,29 +311,23 @@ impl OpenText {
     fn take_leave(&mut self, words: &[u8]) {
         let kept = kept(words);
         if let Some(open) = self.open.remove(&kept) {
-            self.keep_past(Past {
+            self.released.keep(Past {
                 words: kept,
-                granted: open.since,
-                left: self.lines,
+                end: End::Released {
+                    granted: open.since,
+                },
+                line: self.lines,
             });
         }
     }
 
-    /// Keeps a release, in place of the oldest one if there are too many, unless memory runs out.
-    fn keep_past(&mut self, past: Past) {
-        if self.past.len() < MAX_PAST {
-            self.is_past_whole = self.past.push(past).is_ok() && self.is_past_whole;
-            return;
-        }
-        self.is_past_whole = false;
-        if let Some(oldest) = self.past.get_mut(self.next_past) {
-            *oldest = past;
-        }
-        self.next_past = if self.next_past < MAX_PAST - 1 {
-            self.next_past + 1
-        } else {
-            0
-        };
+    /// Keeps a message that was delivered or lost.
+    fn keep_taken(&mut self, words: &[u8], end: End) {
+        self.taken.keep(Past {
+            words: kept(words),
+            end,
+            line: self.lines,
+        });
     }
 
     /// Forgets the client with these words.

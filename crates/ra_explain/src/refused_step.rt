@@ -1,5 +1,6 @@
 //! Why a node refuses what a client wants at a line of a trace.
 use crate::claim::Claim;
+use crate::mark::step_in;
 use crate::open_client::{Client, client_of};
 use crate::open_text::{OpenText, Stage};
 use arrayvec::ArrayVec;
@@ -30,14 +31,6 @@ fn wish_of(step: &Step) -> Option<Wish> {
             name: *name,
         }),
         Step::Deliver(_) | Step::Lose(_) | Step::Repeat(_) => None,
-    }
-}
-
-/// Returns the step in a line without its line feed, if the line is a step.
-fn step_in(text: &[u8]) -> Option<Step> {
-    match &Line::parse(text) {
-        Some(Line::Stepped(step)) => Some(*step),
-        _ => None,
     }
 }
 
@@ -149,7 +142,7 @@ fn count_of(line: &Line) -> Option<u16> {
 }
 
 /// Returns the number of nodes of a trace, if its first line was followed.
-fn nodes_of(text: &OpenText) -> Option<u16> {
+pub fn nodes_of(text: &OpenText) -> Option<u16> {
     // Zeros come after the words, which have none.
     let (words, _) = cut(&text.first, 0);
     let mut line: ArrayVec<u8, 77> = ArrayVec::new();
@@ -185,7 +178,7 @@ fn wished_in(text: &[u8]) -> Option<(Step, Wish)> {
 /// were followed. The cost is linear in how many wait, are queued and hold.
 pub fn push_refused(note: &mut Note, line: u64, text: &OpenText, shown: &[u8], other: &str) {
     match (wished_in(shown), nodes_of(text)) {
-        (Some((step, wish)), Some(nodes)) if text.is_before(line) => {
+        (Some((step, wish)), Some(nodes)) if text.is_whole_before(line) => {
             push_refusal(note, text, nodes, &step, &wish);
         }
         _ => note.push(other),

@@ -1,7 +1,8 @@
 //! What is left at the end of a trace or of a mark log.
 use crate::claim::want_text;
 use crate::open_client::{Client, client_of};
-use crate::open_text::{Left, Open, OpenText, Stage, Words};
+use crate::open_text::{Left, Open, OpenText, Stage};
+use crate::words::Words;
 use ra_stamp::Memory;
 use ra_world::Note;
 use std::alloc::Global;
@@ -155,27 +156,46 @@ impl TextEnd {
     }
 }
 
-/// Adds how many there are of something, and what becomes of them.
-fn push_count(note: &mut Note, count: u128, thing: &str, what: &str) {
+/// Adds how many there are of something and what becomes of them, if there are any. `is_next` says whether others were named before.
+/// Returns whether any are named now.
+fn push_count(note: &mut Note, is_next: bool, count: u128, thing: &str, what: &str) -> bool {
+    if count == 0 {
+        return is_next;
+    }
+    if is_next {
+        note.push(", ");
+    }
     note.number(count);
     note.push(thing);
     note.push(if count == 1 { " " } else { "s " });
     note.push(what);
+    true
 }
 
-/// Adds how much is left.
+/// Adds how much is left, which is not nothing. A mark log has neither messages nor clients that are queued.
 fn push_counts(note: &mut Note, left: &Left, is_trace: bool) {
-    if is_trace {
-        note.push("the trace ends with ");
-        push_count(note, left.under_way, " message", "under way, ");
-        push_count(note, left.lost, " message", "lost, ");
-        push_count(note, u128::from(left.waiting), " request", "waiting, ");
-        push_count(note, u128::from(left.queued), " client", "queued, ");
+    note.push(if is_trace {
+        "the trace ends with "
     } else {
-        note.push("the log ends with ");
-        push_count(note, u128::from(left.waiting), " request", "waiting, ");
-    }
-    push_count(note, u128::from(left.holding), " request", "holding");
+        "the log ends with "
+    });
+    let is_next = push_count(note, false, left.under_way, " message", "under way");
+    let is_next = push_count(note, is_next, left.lost, " message", "lost");
+    let is_next = push_count(
+        note,
+        is_next,
+        u128::from(left.waiting),
+        " request",
+        "waiting",
+    );
+    let is_next = push_count(note, is_next, u128::from(left.queued), " client", "queued");
+    push_count(
+        note,
+        is_next,
+        u128::from(left.holding),
+        " request",
+        "holding",
+    );
 }
 
 /// Adds what is left at the end of a text.
@@ -195,10 +215,10 @@ fn push_end(alloc: Global, note: &mut Note, text: &OpenText, left: &Left) {
 
 /// Returns a note on what is left at the end of a text whose lines were taken, and which is a mark log, or a trace in which
 /// this many messages were sent. The note counts the messages that are under way and lost, and the requests that wait, are
-/// queued or hold. At each stage it names the first four clients and since which lines they are there, and which clients
-/// those wait for that wait or are queued. If there was no memory for the clients, or there were more than 65,536 at once,
-/// it only counts. Of a log without a mark it says that. Returns `None` if nothing is left. The cost is linear in how many
-/// wait, are queued or hold.
+/// queued or hold, and leaves out those of which there are none. At each stage it names the first four clients and since which
+/// lines they are there, and which clients those wait for that wait or are queued. If there was no memory for the clients, or
+/// there were more than 65,536 at once, it only counts. Of a log without a mark it says that. Returns `None` if nothing is left.
+/// The cost is linear in how many wait, are queued or hold.
 ///
 /// # Errors
 ///

@@ -232,14 +232,13 @@ const OF_LINES: &[Note] = &[
         ),
         "line 4, 'ask 1 1 r S': client 1 has waited for 'r' (X) at node 1 since line 3 and may not ask for it again",
     ),
-    // The step is made, and so is not refused.
     Note(
         Field(
-            "trace 2 2 0\nask 1 1 r X\n",
+            "trace 2 2 18446744073709551615\nask 1 1 r X\n",
             2,
             LineCause::Trace(Cause::Refused),
         ),
-        "line 2, 'ask 1 1 r X': said of all",
+        "line 2, 'ask 1 1 r X': no sequence number is left for 'r': the greatest is 18446744073709551615",
     ),
 ];
 
