@@ -31,16 +31,21 @@ ONE_LOCK_WORDS = [
     ("<title>request 1 from node 1 to node 2 for r, exclusive, sent at line 2, delivered at line 4</title>", 1),
     ("<title>reply 1 from node 2 to node 1 for r, sent at line 4, delivered at line 5</title>", 1),
     ("<title>client 1 at node 1 waits for r, exclusive, from line 2 to line 5</title>", 1),
-    ("<title>client 1 at node 1 is inside r, exclusive, from line 5 to line 7</title>", 1),
+    ("<title>client 1 at node 1 holds r, exclusive, from line 5 to line 7</title>", 1),
     ("<title>client 1 at node 1 leaves r</title>", 1),
     (">request 1 r X</text>", 1),
     (">reply 1 r</text>", 1),
     (">asks r X</text>", 1),
     (">leaves r</text>", 1),
-    # Each message has its line, and a wide one beneath it that is not seen.
+    # Each message has its line, and a wide one beneath it that is not seen. So have dots and bars.
     (" class=\"arrow request\"/></g>", 1),
     (" class=\"arrow reply\"/></g>", 1),
     (" class=\"hit\"/>", 2),
+    (" r=\"10\" class=\"touch\"/>", 2),
+    (" width=\"24\" height=\"48\" class=\"touch\"/>", 1),
+    (" width=\"24\" height=\"24\" class=\"touch\"/>", 1),
+    # The bars are named once, as they belong to one request.
+    (")rotate(90)\" class=\"label\">r X</text>", 1),
     (" defers ", 0),
     (" is queued for ", 0),
     (">copies</text>", 0),
@@ -54,11 +59,11 @@ TWO_LOCKS_WORDS = [
     (", delivered at line ", 8),
     (" class=\"lane\"/>", 3),
     ("<title>reply 1 from node 1 to node 2 for r, sent at line 13, delivered at line 16</title>", 1),
-    ("<title>client 1 at node 1 is inside r, exclusive, from line 11 to line 13</title>", 1),
+    ("<title>client 1 at node 1 holds r, exclusive, from line 11 to line 13</title>", 1),
     ("<title>client 2 at node 2 waits for r, exclusive, from line 4 to line 16</title>", 1),
     # It waits there from the delivery of the REQUEST on.
     ("<title>node 1 defers its reply to request 1 of node 2 for r, from line 8 to line 13</title>", 1),
-    (", delivered at line 8 deferred</title>", 1),
+    (", delivered at line 8, deferred</title>", 1),
     (">request 1 r X deferred</text>", 1),
     (" defers ", 1),
     (", still under way", 0),
@@ -72,7 +77,7 @@ LOST_AND_REPEATED_WORDS = [
     ("<title>request 1 from node 1 to node 2 for disk.2, shared and intent exclusive, repeated at line 4</title>", 1),
     ("<title>request 1 from node 1 to node 2 for disk.2, shared and intent exclusive, repeated at line 4, still under way</title>", 1),
     ("<title>client 7 at node 1 waits for disk.2, shared and intent exclusive, from line 2 on</title>", 1),
-    (" is inside ", 0),
+    (" holds ", 0),
     (", delivered at ", 0),
     (">copies</text>", 1),
     (">request 1 disk.2 SIX, 1 to 2</text>", 1),
@@ -102,7 +107,7 @@ QUEUED_WORDS = [
     ("<title>client 3 at node 1 is queued for r, shared, from line 6 on</title>", 1),
     (" is queued for ", 2),
     (" waits for ", 0),
-    (" is inside r, shared, from line 7 on</title>", 1),
+    (" holds r, shared, from line 7 on</title>", 1),
     (">asks r S</text>", 2),
 ]
 
@@ -126,6 +131,8 @@ LONG_NAMES_WORDS = [
     (">asks ..bbb.locks S</text>", 1),
     (">leaves ..aa.locks</text>", 1),
     (" asks for rows.aa.locks, exclusive</title>", 1),
+    # No bar is as long as its name.
+    (")rotate(90)", 0),
 ]
 
 # A mark log of two clients: the second one is at node 3, and still inside at the end.
@@ -142,9 +149,9 @@ LOG_WORDS = [
     ("<title>3 nodes, 2 requests, 2 grants</title>", 1),
     (" class=\"lane\"/>", 3),
     ("<title>client 7 at node 1 waits for r, exclusive, from line 1 to line 3</title>", 1),
-    ("<title>client 7 at node 1 is inside r, exclusive, from line 3 to line 4</title>", 1),
+    ("<title>client 7 at node 1 holds r, exclusive, from line 3 to line 4</title>", 1),
     ("<title>client 8 at node 3 waits for r, shared, from line 2 to line 5</title>", 1),
-    ("<title>client 8 at node 3 is inside r, shared, from line 5 on</title>", 1),
+    ("<title>client 8 at node 3 holds r, shared, from line 5 on</title>", 1),
     (">asks r X</text>", 1),
     (">asks r S</text>", 1),
     (">leaves r</text>", 1),
@@ -183,7 +190,7 @@ class Pictures(unittest.TestCase):
         ])
         self.assert_picture("draw --marks --from 4 --to 4", LOG, [
             ("<title>3 nodes, 2 requests, 2 grants, from line 4, to line 4</title>", 1),
-            (" is inside r, exclusive, from line 3 to line 4</title>", 1),
+            (" holds r, exclusive, from line 3 to line 4</title>", 1),
             (" waits for r, shared, from line 2 on</title>", 1),
             (" class=\"row\">", 1),
         ])
@@ -195,8 +202,10 @@ class Pictures(unittest.TestCase):
             (", sent at line 2, delivered at line 4</title>", 1),
             (", sent at line 4, still under way</title>", 1),
             (" waits for r, exclusive, from line 2 on</title>", 1),
+            # A bar that began before has its name at the top.
+            (")rotate(90)\" class=\"label\">r X</text>", 1),
             (" asks for ", 0),
-            (" is inside ", 0),
+            (" holds ", 0),
         ])
         # What came before, and a client that left before, are not drawn.
         self.assert_picture("draw --from 8 --to 9", TEXTS["TRACE_ONE_LOCK"], [
@@ -206,13 +215,13 @@ class Pictures(unittest.TestCase):
         ])
         # The marks of the last step are drawn with it.
         self.assert_picture("draw --from 5 --to 5", QUEUED, [
-            ("<title>client 1 at node 1 is inside r, exclusive, from line 2 on</title>", 1),
+            ("<title>client 1 at node 1 holds r, exclusive, from line 2 on</title>", 1),
             (" is queued for r, shared, from line 5 on</title>", 1),
             (" is queued for ", 1),
         ])
         self.assert_picture("draw --from 7 --to 7", QUEUED, [
-            (" is inside r, exclusive, from line 2 to line 7</title>", 1),
-            (" is inside r, shared, from line 7 on</title>", 1),
+            (" holds r, exclusive, from line 2 to line 7</title>", 1),
+            (" holds r, shared, from line 7 on</title>", 1),
             (" is queued for r, shared, from line 5 to line 7</title>", 1),
         ])
 

@@ -173,6 +173,17 @@ impl Course {
         Ok(())
     }
 
+    /// Notes what a step sends, and the deferrals that it begins and ends.
+    fn note_outcome(
+        &mut self,
+        alloc: Global,
+        step: &Step,
+        sends: &[Message],
+    ) -> Result<(), Memory> {
+        self.note_deferrals(step, sends)?;
+        self.note_sends(alloc, sends)
+    }
+
     /// Makes a step, and notes what it takes and what it sends.
     fn make_step(
         &mut self,
@@ -182,10 +193,7 @@ impl Course {
     ) -> Result<(), Memory> {
         self.note(alloc, step)?;
         match world.step(alloc, step) {
-            Ok(outcome) => {
-                self.note_deferrals(step, outcome.sends.as_slice())?;
-                self.note_sends(alloc, outcome.sends.as_slice())
-            }
+            Ok(outcome) => self.note_outcome(alloc, step, outcome.sends.as_slice()),
             // No step of a trace is refused, so memory ran out.
             Err(_) => Err(Memory),
         }
@@ -278,7 +286,7 @@ impl Course {
     }
 
     /// Follows a mark log from its beginning to the end of the part.
-    pub fn follow_marks(&mut self, log: &[u8], part: Part) -> Result<(), Memory> {
+    fn follow_marks(&mut self, log: &[u8], part: Part) -> Result<(), Memory> {
         let mut rest = log;
         for before in 0..part.to {
             // The last line of a log ends with a line feed, too.
@@ -294,16 +302,20 @@ impl Course {
         Ok(())
     }
 
-    /// Follows the run of a trace from its beginning to the end of the part. Each resource begins with this number.
+    /// Follows a text from its beginning to the end of the part: the run of a trace, in which each resource begins with this number, or
+    /// a mark log, which has no such number.
     pub fn follow(
         &mut self,
         alloc: Global,
-        start: u64,
-        trace: &[u8],
+        start: Option<u64>,
+        text: &[u8],
         part: Part,
     ) -> Result<(), Memory> {
+        let Some(start) = start else {
+            return self.follow_marks(text, part);
+        };
         match MarklessWorld::new(alloc, self.nodes, start) {
-            Ok(mut world) => self.take_lines(alloc, &mut world, trace, part),
+            Ok(mut world) => self.take_lines(alloc, &mut world, text, part),
             // A trace has 1 to 64 nodes, so memory ran out.
             Err(_) => Err(Memory),
         }

@@ -117,10 +117,10 @@ fn draw_text<W: Write>(
 ///
 /// - a lane for each node;
 /// - an arrow for each message from its sending to its delivery, a cross where one is lost, and a loop where one is repeated;
-/// - beside the lanes, bars for clients that wait and that are inside.
+/// - beside the lanes, bars for clients that are queued, that wait and that hold a name.
 ///
-/// A message that is under way at the end of the part has a dotted way. One that is sent before the part and not taken in it has
-/// none. Returns the verdict on the text, as `check` does. If it is no trace, nothing is written. No read or write that failed is
+/// A message that is under way at the end of the part has a dotted path. One that is sent before the part and not delivered or
+/// lost in it has none. Returns the verdict on the text, as `check` does. If it is no trace, nothing is written. No read or write that failed is
 /// tried again. Time and memory are linear in the text and in what `World::step` takes for its steps, and in the columns of bars
 /// beside a node.
 ///

@@ -15,7 +15,7 @@ pub const LOOKS: &str = "<defs>
 text{font-family:sans-serif;font-size:11px;fill:#222}
 .headline{font-size:17px;font-weight:bold}
 .node{font-weight:bold;font-size:12px;text-anchor:middle}
-.client{font-size:9px;fill:#555;text-anchor:middle}
+.client{font-size:10px;fill:#555;text-anchor:middle}
 .row{font-size:11px;fill:#555;text-anchor:end}
 .label{font-size:10px;paint-order:stroke;stroke:#fff;stroke-width:3px;stroke-linejoin:round}
 .to-right{text-anchor:start}.to-left{text-anchor:end}.centered{text-anchor:middle}
@@ -26,6 +26,7 @@ text{font-family:sans-serif;font-size:11px;fill:#222}
 .arrow.request{marker-end:url(#head-request)}.arrow.reply{marker-end:url(#head-reply)}
 .under-way{stroke-dasharray:1.5 4}
 .hit{stroke:#000;stroke-opacity:0;stroke-width:12;fill:none;pointer-events:stroke}
+.touch{fill:none;pointer-events:all}
 .copies{stroke:#999;stroke-width:1;stroke-dasharray:1 5}
 .deferral{stroke:#000;stroke-width:1;fill:none}.deferred{fill:#000}
 .cross{stroke:#000;stroke-width:2.2;fill:none}
@@ -49,7 +50,7 @@ pub const LEGEND: &str = "<g>
 <path class=\"deferral\" d=\"M204 70h-8V82h8\"/><path class=\"deferred\" d=\"M196 70m-3 -3h6v6h-6z\"/><text x=\"214\" y=\"80\">deferred, until the reply is sent</text>
 <rect x=\"456\" y=\"69\" width=\"4\" height=\"14\" class=\"queued X\"/><text x=\"472\" y=\"80\">is queued</text>
 <rect x=\"571\" y=\"69\" width=\"10\" height=\"14\" class=\"waiting X\"/><text x=\"590\" y=\"80\">waits</text>
-<rect x=\"664\" y=\"69\" width=\"18\" height=\"14\" class=\"inside X\"/><text x=\"691\" y=\"80\">is inside</text>
+<rect x=\"664\" y=\"69\" width=\"18\" height=\"14\" class=\"inside X\"/><text x=\"691\" y=\"80\">holds</text>
 <rect x=\"16\" y=\"95\" width=\"18\" height=\"14\" class=\"inside S\"/><text x=\"42\" y=\"106\">S, shared</text>
 <rect x=\"124\" y=\"95\" width=\"18\" height=\"14\" class=\"inside X\"/><text x=\"150\" y=\"106\">X, exclusive</text>
 <rect x=\"252\" y=\"95\" width=\"18\" height=\"14\" class=\"inside IS\"/><text x=\"278\" y=\"106\">IS, intent shared</text>

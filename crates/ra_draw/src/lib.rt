@@ -1,6 +1,7 @@
 //! Pictures of runs: a space-time diagram of a trace, or the bars of a mark log, as one SVG file.
 #![tactic(auto)]
 
+mod bars;
 mod course;
 mod deferrals;
 mod drawing;

@@ -17,7 +17,7 @@ const WORTH: usize = 3;
 pub struct Cut {
     pub before: usize,
     pub after: usize,
-    /// The letters of the longest label of a name.
+    /// The letters of the longest name.
     pub longest: usize,
 }
 
@@ -136,12 +136,12 @@ impl Cut {
         &name[from..to]
     }
 
-    /// Returns the letters of the longest label of a name.
-    pub fn letters(&self) -> usize {
+    /// Returns how many letters a label has of a name with this many.
+    pub fn letters_of(&self, letters: usize) -> usize {
         if self.before == 0 && self.after == 0 {
-            self.longest
+            letters
         } else {
-            self.longest
+            letters
                 .saturating_sub(self.before.saturating_add(self.after))
                 .saturating_add(4)
         }

@@ -5,6 +5,7 @@ use crate::stays::Stay;
 use indexmap::IndexMap;
 use itoa::Buffer;
 use ra_stamp::{Memory, NodeId};
+use ra_world::mode_word;
 use std::alloc::Global;
 
 /// Where the rows begin.
@@ -36,6 +37,9 @@ const LEFT_ROWS: u32 = 64;
 
 /// The letters of a label beside the number and the name: `request`, `deferred`, a mode and spaces.
 const LABEL_LETTERS: usize = 22;
+
+/// The width of nearly each letter of a label at most.
+const WIDEST: u64 = 8;
 
 /// The most nodes of which the lanes are wide enough for labels.
 const WIDE: u16 = 12;
@@ -214,9 +218,8 @@ impl Page {
     fn gap(&self) -> u64 {
         match self.nodes {
             0..=3 => 210.max(self.label),
-            4..=5 => self.label,
-            // A label may reach over the bars of the next node, since its row has no other one.
-            6..=WIDE => (self.label / 4).saturating_mul(3),
+            // A label does not reach over the bars of the next node, which may have names.
+            4..=WIDE => self.label,
             _ => 36,
         }
     }
@@ -299,6 +302,18 @@ impl Page {
             .saturating_sub(BESIDE + (u64::from(column) + 1) * COLUMN)
     }
 
+    /// Returns whether there is room for the name and the mode of a stay along its bars.
+    pub fn has_room(&self, bar: &Bar) -> bool {
+        let stay = &bar.stay;
+        let letters = self
+            .cut
+            .letters_of(stay.seat.name.bytes().len())
+            .saturating_add(mode_word(stay.mode).len())
+            .saturating_add(1);
+        let height = self.y(bar.end).saturating_sub(self.y(stay.asked.row));
+        self.is_wide() && (letters as u64).saturating_mul(WIDEST) <= height
+    }
+
     /// Returns how far to the right the last node is.
     fn last_x(&self) -> u64 {
         match self.lanes.last() {
@@ -338,7 +353,7 @@ fn label_width(course: &Course, cut: &Cut) -> u64 {
     }
     let digits = Buffer::new().format(most).len();
     let letters = digits
-        .saturating_add(cut.letters())
+        .saturating_add(cut.letters_of(cut.longest))
         .saturating_add(LABEL_LETTERS);
     (letters as u64).saturating_mul(6)
 }

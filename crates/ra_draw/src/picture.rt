@@ -106,55 +106,7 @@ fn draw_course(
     }
 }
 
-/// Draws the part of a trace in which each resource begins with this number. The course is one in which nothing has happened yet.
-fn draw_trace(
-    alloc: Global,
-    sheet: &mut Sheet,
-    course: &mut Course,
-    start: u64,
-    trace: &[u8],
-    headline: &Headline,
-) {
-    let followed = course.follow(alloc, start, trace, headline.part);
-    draw_course(alloc, sheet, course, followed, headline);
-}
-
-/// Draws the part of a mark log. Its nodes are those up to the highest one that it names in or before the part. The course is one in which
-/// nothing has happened yet.
-fn draw_marks(
-    alloc: Global,
-    sheet: &mut Sheet,
-    course: &mut Course,
-    log: &[u8],
-    headline: &Headline,
-) {
-    let followed = course.follow_marks(log, headline.part);
-    let nodes = course.nodes;
-    draw_course(
-        alloc,
-        sheet,
-        course,
-        followed,
-        &Headline { nodes, ..*headline },
-    );
-}
-
 /// Draws the part of a trace in which each resource begins with a number, or of a mark log, which has no such number.
-fn draw_part(
-    alloc: Global,
-    sheet: &mut Sheet,
-    course: &mut Course,
-    start: Option<u64>,
-    text: &[u8],
-    headline: &Headline,
-) {
-    match start {
-        Some(start) => draw_trace(alloc, sheet, course, start, text, headline),
-        None => draw_marks(alloc, sheet, course, text, headline),
-    }
-}
-
-/// Draws the same with a course of its own.
 fn draw_text(
     alloc: Global,
     sheet: &mut Sheet,
@@ -163,7 +115,16 @@ fn draw_text(
     headline: &Headline,
 ) {
     let mut course = Course::new(alloc, headline.nodes);
-    draw_part(alloc, sheet, &mut course, start, text, headline);
+    let followed = course.follow(alloc, start, text, headline.part);
+    // The nodes of a log are those up to the highest one that it names in or before the part.
+    let nodes = course.nodes;
+    draw_course(
+        alloc,
+        sheet,
+        &course,
+        followed,
+        &Headline { nodes, ..*headline },
+    );
 }
 
 /// Returns the number of nodes and that with which each resource begins, if this is the first line of a trace.

@@ -1,11 +1,10 @@
 //! The shapes of a page, and their labels.
 use crate::course::{Act, Course, Row};
 use crate::deferrals::Deferral;
-use crate::page::{Bar, COLUMN, Page, Point, TOP};
+use crate::page::{COLUMN, Page, Point, TOP};
 use crate::pen::Pen;
 use crate::pen::Piece::{Node, Number, Short, Text, Whole};
 use crate::seat::Seat;
-use crate::stays::Stay;
 use crate::ways::{Fate, Moment, Place, Way};
 use crate::words::{kind_of, mode_text, start_word};
 use ra_stamp::{Memory, Message, Mode, Name, NodeId};
@@ -21,21 +20,7 @@ const FARTHEST: u64 = 23;
 #[derive(Drop)]
 pub struct Sheet {
     pub shapes: Pen,
-    labels: Pen,
-}
-
-/// What a bar says of a client, and how it looks.
-#[derive(Clone, Copy)]
-struct Span {
-    what: &'static str,
-    look: &'static str,
-    first: Moment,
-    last: Option<Moment>,
-    /// The row down to which it is.
-    end: u32,
-    /// How far to the right it is in its column.
-    inset: u64,
-    width: u64,
+    pub labels: Pen,
 }
 
 impl Sheet {
@@ -132,7 +117,7 @@ impl Sheet {
     }
 
     /// Begins a shape of a client: what it does, and the name.
-    fn begin_act(&mut self, seat: &Seat, what: &'static str) {
+    pub fn begin_act(&mut self, seat: &Seat, what: &'static str) {
         self.shapes.write(
             "<g><title>client $ at node $ $ $",
             &[
@@ -142,94 +127,6 @@ impl Sheet {
                 Whole(&seat.name),
             ],
         );
-    }
-
-    /// Begins the shape of a bar: what a client does, and from which line to which.
-    fn begin_bar(&mut self, stay: &Stay, span: &Span) {
-        self.begin_act(&stay.seat, span.what);
-        self.shapes.write(
-            ", $, from line $",
-            &[Text(mode_text(stay.mode)), Number(span.first.line)],
-        );
-        match span.last {
-            Some(last) => self.shapes.write(" to line $", &[Number(last.line)]),
-            None => self.shapes.put(b" on"),
-        }
-    }
-
-    /// Draws a bar.
-    fn draw_bar(&mut self, page: &Page, bar: &Bar, span: &Span) {
-        self.begin_bar(&bar.stay, span);
-        let x = page.column_x(bar.stay.seat.node, bar.column);
-        let y = page.y(span.first.row);
-        self.shapes.write(
-            "</title><rect x=\"$\" y=\"$\" width=\"$\" height=\"$\" class=\"$ $\"/></g>\n",
-            &[
-                Number(x.saturating_add(span.inset)),
-                Number(y),
-                Number(span.width),
-                Number(page.y(span.end).saturating_sub(y)),
-                Text(span.look),
-                Text(mode_word(bar.stay.mode)),
-            ],
-        );
-    }
-
-    /// Draws the bar of a client that does not hold yet what it asked for, if it is in a row.
-    fn draw_before(&mut self, page: &Page, bar: &Bar, span: &Span) {
-        let end = match span.last {
-            Some(last) => last.row,
-            None => bar.end,
-        };
-        if end > span.first.row {
-            self.draw_bar(page, bar, &Span { end, ..*span });
-        }
-    }
-
-    /// Draws the bar of a client that is queued.
-    fn draw_queued(&mut self, page: &Page, bar: &Bar) {
-        let span = Span {
-            what: "is queued for",
-            look: "queued",
-            first: bar.stay.asked,
-            last: bar.stay.requested,
-            end: bar.end,
-            inset: 10,
-            width: 4,
-        };
-        self.draw_before(page, bar, &span);
-    }
-
-    /// Draws the bar of a client that waits.
-    fn draw_waiting(&mut self, page: &Page, bar: &Bar) {
-        if let Some(requested) = bar.stay.requested {
-            let span = Span {
-                what: "waits for",
-                look: "waiting",
-                first: requested,
-                last: bar.stay.entered,
-                end: bar.end,
-                inset: 7,
-                width: 10,
-            };
-            self.draw_before(page, bar, &span);
-        }
-    }
-
-    /// Draws the bar of a client that is inside.
-    fn draw_inside(&mut self, page: &Page, bar: &Bar) {
-        if let Some(entered) = bar.stay.entered {
-            let span = Span {
-                what: "is inside",
-                look: "inside",
-                first: entered,
-                last: bar.stay.left,
-                end: bar.end,
-                inset: 3,
-                width: 18,
-            };
-            self.draw_bar(page, bar, &span);
-        }
     }
 
     /// Begins the label of a message beside a place: its kind, number, name and mode.
@@ -341,8 +238,13 @@ impl Sheet {
         let to = page.at(message.to(), end.row);
         self.shapes
             .write(", delivered at line $", &[Number(end.line)]);
-        let ending = if way.is_deferred { " deferred" } else { "" };
-        self.shapes.write("$</title>", &[Text(ending)]);
+        let ending = if way.is_deferred {
+            self.shapes.put(b", deferred");
+            " deferred"
+        } else {
+            ""
+        };
+        self.shapes.put(b"</title>");
         self.draw_line(from, to, kind_of(message), "arrow");
         self.shapes.put(b"</g>\n");
         self.label_head(page, message, from, to, ending);
@@ -502,11 +404,18 @@ impl Sheet {
         }
     }
 
-    /// Ends the words of what a client does, and draws a dot.
+    /// Ends the words of what a client does, and draws a dot, and beneath it a larger one that is not seen, so that a pointer hits it
+    /// easily.
     fn draw_dot(&mut self, place: Point, look: &'static str) {
         self.shapes.write(
-            "</title><circle cx=\"$\" cy=\"$\" r=\"4\" class=\"$\"/></g>\n",
-            &[Number(place.x), Number(place.y), Text(look)],
+            "</title><circle cx=\"$\" cy=\"$\" r=\"10\" class=\"touch\"/><circle cx=\"$\" cy=\"$\" r=\"4\" class=\"$\"/></g>\n",
+            &[
+                Number(place.x),
+                Number(place.y),
+                Number(place.x),
+                Number(place.y),
+                Text(look),
+            ],
         );
     }
 
@@ -574,9 +483,7 @@ impl Sheet {
     pub fn draw(&mut self, page: &Page, course: &Course) {
         self.draw_lanes(page, course.nodes);
         for bar in &page.bars {
-            self.draw_queued(page, bar);
-            self.draw_waiting(page, bar);
-            self.draw_inside(page, bar);
+            self.draw_stay(page, bar);
         }
         self.draw_deferrals(page, &course.deferrals.all);
         for way in &course.ways.drawn {
