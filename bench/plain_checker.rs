@@ -401,7 +401,7 @@ impl Checker {
         None
     }
 
-    /// Takes a line, and returns why it is wrong, or `None` where it is right.
+    /// Takes a line, and returns why it is wrong, or `None` if it is right.
     fn take(&mut self, line: Line) -> Option<Cause> {
         match line {
             Line::First(..) => Some(Cause::Line),
@@ -416,7 +416,7 @@ impl Checker {
     }
 }
 
-/// Reads the next line, or `None` where what comes is none.
+/// Reads the next line, or `None` if what comes is none.
 fn next_line(input: &mut impl BufRead, bytes: &mut Vec<u8>, left: &mut usize) -> Option<Line> {
     bytes.clear();
     let count = input.read_until(b'\n', bytes).expect("an input");

@@ -1,6 +1,6 @@
 //! What `ra cluster` does, as a plain program: nothing is proved, no history is kept and nothing is settled. It has the same
 //! design: a thread for each node and for each client, each node under a lock, a condition on which its clients wait and which is told
-//! where one was let in, and a channel for each node, by which messages come. With the argument `each`, each client has a condition of
+//! when one was let in, and a channel for each node, by which messages come. With the argument `each`, each client has a condition of
 //! its own, which is told after the lock is given back. It reads a script as `bench/cluster` writes it, and prints how many requests
 //! were made and messages sent.
 use std::collections::{HashMap, VecDeque};
