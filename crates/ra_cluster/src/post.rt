@@ -7,6 +7,7 @@ use ra_frame::{Frame, encode};
 use ra_stamp::{Memory, NodeId};
 use std::alloc::{AllocError, AllocFailed, Global};
 use std::sync::{RwLock, Wait};
+use std::thread;
 use thiserror::Error;
 
 /// Why there is no post.
@@ -225,7 +226,7 @@ impl Inbox {
     /// `Memory`: there is no room for the first frame.
     pub(crate) fn take<R: Wait>(&self, rt: &R, taken: &mut Vec<Vec<u8>>) -> Result<bool, Memory> {
         taken.reserve(1)?;
-        let Ok(first) = self.frames.recv(rt) else {
+        let Some(first) = self.first(rt) else {
             return Ok(false);
         };
         taken.push_reserved(first);
@@ -239,5 +240,15 @@ impl Inbox {
             taken.push_reserved(next);
         }
         Ok(true)
+    }
+
+    /// Waits for the next frame, and returns its bytes, or `None` if the inbox is empty and the post closed.
+    fn first<R: Wait>(&self, rt: &R) -> Option<Vec<u8>> {
+        if let Ok(first) = self.frames.try_recv(rt) {
+            return Some(first);
+        }
+        // To sleep and to be woken costs more than to let others run, who may send something meanwhile.
+        thread::yield_now();
+        self.frames.recv(rt).ok()
     }
 }
