@@ -27,10 +27,11 @@ all_in nodes books place past count so_far = record {
   all = λ i p b np nb. so_far i (omega (arith, slice_get_within nodes i p np, past)) p b np nb;
 }
 
--- a place at which not all is in the run
+-- a place at which not all is in the run, as it is at all places before it
 pub is_behind : (nodes : List ProgressState) (books : List BookState) (place : ℕ) (x : ProgressState) (y : BookState) (node : ℕ) → place < length nodes → place < length books
-    → x ≡ get_or nodes place x → y ≡ get_or books place y → node ≡ x.node → (IsAllIn x y → ⊥) → IsBehind nodes books node
-is_behind nodes books place x y node low low' at at' number behind = record {
+    → x ≡ get_or nodes place x → y ≡ get_or books place y → node ≡ x.node → (IsAllIn x y → ⊥)
+    → ((i : ℕ) → i < place → IsAllInAt nodes books i) → IsBehind nodes books node
+is_behind nodes books place x y node low low' at at' number behind so_far = record {
   place = place;
   p = x;
   book = y;
@@ -38,4 +39,5 @@ is_behind nodes books place x y node low low' at at' number behind = record {
   book_at = slice_get_read books (length books) place y refl low' at';
   number = number;
   behind = behind;
+  before = so_far;
 }

@@ -1,5 +1,5 @@
 -- The event with the least clock of those that wait first at their nodes.
-use Rattle.std.proofs.Common.{◌≡◌, ◌≢◌, ℕ, ◌+◌, ◌<◌, ◌≤◌, List, [], ◌∷◌, ◌++◌, map, length, get_or, Option, Some, None, MatchOption, refl, sym, ap, ◌∙◌, subst, inl, inr, arith}
+use Rattle.std.proofs.Common.{◌≡◌, ◌≢◌, ℕ, ◌+◌, ◌<◌, ◌≤◌, List, [], ◌∷◌, ◌++◌, map, length, get_or, Option, Some, None, MatchOption, IfSome, refl, sym, ap, ◌∙◌, subst, inl, inr, arith}
 use Rattle.std.specs.Prelude.{All, slice_get}
 use Rattle.std.specs.List.{Any, range_with_len}
 use Rattle.std.proofs.lemmas.Bool.{cases_lt}
@@ -13,10 +13,10 @@ use Rattle.ra_history.specs.declared.event.BookKind.{BookKind}
 use Rattle.ra_history.specs.declared.event.BookKind.TheVariants.{Asked, Gave, Got}
 use Rattle.ra_history.specs.declared.event.BookEvent.{BookEvent}
 use Rattle.ra_history.specs.History.{clock_of}
-use Rattle.ra_audit.specs.Audit.{ProgressState, AreNextAt, IsDue, IsReady, NoneIsReady, NoneWaits, IsNeverSent, taken_of}
+use Rattle.ra_audit.specs.Audit.{ProgressState, AreNextAt, IsDue, IsReady, NoneIsReady, NoneWaits, IsNeverSent, IsLeastLeft, taken_of}
 use Rattle.ra_audit.specs.AuditKeeping.{AreTaken, IsLeastOf, IsLeastWaiting}
 use Rattle.ra_audit.proofs.AuditSteps.{due_at, number_of}
-use Rattle.ra_audit.proofs.NextEvents.{after_frame, next_right, none_between}
+use Rattle.ra_audit.proofs.NextEvents.{after_frame, next_right, none_between, none_before_first}
 
 any_left : (P : ProgressState → Type 0) (xs ys : List ProgressState) → Any P xs → Any P (xs ++ ys)
 any_left P xs ys h = (h.0, h.1, omega (arith, h.2, length-append xs ys), get_or_append_left xs ys h.1 h.0 h.2 ∙ h.3, h.4)
@@ -138,3 +138,10 @@ match_least nodes (Some fault) is f = f fault is
 pub least_before_none : (a b : List ProgressState) (first : Option AuditFault) → IsLeastOf a first → NoneWaits b → IsLeastOf (a ++ b) first
 least_before_none a b None is none = none_of_both a b is none
 least_before_none a b (Some one) is none = least_first a b one is none
+
+-- those that wait after the first one of their node have greater clocks
+pub least_left : (nodes : List ProgressState) (r : Option AuditFault) → AreTaken nodes → IsLeastOf nodes r → IfSome r (IsLeastLeft nodes)
+least_left nodes None taken is = tt
+least_left nodes (Some fault) taken is = λ k d low.
+    let p = get_or nodes k d in
+    none_before_first p.node (clock_of p.settled) fault.event.clock p.waiting (next_right p.node 0 p.settled p.waiting (taken k d low)) (is.least k d low)

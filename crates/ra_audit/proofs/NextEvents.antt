@@ -125,3 +125,12 @@ none_between node clock settled waiting all low high =
         let above : clock < e.clock = high e refl in
         All-cons (λ e. e.clock ≢ clock) e waiting (λ is. absurd (omega (arith, above, is)))
         (All-weaker (λ x. e.clock < x.clock) (λ x. x.clock ≢ clock) (λ x h is. absurd (omega (arith, h, is, above))) waiting (from_first node e.clock waiting next.1))
+
+-- no event that waits has a lesser clock than this if the first one has none
+pub none_before_first : (node clock low : ℕ) (waiting : List BookEvent) → AreNextAt node clock waiting → ((e : BookEvent) → slice_get waiting 0 ≡ Some e → low ≤ e.clock)
+    → All (λ e. low ≤ e.clock) waiting
+none_before_first node clock low [] next first = All-nil (λ e. low ≤ e.clock)
+none_before_first node clock low (e ∷ waiting) next first =
+    let from : low ≤ e.clock = first e refl in
+    All-cons (λ e. low ≤ e.clock) e waiting from
+    (All-weaker (λ x. e.clock < x.clock) (λ x. low ≤ x.clock) (λ x h. omega (arith, h, from)) waiting (from_first node e.clock waiting next.1))

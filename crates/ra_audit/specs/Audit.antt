@@ -336,6 +336,10 @@ pub record IsNeverSent (nodes : List ProgressState) (fault : AuditFault) : Type 
   pub came : fault.event.kind ≡ Got frame
   pub no_event : All (λ p. p.node ≡ from_of frame.message → All (λ e. e.clock ≢ frame.clock) (taken_of p)) nodes
 
+-- no event that was taken and is not in the run has a lesser clock than this one
+abbrev pub IsLeastLeft : List ProgressState → AuditFault → Type 0
+IsLeastLeft nodes fault = All (λ p. All (λ event. fault.event.clock ≤ event.clock) p.waiting) nodes
+
 -- The frame is still to be lost, and the events of its sender that are in the run end before the frame's clock. If they are
 -- all events of the sender, the frame was never sent.
 pub record IsAhead (nodes : List ProgressState) (losing : List Frame) (frame : Frame) : Type 0 where
@@ -401,7 +405,8 @@ pub record AreAllIn (nodes : List ProgressState) (books : List BookState) : Type
   pub count : length books ≡ length nodes
   pub all : (place : ℕ) → IsAllInAt nodes books place
 
--- at some place are the node with this number and a book of which not all is in the run
+-- At some place are the node with this number and a book of which not all is in the run. All of the history of each book before
+-- it is.
 pub record IsBehind (nodes : List ProgressState) (books : List BookState) (node : ℕ) : Type 0 where
   pub place : ℕ
   pub p : ProgressState
@@ -410,3 +415,4 @@ pub record IsBehind (nodes : List ProgressState) (books : List BookState) (node 
   pub book_at : slice_get books place ≡ Some book
   pub number : node ≡ p.node
   pub behind : IsAllIn p book → ⊥
+  pub before : (earlier : ℕ) → earlier < place → IsAllInAt nodes books earlier

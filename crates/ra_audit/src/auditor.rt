@@ -8,7 +8,7 @@ ghost use Rattle.ra_world.specs.World.{AreWaiting, AreQueued};
 ghost use Rattle.ra_audit.specs.declared.audit_error.AuditFault as audit_fault;
 ghost use Rattle.ra_stamp.specs.declared.message.Message.{Message};
 ghost use Rattle.ra_frame.specs.declared.frame.Frame.{Frame};
-ghost use Rattle.ra_audit.specs.Audit.{Takes, AreAllIn, IsBehind, TakesHanded, NoneWaits, IsNeverSent, IsAhead, MayBePut, IsUnsent, clocks_taken, fresh_progress};
+ghost use Rattle.ra_audit.specs.Audit.{Takes, AreAllIn, IsBehind, TakesHanded, NoneWaits, IsNeverSent, IsAhead, MayBePut, IsUnsent, IsLeastLeft, clocks_taken, fresh_progress};
 
 use crate::audit_laws::runs_meet_the_theorem;
 use crate::closing::check_all;
@@ -248,6 +248,7 @@ impl Auditor {
     pub fn unsettled(&self) -> Option<AuditFault>
         requires { NoneIsReady self.now.nodes }
         ensures left { MatchOption result (NoneWaits self.now.nodes) (IsNeverSent self.now.nodes) }
+        ensures least { IfSome result (IsLeastLeft self.now.nodes) }
         ensures audited { IsAudited self.now.world self.now.nodes }
     {
         first_unsettled(&self.nodes)

@@ -4,7 +4,7 @@ ghost use Rattle.ra_audit.specs.declared.audit_error.AuditFault as audit_fault;
 ghost use Rattle.ra_cluster.specs.declared.take_error.TakeError.{TakeError};
 ghost use Rattle.ra_frame.specs.declared.frame.Frame.{Frame};
 ghost use Rattle.ra_audit.specs.declared.audit_error.RoundError as round_error;
-ghost use Rattle.ra_audit.specs.Audit.{NoneIsReady, NoneIsReached, NoneWaits, IsNeverSent, IsAhead, IsMisfit, IsNotLost, IsUnsent, MayBePut, IsAudited, HasLost, AllWereSent, IsAuditorOf, RunTheorem, Audits, TakesMore, TakesAllAt, NotTakenAt, IsNotTaken, NoneIsKept, clocks_taken};
+ghost use Rattle.ra_audit.specs.Audit.{NoneIsReady, NoneIsReached, NoneWaits, IsNeverSent, IsLeastLeft, IsAhead, IsMisfit, IsNotLost, IsUnsent, MayBePut, IsAudited, HasLost, AllWereSent, IsAuditorOf, RunTheorem, Audits, TakesMore, TakesAllAt, NotTakenAt, IsNotTaken, NoneIsKept, clocks_taken};
 ghost use Rattle.ra_stamp.specs.NodeId.{IsNodeNumber};
 
 use crate::audit_laws::runs_meet_the_theorem;
@@ -126,7 +126,7 @@ impl Auditor {
         ensures not_taken { (node : ℕ) (cause : TakeError) → IsErrOf result (FinishError.Round (RoundError.NotTaken node cause))
             → NoneIsReady self.new.nodes × NoneIsReached self.new.nodes self.new.losing × IsNotTaken self.new.nodes node cause }
         ensures never_sent { (fault : audit_fault.AuditFault) → IsErrOf result (FinishError.NeverSent fault)
-            → NoneIsKept self.new.nodes × IsNeverSent self.new.nodes fault }
+            → NoneIsKept self.new.nodes × IsNeverSent self.new.nodes fault × IsLeastLeft self.new.nodes fault }
         ensures lost_unsent { (frame : Frame) → IsErrOf result (FinishError.LostUnsent frame)
             → NoneIsKept self.new.nodes × NoneWaits self.new.nodes × IsAhead self.new.nodes self.new.losing frame }
     {
@@ -151,7 +151,7 @@ fn all_settled(auditor: &Auditor) -> Result<(), FinishError>
     ensures ok { OnOk result (NoneWaits auditor.now.nodes) }
     ensures all_lost { OnOk result (auditor.now.losing ≡ []) }
     ensures never_sent { (fault : audit_fault.AuditFault) → IsErrOf result (FinishError.NeverSent fault)
-        → IsNeverSent auditor.now.nodes fault }
+        → IsNeverSent auditor.now.nodes fault × IsLeastLeft auditor.now.nodes fault }
     ensures lost_unsent { (frame : Frame) → IsErrOf result (FinishError.LostUnsent frame)
         → NoneWaits auditor.now.nodes × IsAhead auditor.now.nodes auditor.now.losing frame }
     ensures no_round { (refused : round_error.RoundError) → IsErrOf result (FinishError.Round refused) → ⊥ }

@@ -1,7 +1,7 @@
 //! Events that were taken and are not in the run.
-ghost use Rattle.std.specs.Prelude.{◌≡◌, ◌≤◌, ◌∷◌, ◌++◌, [], ℕ, List, length, map, sum_by, MatchOption};
+ghost use Rattle.std.specs.Prelude.{◌≡◌, ◌≤◌, ◌∷◌, ◌++◌, [], ℕ, List, length, map, sum_by, IfSome, MatchOption};
 ghost use Rattle.std.specs.List.{range_with_len};
-ghost use Rattle.ra_audit.specs.Audit.{ProgressState, NoneIsReady, NoneWaits, IsNeverSent, AreNextAt, taken_of};
+ghost use Rattle.ra_audit.specs.Audit.{ProgressState, NoneIsReady, NoneWaits, IsNeverSent, IsLeastLeft, AreNextAt, taken_of};
 ghost use Rattle.ra_audit.specs.AuditKeeping.{AreTaken, IsLeastOf, IsLeastWaiting};
 
 use crate::AuditFault;
@@ -24,7 +24,8 @@ pub fn waiting_at(nodes: &[Progress]) -> u128
 pub fn first_unsettled(nodes: &[Progress]) -> Option<AuditFault>
     requires numbers { (count : ℕ) × (map (λ p. p.node) nodes.now ≡ range_with_len 1 count) }
     requires none_ready { NoneIsReady nodes.now }
-    ensures { MatchOption result (NoneWaits nodes.now) (IsNeverSent nodes.now) }
+    ensures left { MatchOption result (NoneWaits nodes.now) (IsNeverSent nodes.now) }
+    ensures least { IfSome result (IsLeastLeft nodes.now) }
 {
     least_waiting(nodes)
 }

@@ -24,7 +24,7 @@ returns-in-Some-clause-behind c =
     let low : place < length nodes = c.loop-place-test.true in
     let low' : place < length books = omega (arith, c.loop-place-test.true, c.requires) in
     is_behind nodes books place c.index-nodes-place.result c.index-books-place.result c.in-Some.node low low' c.index-nodes-place.is c.index-books-place.is
-    c.in-Some.ensures.behind.0 c.in-Some.ensures.behind.1
+    c.in-Some.ensures.behind.0 c.in-Some.ensures.behind.1 c.loop-place.invariant
 
 pub returns-clause-all : goal.returns-clause-all
 returns-clause-all c = λ none.

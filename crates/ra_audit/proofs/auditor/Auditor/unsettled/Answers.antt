@@ -1,6 +1,6 @@
-use Rattle.std.proofs.Common.{◌≡◌, List, map, MatchOption, ap, sym, ◌∙◌, subst}
+use Rattle.std.proofs.Common.{◌≡◌, List, map, IfSome, MatchOption, ap, sym, ◌∙◌, subst}
 use Rattle.std.specs.List.{range_with_len}
-use Rattle.ra_audit.specs.Audit.{ProgressState, AuditState, NoneIsReady, NoneWaits, IsNeverSent}
+use Rattle.ra_audit.specs.Audit.{ProgressState, AuditState, NoneIsReady, NoneWaits, IsNeverSent, IsLeastLeft}
 use Rattle.ra_audit.proofs.auditor.Auditor.unsettled.Goals as goal
 
 pub first_unsettled-requires : goal.first_unsettled-requires
@@ -15,4 +15,9 @@ first_unsettled-requires c =
 pub returns-clause-left : goal.returns-clause-left
 returns-clause-left c =
     let same : c.deref.result.now ≡ c.args.self.now.nodes = c.deref.ensures.value ∙ ap (λ (a : AuditState). a.nodes) c.self.view_is in
-    subst (λ (ns : List ProgressState). MatchOption c.first_unsettled.result (NoneWaits ns) (IsNeverSent ns)) same c.first_unsettled.ensures
+    subst (λ (ns : List ProgressState). MatchOption c.first_unsettled.result (NoneWaits ns) (IsNeverSent ns)) same c.first_unsettled.ensures.left
+
+pub returns-clause-least : goal.returns-clause-least
+returns-clause-least c =
+    let same : c.deref.result.now ≡ c.args.self.now.nodes = c.deref.ensures.value ∙ ap (λ (a : AuditState). a.nodes) c.self.view_is in
+    subst (λ (ns : List ProgressState). IfSome c.first_unsettled.result (IsLeastLeft ns)) same c.first_unsettled.ensures.least
