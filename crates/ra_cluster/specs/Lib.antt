@@ -5,3 +5,4 @@ pub mod LockOrder
 pub mod Outcome
 pub mod Cluster
 pub mod Losses
+pub mod Handing

@@ -1,8 +1,9 @@
 //! What is under the lock of a site: the book, and the clients that wait.
-ghost use Rattle.std.specs.Prelude.{◌≡◌, ◌≢◌, ◌↔◌, ◌<◌, true, false, [], All, IfOk, IfSome, IsErrOf, OnErr, OnOk, vec_len};
+ghost use Rattle.std.specs.Prelude.{◌≡◌, ◌≢◌, ◌↔◌, ◌⊎◌, ◌<◌, false, [], All, IfOk, IfSome, IsErrOf, OnErr, OnOk, vec_len};
 ghost use Rattle.ra_frame.specs.Fits.{Fits};
 ghost use Rattle.ra_history.specs.History.{clock_of};
 ghost use Rattle.ra_history.specs.Book.{with_all_taken, IsFirst, Loses};
+ghost use Rattle.ra_cluster.specs.Handing.{IsAllLeft};
 ghost use Rattle.ra_cluster.specs.Losses.{lost_frames};
 
 use crate::losses::lost_of;
@@ -49,8 +50,6 @@ pub struct Desk {
     pub book: Book,
     /// In any order.
     waiters: Vec<Waiter>,
-    /// Whether the book hands over what has happened.
-    audited: bool,
     /// Whether one of the frames that the book has may be flagged lost. If not, a round does not look at each.
     may_have_lost: bool,
     ghost flagged: { may_have_lost ≡ false → lost_frames book.sent ≡ [] },
@@ -69,8 +68,11 @@ pub struct Handed {
 }
 
 impl Handed {
-    /// Makes that of a node at which nothing has happened.
-    pub(crate) fn nothing(alloc: Global) -> Handed {
+    /// Makes that of a node that hands over nothing.
+    pub(crate) fn nothing(alloc: Global) -> Handed
+        ensures events { result.events.items ≡ [] }
+        ensures lost { result.lost.items ≡ [] }
+    {
         Handed {
             after: 0,
             events: Events::new(alloc),
@@ -87,15 +89,13 @@ impl Waiter {
 }
 
 impl Desk {
-    /// Makes the desk of a book that has sent nothing, at which nobody waits. If it is audited, the book hands over what has
-    /// happened.
-    pub fn new(alloc: Global, book: Book, audited: bool) -> Desk
+    /// Makes the desk of a book that has sent nothing, at which nobody waits.
+    pub fn new(alloc: Global, book: Book) -> Desk
         requires { book.sent ≡ [] }
     {
         Desk {
             book,
             waiters: Vec::new(alloc),
-            audited,
             may_have_lost: false,
         }
     }
@@ -194,32 +194,34 @@ impl Desk {
         let _ = self.book.mark_lost(frame);
     }
 
-    /// Hands over the events after one with the clock `after`, or from the node's first one on if `after` is 0, and those of the
+    /// Hands over the events of this node after one with the clock `after`, or from its first one on if `after` is 0, and those of the
     /// frames sent since the round before that are flagged lost. Unless there may be one, that takes a time that does not grow
-    /// with the history. All frames leave the book, too; they are returned, so that they need not be dropped under the lock. A
-    /// node that is not audited hands over nothing, so that its book stays whole.
+    /// with the history. All frames leave the book, too; they are returned, so that they need not be dropped under the lock.
     ///
     /// # Errors
     ///
     /// The first that holds, and the book is as before:
     ///
-    /// 1. `OutOfTurn`: `after` is not the clock of the last event that was handed over, or 0 before the first.
+    /// 1. `OutOfTurn`: the book is that of another node, or `after` is not the clock of the last event that was handed over, or 0
+    ///    before the first.
     /// 2. `Memory`: there is no room for the lost frames, or for what the leaves of the node's clients will need.
-    pub fn hand_over(&mut self, alloc: Global, after: u64) -> Result<(Handed, Vec<Sent>), TakeError>
-        ensures events { IfOk result (λ made. self.old.audited ≡ true
-            → (made.0.after ≡ after) × (made.0.events.items ≡ self.old.book.events)) }
-        ensures lost { IfOk result (λ made. self.old.audited ≡ true
-            → made.0.lost.items ≡ lost_frames self.old.book.sent) }
+    pub fn hand_over(
+        &mut self,
+        alloc: Global,
+        node: NodeId,
+        after: u64,
+    ) -> Result<(Handed, Vec<Sent>), TakeError>
+        ensures after { IfOk result (λ made. made.0.after ≡ after) }
+        ensures handed { IfOk result (λ made. IsAllLeft self.old.book node after made.0.events.items made.0.lost.items) }
         // So nothing is handed over twice.
-        ensures taken { OnOk result (self.old.audited ≡ true → self.new.book ≡ with_all_taken self.old.book) }
+        ensures taken { OnOk result (self.new.book ≡ with_all_taken self.old.book) }
         ensures out_of_turn { IsErrOf result TakeError.OutOfTurn
-            ↔ ((self.old.audited ≡ true) × (after ≢ clock_of self.old.book.taken.events)) }
+            ↔ ((self.old.book.me ≢ node) ⊎ (after ≢ clock_of self.old.book.taken.events)) }
+        // Memory is the only other error.
+        ensures others { (IsErrOf result TakeError.NoNode → ⊥) × (IsErrOf result TakeError.NotNext → ⊥) }
         ensures err { OnErr result (self.new.book ≡ self.old.book) }
     {
-        if !self.audited {
-            return Ok((Handed::nothing(alloc), Vec::new(alloc)));
-        }
-        if self.book.taken_clock() != after {
+        if self.book.me() != node || self.book.taken_clock() != after {
             return Err(TakeError::OutOfTurn);
         }
         let lost = self.lost(alloc)?;

@@ -1,4 +1,4 @@
-ghost use Rattle.std.specs.Prelude.{◌≡◌, ◌↔◌, ◌≤◌, ◌<◌, ℕ, All, length, IfOk, IfSome, IsErrOf, IsOkUnless, IsTrue};
+ghost use Rattle.std.specs.Prelude.{◌≡◌, ◌↔◌, ◌⊎◌, ◌≤◌, ◌<◌, [], ℕ, All, length, IfOk, IfSome, IsErrOf, IsOkUnless, IsTrue};
 ghost use Rattle.ra_stamp.specs.NodeId.{IsNodeNumber};
 ghost use Rattle.ra_frame.specs.Fits.{Fits};
 
@@ -63,6 +63,7 @@ impl Model for Site {
 impl Site {
     ghost use Rattle.ra_history.specs.Book.{HasHistory, IsWhole};
     ghost use Rattle.ra_cluster.specs.ClientGrant.{IsGrantOf};
+    ghost use Rattle.ra_cluster.specs.Handing.{IsHandedOver};
     ghost use Rattle.ra_cluster.specs.Sites.{AreSitesWith};
 
     /// Makes the site of node `me` of `nodes`, with a book in which nothing has happened yet. The highest number of each
@@ -84,7 +85,7 @@ impl Site {
         Ok(Site {
             node: me,
             alloc,
-            desk: Mutex::new(Desk::new(alloc, book, false)),
+            desk: Mutex::new(Desk::new(alloc, book)),
             sending: Sending::new(false),
         })
     }
@@ -103,7 +104,7 @@ impl Site {
         ensures { IfOk result (λ site. site ≡ me) }
     {
         let book = Book::new(alloc, me, nodes, start)?;
-        let (node, desk) = (me, Desk::new(alloc, book, true));
+        let (node, desk) = (me, Desk::new(alloc, book));
         Ok(Site {
             node,
             alloc,
@@ -317,12 +318,12 @@ impl Site {
     ///
     /// 1. `OutOfTurn`: `after` is not the clock of the last event that was handed over, or 0 before the first.
     /// 2. `Memory`: memory ran out.
-    pub fn hand_over<R: Wait>(
-        &self,
-        rt: &R,
-        alloc: Global,
-        after: u64,
-    ) -> Result<Handed, TakeError> {
+    pub fn hand_over<R: Wait>(&self, rt: &R, alloc: Global, after: u64) -> Result<Handed, TakeError>
+        ensures handed { IfOk result (λ handed. IsHandedOver self.now after handed.events.items handed.lost.items) }
+        ensures after { IfOk result (λ handed. (handed.after ≡ after) ⊎ (handed.events.items ≡ [])) }
+        // A site has no other cause than OutOfTurn and Memory.
+        ensures others { (IsErrOf result TakeError.NoNode → ⊥) × (IsErrOf result TakeError.NotNext → ⊥) }
+    {
         // The frames that left the book are dropped here, with no lock held.
         let (handed, _sent) = self.hand_over_alone(rt, alloc, after)?;
         Ok(handed)
@@ -404,9 +405,17 @@ impl Site {
         rt: &R,
         alloc: Global,
         after: u64,
-    ) -> Result<(Handed, Vec<Sent>), TakeError> {
-        let _alone = self.sending.alone(rt);
-        self.desk.lock(rt).hand_over(alloc, after)
+    ) -> Result<(Handed, Vec<Sent>), TakeError>
+        ensures handed { IfOk result (λ made. IsHandedOver self.now after made.0.events.items made.0.lost.items) }
+        ensures after { IfOk result (λ made. (made.0.after ≡ after) ⊎ (made.0.events.items ≡ [])) }
+        ensures others { (IsErrOf result TakeError.NoNode → ⊥) × (IsErrOf result TakeError.NotNext → ⊥) }
+    {
+        // A site that is not audited has no lock to take alone.
+        let Some(_alone) = self.sending.alone(rt) else {
+            return Ok((Handed::nothing(alloc), Vec::new(alloc)));
+        };
+        // The book is always that of this node, but no contract tells what is under a lock.
+        self.desk.lock(rt).hand_over(alloc, self.node, after)
     }
 
     /// Makes one call of the book, and sends the frames of its event. If one was lost, each site is stopped.

@@ -1,0 +1,20 @@
+-- What a site hands over: the events of its node since the ones before, and the frames that were lost since then.
+use Rattle.std.specs.Prelude.{◌≡◌, ◌⊎◌, ℕ, List, []}
+use Rattle.ra_frame.specs.declared.frame.Frame.{Frame}
+use Rattle.ra_history.specs.declared.event.BookEvent.{BookEvent}
+use Rattle.ra_history.specs.History.{clock_of}
+use Rattle.ra_history.specs.Book.{BookState, HasHistory}
+use Rattle.ra_cluster.specs.Losses.{lost_frames}
+
+-- Of a book of this node with its history, from which all was taken up to an event with this clock, this is all that is left: the
+-- events after that one, and those of the frames that they sent that are flagged lost.
+pub record IsAllLeft (book : BookState) (node after : ℕ) (events : List BookEvent) (lost : List Frame) : Type 0 where
+  pub me : book.me ≡ node
+  pub history : HasHistory book
+  pub clock : clock_of book.taken.events ≡ after
+  pub events_are : events ≡ book.events
+  pub lost_are : lost ≡ lost_frames book.sent
+
+-- this is nothing, or all that is left of some book of the node after that clock
+abbrev pub IsHandedOver : ℕ → ℕ → List BookEvent → List Frame → Type 0
+IsHandedOver node after events lost = ((events ≡ []) × (lost ≡ [])) ⊎ ((book : BookState) × IsAllLeft book node after events lost)
