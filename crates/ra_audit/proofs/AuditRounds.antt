@@ -1,8 +1,9 @@
 -- Rounds of an audit: the events that were taken of each node go on.
 use Rattle.std.proofs.Common.{◌≡◌, ℕ, zero, suc, ◌+◌, ◌-◌, ◌<◌, List, [], ◌∷◌, ◌++◌, map, drop, length, get_or, set, Option, Some, Result, Ok, Err, refl, sym, ap, ◌∙◌, subst, append_assoc, ◌↔◌, ◌⊎◌, ◌≤◌, inl, inr, arith}
-use Rattle.std.specs.Prelude.{slice_get, All, IsOk, IsErrOf, OnOk, OnErr}
+use Rattle.std.specs.Prelude.{slice_get, flat_map, All, IsOk, IsErrOf, OnOk, OnErr}
 use Rattle.std.specs.List.{AllWithin, range_with_len}
-use Rattle.std.proofs.lemmas.List.{append-nil, length-map, length-set, get_or-map, get_or-set_same}
+use Rattle.std.proofs.lemmas.List.{append-nil, length-append, length-map, length-set, get_or-map, get_or-set_same}
+use Rattle.std.proofs.lemmas.List.Concat.{flat_map-append}
 use Rattle.std.proofs.lemmas.List.Elements.{All-cons, All-head, All-tail, AllWithin-more_set, AllWithin-kept}
 use Rattle.std.proofs.lemmas.List.FromFn.{length-range_with_len}
 use Rattle.std.proofs.lemmas.Option.{same_Some, none-some, slice_get_read, slice_get_within, slice_get-get_or}
@@ -17,17 +18,17 @@ use Rattle.ra_cluster.specs.declared.take_error.TakeError.TheVariants.{NoNode, O
 use Rattle.ra_frame.specs.declared.frame.Frame.{Frame}
 use Rattle.ra_history.specs.declared.event.BookEvent.{BookEvent}
 use Rattle.ra_history.specs.History.{clock_of}
-use Rattle.ra_audit.specs.Audit.{ProgressState, AuditState, NoneIsReady, NoneIsReached, MayBePut, IsAudited, HasLost, AllWereSent, Advances, PutsLosses, Audits, TakenGoOn, TakesMore, TakesHanded, TakesOver, TakesAllAt, NotTakenAt, IsNotTaken, IsCauseAt, KeptAreNext, AreNextAt, NoneIsKept, GoesOnFrom, taken_of, handed_over}
+use Rattle.ra_audit.specs.Audit.{ProgressState, AuditState, NoneIsReady, NoneIsReached, MayBePut, IsAudited, HasLost, AllWereSent, Advances, PutsLosses, Audits, TakenGoOn, HandsOver, AllHandOver, TakesMore, TakesMoreAt, AtNumber, TakesHanded, TakesOver, TakesAllAt, NotTakenAt, IsNotTaken, IsCauseAt, KeptAreNext, AreNextAt, NoneIsKept, GoesOnFrom, taken_of, handed_over}
+use Rattle.ra_cluster.specs.Handing.{IsHandedOver}
 use Rattle.ra_world.specs.World.{WorldState}
 use Rattle.ra_audit.proofs.AuditLosses.{puts_none}
 
 -- ---- One node
 
-from_same : (p q : ProgressState) → q.node ≡ p.node → taken_of q ≡ taken_of p → q.kept ≡ p.kept → GoesOnFrom p q
-from_same p q node taken kept = record {
+from_same : (p q : ProgressState) → q.node ≡ p.node → taken_of q ≡ taken_of p → GoesOnFrom p q
+from_same p q node taken = record {
   node = node;
   taken = ([], taken ∙ sym (append-nil (taken_of p)));
-  handed = ([], (λ j. taken j ++ kept j) ∙ sym (append-nil (handed_over p)));
 }
 
 pub from_further : (p q r : ProgressState) → GoesOnFrom p q → GoesOnFrom q r → GoesOnFrom p r
@@ -37,10 +38,6 @@ from_further p q r first second = record {
     first.taken.0 ++ second.taken.0,
     second.taken.1 ∙ ap (λ (es : List BookEvent). es ++ second.taken.0) first.taken.1 ∙ append_assoc (taken_of p) first.taken.0 second.taken.0,
   );
-  handed = (
-    first.handed.0 ++ second.handed.0,
-    second.handed.1 ∙ ap (λ (es : List BookEvent). es ++ second.handed.0) first.handed.1 ∙ append_assoc (handed_over p) first.handed.0 second.handed.0,
-  );
 }
 
 -- what was kept is taken
@@ -48,7 +45,6 @@ pub from_kept : (p q : ProgressState) → q ≡ record p { waiting = p.waiting +
 from_kept p q is = subst (GoesOnFrom p) (sym is) (record {
   node = refl;
   taken = (p.kept, sym (append_assoc p.settled p.waiting p.kept));
-  handed = ([], append-nil (p.settled ++ (p.waiting ++ p.kept)) ∙ sym (append_assoc p.settled p.waiting p.kept) ∙ sym (append-nil (handed_over p)));
 })
 
 -- more is kept
@@ -58,7 +54,7 @@ from_keeping p q events none is =
     ap (λ (es : List BookEvent). es ++ events) (sym (append-nil (taken_of p))) ∙ ap (λ (es : List BookEvent). (taken_of p ++ es) ++ events) (sym none)
     in
     subst (λ (x : ProgressState). GoesOnFrom p x × (handed_over x ≡ handed_over p ++ events)) (sym is)
-    (record { node = refl; taken = ([], sym (append-nil (taken_of p))); handed = (events, more) }, more)
+    (record { node = refl; taken = ([], sym (append-nil (taken_of p))) }, more)
 
 -- what was handed over is kept, and then taken, or not
 pub accepted : (p q r : ProgressState) (events : List BookEvent) (answer : Result (Unit {0}) TakeError) → p.kept ≡ [] → q ≡ record p { kept = events }
@@ -84,12 +80,30 @@ accepted p q r events (Err e) none is ok err =
 
 -- ---- What the site of a node hands over
 
+-- nothing
+nothing_over : (p q : ProgressState) → handed_over q ≡ handed_over p → HandsOver p q []
+nothing_over p q same = ([], same ∙ sym (append-nil (handed_over p)), inl (refl, refl))
+
+-- the book had handed over the same before
+over_from : (p q r : ProgressState) (lost : List Frame) → q.node ≡ p.node → handed_over q ≡ handed_over p → HandsOver q r lost → HandsOver p r lost
+over_from p q r lost node same over = (
+  over.0,
+  over.1 ∙ ap (λ (es : List BookEvent). es ++ over.0) same,
+  subst (λ (es : List BookEvent). IsHandedOver p.node (clock_of es) over.0 lost) same
+      (subst (λ (n : ℕ). IsHandedOver n (clock_of (handed_over q)) over.0 lost) node over.2),
+)
+
+-- and the same by now
+over_to : (p q r : ProgressState) (lost : List Frame) → handed_over r ≡ handed_over q → HandsOver p q lost → HandsOver p r lost
+over_to p q r lost same over = (over.0, same ∙ over.1, over.2)
+
 module _ (p q : ProgressState) (answer : Result (Unit {0}) TakeError) (next : IsErrOf answer NotNext ↔ (KeptAreNext q → ⊥)) (memory : IsErrOf answer Memory → KeptAreNext q)
     (others : (IsErrOf answer NoNode → ⊥) × (IsErrOf answer OutOfTurn → ⊥))
   where
-    pub takes_over : (handed : List Frame) → GoesOnFrom p q → q.settled ≡ p.settled → OnOk answer (q.kept ≡ []) → TakesOver p q handed answer
-    takes_over handed from settled ok = record {
+    pub takes_over : (handed : List Frame) → GoesOnFrom p q → HandsOver p q handed → q.settled ≡ p.settled → OnOk answer (q.kept ≡ []) → TakesOver p q handed answer
+    takes_over handed from hands settled ok = record {
       goes_on = from;
+      hands = hands;
       settled = settled;
       ok = ok;
       no_node = others.0;
@@ -102,7 +116,8 @@ module _ (p q : ProgressState) (answer : Result (Unit {0}) TakeError) (next : Is
 pub refuses_kept : (p q : ProgressState) (e : TakeError) → q ≡ p → IsErrOf {T = Unit {0}} (Err e) NotNext ↔ (KeptAreNext q → ⊥) → (IsErrOf {T = Unit {0}} (Err e) Memory → KeptAreNext q)
     → (IsErrOf {T = Unit {0}} (Err e) NoNode → ⊥) × (IsErrOf {T = Unit {0}} (Err e) OutOfTurn → ⊥) → TakesOver p q [] (Err e)
 refuses_kept p q e same next memory others =
-    takes_over p q (Err e) next memory others [] (subst (GoesOnFrom p) (sym same) (from_same p p refl refl refl)) (ap (λ (x : ProgressState). x.settled) same) tt
+    takes_over p q (Err e) next memory others [] (subst (GoesOnFrom p) (sym same) (from_same p p refl refl)) (nothing_over p q (ap handed_over same))
+    (ap (λ (x : ProgressState). x.settled) same) tt
 
 module _ (p q : ProgressState) (is : q ≡ record p { waiting = p.waiting ++ p.kept; kept = [] }) where
   settled_as : q.settled ≡ p.settled
@@ -115,6 +130,7 @@ module _ (p q : ProgressState) (is : q ≡ record p { waiting = p.waiting ++ p.k
   pub took_kept : (r : ProgressState) (handed : List Frame) (answer : Result (Unit {0}) TakeError) → TakesOver q r handed answer → TakesOver p r handed answer
   took_kept r handed answer t = record {
     goes_on = from_further p q r (from_kept p q is) t.goes_on;
+    hands = over_from p q r handed (ap (λ (x : ProgressState). x.node) is) handed_as t.hands;
     settled = t.settled ∙ settled_as;
     ok = t.ok;
     no_node = t.no_node;
@@ -129,10 +145,15 @@ module _ (p q : ProgressState) (is : q ≡ record p { waiting = p.waiting ++ p.k
   kept_next : KeptAreNext q
   kept_next = subst (λ (es : List BookEvent). AreNextAt q.node (clock_of (taken_of q)) es) (sym none_kept) tt
 
+  -- its clock is that after which the site is asked
+  pub asked_after : (clock : ℕ) → clock ≡ clock_of (taken_of q) → clock ≡ clock_of (handed_over q)
+  asked_after clock at = at ∙ ap clock_of (sym (append-nil (taken_of q)) ∙ ap (λ (es : List BookEvent). taken_of q ++ es) (sym none_kept))
+
   -- nothing was handed over
   pub took_no_more : (e : TakeError) → (e ≡ OutOfTurn) ⊎ (e ≡ Memory) → TakesOver p q [] (Err e)
   took_no_more e why = record {
     goes_on = from_kept p q is;
+    hands = nothing_over p q handed_as;
     settled = settled_as;
     ok = tt;
     no_node = λ none. never e why none;
@@ -149,11 +170,18 @@ module _ (p q : ProgressState) (is : q ≡ record p { waiting = p.waiting ++ p.k
       never_next e (inl turn) none = cc
       never_next e (inr memory) none = cc
 
+-- a site refuses for two causes alone
+pub turn_or_memory : {T : Type 0} (e : TakeError) → (IsErrOf {T = T} (Err e) NoNode → ⊥) → (IsErrOf {T = T} (Err e) NotNext → ⊥) → (e ≡ OutOfTurn) ⊎ (e ≡ Memory)
+turn_or_memory NoNode none next = absurd (none refl)
+turn_or_memory OutOfTurn none next = inl refl
+turn_or_memory NotNext none next = absurd (next refl)
+turn_or_memory Memory none next = inr refl
+
 -- ---- All nodes
 
 pub go_nowhere : (nodes : List ProgressState) → TakenGoOn nodes nodes
 go_nowhere [] = tt
-go_nowhere (p ∷ ps) = (from_same p p refl refl refl, go_nowhere ps)
+go_nowhere (p ∷ ps) = (from_same p p refl refl, go_nowhere ps)
 
 pub go_further : (a b c : List ProgressState) → TakenGoOn a b → TakenGoOn b c → TakenGoOn a c
 go_further [] [] c first second = second
@@ -166,31 +194,111 @@ go_further (p ∷ ps) (q ∷ qs) (r ∷ rs) first second = (from_further p q r f
 pub go_on_at : (nodes : List ProgressState) (place : ℕ) (p q : ProgressState) → slice_get nodes place ≡ Some p → GoesOnFrom p q → TakenGoOn nodes (set nodes place q)
 go_on_at [] place p q at from = absurd (none-some p at)
 go_on_at (x ∷ xs) zero p q at from = (subst (λ (y : ProgressState). GoesOnFrom y q) (sym (same_Some x p at)) from, go_nowhere xs)
-go_on_at (x ∷ xs) (suc place) p q at from = (from_same x x refl refl refl, go_on_at xs place p q at from)
+go_on_at (x ∷ xs) (suc place) p q at from = (from_same x x refl refl, go_on_at xs place p q at from)
 
 -- the same events of the same nodes
-pub go_as_before : (a b : List ProgressState) → map (λ p. p.node) b ≡ map (λ p. p.node) a → map taken_of b ≡ map taken_of a → map (λ p. p.kept) b ≡ map (λ p. p.kept) a → TakenGoOn a b
-go_as_before [] [] numbers taken kept = tt
-go_as_before [] (q ∷ qs) numbers taken kept = absurd (cc)
-go_as_before (p ∷ ps) [] numbers taken kept = absurd (cc)
-go_as_before (p ∷ ps) (q ∷ qs) numbers taken kept = (
-  from_same p q (ap (λ (ns : List ℕ). get_or ns 0 0) numbers) (ap (λ (es : List (List BookEvent)). get_or es 0 []) taken) (ap (λ (es : List (List BookEvent)). get_or es 0 []) kept),
-  go_as_before ps qs (ap (λ (ns : List ℕ). drop 1 ns) numbers) (ap (λ (es : List (List BookEvent)). drop 1 es) taken) (ap (λ (es : List (List BookEvent)). drop 1 es) kept),
+pub go_as_before : (a b : List ProgressState) → map (λ p. p.node) b ≡ map (λ p. p.node) a → map taken_of b ≡ map taken_of a → TakenGoOn a b
+go_as_before [] [] numbers taken = tt
+go_as_before [] (q ∷ qs) numbers taken = absurd (cc)
+go_as_before (p ∷ ps) [] numbers taken = absurd (cc)
+go_as_before (p ∷ ps) (q ∷ qs) numbers taken = (
+  from_same p q (ap (λ (ns : List ℕ). get_or ns 0 0) numbers) (ap (λ (es : List (List BookEvent)). get_or es 0 []) taken),
+  go_as_before ps qs (ap (λ (ns : List ℕ). drop 1 ns) numbers) (ap (λ (es : List (List BookEvent)). drop 1 es) taken),
 )
+
+-- no site handed over anything
+over_nowhere : (nodes : List ProgressState) → AllHandOver nodes nodes []
+over_nowhere [] = tt
+over_nowhere (p ∷ ps) = (nothing_over p p refl, over_nowhere ps)
+
+-- the site of the next node handed over these frames
+over_more : (a b : List ProgressState) (handed : List (List Frame)) (place : ℕ) (p r : ProgressState) (lost : List Frame) → AllHandOver a b handed → length handed ≡ place
+    → drop place b ≡ drop place a → slice_get b place ≡ Some p → HandsOver p r lost
+    → AllHandOver a (set b place r) (handed ++ lost ∷ []) × (drop (suc place) (set b place r) ≡ drop (suc place) a)
+over_more [] [] handed place p r lost all long left at over = absurd (none-some p at)
+over_more [] (q ∷ qs) [] place p r lost all long left at over = absurd all
+over_more [] (q ∷ qs) (l ∷ ls) place p r lost all long left at over = absurd all
+over_more (x ∷ xs) [] [] place p r lost all long left at over = absurd all
+over_more (x ∷ xs) [] (l ∷ ls) place p r lost all long left at over = absurd all
+over_more (x ∷ xs) (q ∷ qs) [] zero p r lost all long left at over =
+    let same : p ≡ x = sym (same_Some q p at) ∙ ap (λ (ps : List ProgressState). get_or ps 0 x) left in (
+      (subst (λ (y : ProgressState). HandsOver y r lost) same over, all.1),
+      ap (λ (ps : List ProgressState). drop 1 ps) left,
+    )
+over_more (x ∷ xs) (q ∷ qs) [] (suc place) p r lost all long left at over = absurd (omega (arith, long))
+over_more (x ∷ xs) (q ∷ qs) (l ∷ ls) zero p r lost all long left at over = absurd (omega (arith, long))
+over_more (x ∷ xs) (q ∷ qs) (l ∷ ls) (suc place) p r lost all long left at over =
+    let rest = over_more xs qs ls place p r lost all.1 (omega (arith, long)) left at over in
+    ((all.0, rest.0), rest.1)
+
+-- the books have handed over the same by now
+over_as : (a b c : List ProgressState) (handed : List (List Frame)) → map taken_of c ≡ map taken_of b → map (λ p. p.kept) c ≡ map (λ p. p.kept) b → AllHandOver a b handed → AllHandOver a c handed
+over_as [] [] [] handed taken kept all = all
+over_as [] [] (r ∷ rs) handed taken kept all = absurd (cc)
+over_as [] (q ∷ qs) c [] taken kept all = absurd all
+over_as [] (q ∷ qs) c (l ∷ ls) taken kept all = absurd all
+over_as (p ∷ ps) [] c [] taken kept all = absurd all
+over_as (p ∷ ps) [] c (l ∷ ls) taken kept all = absurd all
+over_as (p ∷ ps) (q ∷ qs) [] handed taken kept all = absurd (cc)
+over_as (p ∷ ps) (q ∷ qs) (r ∷ rs) [] taken kept all =
+    let first : taken_of r ≡ taken_of q = ap (λ (es : List (List BookEvent)). get_or es 0 []) taken in
+    let last : r.kept ≡ q.kept = ap (λ (es : List (List BookEvent)). get_or es 0 []) kept in (
+      over_to p q r [] (λ j. first j ++ last j) all.0,
+      over_as ps qs rs [] (ap (λ (es : List (List BookEvent)). drop 1 es) taken) (ap (λ (es : List (List BookEvent)). drop 1 es) kept) all.1,
+    )
+over_as (p ∷ ps) (q ∷ qs) (r ∷ rs) (l ∷ ls) taken kept all =
+    let first : taken_of r ≡ taken_of q = ap (λ (es : List (List BookEvent)). get_or es 0 []) taken in
+    let last : r.kept ≡ q.kept = ap (λ (es : List (List BookEvent)). get_or es 0 []) kept in (
+      over_to p q r l (λ j. first j ++ last j) all.0,
+      over_as ps qs rs ls (ap (λ (es : List (List BookEvent)). drop 1 es) taken) (ap (λ (es : List (List BookEvent)). drop 1 es) kept) all.1,
+    )
 
 -- ---- What is taken
 
-pub took_nothing : (old : AuditState) → IsAudited old.world old.nodes → TakesMore old old
-took_nothing old audited = record { taken = go_nowhere old.nodes; handed = []; losing = sym (append-nil old.losing); rest = refl; audited = audited }
+-- these frames one after the other
+abbrev together : List (List Frame) → List Frame
+together handed = flat_map (λ lost. lost) handed
 
-pub took_further : (a b c : AuditState) → TakesMore a b → TakesMore b c → TakesMore a c
-took_further a b c first second = record {
-  taken = go_further a.nodes b.nodes c.nodes first.taken second.taken;
-  handed = first.handed ++ second.handed;
-  losing = second.losing ∙ ap (λ (fs : List Frame). fs ++ second.handed) first.losing ∙ append_assoc a.losing first.handed second.handed;
-  rest = second.rest ∙ (λ i. record (first.rest i) { nodes = c.nodes; losing = c.losing });
-  audited = second.audited;
+-- of the nodes before this place, and nothing of the others
+pub record TakesUpTo (old : AuditState) (place : ℕ) (new : AuditState) : Type 0 where
+  pub more : TakesMore old new
+  pub long : length more.handed ≡ place
+  pub left : drop place new.nodes ≡ drop place old.nodes
+
+pub took_nothing : (old : AuditState) → IsAudited old.world old.nodes → TakesUpTo old 0 old
+took_nothing old audited = record {
+  more = record { taken = go_nowhere old.nodes; handed = []; hands = over_nowhere old.nodes; losing = sym (append-nil old.losing); rest = refl; audited = audited };
+  long = refl;
+  left = refl;
 }
+
+-- one node more
+pub took_further : (a b c : AuditState) (place : ℕ) → place < length b.nodes → TakesUpTo a place b → TakesMoreAt b (place + 1) c → TakesUpTo a (place + 1) c
+took_further a b c place within first second =
+    let at = second.at_node (omega (arith, within)) in
+    let here : place + 1 - 1 ≡ place = omega arith in
+    let next : suc place ≡ place + 1 = omega arith in
+    let handed = first.more.handed in
+    let found : slice_get b.nodes place ≡ Some at.0 = ap (slice_get b.nodes) (sym here) ∙ at.1 in
+    let q = at.2.0 in
+    let is : c.nodes ≡ set b.nodes place q = at.2.2 ∙ ap (λ (i : ℕ). set b.nodes i q) here in
+    let over = over_more a.nodes b.nodes handed place at.0 q second.handed first.more.hands first.long first.left found at.2.1 in
+    record {
+      more = record {
+        taken = go_further a.nodes b.nodes c.nodes first.more.taken second.taken;
+        handed = handed ++ second.handed ∷ [];
+        hands = subst (λ (ns : List ProgressState). AllHandOver a.nodes ns (handed ++ second.handed ∷ [])) (sym is) over.0;
+        losing = second.losing ∙ ap (λ (fs : List Frame). fs ++ second.handed) first.more.losing ∙ append_assoc a.losing (together handed) second.handed
+            ∙ ap (λ (fs : List Frame). a.losing ++ fs)
+            (ap (λ (fs : List Frame). together handed ++ fs) (sym (append-nil second.handed)) ∙ sym (flat_map-append (λ (lost : List Frame). lost) handed (second.handed ∷ [])));
+        rest = second.rest ∙ (λ i. record (first.more.rest i) { nodes = c.nodes; losing = c.losing });
+        audited = second.audited;
+      };
+      long = omega (arith, length-append handed (second.handed ∷ []), first.long);
+      left =
+          subst (λ (n : ℕ). drop n c.nodes ≡ drop n a.nodes) next
+          (subst (λ (ns : List ProgressState). drop (suc place) ns ≡ drop (suc place) a.nodes) (sym is) over.1);
+    }
 
 pub handed_at : (nodes nodes' : List ProgressState) (losing losing' : List Frame) (node place : ℕ) (p q : ProgressState) (answer : Result (Unit {0}) TakeError)
     → place + 1 ≡ node → place < length nodes → p ≡ get_or nodes place p → nodes' ≡ set nodes place q
@@ -200,18 +308,22 @@ handed_at nodes nodes' losing losing' node place p q answer number within at is 
     let found : slice_get nodes (node - 1) ≡ Some p = ap (slice_get nodes) (sym place_is) ∙ slice_get_read nodes (length nodes) place p refl within at in
     inr (p, found, (q, takes.0, takes.1, is ∙ ap (λ (i : ℕ). set nodes i q) place_is, takes.2))
 
-pub took_by_handing : (old new : AuditState) (node : ℕ) (answer : Result (Unit {0}) TakeError) → TakesHanded old.nodes old.losing node answer new.nodes new.losing
-    → new ≡ record old { nodes = new.nodes; losing = new.losing } → IsAudited new.world new.nodes → TakesMore old new
-took_by_handing old new node answer (inl none) rest audited = record {
+pub took_by_handing : (old new : AuditState) (node number : ℕ) (answer : Result (Unit {0}) TakeError) → node ≡ number → TakesHanded old.nodes old.losing node answer new.nodes new.losing
+    → new ≡ record old { nodes = new.nodes; losing = new.losing } → IsAudited new.world new.nodes → TakesMoreAt old number new
+took_by_handing old new node number answer same (inl none) rest audited = record {
   taken = subst (TakenGoOn old.nodes) (sym none.2) (go_nowhere old.nodes);
   handed = [];
+  at_node = λ within. absurd (omega (arith, none.0, same, within));
   losing = none.3 ∙ sym (append-nil old.losing);
   rest = rest;
   audited = audited;
 }
-took_by_handing old new node answer (inr some) rest audited = record {
+took_by_handing old new node number answer same (inr some) rest audited = record {
   taken = subst (TakenGoOn old.nodes) (sym some.2.3) (go_on_at old.nodes (node - 1) some.0 some.2.0 some.1 some.2.2.goes_on);
   handed = some.2.1;
+  at_node = λ within.
+      subst (λ (n : ℕ). AtNumber old.nodes n (λ p. (q : ProgressState) × HandsOver p q some.2.1 × (new.nodes ≡ set old.nodes (n - 1) q))) same
+      (some.0, some.1, (some.2.0, some.2.2.hands, some.2.3));
   losing = some.2.4;
   rest = rest;
   audited = audited;
@@ -348,6 +460,7 @@ audits_nothing old told audited lost sent = record {
   told_are = sym (append-nil told);
   taken = go_nowhere old.nodes;
   handed = [];
+  hands = over_nowhere old.nodes;
   losses = subst (λ (fs : List Frame). PutsLosses old.nodes fs old.lost old.losing old.lost) (sym (append-nil old.losing)) (puts_none old.nodes old.losing old.lost);
   lost = lost;
   sent = sent;
@@ -368,8 +481,9 @@ audits_all old mid new told told' takes advances losses lost sent = record {
   moves = advances.moves;
   goes_on = advances.goes_on ∙ ap (λ (a : AuditState). a.world.moves ++ advances.moves) takes.rest;
   told_are = advances.told_are;
-  taken = go_further old.nodes mid.nodes new.nodes takes.taken (go_as_before mid.nodes new.nodes (numbers_as old mid new told told' takes advances) advances.taken advances.kept);
+  taken = go_further old.nodes mid.nodes new.nodes takes.taken (go_as_before mid.nodes new.nodes (numbers_as old mid new told told' takes advances) advances.taken);
   handed = takes.handed;
+  hands = over_as old.nodes mid.nodes new.nodes takes.handed advances.taken advances.kept takes.hands;
   losses =
       subst (λ (fs : List Frame). PutsLosses new.nodes fs old.lost new.losing new.lost) takes.losing
       (subst (λ (a : AuditState). PutsLosses new.nodes mid.losing a.lost new.losing new.lost) takes.rest losses);
@@ -395,6 +509,7 @@ audits_noted old new noted told told' fault same a = subst (λ (x : AuditState).
   told_are = a.told_are;
   taken = a.taken;
   handed = a.handed;
+  hands = a.hands;
   losses = a.losses;
   lost = a.lost;
   sent = a.sent;

@@ -1,5 +1,5 @@
 -- An auditor as contracts see it: what has happened so far at running nodes, put into one run of the cluster.
-use Rattle.std.specs.Prelude.{◌≡◌, ◌≢◌, ◌↔◌, ◌⊎◌, ℕ, true, ◌-◌, ◌<◌, ◌≤◌, ◌^◌, Option, Some, Result, IsErrOf, OnOk, OnErr, List, [], ◌∷◌, ◌++◌, length, map, All, Contains, slice_get, slice_index_or, slice_set}
+use Rattle.std.specs.Prelude.{◌≡◌, ◌≢◌, ◌↔◌, ◌⊎◌, ℕ, true, ◌-◌, ◌<◌, ◌≤◌, ◌^◌, Option, Some, Result, IsErrOf, OnOk, OnErr, List, [], ◌∷◌, ◌++◌, length, map, flat_map, All, Contains, slice_get, slice_index_or, slice_set}
 use Rattle.std.specs.List.{Any, AllWithin, range_with_len}
 use Rattle.std.specs.List.Sorted.{IsPermutation}
 use Rattle.ra_stamp.specs.declared.entry.Mark.{Mark}
@@ -24,6 +24,7 @@ use Rattle.ra_history.specs.History.{clock_after, clock_of, frames_at, node_even
 use Rattle.ra_history.specs.Book.{BookState, whole_events}
 use Rattle.ra_history.specs.Settled.{step_at, frames_in, received_among}
 use Rattle.ra_cluster.specs.Cluster.{ClusterState}
+use Rattle.ra_cluster.specs.Handing.{IsHandedOver}
 
 -- ---- What an auditor knows
 
@@ -187,12 +188,10 @@ pub record Advances (old : WorldState) (nodes : List ProgressState) (told : List
   pub taken : map taken_of nodes' ≡ map taken_of nodes
   pub kept : map (λ p. p.kept) nodes' ≡ map (λ p. p.kept) nodes
 
--- The node is the same. Its book handed over the same events as before, and then further ones, or none; and so many more of
--- them are taken, or none.
+-- the node is the same, and further events of it are taken, or none
 pub record GoesOnFrom (old new : ProgressState) : Type 0 where
   pub node : new.node ≡ old.node
   pub taken : (more : List BookEvent) × (taken_of new ≡ taken_of old ++ more)
-  pub handed : (more : List BookEvent) × (handed_over new ≡ handed_over old ++ more)
 
 -- each node goes on from the one of before
 abbrev pub TakenGoOn : List ProgressState → List ProgressState → Type 0
@@ -201,16 +200,32 @@ TakenGoOn [] (new ∷ news) = ⊥
 TakenGoOn (old ∷ olds) [] = ⊥
 TakenGoOn (old ∷ olds) (new ∷ news) = GoesOnFrom old new × TakenGoOn olds news
 
+-- What the node's book has handed over are the same events as before, and then further ones. With these, its site handed over
+-- these frames as lost: all that the book had by then, or nothing.
+abbrev pub HandsOver : ProgressState → ProgressState → List Frame → Type 0
+HandsOver old new lost = (more : List BookEvent) × (handed_over new ≡ handed_over old ++ more)
+    × IsHandedOver old.node (clock_of (handed_over old)) more lost
+
+-- each node's site handed over the frames of its list as lost, in the order of the nodes; those of the nodes after these, none
+abbrev pub AllHandOver : List ProgressState → List ProgressState → List (List Frame) → Type 0
+AllHandOver [] [] [] = Unit {0}
+AllHandOver [] [] (lost ∷ handed) = ⊥
+AllHandOver [] (new ∷ news) handed = ⊥
+AllHandOver (old ∷ olds) [] handed = ⊥
+AllHandOver (old ∷ olds) (new ∷ news) [] = HandsOver old new [] × AllHandOver olds news []
+AllHandOver (old ∷ olds) (new ∷ news) (lost ∷ handed) = HandsOver old new lost × AllHandOver olds news handed
+
 -- all that books have handed over is taken
 abbrev pub NoneIsKept : List ProgressState → Type 0
 NoneIsKept nodes = All (λ p. p.kept ≡ []) nodes
 
--- Further events were taken of nodes, and frames that they handed over as lost are still to be lost, after the others.
+-- Further events were taken of nodes, and the frames that their sites handed over as lost are still to be lost, after the others.
 -- Nothing else has changed.
 pub record TakesMore (old new : AuditState) : Type 0 where
   pub taken : TakenGoOn old.nodes new.nodes
-  pub handed : List Frame
-  pub losing : new.losing ≡ old.losing ++ handed
+  pub handed : List (List Frame)
+  pub hands : AllHandOver old.nodes new.nodes handed
+  pub losing : new.losing ≡ old.losing ++ flat_map (λ lost. lost) handed
   pub rest : new ≡ record old { nodes = new.nodes; losing = new.losing }
   pub audited : IsAudited new.world new.nodes
 
@@ -222,9 +237,9 @@ pub record PutsLosses (nodes : List ProgressState) (losing lost losing' lost' : 
   pub same : IsPermutation losing (put ++ losing')
   pub reached : All (IsReached nodes) put
 
--- A round of the audit of a cluster: further events were taken of its nodes, and frames that they handed over as lost were
--- noted. The run went on by some moves, whose marks were told in their order, and by some of the losses that were still to be
--- put, those of these frames among them.
+-- A round of the audit of a cluster: further events were taken of its nodes. The frames that were noted as lost are those that
+-- the nodes' sites handed over. The run went on by some moves, whose marks were told in their order, and by some of the losses
+-- that were still to be put, those of these frames among them.
 pub record Audits (old : AuditState) (told : List Mark) (new : AuditState) (told' : List Mark) : Type 0 where
   pub audited : IsAudited new.world new.nodes
   pub count : new.world.count ≡ old.world.count
@@ -233,8 +248,9 @@ pub record Audits (old : AuditState) (told : List Mark) (new : AuditState) (told
   pub goes_on : new.world.moves ≡ old.world.moves ++ moves
   pub told_are : told' ≡ told ++ marks_of moves
   pub taken : TakenGoOn old.nodes new.nodes
-  pub handed : List Frame
-  pub losses : PutsLosses new.nodes (old.losing ++ handed) old.lost new.losing new.lost
+  pub handed : List (List Frame)
+  pub hands : AllHandOver old.nodes new.nodes handed
+  pub losses : PutsLosses new.nodes (old.losing ++ flat_map (λ lost. lost) handed) old.lost new.losing new.lost
   pub lost : HasLost new.world.moves new.lost
   pub sent : AllWereSent new.nodes new.world.moves new.lost
 
@@ -282,12 +298,13 @@ pub record Takes (nodes : List ProgressState) (node after : ℕ) (events : List 
 abbrev pub KeptAreNext : ProgressState → Type 0
 KeptAreNext p = AreNextAt p.node (clock_of (taken_of p)) p.kept
 
--- What is known of a node after its site was to hand over what has happened and these frames, which were lost. It goes on
+-- What is known of a node after its site handed over what has happened and these frames, which were lost, or nothing. It goes on
 -- from before, with the same events in the run. If the answer is Ok, nothing is kept. If it is OutOfTurn, nothing is kept
 -- either, and nothing was handed over. It is NotNext exactly if what is kept can't be the node's next events. Memory is the
 -- only other error, after which what is kept can be.
 pub record TakesOver (p q : ProgressState) (handed : List Frame) (answer : Result (Unit {0}) TakeError) : Type 0 where
   pub goes_on : GoesOnFrom p q
+  pub hands : HandsOver p q handed
   pub settled : q.settled ≡ p.settled
   pub ok : OnOk answer (q.kept ≡ [])
   pub no_node : IsErrOf answer NoNode → ⊥
@@ -303,6 +320,17 @@ TakesHanded nodes losing node answer nodes' losing' =
     ((length nodes < node) × IsErrOf answer NoNode × (nodes' ≡ nodes) × (losing' ≡ losing))
     ⊎ AtNumber nodes node (λ p. (q : ProgressState) × (handed : List Frame) × TakesOver p q handed answer
     × (nodes' ≡ slice_set nodes (node - 1) q) × (losing' ≡ losing ++ handed))
+
+-- Further events were taken of the node with this number, and the frames that its site handed over as lost are still to be lost,
+-- after the others. Nothing else has changed.
+pub record TakesMoreAt (old : AuditState) (number : ℕ) (new : AuditState) : Type 0 where
+  pub taken : TakenGoOn old.nodes new.nodes
+  pub handed : List Frame
+  pub at_node : number ≤ length old.nodes → AtNumber old.nodes number (λ p. (q : ProgressState) × HandsOver p q handed
+      × (new.nodes ≡ slice_set old.nodes (number - 1) q))
+  pub losing : new.losing ≡ old.losing ++ handed
+  pub rest : new ≡ record old { nodes = new.nodes; losing = new.losing }
+  pub audited : IsAudited new.world new.nodes
 
 -- nothing is kept of the node any more, and the other nodes are as before
 abbrev pub TakesAllAt : List ProgressState → ℕ → List ProgressState → Type 0

@@ -415,6 +415,7 @@ fn take_handed_into<R: Wait>(
     losses: &mut Losses,
     site: &Site,
 ) -> Result<(), TakeError>
+    requires { (count : ℕ) × (map (λ p. p.node) nodes.old ≡ range_with_len 1 count) }
     ensures handed { TakesHanded nodes.old losses.old.losing site.now result nodes.new losses.new.losing }
     ensures lost { losses.new.lost ≡ losses.old.lost }
 {

@@ -1,8 +1,9 @@
 //! How far the events of a node are in the run of an auditor.
-ghost use Rattle.std.specs.Prelude.{◌≡◌, ◌≢◌, ◌↔◌, ◌⊎◌, ◌<◌, ◌∷◌, ◌++◌, [], List, Some, length, slice_get, IsTrue, IsErrOf, IfSome, IfErr, OnOk, OnErr, MatchOption};
+ghost use Rattle.std.specs.Prelude.{◌≡◌, ◌≢◌, ◌↔◌, ◌<◌, ◌∷◌, ◌++◌, [], List, Some, length, slice_get, IsTrue, IsErrOf, IfSome, IfErr, OnOk, OnErr, MatchOption};
 ghost use Rattle.ra_history.specs.History.{clock_of, clock_from};
 ghost use Rattle.ra_history.specs.declared.event.BookEvent.{BookEvent};
 ghost use Rattle.ra_frame.specs.declared.frame.Frame.{Frame};
+ghost use Rattle.ra_cluster.specs.Handing.{IsHandedOver};
 ghost use Rattle.ra_audit.specs.Audit.{AreNextAt, IsNextAt, IsForNumber, KeptAreNext, TakesOver, fresh_progress, handed_over, taken_of};
 
 use crate::losses::Losses;
@@ -162,6 +163,7 @@ impl Progress {
         site: &Site,
         losses: &mut Losses,
     ) -> Result<(), TakeError>
+        requires { site.now ≡ self.old.node }
         ensures takes { (handed : List Frame) × TakesOver self.old self.new handed result
             × (losses.new.losing ≡ losses.old.losing ++ handed) }
         ensures lost { losses.new.lost ≡ losses.old.lost }
@@ -170,7 +172,7 @@ impl Progress {
         losses.take_noted()?;
         match site.hand_over(rt, alloc, self.latest()) {
             Ok(handed) => self.accept(alloc, handed, losses),
-            Err(refused) => Err(refusal_of(refused)),
+            Err(refused) => Err(refused),
         }
     }
 
@@ -186,6 +188,7 @@ impl Progress {
         losses: &mut Losses,
     ) -> Result<(), TakeError>
         requires kept { self.old.kept ≡ [] }
+        requires handing { IsHandedOver self.old.node (clock_of (handed_over self.old)) handed.events.items handed.lost.items }
         requires noted { losses.old.noted ≡ [] }
         ensures takes { TakesOver self.old self.new handed.lost.items result }
         ensures handed { handed_over self.new ≡ handed_over self.old ++ handed.events.items }
@@ -230,19 +233,6 @@ impl Progress {
                 Err(cause)
             }
         }
-    }
-}
-
-/// Returns why a site handed over nothing: the auditor has not taken its last events, or memory ran out.
-fn refusal_of(refused: TakeError) -> TakeError
-    ensures turn { refused ≡ TakeError.OutOfTurn → result ≡ TakeError.OutOfTurn }
-    ensures other { refused ≢ TakeError.OutOfTurn → result ≡ TakeError.Memory }
-    ensures either { (result ≡ TakeError.OutOfTurn) ⊎ (result ≡ TakeError.Memory) }
-{
-    match refused {
-        TakeError::OutOfTurn => TakeError::OutOfTurn,
-        // A site has no other cause.
-        TakeError::NoNode | TakeError::NotNext | TakeError::Memory => TakeError::Memory,
     }
 }
 

@@ -4,7 +4,7 @@ ghost use Rattle.ra_audit.specs.declared.audit_error.AuditFault as audit_fault;
 ghost use Rattle.ra_cluster.specs.declared.take_error.TakeError.{TakeError};
 ghost use Rattle.ra_frame.specs.declared.frame.Frame.{Frame};
 ghost use Rattle.ra_audit.specs.declared.audit_error.RoundError as round_error;
-ghost use Rattle.ra_audit.specs.Audit.{NoneIsReady, NoneIsReached, NoneWaits, IsNeverSent, IsLeastLeft, IsAhead, IsMisfit, IsNotLost, IsUnsent, MayBePut, IsAudited, HasLost, AllWereSent, IsAuditorOf, RunTheorem, Audits, TakesMore, TakesAllAt, NotTakenAt, IsNotTaken, NoneIsKept, clocks_taken};
+ghost use Rattle.ra_audit.specs.Audit.{NoneIsReady, NoneIsReached, NoneWaits, IsNeverSent, IsLeastLeft, IsAhead, IsMisfit, IsNotLost, IsUnsent, MayBePut, IsAudited, HasLost, AllWereSent, IsAuditorOf, RunTheorem, Audits, TakesMore, TakesMoreAt, TakesAllAt, NotTakenAt, IsNotTaken, NoneIsKept, clocks_taken};
 ghost use Rattle.ra_stamp.specs.NodeId.{IsNodeNumber};
 
 use crate::audit_laws::runs_meet_the_theorem;
@@ -312,7 +312,7 @@ fn take_from<R: Wait, G: Gate + Drop>(
 ) -> Result<(), (NodeId, TakeError)>
     requires number { IsNodeNumber number }
     requires member { number ≤ cluster.now.nodes }
-    ensures more { TakesMore auditor.old auditor.new }
+    ensures more { TakesMoreAt auditor.old number auditor.new }
     ensures all { OnOk result (TakesAllAt auditor.old.nodes number auditor.new.nodes) }
     ensures not_taken { (node : ℕ) (cause : TakeError) → IsErrOf result (node, cause)
         → number ≤ length auditor.old.nodes

@@ -1,6 +1,8 @@
-use Rattle.std.proofs.Common.{◌≡◌, ◌+◌, ◌-◌, ◌<◌, length, get_or, arith, inl, inr, refl}
+use Rattle.std.proofs.Common.{◌≡◌, ◌+◌, ◌-◌, ◌<◌, length, get_or, arith, inl, inr, refl, sym, ap, ◌∙◌}
 use Rattle.std.proofs.lemmas.List.{get_or_default}
+use Rattle.ra_audit.specs.Audit.{ProgressState}
 use Rattle.ra_audit.proofs.AuditRounds.{handed_at}
+use Rattle.ra_audit.proofs.AuditSteps.{number_of}
 use Rattle.ra_audit.proofs.auditor.take_handed_into.Goals as goal
 
 pub returns-clause-handed : goal.returns-clause-handed
@@ -13,3 +15,11 @@ returns-clause-handed r c =
     let p = get_or nodes place x in
     handed_at nodes _ c.args.losses.now.losing c.take_handed.new.losses.losing c.args.site.now place p c.take_handed.new.self c.take_handed.result number within
     (get_or_default nodes place x p within) refl c.take_handed.ensures.takes
+
+pub take_handed-requires : goal.take_handed-requires
+take_handed-requires r c =
+    let nodes = c.args.nodes.now in
+    let place = c.from-place.result - 1 in
+    let number : place + 1 ≡ c.args.site.now = omega (arith, c.get.ensures.value, c.get.ensures.valid.0, c.from-place.ensures, c.node.ensures) in
+    let within : place < length nodes = omega (arith, c.if-place-nodes.false) in
+    sym number ∙ sym (number_of nodes c.requires.0 place c.index-nodes-place.result c.requires.1 within)

@@ -7,26 +7,26 @@ use Rattle.ra_audit.proofs.round.take_all.Goals as goal
 
 pub loop-place-init : goal.loop-place-init
 loop-place-init g c = record {
-  more = took_nothing c.args.auditor.now c.fault-fault.ensures.audited;
+  up_to = took_nothing c.args.auditor.now c.fault-fault.ensures.audited;
   kept = AllWithin-none (λ (p : ProgressState). p.kept ≡ []) c.args.auditor.now.nodes 0;
 }
 
 pub loop-place-preserved : goal.loop-place-preserved
 loop-place-preserved g c =
     let mid = c.loop-place.auditor in
-    let more = c.loop-place.invariant.more in
+    let more = c.loop-place.invariant.up_to.more in
     let count = ap (λ (a : AuditState). a.world.count) more.rest in
     let long = length_of mid.world mid.nodes more.audited in
     let within : c.loop-place.place < length mid.nodes = omega (arith, long, count, c.requires, c.nodes-place-end.ensures, c.loop-place-test.true) in
     record {
-      more = took_further _ _ _ more c.in_ok-take_from.ensures.more;
+      up_to = took_further c.args.auditor.now mid c.take_from.new.auditor c.loop-place.place within c.loop-place.invariant.up_to c.in_ok-take_from.ensures.more;
       kept = none_kept_more mid.nodes c.take_from.new.auditor.nodes c.loop-place.place within c.loop-place.invariant.kept c.in_ok-take_from.ensures.all;
     }
 
 pub returns-in_err-take_from-clause-not_taken : goal.returns-in_err-take_from-clause-not_taken
 returns-in_err-take_from-clause-not_taken g c = λ node cause is.
     let mid = c.loop-place.auditor in
-    let more = c.loop-place.invariant.more in
+    let more = c.loop-place.invariant.up_to.more in
     let count = ap (λ (a : AuditState). a.world.count) more.rest in
     let long = length_of mid.world mid.nodes more.audited in
     let within : c.loop-place.place < length mid.nodes = omega (arith, long, count, c.requires, c.nodes-place-end.ensures, c.loop-place-test.true) in
@@ -36,15 +36,21 @@ returns-in_err-take_from-clause-not_taken g c = λ node cause is.
     (not_taken_from mid.nodes c.take_from.new.auditor.nodes c.loop-place.place cause within c.loop-place.invariant.kept at.1)
 
 pub returns-in_err-take_from-clause-more : goal.returns-in_err-take_from-clause-more
-returns-in_err-take_from-clause-more g c = took_further _ _ _ c.loop-place.invariant.more c.in_err-take_from.ensures.more
+returns-in_err-take_from-clause-more g c =
+    let mid = c.loop-place.auditor in
+    let more = c.loop-place.invariant.up_to.more in
+    let count = ap (λ (a : AuditState). a.world.count) more.rest in
+    let long = length_of mid.world mid.nodes more.audited in
+    let within : c.loop-place.place < length mid.nodes = omega (arith, long, count, c.requires, c.nodes-place-end.ensures, c.loop-place-test.true) in
+    (took_further c.args.auditor.now mid c.take_from.new.auditor c.loop-place.place within c.loop-place.invariant.up_to c.in_err-take_from.ensures.more).more
 
 pub returns-clause-more : goal.returns-clause-more
-returns-clause-more g c = c.loop-place.invariant.more
+returns-clause-more g c = c.loop-place.invariant.up_to.more
 
 pub returns-clause-kept : goal.returns-clause-kept
 returns-clause-kept g c =
     let mid = c.loop-place.auditor in
-    let more = c.loop-place.invariant.more in
+    let more = c.loop-place.invariant.up_to.more in
     let count = ap (λ (a : AuditState). a.world.count) more.rest in
     let long = length_of mid.world mid.nodes more.audited in
     All-from_all_within (λ (p : ProgressState). p.kept ≡ []) mid.nodes

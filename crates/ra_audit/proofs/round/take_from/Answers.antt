@@ -4,11 +4,13 @@ use Rattle.ra_audit.proofs.round.take_from.Goals as goal
 
 pub returns-in-Ok-clause-more : goal.returns-in-Ok-clause-more
 returns-in-Ok-clause-more g c =
-    took_by_handing c.args.auditor.now c.take_handed.new.self _ _ c.take_handed.ensures.handed c.take_handed.ensures.rest c.take_handed.ensures.audited
+    took_by_handing c.args.auditor.now c.take_handed.new.self _ c.args.number _ (c.in-Some-site.ensures.found ∙ c.in-Some.ensures.value) c.take_handed.ensures.handed
+    c.take_handed.ensures.rest c.take_handed.ensures.audited
 
 pub returns-in-Err-clause-more : goal.returns-in-Err-clause-more
 returns-in-Err-clause-more g c =
-    took_by_handing c.args.auditor.now c.take_handed.new.self _ _ c.take_handed.ensures.handed c.take_handed.ensures.rest c.take_handed.ensures.audited
+    took_by_handing c.args.auditor.now c.take_handed.new.self _ c.args.number _ (c.in-Some-site.ensures.found ∙ c.in-Some.ensures.value) c.take_handed.ensures.handed
+    c.take_handed.ensures.rest c.take_handed.ensures.audited
 
 pub returns-in-Ok-clause-all : goal.returns-in-Ok-clause-all
 returns-in-Ok-clause-all g c =

@@ -1,9 +1,15 @@
-use Rattle.std.proofs.Common.{◌≡◌, All, List, ◌++◌, length, take, drop, vec_len, arith, ap, sym, subst}
+use Rattle.std.proofs.Common.{◌≡◌, All, List, ◌++◌, map, length, take, drop, vec_len, arith, ap, sym, subst}
+use Rattle.std.specs.List.{range_with_len}
 use Rattle.ra_audit.specs.Audit.{ProgressState, IsAudited, HasLost, WasSentIn, TakesHanded}
 use Rattle.ra_audit.proofs.AuditSteps.{handed_audited, slice_back}
 use Rattle.ra_frame.specs.declared.frame.Frame.{Frame}
 use Rattle.ra_audit.proofs.Tracking.{tracked_handed, written_back}
 use Rattle.ra_audit.proofs.auditor.Auditor.take_handed.Goals as goal
+
+pub take_handed_into-requires : goal.take_handed_into-requires
+take_handed_into-requires r c =
+    let n = c.self.inside.world.count in
+    (n, subst (λ (ns : List ProgressState). map (λ p. p.node) ns ≡ range_with_len 1 n) (sym c.as_mut_slice.ensures.value) c.self.invariant.0.numbers)
 
 pub invariant_of-self : goal.invariant_of-self
 invariant_of-self r c =

@@ -1,11 +1,13 @@
-use Rattle.std.proofs.Common.{◌≡◌, List, [], ◌++◌, Result, Err, ap, sym, ◌∙◌, subst, inr}
+use Rattle.std.proofs.Common.{◌≡◌, ℕ, List, [], ◌++◌, Result, Err, ap, sym, ◌∙◌, subst, inr}
 use Rattle.std.proofs.lemmas.Result.{err_from_is_err_and}
 use Rattle.std.proofs.lemmas.List.{append-nil}
 use Rattle.ra_frame.specs.declared.frame.Frame.{Frame}
 use Rattle.ra_cluster.specs.declared.take_error.TakeError.{TakeError}
-use Rattle.ra_audit.specs.Audit.{TakesOver}
+use Rattle.ra_cluster.specs.Handing.{IsHandedOver}
+use Rattle.ra_history.specs.History.{clock_of}
+use Rattle.ra_audit.specs.Audit.{ProgressState, TakesOver, handed_over}
 use Rattle.ra_audit.specs.AuditKeeping.{LossState}
-use Rattle.ra_audit.proofs.AuditRounds.{refuses_kept, took_kept, took_no_more}
+use Rattle.ra_audit.proofs.AuditRounds.{refuses_kept, took_kept, took_no_more, asked_after, turn_or_memory}
 use Rattle.ra_audit.proofs.progress.Progress.take_handed.Goals as goal
 
 pub returns-in_err-take_kept-clause-takes : goal.returns-in_err-take_kept-clause-takes
@@ -38,6 +40,18 @@ returns-in-Ok-clause-takes r c = (
 pub returns-in-Err-clause-takes : goal.returns-in-Err-clause-takes
 returns-in-Err-clause-takes r c = (
   [],
-  took_no_more c.args.self.now c.take_kept.new.self c.in_ok-take_kept.ensures.ok _ c.refusal_of.ensures.either,
+  took_no_more c.args.self.now c.take_kept.new.self c.in_ok-take_kept.ensures.ok c.in-Err.refused (turn_or_memory c.in-Err.refused c.in-Err.ensures.others.0 c.in-Err.ensures.others.1),
   ap (λ (l : LossState). l.losing) c.in_ok-take_noted.ensures.ok ∙ sym (append-nil c.args.losses.now.losing),
 )
+
+-- the site was asked after the clock of what was taken
+pub accept-requires-clause-handing : goal.accept-requires-clause-handing
+accept-requires-clause-handing r c =
+    let p = c.args.self.now in
+    let q = c.take_kept.new.self in
+    let is = c.in_ok-take_kept.ensures.ok in
+    let events = c.in-Ok.handed.events.items in
+    let lost = c.in-Ok.handed.lost.items in
+    let node : c.args.site.now ≡ q.node = c.requires ∙ sym (ap (λ (x : ProgressState). x.node) is) in
+    subst (λ (n : ℕ). IsHandedOver n (clock_of (handed_over q)) events lost) node
+    (subst (λ (k : ℕ). IsHandedOver c.args.site.now k events lost) (asked_after p q is c.latest.result c.latest.ensures) c.in-Ok.ensures.handed)
