@@ -1,5 +1,5 @@
 -- Rounds of an audit: the events that were taken of each node go on.
-use Rattle.std.proofs.Common.{◌≡◌, ℕ, zero, suc, ◌+◌, ◌-◌, ◌<◌, List, [], ◌∷◌, ◌++◌, map, drop, length, get_or, set, Option, Some, Result, Ok, Err, refl, sym, ap, ◌∙◌, subst, append_assoc, ◌↔◌, ◌⊎◌, ◌≤◌, inl, inr, arith}
+use Rattle.std.proofs.Common.{◌≡◌, ℕ, zero, suc, ◌+◌, ◌-◌, ◌<◌, List, [], ◌∷◌, ◌++◌, map, drop, length, get_or, set, Option, None, Some, Result, Ok, Err, refl, sym, ap, ◌∙◌, subst, append_assoc, ◌↔◌, ◌⊎◌, ◌≤◌, inl, inr, arith}
 use Rattle.std.specs.Prelude.{slice_get, flat_map, All, IsOk, IsErrOf, OnOk, OnErr}
 use Rattle.std.specs.List.{AllWithin, range_with_len}
 use Rattle.std.proofs.lemmas.List.{append-nil, length-append, length-map, length-set, get_or-map, get_or-set_same}
@@ -9,8 +9,10 @@ use Rattle.std.proofs.lemmas.List.FromFn.{length-range_with_len}
 use Rattle.std.proofs.lemmas.Option.{same_Some, none-some, slice_get_read, slice_get_within, slice_get-get_or}
 use Rattle.ra_stamp.specs.declared.entry.Mark.{Mark}
 use Rattle.ra_audit.specs.declared.audit_error.AuditError.{AuditError}
+use Rattle.ra_audit.specs.declared.audit_error.AuditError.TheVariants as audit
 use Rattle.ra_audit.specs.declared.audit_error.AuditFault.{AuditFault}
 use Rattle.ra_audit.specs.declared.audit_error.RoundError.{RoundError}
+use Rattle.ra_audit.specs.declared.audit_error.RoundError.TheVariants as round
 use Rattle.ra_audit.specs.declared.audit_error.FinishError.{FinishError}
 use Rattle.ra_audit.specs.declared.audit_error.FinishError.TheVariants as finish
 use Rattle.ra_cluster.specs.declared.take_error.TakeError.{TakeError}
@@ -543,3 +545,44 @@ if_taken A (Err e) done h = absurd cc
 
 pub round_of : (a b : RoundError) → ◌≡◌ {A = Result (Unit {0}) FinishError} (Err (finish.Round a)) (Err (finish.Round b)) → IsErrOf {T = Unit {0}} (Err a) b
 round_of a b e = cc
+
+pub of_round : (a b : RoundError) → IsErrOf {T = Unit {0}} (Err a) b → ◌≡◌ {A = Result (Unit {0}) FinishError} (Err (finish.Round a)) (Err (finish.Round b))
+of_round a b e = cc
+
+-- ---- The fault that a round leaves
+
+pub is_none : {A E : Type 0} (x : A) (e : E) → ◌≡◌ {A = Result A E} (Ok x) (Err e) → ⊥
+is_none x e is = cc
+
+same_fault : (a b : AuditFault) → ◌≡◌ {A = Result (Unit {0}) RoundError} (Err (round.Fault a)) (Err (round.Fault b)) → a ≡ b
+same_fault a b e = cc
+
+as_fault : (a b : AuditFault) → a ≡ b → ◌≡◌ {A = Result (Unit {0}) RoundError} (Err (round.Fault a)) (Err (round.Fault b))
+as_fault a b e = cc
+
+memory_is_none : (fault : AuditFault) → ◌≡◌ {A = Result (Unit {0}) RoundError} (Err round.Memory) (Err (round.Fault fault)) → ⊥
+memory_is_none fault is = cc
+
+-- none, if nothing was done for lack of memory
+pub stays_faultless : (old : AuditState) (fault : AuditFault) → old.fault ≡ None → IsErrOf {T = Unit {0}} (Err round.Memory) (round.Fault fault) ↔ (old.fault ≡ Some fault)
+stays_faultless old fault none = ((λ is. absurd (memory_is_none fault is)), λ has. absurd (none-some fault (sym none ∙ has)))
+
+module _ (answer : Result (Unit {0}) AuditError) (put new : AuditState) (exact : (fault : AuditFault) → IsErrOf answer (audit.Fault fault) ↔ (put.fault ≡ Some fault)) where
+  found_none : (r : Result (Unit {0}) AuditError) (fault : AuditFault) → IsOk r → IsErrOf r (audit.Fault fault) → ⊥
+  found_none (Ok x) fault done is = is_none x (audit.Fault fault) is
+  found_none (Err e) fault done is = absurd cc
+
+  -- none, if all that can be put was put
+  pub is_faultless : IsOk answer → new ≡ put → (x : Unit {0}) (fault : AuditFault) → ◌≡◌ {A = Result (Unit {0}) RoundError} (Ok x) (Err (round.Fault fault)) ↔ (new.fault ≡ Some fault)
+  is_faultless done same x fault = (
+    (λ is. absurd (is_none x (round.Fault fault) is)),
+    λ has. absurd (found_none answer fault done ((exact fault).1 (ap (λ (a : AuditState). a.fault) (sym same) ∙ has))),
+  )
+
+-- the one that was found
+pub has_found : (put new : AuditState) (found fault : AuditFault) → new ≡ record put { fault = Some found } → IsErrOf {T = Unit {0}} (Err (round.Fault found)) (round.Fault fault) ↔ (new.fault ≡ Some fault)
+has_found put new found fault same =
+    let noted : new.fault ≡ Some found = ap (λ (a : AuditState). a.fault) same in (
+      (λ is. noted ∙ ap (λ (f : AuditFault). Some f) (same_fault found fault is)),
+      λ has. as_fault found fault (same_Some found fault (sym noted ∙ has)),
+    )

@@ -17,9 +17,9 @@ use std::sync::Wait;
 impl Auditor {
     /// Takes what has happened at each node since the round before, from node 1 up, and notes the frames that it hands over as
     /// lost. Then it puts all that it can into the run of the auditor, events first and then losses, and tells the observer its
-    /// marks, as [`Auditor::advance`] does. The cluster goes on meanwhile: a round
-    /// has one node's lock at a time, for a time that does not grow with the history, and puts with no lock held. A frame whose
-    /// sender was looked at too early in the round is put in the next one.
+    /// marks, as [`Auditor::advance`] does. The cluster goes on meanwhile: a round has one node's lock at a time, for a time that
+    /// does not grow with the history unless a frame was lost, and puts with no lock held. A frame whose sender was looked at too
+    /// early in the round is put in the next one.
     ///
     /// A frame that waits was never sent if an earlier round took it and its sender's events don't come to its clock yet, or if
     /// they go beyond it and none has it. So a frame can't hold up the audit by a clock that is ahead of its sender's: the second
@@ -33,7 +33,7 @@ impl Auditor {
     ///
     /// # Errors
     ///
-    /// 1 and 2 come first, and then a `Fault` of an earlier round. `Memory` may come before any other.
+    /// 1 and 2 come first, and then a `Fault` of an earlier round. `Memory` may come before any of the rest.
     ///
     /// 1. `NotAudited`: the cluster was made by [`Cluster::new`], and is settled at its end. Nothing has changed.
     /// 2. `OtherCluster`: the auditor was made for another number of nodes, or with another start. Nothing has changed.
@@ -70,8 +70,9 @@ impl Auditor {
         ensures found { (fault : audit_fault.AuditFault) → self.old.fault ≡ None → IsErrOf result (RoundError.Fault fault)
             → IsMisfit self.new.world self.new.nodes fault
             ⊎ IsUnsent (clocks_taken self.old.nodes) self.new.nodes fault }
-        ensures fault { (fault : audit_fault.AuditFault) → IsErrOf result (RoundError.Fault fault)
-            → self.new.fault ≡ Some fault }
+        // So after a round of its cluster, an auditor has a fault exactly if the round answered it.
+        ensures fault { (fault : audit_fault.AuditFault) → IsAuditorOf cluster.now self.old
+            → IsErrOf result (RoundError.Fault fault) ↔ (self.new.fault ≡ Some fault) }
         ensures not_lost { (frame : Frame) → IsErrOf result (RoundError.NotLost frame)
             → NoneIsReady self.new.nodes × IsNotLost self.new.world self.new.nodes self.new.losing frame }
         ensures not_taken { (node : ℕ) (cause : TakeError) → IsErrOf result (RoundError.NotTaken node cause)
@@ -119,8 +120,8 @@ impl Auditor {
             → IsErrOf result (FinishError.Round (RoundError.Fault fault))
             → IsMisfit self.new.world self.new.nodes fault
             ⊎ IsUnsent (clocks_taken self.old.nodes) self.new.nodes fault }
-        ensures fault { (fault : audit_fault.AuditFault) → IsErrOf result (FinishError.Round (RoundError.Fault fault))
-            → self.new.fault ≡ Some fault }
+        ensures fault { (fault : audit_fault.AuditFault) → IsAuditorOf cluster.old self.old
+            → IsErrOf result (FinishError.Round (RoundError.Fault fault)) ↔ (self.new.fault ≡ Some fault) }
         ensures not_lost { (frame : Frame) → IsErrOf result (FinishError.Round (RoundError.NotLost frame))
             → NoneIsReady self.new.nodes × IsNotLost self.new.world self.new.nodes self.new.losing frame }
         ensures not_taken { (node : ℕ) (cause : TakeError) → IsErrOf result (FinishError.Round (RoundError.NotTaken node cause))
@@ -216,6 +217,7 @@ fn go_round<R: Wait, G: Gate + Drop, O: MarkObserver>(
     requires lost { HasLost auditor.old.world.moves auditor.old.lost }
     requires sent { AllWereSent auditor.old.nodes auditor.old.world.moves auditor.old.lost }
     requires count { auditor.old.world.count ≡ cluster.now.nodes }
+    requires unfaulted { auditor.old.fault ≡ None }
     ensures audits { Audits auditor.old (O.told observer.old) auditor.new (O.told observer.new) }
     ensures ok { OnOk result (NoneIsReady auditor.new.nodes) }
     ensures none_reached { OnOk result (NoneIsReached auditor.new.nodes auditor.new.losing) }
@@ -223,11 +225,11 @@ fn go_round<R: Wait, G: Gate + Drop, O: MarkObserver>(
     ensures may_be_put { OnOk result (All (MayBePut (clocks_taken auditor.old.nodes) auditor.new.nodes) auditor.new.nodes) }
     ensures not_audited { IsErrOf result RoundError.NotAudited → ⊥ }
     ensures other_cluster { IsErrOf result RoundError.OtherCluster → ⊥ }
-    ensures found { (fault : audit_fault.AuditFault) → auditor.old.fault ≡ None → IsErrOf result (RoundError.Fault fault)
+    ensures found { (fault : audit_fault.AuditFault) → IsErrOf result (RoundError.Fault fault)
         → IsMisfit auditor.new.world auditor.new.nodes fault
         ⊎ IsUnsent (clocks_taken auditor.old.nodes) auditor.new.nodes fault }
     ensures fault { (fault : audit_fault.AuditFault) → IsErrOf result (RoundError.Fault fault)
-        → auditor.new.fault ≡ Some fault }
+        ↔ (auditor.new.fault ≡ Some fault) }
     ensures not_lost { (frame : Frame) → IsErrOf result (RoundError.NotLost frame)
         → NoneIsReady auditor.new.nodes × IsNotLost auditor.new.world auditor.new.nodes auditor.new.losing frame }
     ensures not_taken { (node : ℕ) (cause : TakeError) → IsErrOf result (RoundError.NotTaken node cause)
@@ -258,7 +260,7 @@ fn answer_of(
     ensures not_audited { IsErrOf result RoundError.NotAudited → ⊥ }
     ensures other_cluster { IsErrOf result RoundError.OtherCluster → ⊥ }
     ensures fault { (fault : audit_fault.AuditFault) → IsErrOf result (RoundError.Fault fault)
-        → IsErrOf advanced (AuditError.Fault fault) }
+        ↔ IsErrOf advanced (AuditError.Fault fault) }
     ensures not_lost { (frame : Frame) → IsErrOf result (RoundError.NotLost frame)
         → IsErrOf advanced (AuditError.NotLost frame) }
     ensures not_taken { (node : ℕ) (cause : TakeError) → IsErrOf result (RoundError.NotTaken node cause)

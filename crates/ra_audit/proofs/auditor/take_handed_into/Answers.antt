@@ -1,6 +1,5 @@
-use Rattle.std.proofs.Common.{◌≡◌, ◌+◌, ◌-◌, ◌<◌, length, get_or, arith, inl, inr, refl, sym, ap, ◌∙◌}
+use Rattle.std.proofs.Common.{◌≡◌, ◌+◌, ◌-◌, ◌<◌, length, get_or, arith, refl, sym, ◌∙◌}
 use Rattle.std.proofs.lemmas.List.{get_or_default}
-use Rattle.ra_audit.specs.Audit.{ProgressState}
 use Rattle.ra_audit.proofs.AuditRounds.{handed_at}
 use Rattle.ra_audit.proofs.AuditSteps.{number_of}
 use Rattle.ra_audit.proofs.auditor.take_handed_into.Goals as goal

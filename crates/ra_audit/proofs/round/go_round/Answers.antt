@@ -1,5 +1,6 @@
-use Rattle.std.proofs.Common.{refl, ◌∙◌}
-use Rattle.ra_audit.proofs.AuditRounds.{audits_nothing, audits_all, audits_as, audits_noted, none_ready_as, none_reached_as, none_kept_as, none_kept_after, may_be_put_as, not_taken_as, numbers_as, if_done, if_taken}
+use Rattle.std.proofs.Common.{refl, ap, inl, ◌∙◌}
+use Rattle.ra_audit.specs.Audit.{AuditState}
+use Rattle.ra_audit.proofs.AuditRounds.{audits_nothing, audits_all, audits_as, audits_noted, none_ready_as, none_reached_as, none_kept_as, none_kept_after, may_be_put_as, not_taken_as, numbers_as, if_done, if_taken, stays_faultless, is_faultless, has_found}
 use Rattle.ra_audit.proofs.round.go_round.Goals as goal
 
 pub returns-in_default-clause-audits : goal.returns-in_default-clause-audits
@@ -43,7 +44,20 @@ returns-clause-audits g c =
     c.advance-advanced.ensures.losses c.advance-advanced.ensures.lost c.advance-advanced.ensures.sent
 
 pub returns-clause-fault : goal.returns-clause-fault
-returns-clause-fault g c fault is = (c.advance-advanced.ensures.fault fault).0 (c.in-Err.ensures.fault fault is)
+returns-clause-fault g c = λ fault.
+    let answered = c.in-Err.ensures.fault fault in
+    let put = c.advance-advanced.ensures.fault fault in
+    ((λ is. put.0 (answered.0 is)), λ has. answered.1 (put.1 has))
+
+pub returns-in_default-clause-fault : goal.returns-in_default-clause-fault
+returns-in_default-clause-fault g c = λ fault. stays_faultless c.args.auditor.now fault c.requires.unfaulted
+
+pub returns-in-Some-clause-fault : goal.returns-in-Some-clause-fault
+returns-in-Some-clause-fault g c = λ fault. has_found c.advance-advanced.new.self c.find_unsent.new.self c.in-Some.fault fault c.in-Some.ensures.found.0
+
+pub returns-in-Ok-answer_of-clause-fault : goal.returns-in-Ok-answer_of-clause-fault
+returns-in-Ok-answer_of-clause-fault g c =
+    is_faultless c.advance-advanced.result c.advance-advanced.new.self c.find_unsent.new.self c.advance-advanced.ensures.fault c.in-Ok-answer_of.ensures.ok.0 (c.in-None.ensures.none refl).0 tt
 
 pub returns-clause-not_taken : goal.returns-clause-not_taken
 returns-clause-not_taken g c node cause is =
@@ -63,3 +77,8 @@ returns-in-Ok-answer_of-clause-none_reached g c =
 
 pub returns-clause-not_lost : goal.returns-clause-not_lost
 returns-clause-not_lost g c frame is = c.advance-advanced.ensures.not_lost frame (c.in-Err.ensures.not_lost frame is)
+
+pub returns-clause-found : goal.returns-clause-found
+returns-clause-found g c = λ fault is.
+    let faultless = ap (λ (a : AuditState). a.fault) c.take_all-taken.ensures.more.rest ∙ c.requires.unfaulted in
+    inl (c.advance-advanced.ensures.found fault faultless ((c.in-Err.ensures.fault fault).0 is))

@@ -24,4 +24,12 @@ pub returns-in-Err-clause-found : goal.returns-in-Err-clause-found
 returns-in-Err-clause-found g c fault none is = absurd (none-some fault (sym none ∙ ((c.in-Err.ensures.fault fault).0 is).1))
 
 pub returns-in-Err-clause-fault : goal.returns-in-Err-clause-fault
-returns-in-Err-clause-fault g c fault is = ((c.in-Err.ensures.fault fault).0 is).1
+returns-in-Err-clause-fault g c = λ fault fits.
+    let known = c.in-Err.ensures.fault fault in
+    ((λ is. (known.0 is).1), λ has. known.1 (fits, has))
+
+pub returns-in-Ok-clause-found : goal.returns-in-Ok-clause-found
+returns-in-Ok-clause-found g c = λ fault none is. c.go_round.ensures.found fault is
+
+pub returns-in-Ok-clause-fault : goal.returns-in-Ok-clause-fault
+returns-in-Ok-clause-fault g c = λ fault fits. c.go_round.ensures.fault fault

@@ -1,7 +1,6 @@
 use Rattle.std.proofs.Common.{◌≡◌, ℕ, List, [], ◌++◌, Result, Err, ap, sym, ◌∙◌, subst, inr}
 use Rattle.std.proofs.lemmas.Result.{err_from_is_err_and}
 use Rattle.std.proofs.lemmas.List.{append-nil}
-use Rattle.ra_frame.specs.declared.frame.Frame.{Frame}
 use Rattle.ra_cluster.specs.declared.take_error.TakeError.{TakeError}
 use Rattle.ra_cluster.specs.Handing.{IsHandedOver}
 use Rattle.ra_history.specs.History.{clock_of}
