@@ -1,5 +1,5 @@
 //! Each growth is refused in audited clusters that lose frames. A loss needs no memory to be flagged, and is handed over once. A round
-//! of an auditor notes it once, whatever it is refused.
+//! of an auditor notes it once, whichever memory it is refused.
 use crate::audit_acts::{TWO_NODES, clusters_as};
 use crate::audits::has_losses;
 use crate::cluster_calls::site_of;

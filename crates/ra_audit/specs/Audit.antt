@@ -336,8 +336,8 @@ pub record TakesMoreAt (old : AuditState) (number : ℕ) (new : AuditState) : Ty
 abbrev pub TakesAllAt : List ProgressState → ℕ → List ProgressState → Type 0
 TakesAllAt nodes node nodes' = (q : ProgressState) × (q.kept ≡ []) × (nodes' ≡ slice_set nodes (node - 1) q)
 
--- Why the events of a node were not taken, by what is known of it now. OutOfTurn: nothing is kept, and its site still has
--- what it has. NotNext: what is kept can't be its next events. Memory: what is kept can be.
+-- Why the events of a node were not taken, by what is known of it now. OutOfTurn: nothing is kept. NotNext: what is kept can't
+-- be its next events. Memory: what is kept can be.
 abbrev pub IsCauseAt : TakeError → ProgressState → Type 0
 IsCauseAt NoNode p = ⊥
 IsCauseAt OutOfTurn p = p.kept ≡ []

@@ -265,9 +265,10 @@ impl Auditor {
         self.losses.first()
     }
 
-    /// Tells whether all that happened at each node is in the run: the last event of its book has the clock of the node's last
-    /// event in the run. Give it the books of the nodes from 1 up, in their order, once all threads have ended; what was taken
-    /// from a book still counts in its clock. It does not allocate. The cost is linear in the number of nodes.
+    /// Tells whether the run has come to the end of each node's book, by the clock: the last event of the book has the clock of the
+    /// node's last event in the run. Give it the books of the nodes from 1 up, in their order, once all threads have ended; what
+    /// was taken from a book still counts in its clock. It compares neither the events one by one, nor the frames that a book
+    /// still has as lost. It does not allocate. The cost is linear in the number of nodes.
     ///
     /// # Errors
     ///
@@ -294,7 +295,7 @@ impl Auditor {
     }
 
     /// Returns how many events were taken and are not in the run yet. After a round that is Ok, these are frames whose senders were
-    /// looked at too early in the round, and the events after them.
+    /// looked at too early in the round, or that were never sent and are not found yet, and the events after them.
     pub fn waiting(&self) -> u128
         ensures value { result ≡ sum_by (λ p. length p.waiting) self.now.nodes }
         ensures audited { IsAudited self.now.world self.now.nodes }

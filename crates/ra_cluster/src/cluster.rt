@@ -368,8 +368,8 @@ impl<G: Gate + Drop> Cluster<G> {
         self.post.close(rt);
     }
 
-    /// Consumes the cluster, and returns the books of its nodes in their order. They are a cluster, as
-    /// [`settle`](crate::settle) requires. It does not allocate. The cost is linear in the number of nodes.
+    /// Consumes the cluster, and returns a book for each node, in the order of the nodes, each with its history. They are a cluster,
+    /// as [`settle`](crate::settle) requires. It does not allocate. The cost is linear in the number of nodes.
     ///
     /// If a round of an audit has taken the events of a node, its history is not in its book any more. In place of that book
     /// there is an empty one, which is stopped: for the cause of that book, or with [`Stop::Refused`] if it has none. What no
@@ -397,9 +397,10 @@ impl<G: Gate + Drop> Cluster<G> {
         books
     }
 
-    /// Consumes a cluster whose audit is ended, and returns the books of its nodes in their order, as they are: with the events
-    /// that no round has taken. `Auditor::check_books` of `ra_audit` tells whether all that they say is in the
-    /// run. It does not allocate. The cost is linear in the number of nodes.
+    /// Consumes a cluster whose audit is ended, and returns as many books as it has nodes, each with its history. They are those of
+    /// the nodes in their order, as they are: with the events that no round has taken. No contract can tell which book was under
+    /// a lock, so `Auditor::check_books` of `ra_audit` looks at that, too, when it tells whether all that they say is in the run.
+    /// It does not allocate. The cost is linear in the number of nodes.
     pub fn close_audited(self) -> Vec<Book>
         ensures count { vec_len result ≡ self.nodes }
         ensures histories { All HasHistory result.items }

@@ -97,8 +97,8 @@ impl Post {
         Ok((Post { senders }, inboxes))
     }
 
-    /// Sends the bytes of a frame, in version 2, to the inbox of the node that it is for. It may wait for others who send to
-    /// that node and for a close, but for nobody who reads an inbox.
+    /// Sends the bytes of a frame, in version 2, to the inbox of the node that it is for. It may wait for other threads that send
+    /// to that node and for a close, but for no thread that reads an inbox.
     ///
     /// # Errors
     ///

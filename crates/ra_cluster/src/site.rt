@@ -316,8 +316,8 @@ impl Site {
     ///
     /// The first that holds, and the node still has its events and losses:
     ///
-    /// 1. `OutOfTurn`: `after` is not the clock of the last event that was handed over, or 0 before the first.
-    /// 2. `Memory`: memory ran out.
+    /// 1. `OutOfTurn`: at an audited node, `after` is not the clock of the last event that was handed over, or 0 before the first.
+    /// 2. `Memory`: memory ran out, at an audited node.
     pub fn hand_over<R: Wait>(&self, rt: &R, alloc: Global, after: u64) -> Result<Handed, TakeError>
         ensures handed { IfOk result (λ handed. IsHandedOver self.now after handed.events.items handed.lost.items) }
         ensures after { IfOk result (λ handed. (handed.after ≡ after) ⊎ (handed.events.items ≡ [])) }

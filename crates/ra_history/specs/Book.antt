@@ -13,8 +13,8 @@ use Rattle.ra_history.specs.declared.sent.Sent.{Sent}
 use Rattle.ra_history.specs.declared.stop.Stop.{Stop}
 use Rattle.ra_history.specs.History.{IsHistory, node_event, clock_after, clock_of, frames_at}
 
--- What was taken from a book: whether anything was, and the events and frames, which are not kept any more. An auditor has
--- the events.
+-- What was taken from a book: whether its events were ever taken, even when there were none, and the events and frames, which
+-- are not kept any more. An auditor has the events.
 pub record TakenState : Type 0 where
   pub some : Bool
   pub events : List BookEvent

@@ -295,7 +295,8 @@ impl Book {
         self.taken.clock()
     }
 
-    /// Returns whether nothing was taken from the book, as [`settle`](crate::settle) requires. It does not allocate.
+    /// Returns whether the book never handed over its events, as [`settle`](crate::settle) requires. It is `false` for a book that a
+    /// round has looked at, even if nothing had happened. It does not allocate.
     pub fn is_whole(&self) -> bool
         ensures value { IsTrue result ↔ IsWhole self.now }
         ensures history { HasHistory self.now }
