@@ -1,7 +1,8 @@
 //! The fields of a line.
-ghost use Rattle.std.specs.Prelude.{◌≡◌, Some, None, MatchOption};
+ghost use Rattle.std.specs.Prelude.{◌≡◌, ◌≤◌, ◌^◌, true, Some, None, IfSome, IfNone, MatchOption};
 ghost use Rattle.std.specs.Char.{is_ascii_digit};
 ghost use Rattle.std.specs.List.{list_all};
+ghost use Rattle.std.specs.Str.Parse.{digits_value};
 ghost use Rattle.ra_trace.specs.Forms as spec;
 
 use ra_stamp::{Mode, Name, NodeId};
@@ -19,37 +20,32 @@ pub fn cut(byte: u8, text: &[u8]) -> Option<(&[u8], &[u8])>
     None
 }
 
-/// Returns whether each byte is a digit. It does not allocate.
-fn are_digits(bytes: &[u8]) -> bool
-    ensures { result ≡ list_all is_ascii_digit bytes.now }
+/// Returns the number that digits write, or `None` if a byte is not a digit or the number does not fit. It does not allocate.
+fn value_of(digits: &[u8]) -> Option<u64>
+    ensures some { IfSome result (λ value. (list_all is_ascii_digit digits.now ≡ true)
+        × (value ≡ digits_value 10 digits.now)) }
+    ensures none { IfNone result (list_all is_ascii_digit digits.now ≡ true → 2 ^ 64 ≤ digits_value 10 digits.now) }
 {
-    for byte in bytes {
+    let mut value = 0u64;
+    for &byte in digits {
         if !byte.is_ascii_digit() {
-            return false;
+            return None;
         }
+        let tenfold = value.checked_mul(10)?;
+        value = tenfold.checked_add(u64::from(byte - b'0'))?;
     }
-    true
-}
-
-/// Returns whether these are digits, of which the first of two or more is not `0`. It does not allocate.
-fn is_decimal(digits: &[u8]) -> bool
-    ensures { result ≡ spec.is_decimal digits.now }
-{
-    if digits.is_empty() || !are_digits(digits) {
-        return false;
-    }
-    digits.len() == 1 || digits[0] != b'0'
+    Some(value)
 }
 
 /// Returns the number of a decimal without leading zeros, if it is in a range, both ends included. It does not allocate.
-#[tactic(auto, using(crate::proofs::Decimals::decimal_is_utf8))]
+#[tactic(auto, using(crate::proofs::Decimals::ranges))]
 fn number_within(low: u64, high: u64, digits: &[u8]) -> Option<u64>
     ensures { result ≡ spec.number_within low high digits.now }
 {
-    if !is_decimal(digits) {
+    if digits.is_empty() || (digits.len() > 1 && digits[0] == b'0') {
         return None;
     }
-    let number = str::from_utf8(digits).unwrap().parse::<u64>().ok()?;
+    let number = value_of(digits)?;
     if low <= number && number <= high {
         Some(number)
     } else {
