@@ -88,6 +88,12 @@ behind-none (w ∷ words) (b ∷ text) other =
       | inr not ↦ if_false (w == b) (behind words text) None not
     ]
 
+-- by the first byte
+pub differs_at_once : (words text : List ℕ) → length words ≢ 0 → length text ≢ 0 → get_or words 0 0 ≢ get_or text 0 0 → behind words text ≡ None
+differs_at_once [] text some_words some other = absurd (some_words refl)
+differs_at_once (w ∷ words) [] some_words some other = absurd (some refl)
+differs_at_once (w ∷ words) (b ∷ text) some_words some other = if_false (w == b) (behind words text) None (ne_eqb w b other)
+
 -- by `strip_prefix`
 pub strips : (words text : List ℕ) (r : Option (Bor (List ℕ))) → MatchOption r ((rest : List ℕ) → text ≢ words ++ rest) (λ rest. text ≡ words ++ rest.now)
     → MatchOption r (behind words text ≡ None) (λ rest. behind words text ≡ Some rest.now)

@@ -181,31 +181,31 @@ AllRead (form ∷ others) = Only form.read (HasLine form.words) × AllRead other
 
 only_forms : AllRead forms
 only_forms = (
-  only_first One,
+  only_made entry_in HasEntry (λ entry. Marked (Requested entry)) (HasLine (codes "request ")) (λ entry text h. (h.0, ap (λ (bytes : List ℕ). codes "request" ++ bytes) h.1)) only_entry,
   (
-    only_first Two,
+    only_made entry_in HasEntry (λ entry. Marked (Entered entry)) (HasLine (codes "enter ")) (λ entry text h. (h.0, ap (λ (bytes : List ℕ). codes "enter" ++ bytes) h.1)) only_entry,
     (
-      only_made ask_in (HasStep (codes "ask ")) Stepped (HasLine (codes "ask ")) (λ step text h. h) only_ask,
+      only_made entry_in HasEntry (λ entry. Marked (Left entry)) (HasLine (codes "leave ")) (λ entry text h. (h.0, ap (λ (bytes : List ℕ). codes "leave" ++ bytes) h.1)) only_entry,
       (
-        only_made leave_in (HasStep (codes "release ")) Stepped (HasLine (codes "release ")) (λ step text h. h) only_leave,
+        only_made ask_in (HasStep (codes "ask ")) Stepped (HasLine (codes "ask ")) (λ step text h. h) only_ask,
         (
-          only_deliver (codes " request ") request_in only_request,
+          only_made leave_in (HasStep (codes "release ")) Stepped (HasLine (codes "release ")) (λ step text h. h) only_leave,
           (
-            only_deliver (codes " reply ") reply_in only_reply,
+            only_deliver (codes " request ") request_in only_request,
             (
-              only_lose (codes " request ") request_in only_request,
+              only_deliver (codes " reply ") reply_in only_reply,
               (
-                only_lose (codes " reply ") reply_in only_reply,
+                only_lose (codes " request ") request_in only_request,
                 (
-                  only_repeat (codes " request ") request_in only_request,
+                  only_lose (codes " reply ") reply_in only_reply,
                   (
-                    only_repeat (codes " reply ") reply_in only_reply,
+                    only_repeat (codes " request ") request_in only_request,
                     (
-                      only_made entry_in HasEntry (λ entry. Marked (Requested entry)) (HasLine (codes "request ")) (λ entry text h. (h.0, ap (λ (bytes : List ℕ). codes "request" ++ bytes) h.1)) only_entry,
+                      only_repeat (codes " reply ") reply_in only_reply,
                       (
-                        only_made entry_in HasEntry (λ entry. Marked (Entered entry)) (HasLine (codes "enter ")) (λ entry text h. (h.0, ap (λ (bytes : List ℕ). codes "enter" ++ bytes) h.1)) only_entry,
+                        only_first One,
                         (
-                          only_made entry_in HasEntry (λ entry. Marked (Left entry)) (HasLine (codes "leave ")) (λ entry text h. (h.0, ap (λ (bytes : List ℕ). codes "leave" ++ bytes) h.1)) only_entry,
+                          only_first Two,
                           (only_last, tt),
                         ),
                       ),

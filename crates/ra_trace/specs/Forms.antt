@@ -159,11 +159,12 @@ pub record Form : Type 0 where
   pub words : List ℕ
   pub read : List ℕ → Option Line
 
--- the fourteen forms, no two of which begin alike
+-- the fourteen forms, no two of which begin alike, those of most lines first
 abbrev pub forms : List Form
 forms =
-    record { words = codes "trace 1 "; read = first_in One } ∷
-    record { words = codes "trace 2 "; read = first_in Two } ∷
+    record { words = codes "request "; read = λ rest. option_map (λ entry. Marked (Requested entry)) (entry_in rest) } ∷
+    record { words = codes "enter "; read = λ rest. option_map (λ entry. Marked (Entered entry)) (entry_in rest) } ∷
+    record { words = codes "leave "; read = λ rest. option_map (λ entry. Marked (Left entry)) (entry_in rest) } ∷
     record { words = codes "ask "; read = λ rest. option_map Stepped (ask_in rest) } ∷
     record { words = codes "release "; read = λ rest. option_map Stepped (leave_in rest) } ∷
     record { words = codes "deliver request "; read = λ rest. option_map (λ message. Stepped (Deliver message)) (request_in rest) } ∷
@@ -172,9 +173,8 @@ forms =
     record { words = codes "lose reply "; read = λ rest. option_map (λ message. Stepped (Lose message)) (reply_in rest) } ∷
     record { words = codes "repeat request "; read = λ rest. option_map (λ message. Stepped (Repeat message)) (request_in rest) } ∷
     record { words = codes "repeat reply "; read = λ rest. option_map (λ message. Stepped (Repeat message)) (reply_in rest) } ∷
-    record { words = codes "request "; read = λ rest. option_map (λ entry. Marked (Requested entry)) (entry_in rest) } ∷
-    record { words = codes "enter "; read = λ rest. option_map (λ entry. Marked (Entered entry)) (entry_in rest) } ∷
-    record { words = codes "leave "; read = λ rest. option_map (λ entry. Marked (Left entry)) (entry_in rest) } ∷
+    record { words = codes "trace 1 "; read = first_in One } ∷
+    record { words = codes "trace 2 "; read = first_in Two } ∷
     record { words = codes "end"; read = last_in } ∷ []
 
 -- what the rest is read as, if the text began with the words of a form, and otherwise the other line
