@@ -6,6 +6,7 @@ ghost use Rattle.ra_trace.specs.Reading.{IsOpenLine};
 
 use crate::TraceError;
 use crate::reading::{LineBytes, LineEnd, MAX_LINE, next_byte};
+use memchr::memchr;
 use std::io::{BufRead, Read};
 
 /// Returns how many of the bytes that are shown belong to the line, at most `most`, and whether the last of them is its line feed.
@@ -13,12 +14,10 @@ fn part_of(shown: &[u8], most: usize) -> (usize, bool)
     ensures { IsPart most shown.now result.0 result.1 }
 {
     let part = &shown[..shown.len().min(most)];
-    for (place, byte) in part.iter().enumerate() {
-        if *byte == b'\n' {
-            return (place + 1, true);
-        }
+    match memchr(b'\n', part) {
+        Some(place) => (place + 1, true),
+        None => (part.len(), false),
     }
-    (part.len(), false)
 }
 
 /// Takes what the reader shows of the line, at most `most` bytes. Returns how many they are, and whether the last of them is
