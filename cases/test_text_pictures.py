@@ -185,9 +185,6 @@ class Pictures(unittest.TestCase):
 
     def test_a_mark_log_has_bars_alone(self):
         self.assert_picture("draw --marks", LOG, LOG_WORDS)
-        self.assert_picture("draw --marks", "", [
-            ("<title>1 node, 0 requests, 0 grants</title>", 1),
-        ])
         self.assert_picture("draw --marks --from 4 --to 4", LOG, [
             ("<title>3 nodes, 2 requests, 2 grants, from line 4, to line 4</title>", 1),
             (" holds r, exclusive, from line 3 to line 4</title>", 1),

@@ -1,12 +1,12 @@
 -- What `ra draw` prints, as the statuses tell it: what was read to its end is all of the input.
 use Rattle.std.proofs.Common.{◌≡◌, ◌≢◌, ℕ, List, [], ◌++◌, Option, Some, None, Result, Ok, Err, String, Global, string_bytes, sym, ap, subst, ◌∙◌, inl, inr, arith}
-use Rattle.std.specs.Prelude.{◌<◌, IfSome, IfOk, IfErr, MatchOption}
+use Rattle.std.specs.Prelude.{IfSome, IfOk, IfErr, MatchOption}
 use Rattle.std.specs.Io.KnownBytes.{Appends}
 use Rattle.std.proofs.lemmas.List.{append-nil}
 use Rattle.ra_draw.specs.declared.error.DrawError.{DrawError}
-use Rattle.ra_draw.specs.declared.error.DrawError.TheVariants.{Memory, TooLong, Write}
+use Rattle.ra_draw.specs.declared.error.DrawError.TheVariants.{Memory, NoLines, TooLong, Write}
 use Rattle.ra_draw.specs.declared.part.Part.{Part}
-use Rattle.ra_draw.specs.Drawing.{IsInput, IsPicture, drawn_lines, line_limit}
+use Rattle.ra_draw.specs.Drawing.{IsInput, IsOfPart, IsPicture, IsUnfit}
 use Rattle.ra_cli.specs.Pictures.{Attempts, IsOfKind, SaysWhyNot, Shows}
 use Rattle.ra_cli.specs.Statuses.{IsPrinted, BreaksOff}
 use Rattle.ra_cli.specs.Words.{ReadsBy}
@@ -41,6 +41,11 @@ of_denied words kind (Some input) new text taken by read is =
     let why = of_input (λ (xs : List ℕ). SaysWhyNot kind xs text) input taken new read is in
     inr (inr (inr (inr (inr (inr (inl (kind, by, inr why)))))))
 
+-- a lack of memory is not about the part
+memory_apart : (fault : DrawError) → fault ≡ Memory → IsOfPart fault → ⊥
+memory_apart fault is (inl (lines, e)) = let clash : Memory ≡ NoLines lines = cc in cc
+memory_apart fault is (inr e) = let clash : Memory ≡ TooLong = cc in cc
+
 -- an attempt that is denied by this line, or was to be
 pub denies : {Fault : Type 0} (kind : InputKind) (part : Part) (old new before after : Option (List ℕ)) (Untouched : Type 0) (text : Result (String Global) Fault)
     (line input : List ℕ) (result : Result (Option Denial) DrawError) → IfOk text (λ t. string_bytes t ≡ line)
@@ -52,13 +57,13 @@ denies kind part old new before after Untouched text line input (Ok (Some denial
     record {
       ok = (input, read, (subst (SaysWhyNot kind input) (sym is) why, same));
       unwritten = tt;
-      too_long = λ e. absurd cc;
+      unfit = tt;
       prefix = λ e. absurd cc;
     }
 denies kind part old new before after Untouched text line input (Err fault) says made lacking read why same = record {
   ok = tt;
   unwritten = λ other. same;
-  too_long = λ e. absurd cc;
+  unfit = λ of. absurd (memory_apart fault lacking of);
   prefix = λ e. absurd cc;
 }
 
@@ -68,20 +73,20 @@ pub shows : (kind : InputKind) (part : Part) (old new before after : Option (Lis
 shows kind part old new before after Untouched input read drawn = record {
   ok = (input, read, drawn);
   unwritten = tt;
-  too_long = λ e. absurd cc;
+  unfit = tt;
   prefix = λ e. absurd cc;
 }
 
 -- an attempt that is refused
 pub refuses : (kind : InputKind) (part : Part) (old new before after : Option (List ℕ)) (Untouched : Type 0) (fault : DrawError)
     → (fault ≢ Write → Untouched)
-    → (fault ≡ TooLong → (input : List ℕ) × IsInput old new input × IsOfKind kind input × (line_limit < drawn_lines part input))
+    → (IsOfPart fault → (input : List ℕ) × IsInput old new input × IsOfKind kind input × IsUnfit part input fault)
     → (fault ≡ Write → (input prefix rest : List ℕ) × IsInput old new input × IsOfKind kind input
     × IsPicture (prefix ++ rest) × (rest ≢ []) × Appends before after prefix)
     → Attempts kind part old new before after Untouched (Err fault)
-refuses kind part old new before after Untouched fault unwritten long broken = record {
+refuses kind part old new before after Untouched fault unwritten unfit broken = record {
   ok = tt;
   unwritten = unwritten;
-  too_long = λ e. long cc;
+  unfit = unfit;
   prefix = λ e. broken cc;
 }

@@ -1,5 +1,5 @@
 -- What is known of a task that was done, as the statuses tell it of the words.
-use Rattle.std.proofs.Common.{◌≡◌, ℕ, ◌<◌, List, Option, Some, None, map, String, Global, string_bytes, refl, subst, inl, inr}
+use Rattle.std.proofs.Common.{◌≡◌, ℕ, List, Option, Some, None, map, String, Global, string_bytes, refl, subst, inl, inr}
 use Rattle.std.specs.Prelude.{◌⊎◌, IfSome, Any}
 use Rattle.std.specs.Io.KnownBytes.{Appends}
 use Rattle.ra_script.specs.ChoicesText.{choices_of}
@@ -10,9 +10,8 @@ use Rattle.ra_script.specs.declared.format.Format.{Format}
 use Rattle.ra_script.specs.Performed.{RefusesAs}
 use Rattle.ra_schedule.specs.declared.choice.Policy.{Policy}
 use Rattle.ra_draw.specs.declared.error.DrawError.{DrawError}
-use Rattle.ra_draw.specs.declared.error.DrawError.TheVariants.{TooLong}
 use Rattle.ra_draw.specs.declared.part.Part.{Part}
-use Rattle.ra_draw.specs.Drawing.{IsInput, drawn_lines, line_limit}
+use Rattle.ra_draw.specs.Drawing.{IsInput, IsOfPart, IsUnfit}
 use Rattle.ra_cli.specs.ClusterRun.{RunsBy}
 use Rattle.ra_cli.specs.Performs.{IsNamed}
 use Rattle.ra_cli.specs.Pictures.{IsOfKind}
@@ -72,17 +71,17 @@ of_named name choices format old policy fault named =
     of_known old (λ input. RefusesAs format policy input fault) (λ input. RefusesNamed name choices format input (Perform fault))
     (λ input h. inr (fault, refl, policy, named, h))
 
--- the part is too long, if that is the refusal
+-- the part has no line or too many, if that is the refusal
 pub of_part : (kind : InputKind) (part : Part) (old new : Option (List ℕ)) (fault : DrawError)
-    → (fault ≡ TooLong → (input : List ℕ) × IsInput old new input × IsOfKind kind input × (line_limit < drawn_lines part input))
+    → (IsOfPart fault → (input : List ℕ) × IsInput old new input × IsOfKind kind input × IsUnfit part input fault)
     → IfSome old (λ input. (other : DrawError) × (Draw fault ≡ Draw other) × RefusesPart kind part input other)
 of_part kind part None new fault h = tt
-of_part kind part (Some input) new fault h = (fault, refl, too_long)
+of_part kind part (Some input) new fault h = (fault, refl, unfit)
   where
-    too_long : RefusesPart kind part input fault
-    too_long is =
-        let (taken, read, valid, long) = h is in
-        of_input (λ (xs : List ℕ). IsOfKind kind xs × (line_limit < drawn_lines part xs)) input taken new read (valid, long)
+    unfit : RefusesPart kind part input fault
+    unfit of =
+        let (taken, read, is, why) = h of in
+        of_input (λ (xs : List ℕ). IsOfKind kind xs × IsUnfit part xs fault) input taken new read (is, why)
 
 -- ---- Words
 

@@ -1,5 +1,5 @@
 -- What `ra draw` does.
-use Rattle.std.specs.Prelude.{◌≡◌, ◌≢◌, ◌⊎◌, ℕ, ◌<◌, ◌≤◌, List, [], ◌++◌, Option, Some, None, Result, IfOk, IfErr, IsErrOf, string_bytes}
+use Rattle.std.specs.Prelude.{◌≡◌, ◌≢◌, ◌⊎◌, ℕ, List, [], ◌++◌, Option, Some, None, Result, IfOk, IfErr, IsErrOf, string_bytes}
 use Rattle.std.specs.Io.KnownBytes.{Appends}
 use Rattle.ra_trace.specs.declared.marks_verdict.MarkCause.{MarkCause}
 use Rattle.ra_trace.specs.declared.marks_verdict.MarksVerdict.TheVariants as log
@@ -8,9 +8,9 @@ use Rattle.ra_trace.specs.declared.verdict.Verdict.TheVariants.{Valid, Invalid}
 use Rattle.ra_trace.specs.Marks.{IsMarksVerdict}
 use Rattle.ra_trace.specs.Verdict.{IsVerdict}
 use Rattle.ra_draw.specs.declared.error.DrawError.{DrawError}
-use Rattle.ra_draw.specs.declared.error.DrawError.TheVariants.{TooLong, Write}
+use Rattle.ra_draw.specs.declared.error.DrawError.TheVariants.{Write}
 use Rattle.ra_draw.specs.declared.part.Part.{Part}
-use Rattle.ra_draw.specs.Drawing.{IsInput, IsPicture, drawn_lines, line_limit}
+use Rattle.ra_draw.specs.Drawing.{IsDrawable, IsInput, IsOfPart, IsPicture, IsUnfit}
 use Rattle.ra_cli.specs.Checks.{verdict_text, marks_verdict_text}
 use Rattle.ra_cli.specs.Words.{ReadsBy}
 use Rattle.ra_cli.specs.declared.drawing.Denial.{Denial}
@@ -52,9 +52,9 @@ IsDrawing words input text = (kind : InputKind) × ReadsBy words kind × ((IsOfK
 
 -- ---- One attempt
 
--- the input is of this kind, at most 4,096 of its lines are in the part, and a picture was written
+-- the input is of this kind, 1 to 4,096 of its lines are in the part, and a picture was written
 abbrev pub Shows : InputKind → Part → (input : List ℕ) → (before after : Option (List ℕ)) → Type 0
-Shows kind part input before after = IsOfKind kind input × (drawn_lines part input ≤ line_limit)
+Shows kind part input before after = IsOfKind kind input × IsDrawable part input
     × (picture : List ℕ) × IsPicture picture × Appends before after picture
 
 -- what came of an input: a picture, or a denial that says why there is none. `Untouched` says that nothing was written.
@@ -68,7 +68,7 @@ pub record Attempts (kind : InputKind) (part : Part) (old new before after : Opt
     (result : Result (Option Denial) DrawError) : Type 0 where
   pub ok : IfOk result (λ denial. (input : List ℕ) × IsInput old new input × ShowsOrDenies kind part input before after Untouched denial)
   pub unwritten : IfErr result (λ fault. fault ≢ Write → Untouched)
-  pub too_long : IsErrOf result TooLong → (input : List ℕ) × IsInput old new input × IsOfKind kind input
-      × (line_limit < drawn_lines part input)
+  pub unfit : IfErr result (λ fault. IsOfPart fault → (input : List ℕ) × IsInput old new input × IsOfKind kind input
+      × IsUnfit part input fault)
   pub prefix : IsErrOf result Write → (input prefix rest : List ℕ) × IsInput old new input × IsOfKind kind input
       × IsPicture (prefix ++ rest) × (rest ≢ []) × Appends before after prefix

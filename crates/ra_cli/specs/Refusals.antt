@@ -113,6 +113,7 @@ trace_word trace.Memory = codes "Memory"
 abbrev pub draw_word : DrawError → List ℕ
 draw_word draw.Read = codes "Read"
 draw_word draw.Limit = codes "Limit"
+draw_word (draw.NoLines lines) = codes "NoLines"
 draw_word draw.TooLong = codes "TooLong"
 draw_word draw.Memory = codes "Memory"
 draw_word draw.Write = codes "Write"

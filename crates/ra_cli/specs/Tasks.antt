@@ -1,6 +1,6 @@
 -- What it means that a task is done as it is: an answer for these nodes, a run by this policy in this format, a survey
 -- of these seeds with these faults, a verdict on a trace or on a mark log, a picture of this part.
-use Rattle.std.specs.Prelude.{◌≡◌, ◌⊎◌, ℕ, ◌<◌, List, Bool, true, false, Option, None, IfSome, Any, string_bytes}
+use Rattle.std.specs.Prelude.{◌≡◌, ◌⊎◌, ℕ, List, Bool, true, false, Option, None, IfSome, Any, string_bytes}
 use Rattle.std.specs.Io.KnownBytes.{Consumes, Appends}
 use Rattle.ra_schedule.specs.declared.choice.Policy.{Policy}
 use Rattle.ra_script.specs.ChoicesText.{choices_of}
@@ -11,9 +11,8 @@ use Rattle.ra_script.specs.declared.format.Format.{Format}
 use Rattle.ra_script.specs.Performed.{RefusesAs}
 use Rattle.ra_trace.specs.declared.error.TraceError.{TraceError}
 use Rattle.ra_draw.specs.declared.error.DrawError.{DrawError}
-use Rattle.ra_draw.specs.declared.error.DrawError.TheVariants.{TooLong}
 use Rattle.ra_draw.specs.declared.part.Part.{Part}
-use Rattle.ra_draw.specs.Drawing.{IsInput, drawn_lines, line_limit}
+use Rattle.ra_draw.specs.Drawing.{IsInput, IsOfPart, IsUnfit}
 use Rattle.ra_cli.specs.Answer.{IsAnswered, Refuses}
 use Rattle.ra_cli.specs.Checks.{Checks, ChecksMarks}
 use Rattle.ra_cli.specs.ClusterRun.{RunsCluster, RefusesRun}
@@ -45,7 +44,7 @@ abbrev pub PerformsNamed : PolicyName → (choices : List ℕ) → Format → (o
 PerformsNamed name choices format old new before after finished =
     (policy : Policy) × IsNamed name choices policy × PerformsBy policy format old new before after finished
 
--- the input is of this kind and was read to its end, this part of it has at most 4,096 lines, and a picture was written
+-- the input is of this kind and was read to its end, this part of it has 1 to 4,096 lines, and a picture was written
 abbrev pub DrawsPart : InputKind → Part → (old new before after : Option (List ℕ)) → Type 0
 DrawsPart kind part old new before after = (input : List ℕ) × IsInput old new input × Shows kind part input before after
 
@@ -86,9 +85,10 @@ RefusesNamed name choices format input why =
     ⊎ ((fault : PerformError) × (why ≡ refusal.Perform fault) × (policy : Policy) × IsNamed name choices policy
     × RefusesAs format policy input fault)
 
--- why a part is not drawn: if it is too long, the input is of this kind, and more than 4,096 of its lines are in the part
+-- why a part is not drawn: if the part is the cause, the input is of this kind, and none of its lines is in the part, or
+-- more than 4,096 are
 abbrev pub RefusesPart : InputKind → Part → (input : List ℕ) → DrawError → Type 0
-RefusesPart kind part input fault = fault ≡ TooLong → IsOfKind kind input × (line_limit < drawn_lines part input)
+RefusesPart kind part input fault = IsOfPart fault → IsOfKind kind input × IsUnfit part input fault
 
 -- why a task is refused, of an input that is known
 abbrev pub IsCauseFor : Task → (input : List ℕ) → Refusal → Type 0

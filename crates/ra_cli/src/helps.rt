@@ -152,7 +152,7 @@ Read a trace from standard input, as `ra sim --trace` prints it and `ra check
 shows. Each node has a lane, and time goes down. An arrow leads from where a
 message was sent to where it was delivered, a cross marks a message that was
 lost, and a loop one that was repeated. Bars beside the lanes are clients that
-wait and clients that hold. Rest the pointer on a shape to read what it means.
+are queued, wait or hold. Rest the pointer on a shape to read what it means.
 
 Example: ra sim --trace < script.toml | ra draw > run.svg
 
@@ -168,8 +168,8 @@ are not drawn.
 Exit status:
   0  the input was drawn
   1  standard input or standard output failed
-  2  the command line was refused, the part to draw is TooLong, or the input has
-     more than 16777216 bytes
+  2  the command line was refused, the part to draw has NoLines or is TooLong,
+     or the input has more than 16777216 bytes
   3  not valid: the first wrong line is printed, as by `ra check`";
 
 /// The help of the command `cluster`, below its options.

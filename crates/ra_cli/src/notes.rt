@@ -123,7 +123,7 @@ fn refusal_of(alloc: Global, words: &[String], refusal: Refusal) -> Said {
         Refusal::Choices(why) => of_choices(alloc, words, why),
         Refusal::Perform(why) => of_performance(why),
         Refusal::Check(why) => of_check(why),
-        Refusal::Draw(why) => of_drawing(why),
+        Refusal::Draw(why) => of_drawing(alloc, words, why),
         Refusal::Cluster(why) => of_run(why),
     }
 }
@@ -229,11 +229,28 @@ fn of_check(why: TraceError) -> Said {
     })
 }
 
+/// Returns the note on a part that has none of this many lines.
+fn no_lines_note(alloc: Global, words: &[String], lines: u64) -> Said {
+    let mut note = Note::new(alloc);
+    match text_of(words, "--from") {
+        Some(from) => {
+            note.push("--from is ");
+            note.push(from);
+        }
+        None => note.push("there is nothing to draw"),
+    }
+    note.push(": standard input has ");
+    note.number(lines);
+    note.push(if lines == 1 { " line" } else { " lines" });
+    Said::of(note)
+}
+
 /// Returns what there is to say about an input that is not drawn.
-fn of_drawing(why: DrawError) -> Said {
+fn of_drawing(alloc: Global, words: &[String], why: DrawError) -> Said {
     match why {
         DrawError::Read => Said::Text(NO_INPUT),
         DrawError::Limit => Said::Text(TOO_MANY_BYTES),
+        DrawError::NoLines { lines } => no_lines_note(alloc, words, lines),
         DrawError::TooLong => Said::Text(TOO_LONG),
         DrawError::Memory => Said::Text(NO_MEMORY),
         DrawError::Write => Said::Nothing,

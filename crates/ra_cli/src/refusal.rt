@@ -175,6 +175,7 @@ fn draw_line(fault: DrawError) -> &'static str
     match fault {
         DrawError::Read => "refused Read\n",
         DrawError::Limit => "refused Limit\n",
+        DrawError::NoLines { .. } => "refused NoLines\n",
         DrawError::TooLong => "refused TooLong\n",
         DrawError::Memory => "refused Memory\n",
         DrawError::Write => "refused Write\n",

@@ -372,7 +372,7 @@ fn paint<R: Read, W: Write>(
         (W.contents writer.old) (W.contents writer.new) }
     ensures not_drawn { result.status ≡ 3 → IsNotDrawn kind (R.remaining reader.old) (R.remaining reader.new)
         (W.contents writer.old) (W.contents writer.new) }
-    // Only a part that is too long is refused as such.
+    // Only a part that has no line, or too many, is refused as such.
     ensures refused { result.status ≡ 2 → IsRefusedFor (λ why. IfSome (R.remaining reader.old) (λ input.
         (fault : DrawError) × (why ≡ Refusal.Draw fault) × RefusesPart kind part input fault))
         (W.contents writer.old) (W.contents writer.new) }

@@ -1,11 +1,12 @@
 -- What the refusal of a fault of reading is, and what it is not.
-use Rattle.std.proofs.Common.{◌≡◌, ◌≢◌, ◌⊎◌, ◌<◌, ◌≤◌, ℕ, Result, Ok, Err, refl, sym, ◌∙◌, inl, inr, arith}
+use Rattle.std.proofs.Common.{◌≡◌, ◌≢◌, ◌⊎◌, ◌<◌, ◌≤◌, ℕ, List, Result, Ok, Err, refl, sym, subst, ◌∙◌, inl, inr, arith}
 use Rattle.std.specs.Prelude.{IsErrAnd, IfErr}
 use Rattle.ra_world.specs.declared.error.ReadFault.{ReadFault}
 use Rattle.ra_world.specs.declared.error.ReadFault.TheVariants as read
 use Rattle.ra_draw.specs.declared.error.DrawError.{DrawError}
 use Rattle.ra_draw.specs.declared.error.DrawError.TheVariants as draw
-use Rattle.ra_draw.specs.Drawing.{of_read}
+use Rattle.ra_draw.specs.declared.part.Part.{Part}
+use Rattle.ra_draw.specs.Drawing.{IsOfPart, IsUnfit, of_read}
 
 -- it is no verdict
 pub no_verdict : {V A : Type 0} (r : Result V DrawError) (fault : ReadFault) (v : V) → IsErrAnd r (λ e. e ≡ of_read fault) → r ≡ Ok v → A
@@ -23,10 +24,21 @@ no_limit (Ok v) fault is e = absurd is
 no_limit (Err f) read.Read is e = absurd (let clash : draw.Read ≡ draw.Limit = cc in cc)
 no_limit (Err f) read.Memory is e = absurd (let clash : draw.Memory ≡ draw.Limit = cc in cc)
 
-pub not_long : {V A : Type 0} (r : Result V DrawError) (fault : ReadFault) → IsErrAnd r (λ e. e ≡ of_read fault) → r ≡ Err draw.TooLong → A
-not_long (Ok v) fault is e = absurd is
-not_long (Err f) read.Read is e = absurd (let clash : draw.Read ≡ draw.TooLong = cc in cc)
-not_long (Err f) read.Memory is e = absurd (let clash : draw.Memory ≡ draw.TooLong = cc in cc)
+-- none of these is about the part
+not_of_read : (fault : DrawError) (cause : ReadFault) → fault ≡ of_read cause → IsOfPart fault → ⊥
+not_of_read fault read.Read is (inl (lines, e)) = let clash : draw.Read ≡ draw.NoLines lines = cc in cc
+not_of_read fault read.Read is (inr e) = let clash : draw.Read ≡ draw.TooLong = cc in cc
+not_of_read fault read.Memory is (inl (lines, e)) = let clash : draw.Memory ≡ draw.NoLines lines = cc in cc
+not_of_read fault read.Memory is (inr e) = let clash : draw.Memory ≡ draw.TooLong = cc in cc
+
+pub unread_apart : {V : Type 0} (r : Result V DrawError) (P : DrawError → Type 0) (fault : ReadFault) → IsErrAnd r (λ e. e ≡ of_read fault)
+    → IfErr r (λ e. IsOfPart e → P e)
+unread_apart (Ok v) P fault is = tt
+unread_apart (Err f) P fault is = λ of. absurd (not_of_read f fault is of)
+
+pub limit_apart : IsOfPart draw.Limit → ⊥
+limit_apart (inl (lines, is)) = cc
+limit_apart (inr is) = cc
 
 pub no_write : {V A : Type 0} (r : Result V DrawError) (fault : ReadFault) → IsErrAnd r (λ e. e ≡ of_read fault) → r ≡ Err draw.Write → A
 no_write (Ok v) fault is e = absurd is
@@ -44,9 +56,6 @@ limit_no_verdict v e = absurd cc
 
 pub limit_no_read : {V A : Type 0} → ◌≡◌ {A = Result V DrawError} (Err draw.Limit) (Err draw.Read) → A
 limit_no_read e = absurd (let clash : draw.Limit ≡ draw.Read = cc in cc)
-
-pub limit_not_long : {V A : Type 0} → ◌≡◌ {A = Result V DrawError} (Err draw.Limit) (Err draw.TooLong) → A
-limit_not_long e = absurd (let clash : draw.Limit ≡ draw.TooLong = cc in cc)
 
 pub limit_no_write : {V A : Type 0} → ◌≡◌ {A = Result V DrawError} (Err draw.Limit) (Err draw.Write) → A
 limit_no_write e = absurd (let clash : draw.Limit ≡ draw.Write = cc in cc)
@@ -78,24 +87,39 @@ pub unlike : {V : Type 0} (r : Result V DrawError) (fault other : DrawError) →
 unlike (Ok w) fault other is not = tt
 unlike (Err f) fault other is not = λ e. not (sym is ∙ e)
 
+-- and nothing need be known of the part if it is not about that
+pub apart : {V : Type 0} (r : Result V DrawError) (P : DrawError → Type 0) (fault : DrawError) → IsErrAnd r (λ e. e ≡ fault)
+    → (IsOfPart fault → ⊥) → IfErr r (λ e. IsOfPart e → P e)
+apart (Ok w) P fault is not = tt
+apart (Err f) P fault is not = λ of. absurd (not (subst IsOfPart is of))
+
+-- what is known of one that is about the part is known of the one that is passed on
+pub about : {V : Type 0} (r : Result V DrawError) (P : DrawError → Type 0) (fault : DrawError) → IsErrAnd r (λ e. e ≡ fault)
+    → (IsOfPart fault → P fault) → IfErr r (λ e. IsOfPart e → P e)
+about (Ok w) P fault is known = tt
+about (Err f) P fault is known = λ of. subst P (sym is) (known (subst IsOfPart is of))
+
 -- what is said of each but the writer's, if it is the writer's
 pub of_writer : {V : Type 0} (r : Result V DrawError) (P : Type 0) → IsErrAnd r (λ e. e ≡ draw.Write) → IfErr r (λ e. e ≢ draw.Write → P)
 of_writer (Ok w) P is = tt
 of_writer (Err f) P is = λ not. absurd (not is)
 
 -- that of a text without a verdict
-pub of_verdict : (fault : DrawError) → (fault ≡ draw.Read) ⊎ (fault ≡ draw.Memory) → (fault ≢ draw.Limit) × (fault ≢ draw.TooLong) × (fault ≢ draw.Write)
-of_verdict fault (inl is) = ((λ e. absurd cc), (λ e. absurd cc), (λ e. absurd cc))
-of_verdict fault (inr is) = ((λ e. absurd cc), (λ e. absurd cc), (λ e. absurd cc))
+pub of_verdict : (fault : DrawError) → (fault ≡ draw.Read) ⊎ (fault ≡ draw.Memory)
+    → (fault ≢ draw.Limit) × (IsOfPart fault → ⊥) × (fault ≢ draw.Write)
+of_verdict fault (inl is) = ((λ e. absurd cc), (λ of. not_of_read fault read.Read is of), (λ e. absurd cc))
+of_verdict fault (inr is) = ((λ e. absurd cc), (λ of. not_of_read fault read.Memory is of), (λ e. absurd cc))
 
 -- that of a trace or a log without a picture
-pub of_picture : (fault : DrawError) (X : Type 0) → ((fault ≡ draw.TooLong) × X) ⊎ (fault ≡ draw.Memory)
-    → (fault ≢ draw.Limit) × (fault ≢ draw.Write) × (fault ≡ draw.TooLong → X)
-of_picture fault X (inl (is, long)) = ((λ e. absurd cc), (λ e. absurd cc), (λ e. long))
-of_picture fault X (inr is) = ((λ e. absurd cc), (λ e. absurd cc), (λ e. absurd cc))
+pub of_picture : (part : Part) (text : List ℕ) (fault : DrawError) → IsUnfit part text fault ⊎ (fault ≡ draw.Memory)
+    → (fault ≢ draw.Limit) × (fault ≢ draw.Write) × (IsOfPart fault → IsUnfit part text fault)
+of_picture part text fault (inl (inl (is, none))) = ((λ e. absurd cc), (λ e. absurd cc), (λ of. inl (is, none)))
+of_picture part text fault (inl (inr (is, long))) = ((λ e. absurd cc), (λ e. absurd cc), (λ of. inr (is, long)))
+of_picture part text fault (inr is) = ((λ e. absurd cc), (λ e. absurd cc), (λ of. absurd (not_of_read fault read.Memory is of)))
 
 pub write_no_limit : draw.Write ≢ draw.Limit
 write_no_limit e = absurd cc
 
-pub write_not_long : draw.Write ≢ draw.TooLong
-write_not_long e = absurd cc
+pub write_apart : IsOfPart draw.Write → ⊥
+write_apart (inl (lines, is)) = cc
+write_apart (inr is) = cc

@@ -1,8 +1,8 @@
-ghost use Rattle.std.specs.Prelude.{◌≡◌, ◌≢◌, ◌⊎◌, ◌<◌, ◌≤◌, ℕ, List, [], ◌++◌, length, IfOk, IfErr, IsErrOf};
+ghost use Rattle.std.specs.Prelude.{◌≡◌, ◌≢◌, ◌⊎◌, ◌≤◌, ℕ, List, [], ◌++◌, length, IfOk, IfErr, IsErrOf};
 ghost use Rattle.std.specs.Io.KnownBytes.{Appends, Consumes};
 ghost use Rattle.ra_trace.specs.declared.verdict.Cause.{Cause};
 ghost use Rattle.ra_trace.specs.Verdict.{IsVerdict};
-ghost use Rattle.ra_draw.specs.Drawing.{Draws, IsInput, IsPicture, drawn_lines, line_limit};
+ghost use Rattle.ra_draw.specs.Drawing.{Draws, IsDrawable, IsInput, IsOfPart, IsPicture, IsUnfit};
 ghost use Rattle.ra_draw.specs.Lines as spec;
 
 use crate::DrawError;
@@ -58,23 +58,27 @@ fn verdict_on(alloc: Global, text: &[u8]) -> Result<Verdict, DrawError>
     }
 }
 
-/// Returns the picture of a part of a text that is a trace or a mark log, as the totals say, if it has no more lines than are
-/// drawn.
+/// Returns the picture of a part of a text that is a trace or a mark log, as the totals say, if the part has a line, and no more
+/// than are drawn.
 ///
 /// # Errors
 ///
-/// `TooLong`, `Memory`.
+/// `NoLines`, `TooLong`, `Memory`.
 pub fn picture_within(
     alloc: Global,
     trace: &[u8],
     part: Part,
     totals: Totals,
 ) -> Result<Vec<u8>, DrawError>
-    ensures ok { IfOk result (λ picture. IsPicture picture.items × (drawn_lines part trace.now ≤ line_limit)) }
-    ensures err { IfErr result (λ fault. ((fault ≡ DrawError.TooLong) × (line_limit < drawn_lines part trace.now))
-        ⊎ (fault ≡ DrawError.Memory)) }
+    ensures ok { IfOk result (λ picture. IsPicture picture.items × IsDrawable part trace.now) }
+    ensures err { IfErr result (λ fault. IsUnfit part trace.now fault ⊎ (fault ≡ DrawError.Memory)) }
 {
-    if part.lines_of(line_count(trace)) > MAX_LINES {
+    let lines = line_count(trace);
+    let drawn = part.lines_of(lines);
+    if drawn == 0 {
+        return Err(DrawError::NoLines { lines });
+    }
+    if drawn > MAX_LINES {
         return Err(DrawError::TooLong);
     }
     Ok(picture_of(alloc, trace, part, totals)?)
@@ -97,8 +101,8 @@ fn draw_text<W: Write>(
     ensures invalid { (line : ℕ) (why : Cause) → result ≡ Ok (Verdict.Invalid line why) → writer.new ≡ writer.old }
     ensures unwritten { IfErr result (λ fault. fault ≢ DrawError.Write → writer.new ≡ writer.old) }
     ensures no_limit { IfErr result (λ fault. fault ≢ DrawError.Limit) }
-    ensures too_long { IsErrOf result DrawError.TooLong → (requests messages : ℕ)
-        × IsVerdict text.now (Verdict.Valid requests messages) × (line_limit < drawn_lines part text.now) }
+    ensures unfit { IfErr result (λ fault. IsOfPart fault → (requests messages : ℕ)
+        × IsVerdict text.now (Verdict.Valid requests messages) × IsUnfit part text.now fault) }
     ensures prefix { IsErrOf result DrawError.Write → (requests messages : ℕ) × (prefix rest : List ℕ)
         × IsVerdict text.now (Verdict.Valid requests messages) × IsPicture (prefix ++ rest) × (rest ≢ [])
         × Appends (W.contents writer.old) (W.contents writer.new) prefix }
@@ -130,9 +134,10 @@ fn draw_text<W: Write>(
 ///
 /// 1. `Read`: the reader failed, before its end and before it gave 16,777,217 bytes.
 /// 2. `Limit`: the text has more than 16,777,216 bytes.
-/// 3. `TooLong`: it is a trace, and the part has more than 4,096 lines.
-/// 4. `Memory`: memory ran out.
-/// 5. `Write`: the writer failed or took nothing, with bytes left to write. A prefix of the picture was written.
+/// 3. `NoLines`: it is a trace, and the part has none of its lines, since it begins after the last one or ends before it begins.
+/// 4. `TooLong`: it is a trace, and the part has more than 4,096 lines.
+/// 5. `Memory`: memory ran out.
+/// 6. `Write`: the writer failed or took nothing, with bytes left to write. A prefix of the picture was written.
 ///
 /// After each of the others the writer is as before.
 pub fn draw<R: Read, W: Write>(
@@ -150,9 +155,9 @@ pub fn draw<R: Read, W: Write>(
         × Consumes (R.remaining reader.old) (R.remaining reader.new) taken }
     ensures limit { IsErrOf result DrawError.Limit → (taken : List ℕ) × (length taken ≡ 16777217)
         × Consumes (R.remaining reader.old) (R.remaining reader.new) taken }
-    ensures too_long { IsErrOf result DrawError.TooLong → (input : List ℕ) × (requests messages : ℕ)
+    ensures unfit { IfErr result (λ fault. IsOfPart fault → (input : List ℕ) × (requests messages : ℕ)
         × IsInput (R.remaining reader.old) (R.remaining reader.new) input
-        × IsVerdict input (Verdict.Valid requests messages) × (line_limit < drawn_lines part input) }
+        × IsVerdict input (Verdict.Valid requests messages) × IsUnfit part input fault) }
     ensures at_most { (taken : List ℕ) × (length taken ≤ 16777217)
         × Consumes (R.remaining reader.old) (R.remaining reader.new) taken }
 

@@ -14,7 +14,9 @@ pub enum DrawError {
     Read,
     /// The text has more than 16,777,216 bytes.
     Limit,
-    /// More than 4,096 lines of the trace would be drawn.
+    /// The text has this many lines, and none of them is in the part.
+    NoLines { lines: u64 },
+    /// More than 4,096 lines of the text would be drawn.
     TooLong,
     /// Memory ran out.
     Memory,
@@ -26,7 +28,10 @@ pub enum DrawError {
 impl fmt::Display for DrawError {
     /// Prints the name of the variant.
     fn fmt<W: fmt::Write>(&self, f: &mut fmt::Formatter<W>) -> fmt::Result {
-        fmt::Debug::fmt(self, f)
+        match self {
+            DrawError::NoLines { .. } => f.write_str("NoLines"),
+            _ => fmt::Debug::fmt(self, f),
+        }
     }
 }
 

@@ -1,8 +1,8 @@
-ghost use Rattle.std.specs.Prelude.{◌≡◌, ◌≢◌, ◌⊎◌, ◌<◌, ◌≤◌, ℕ, List, [], ◌++◌, length, IfOk, IfErr, IsErrOf};
+ghost use Rattle.std.specs.Prelude.{◌≡◌, ◌≢◌, ◌⊎◌, ◌≤◌, ℕ, List, [], ◌++◌, length, IfOk, IfErr, IsErrOf};
 ghost use Rattle.std.specs.Io.KnownBytes.{Appends, Consumes};
 ghost use Rattle.ra_trace.specs.declared.marks_verdict.MarkCause.{MarkCause};
 ghost use Rattle.ra_trace.specs.Marks.{IsMarksVerdict};
-ghost use Rattle.ra_draw.specs.Drawing.{DrawsMarks, IsInput, IsPicture, drawn_lines, line_limit};
+ghost use Rattle.ra_draw.specs.Drawing.{DrawsMarks, IsInput, IsOfPart, IsPicture, IsUnfit};
 
 use crate::DrawError;
 use crate::drawing::{MAX_TEXT, picture_within};
@@ -50,8 +50,8 @@ fn draw_log<W: Write>(
     ensures invalid { (line : ℕ) (why : MarkCause) → result ≡ Ok (MarksVerdict.Invalid line why) → writer.new ≡ writer.old }
     ensures unwritten { IfErr result (λ fault. fault ≢ DrawError.Write → writer.new ≡ writer.old) }
     ensures no_limit { IfErr result (λ fault. fault ≢ DrawError.Limit) }
-    ensures too_long { IsErrOf result DrawError.TooLong → (requests grants : ℕ)
-        × IsMarksVerdict text.now (MarksVerdict.Valid requests grants) × (line_limit < drawn_lines part text.now) }
+    ensures unfit { IfErr result (λ fault. IsOfPart fault → (requests grants : ℕ)
+        × IsMarksVerdict text.now (MarksVerdict.Valid requests grants) × IsUnfit part text.now fault) }
     ensures prefix { IsErrOf result DrawError.Write → (requests grants : ℕ) × (prefix rest : List ℕ)
         × IsMarksVerdict text.now (MarksVerdict.Valid requests grants) × IsPicture (prefix ++ rest) × (rest ≢ [])
         × Appends (W.contents writer.old) (W.contents writer.new) prefix }
@@ -72,7 +72,8 @@ fn draw_log<W: Write>(
 ///
 /// # Errors
 ///
-/// Those of `draw`, in their order; `TooLong` comes if the text is a mark log, and the part has more than 4,096 lines.
+/// Those of `draw`, in their order. `NoLines` comes if the text is a mark log and the part has none of its lines, so also for an
+/// empty log, and `TooLong` if it is one and the part has more than 4,096 lines.
 pub fn draw_marks<R: Read, W: Write>(
     alloc: Global,
     reader: &mut R,
@@ -88,9 +89,9 @@ pub fn draw_marks<R: Read, W: Write>(
         × Consumes (R.remaining reader.old) (R.remaining reader.new) taken }
     ensures limit { IsErrOf result DrawError.Limit → (taken : List ℕ) × (length taken ≡ 16777217)
         × Consumes (R.remaining reader.old) (R.remaining reader.new) taken }
-    ensures too_long { IsErrOf result DrawError.TooLong → (input : List ℕ) × (requests grants : ℕ)
+    ensures unfit { IfErr result (λ fault. IsOfPart fault → (input : List ℕ) × (requests grants : ℕ)
         × IsInput (R.remaining reader.old) (R.remaining reader.new) input
-        × IsMarksVerdict input (MarksVerdict.Valid requests grants) × (line_limit < drawn_lines part input) }
+        × IsMarksVerdict input (MarksVerdict.Valid requests grants) × IsUnfit part input fault) }
     ensures at_most { (taken : List ℕ) × (length taken ≤ 16777217)
         × Consumes (R.remaining reader.old) (R.remaining reader.new) taken }
 

@@ -1,8 +1,8 @@
 ghost use Rattle.std.specs.Prelude.{◌≡◌};
 ghost use Rattle.ra_draw.specs.Lines as spec;
 
-/// The lines of a trace that are to be drawn, counted from 1, both ends among them. A 0 before them is as a 1, and a number after
-/// the last line is as that one.
+/// The lines of a text that are to be drawn, counted from 1, both ends among them. `from` may be 0, which is as 1, and `to` after the
+/// last line, which is as that one.
 #[derive(Clone, Copy, Debug, PartialEq, Eq)]
 pub struct Part {
     /// The first one.

@@ -84,6 +84,7 @@ fn causes_and_faults_print_as_their_words(rt: HostRuntime) {
 const DRAW_FAULTS: &[(DrawError, &str)] = &[
     (DrawError::Read, "Read"),
     (DrawError::Limit, "Limit"),
+    (DrawError::NoLines { lines: 9 }, "NoLines"),
     (DrawError::TooLong, "TooLong"),
     (DrawError::Memory, "Memory"),
     (DrawError::Write, "Write"),

@@ -24,7 +24,7 @@ pub returns-in-Err : goal.returns-in-Err
 returns-in-Err g c =
     refuses Trace c.args.part
     (g.R.Read.remaining c.args.reader.now) (g.R.Read.remaining c.draw.new.reader) (g.W.Write.contents c.args.writer.now) (g.W.Write.contents c.draw.new.writer) _ c.in-Err.fault c.in-Err.ensures.unwritten
-    (λ same. let (input, a, b, read, verdict, long) = c.in-Err.ensures.too_long (ap Err same) in (input, read, (a, b, verdict), long))
+    (λ of. let (input, a, b, read, verdict, why) = c.in-Err.ensures.unfit of in (input, read, (a, b, verdict), why))
     (λ same.
     let (input, a, b, prefix, rest, read, verdict, picture, left, appends) = c.in-Err.ensures.prefix (ap Err same) in
     (input, prefix, rest, read, (a, b, verdict), picture, left, appends))

@@ -41,7 +41,7 @@ returns-in-Err-clause-refused g c two =
     (g.W.Write.contents c.refuse.new.writer)
     (λ other. ap g.W.Write.contents (c.in-Err.ensures.unwritten (λ e. other (inr (inr (inr (ap Draw e))))))) (c.refuse.ensures.refused two)
     (of_part c.args.kind c.args.part (g.R.Read.remaining c.args.reader.now) (g.R.Read.remaining c.draw_input.new.reader) fault
-    (λ is. c.in-Err.ensures.too_long (ap Err is)))
+    c.in-Err.ensures.unfit)
 
 pub returns-in-Err-clause-broken : goal.returns-in-Err-clause-broken
 returns-in-Err-clause-broken g c words by one =

@@ -1,7 +1,7 @@
 use Rattle.std.proofs.Common.{refl, ap, Err}
-use Rattle.std.proofs.lemmas.Result.{IfOk-from_err, IfOk-weaker, IfErr-at_err}
+use Rattle.std.proofs.lemmas.Result.{IfOk-from_err, IfOk-weaker, IfErr-weaker, IfErr-at_err}
 use Rattle.ra_draw.specs.Drawing.{IsInput}
-use Rattle.ra_draw.proofs.Refused.{no_verdict, reader_failed, no_limit, not_long, no_write, unwritten, limit_no_verdict, limit_no_read, limit_not_long, limit_no_write, few, many, below}
+use Rattle.ra_draw.proofs.Refused.{no_verdict, reader_failed, no_limit, unread_apart, no_write, unwritten, limit_no_verdict, limit_no_read, limit_apart, limit_no_write, few, many, below}
 use Rattle.ra_draw.proofs.drawing.draw.Goals as goal
 
 -- the text could not be read
@@ -20,8 +20,8 @@ returns-in_err-text-clause-failed g c e =
 pub returns-in_err-text-clause-limit : goal.returns-in_err-text-clause-limit
 returns-in_err-text-clause-limit g c e = no_limit c.from_residual.result c.in_err-text.field-0.0 c.from_residual.ensures.1 e
 
-pub returns-in_err-text-clause-too_long : goal.returns-in_err-text-clause-too_long
-returns-in_err-text-clause-too_long g c e = not_long c.from_residual.result c.in_err-text.field-0.0 c.from_residual.ensures.1 e
+pub returns-in_err-text-clause-unfit : goal.returns-in_err-text-clause-unfit
+returns-in_err-text-clause-unfit g c = unread_apart c.from_residual.result _ c.in_err-text.field-0.0 c.from_residual.ensures.1
 
 pub returns-in_err-text-clause-at_most : goal.returns-in_err-text-clause-at_most
 returns-in_err-text-clause-at_most g c = c.read_up_to.ensures.at_most
@@ -47,8 +47,8 @@ pub returns-then-len-gt-MAX_TEXT-clause-limit : goal.returns-then-len-gt-MAX_TEX
 returns-then-len-gt-MAX_TEXT-clause-limit g c e =
     let read = c.in_ok-text.ensures.bytes in (c.in_ok-text.text.items, many c.len.result _ _ c.len.ensures c.in_ok-text.text.ok.0 c.if-len-gt-MAX_TEXT.true read.at_most, read.taken)
 
-pub returns-then-len-gt-MAX_TEXT-clause-too_long : goal.returns-then-len-gt-MAX_TEXT-clause-too_long
-returns-then-len-gt-MAX_TEXT-clause-too_long g c e = limit_not_long e
+pub returns-then-len-gt-MAX_TEXT-clause-unfit : goal.returns-then-len-gt-MAX_TEXT-clause-unfit
+returns-then-len-gt-MAX_TEXT-clause-unfit g c of = absurd (limit_apart of)
 
 pub returns-then-len-gt-MAX_TEXT-clause-at_most : goal.returns-then-len-gt-MAX_TEXT-clause-at_most
 returns-then-len-gt-MAX_TEXT-clause-at_most g c = c.read_up_to.ensures.at_most
@@ -77,13 +77,13 @@ returns-clause-failed g c e = (c.in_ok-text.text.items, few c.len.result _ _ c.l
 pub returns-clause-limit : goal.returns-clause-limit
 returns-clause-limit g c e = absurd (IfErr-at_err _ e c.draw_text.ensures.no_limit refl)
 
-pub returns-clause-too_long : goal.returns-clause-too_long
-returns-clause-too_long g c e =
+pub returns-clause-unfit : goal.returns-clause-unfit
+returns-clause-unfit g c =
     let text = c.in_ok-text.text.items in
     let input : IsInput (g.R.Read.remaining c.args.reader.now) (g.R.Read.remaining c.read_up_to.new.reader) text =
     record { reads = c.in_ok-text.ensures.bytes; at_most = few c.len.result _ _ c.len.ensures c.in_ok-text.text.ok.0 c.if-len-gt-MAX_TEXT.false } in
-    let refused = rw c.deref.ensures.value at c.draw_text.ensures.too_long in
-    let (requests, messages, verdict, long) = refused e in (text, requests, messages, input, verdict, long)
+    IfErr-weaker c.draw_text.result _ _ (λ fault known of. let (requests, messages, verdict, unfit) = known of in (text, requests, messages, input, verdict, unfit))
+    (rw c.deref.ensures.value at c.draw_text.ensures.unfit)
 
 pub returns-clause-at_most : goal.returns-clause-at_most
 returns-clause-at_most g c = (c.in_ok-text.text.items, c.in_ok-text.ensures.bytes.at_most, c.in_ok-text.ensures.bytes.taken)

@@ -3,8 +3,8 @@ use Rattle.std.proofs.lemmas.Result.{IfOk-from_err}
 use Rattle.ra_trace.specs.declared.verdict.Verdict.TheVariants.{Valid}
 use Rattle.ra_trace.specs.Verdict.{IsVerdict}
 use Rattle.ra_draw.specs.Drawing.{IsPicture}
-use Rattle.ra_draw.specs.declared.error.DrawError.TheVariants.{Limit, TooLong, Write}
-use Rattle.ra_draw.proofs.Refused.{never, passed, unlike, of_writer, of_verdict, of_picture, unwritten, write_no_limit, write_not_long}
+use Rattle.ra_draw.specs.declared.error.DrawError.TheVariants.{Limit, Write}
+use Rattle.ra_draw.proofs.Refused.{never, passed, unlike, apart, about, of_writer, of_verdict, of_picture, unwritten, write_no_limit, write_apart}
 use Rattle.ra_draw.proofs.drawing.draw_text.Goals as goal
 
 -- there is no verdict
@@ -23,10 +23,10 @@ returns-in_err-verdict-clause-no_limit g c =
     let fault = c.in_err-verdict.field-0.0 in
     unlike c.from_residual.result fault Limit c.from_residual.ensures.1 (of_verdict fault c.in_err-verdict.ensures.err).0
 
-pub returns-in_err-verdict-clause-too_long : goal.returns-in_err-verdict-clause-too_long
-returns-in_err-verdict-clause-too_long g c e =
+pub returns-in_err-verdict-clause-unfit : goal.returns-in_err-verdict-clause-unfit
+returns-in_err-verdict-clause-unfit g c =
     let fault = c.in_err-verdict.field-0.0 in
-    absurd ((of_verdict fault c.in_err-verdict.ensures.err).1 (passed c.from_residual.result fault TooLong c.from_residual.ensures.1 e))
+    apart c.from_residual.result _ fault c.from_residual.ensures.1 (of_verdict fault c.in_err-verdict.ensures.err).1
 
 pub returns-in_err-verdict-clause-prefix : goal.returns-in_err-verdict-clause-prefix
 returns-in_err-verdict-clause-prefix g c e =
@@ -47,23 +47,19 @@ returns-in_err-picture-clause-unwritten g c = unwritten c.from_residual-in_err-p
 pub returns-in_err-picture-clause-no_limit : goal.returns-in_err-picture-clause-no_limit
 returns-in_err-picture-clause-no_limit g c =
     let fault = c.in_err-picture.field-0.0 in
-    unlike c.from_residual-in_err-picture.result fault Limit c.from_residual-in_err-picture.ensures.1 (of_picture fault _ c.in_err-picture.ensures.err).0
+    unlike c.from_residual-in_err-picture.result fault Limit c.from_residual-in_err-picture.ensures.1 (of_picture c.args.part c.args.text.now fault c.in_err-picture.ensures.err).0
 
-pub returns-in_err-picture-clause-too_long : goal.returns-in_err-picture-clause-too_long
-returns-in_err-picture-clause-too_long g c e =
+pub returns-in_err-picture-clause-unfit : goal.returns-in_err-picture-clause-unfit
+returns-in_err-picture-clause-unfit g c =
     let fault = c.in_err-picture.field-0.0 in
     let verdict : IsVerdict c.args.text.now (Valid c.in-Valid.requests c.in-Valid.messages) = rw c.in-Valid.is at c.in_ok-verdict.ensures.ok in
-    let long = (of_picture fault _ c.in_err-picture.ensures.err).2 in (
-      c.in-Valid.requests,
-      c.in-Valid.messages,
-      verdict,
-      long (passed c.from_residual-in_err-picture.result fault TooLong c.from_residual-in_err-picture.ensures.1 e),
-    )
+    let unfit = (of_picture c.args.part c.args.text.now fault c.in_err-picture.ensures.err).2 in
+    about c.from_residual-in_err-picture.result _ fault c.from_residual-in_err-picture.ensures.1 (λ of. (c.in-Valid.requests, c.in-Valid.messages, verdict, unfit of))
 
 pub returns-in_err-picture-clause-prefix : goal.returns-in_err-picture-clause-prefix
 returns-in_err-picture-clause-prefix g c e =
     let fault = c.in_err-picture.field-0.0 in
-    absurd ((of_picture fault _ c.in_err-picture.ensures.err).1 (passed c.from_residual-in_err-picture.result fault Write c.from_residual-in_err-picture.ensures.1 e))
+    absurd ((of_picture c.args.part c.args.text.now fault c.in_err-picture.ensures.err).1 (passed c.from_residual-in_err-picture.result fault Write c.from_residual-in_err-picture.ensures.1 e))
 
 -- it was not written
 
@@ -79,8 +75,8 @@ returns-in_err-write_out-clause-unwritten g c = of_writer c.from_residual-in_err
 pub returns-in_err-write_out-clause-no_limit : goal.returns-in_err-write_out-clause-no_limit
 returns-in_err-write_out-clause-no_limit g c = unlike c.from_residual-in_err-write_out.result Write Limit c.from_residual-in_err-write_out.ensures.1 write_no_limit
 
-pub returns-in_err-write_out-clause-too_long : goal.returns-in_err-write_out-clause-too_long
-returns-in_err-write_out-clause-too_long g c e = absurd (write_not_long (passed c.from_residual-in_err-write_out.result Write TooLong c.from_residual-in_err-write_out.ensures.1 e))
+pub returns-in_err-write_out-clause-unfit : goal.returns-in_err-write_out-clause-unfit
+returns-in_err-write_out-clause-unfit g c = apart c.from_residual-in_err-write_out.result _ Write c.from_residual-in_err-write_out.ensures.1 write_apart
 
 pub returns-in_err-write_out-clause-prefix : goal.returns-in_err-write_out-clause-prefix
 returns-in_err-write_out-clause-prefix g c e =
