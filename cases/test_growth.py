@@ -94,7 +94,7 @@ class Growth(PreloadTest):
         words = "sim --policy seeded --seeds 5..7"
         self.expect_growth(words, SCRIPT, "finished 3 first 5\nturns 4 4\nmessages 2 2\n")
         # The seed is a hint, and is not said if there is no memory for that.
-        found = {"note": "ra: this run has seed 5: --seed 5 in place of --seeds and --find makes it again\n", "less": [""]}
+        found = {"note": "ra: this run has seed 5: to make it again, use --seed 5 in place of --seeds and --find\n", "less": [""]}
         self.expect_growth(f"{words} --find finished", SCRIPT, TEXTS["ONE_CLIENT_TRACE"], **found)
         self.expect_growth(f"{words} --find finished --as-choices", SCRIPT, "c1 m0 m0 c1\n", **found)
 

@@ -37,7 +37,7 @@ fn denied(line: Result<String, Memory>, remark: Remark) -> Result<Option<Denial>
     }
 }
 
-/// Draws a part of the reader's trace, or says why its text is no trace.
+/// Draws a part of the reader's trace, or says why its text is not a trace. What was read is left in `text`.
 ///
 /// # Errors
 ///
@@ -47,11 +47,12 @@ fn draw_trace<R: Read, W: Write>(
     part: Part,
     reader: &mut R,
     writer: &mut W,
+    text: &mut Vec<u8>,
 ) -> Result<Option<Denial>, DrawError>
     ensures { Attempts InputKind.Trace part (R.remaining reader.old) (R.remaining reader.new)
         (W.contents writer.old) (W.contents writer.new) (writer.new ≡ writer.old) result }
 {
-    match draw(alloc, reader, writer, part) {
+    match draw(alloc, reader, writer, part, text) {
         Ok(Verdict::Valid { .. }) => Ok(None),
         Ok(Verdict::Invalid { line, cause }) => denied(
             verdict_text(alloc, &Verdict::Invalid { line, cause }),
@@ -61,7 +62,7 @@ fn draw_trace<R: Read, W: Write>(
     }
 }
 
-/// Draws a part of the reader's mark log, or says why its text is no mark log.
+/// Draws a part of the reader's mark log, or says why its text is not a mark log. What was read is left in `text`.
 ///
 /// # Errors
 ///
@@ -71,11 +72,12 @@ fn draw_log<R: Read, W: Write>(
     part: Part,
     reader: &mut R,
     writer: &mut W,
+    text: &mut Vec<u8>,
 ) -> Result<Option<Denial>, DrawError>
     ensures { Attempts InputKind.Marks part (R.remaining reader.old) (R.remaining reader.new)
         (W.contents writer.old) (W.contents writer.new) (writer.new ≡ writer.old) result }
 {
-    match draw_marks(alloc, reader, writer, part) {
+    match draw_marks(alloc, reader, writer, part, text) {
         Ok(MarksVerdict::Valid { .. }) => Ok(None),
         Ok(MarksVerdict::Invalid { line, cause }) => denied(
             marks_verdict_text(alloc, &MarksVerdict::Invalid { line, cause }),
@@ -85,7 +87,8 @@ fn draw_log<R: Read, W: Write>(
     }
 }
 
-/// Draws a part of the reader's input, or says why it is not of this kind, for which nothing is written.
+/// Draws a part of the reader's input, or says why it is not of this kind, for which nothing is written. If it says so, the whole
+/// input is in `text`.
 ///
 /// # Errors
 ///
@@ -96,12 +99,13 @@ pub fn draw_input<R: Read, W: Write>(
     part: Part,
     reader: &mut R,
     writer: &mut W,
+    text: &mut Vec<u8>,
 ) -> Result<Option<Denial>, DrawError>
     ensures { Attempts kind part (R.remaining reader.old) (R.remaining reader.new)
         (W.contents writer.old) (W.contents writer.new) (writer.new ≡ writer.old) result }
 {
     match kind {
-        InputKind::Trace => draw_trace(alloc, part, reader, writer),
-        InputKind::Marks => draw_log(alloc, part, reader, writer),
+        InputKind::Trace => draw_trace(alloc, part, reader, writer, text),
+        InputKind::Marks => draw_log(alloc, part, reader, writer, text),
     }
 }

@@ -277,9 +277,9 @@ with its clock, and no message came twice. If they are, print its marks and
 totals, or with --trace its trace, which `ra check` and `ra draw` read.
 Example: cat *.book | ra settle
 
-With --repeats, frames may come more than once, as they do if a host hands its
-node what was sent again. A frame that comes n times is repeated n - 1 times in
-the run, as `repeat` does in a trace.
+With --repeats, frames may come more than once, as happens if a host hands its
+node a frame that was sent again. A frame that comes n times is repeated n - 1
+times in the run, as `repeat` does in a trace.
 
 A line that is cut off at the end of the text, without a line feed, is passed
 over. If the books do not settle, print `invalid`, the line, counted over the

@@ -102,7 +102,7 @@ fn is_found(words: &[String], is_done: bool) -> bool {
 /// Writes which seed made the run that was found, unless memory runs out. It ignores a failure of the writer.
 fn write_seed<N: Write>(alloc: Global, seed: u64, notes: &mut N) {
     let text = format!(in alloc;
-        "this run has seed {seed}: --seed {seed} in place of --seeds and --find makes it again"
+        "this run has seed {seed}: to make it again, use --seed {seed} in place of --seeds and --find"
     );
     if let Ok(text) = text {
         write_line(notes, text.as_str());

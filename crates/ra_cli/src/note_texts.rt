@@ -44,6 +44,9 @@ pub const TOO_MANY_TURNS: &str =
 pub const SEEDS_LEFT: &str =
     "the runs of some seeds did not finish: use --seed and --trace to see one of them";
 
+/// What is said if a run that finishes was looked for, and no seed has one.
+pub const NO_SEED_DONE: &str = "no run finished: use --seed and --trace to see one of them";
+
 /// What is said if the threads of a cluster did what no script and no lack of memory or threads lets them do.
 const DEFECT: &str = "the threads did not record one run of the whole script: this is a bug in ra";
 

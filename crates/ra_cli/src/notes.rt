@@ -3,9 +3,9 @@ use crate::command_line::{choices_word, text_of};
 use crate::error::RunScriptError;
 use crate::hints::write_hints;
 use crate::note_texts::{
-    BOOKS_TOO_LONG, NO_BOOK, NO_INPUT, NO_OUTPUT, NO_SPACE, NO_TEXT, NO_WORD, SEEDS_LEFT, TOO_LONG,
-    TOO_MANY_BYTES, TOO_MANY_TURNS, UNEXPLAINED, cause_text, cluster_text, mark_cause_text,
-    text_cause_text,
+    BOOKS_TOO_LONG, NO_BOOK, NO_INPUT, NO_OUTPUT, NO_SEED_DONE, NO_SPACE, NO_TEXT, NO_WORD,
+    SEEDS_LEFT, TOO_LONG, TOO_MANY_BYTES, TOO_MANY_TURNS, UNEXPLAINED, cause_text, cluster_text,
+    mark_cause_text, text_cause_text,
 };
 use crate::outcome::{Outcome, Remark, UNFINISHED};
 use crate::places::place_of;
@@ -25,18 +25,19 @@ use std::alloc::Global;
 use std::io::Write;
 
 /// Writes the note on what came of the words and the input. If nothing was refused, it adds a line for each option that
-/// has no effect, and one for the seed that was found. With many seeds, `last_seed` is the last one that was tried. It
-/// ignores a failure of the writer.
+/// has no effect, and one for the seed that was found. An input that was to be drawn and is not of its kind is `drawn`. With many
+/// seeds, `last_seed` is the last one that was tried. It ignores a failure of the writer.
 pub fn write_notes<N: Write>(
     alloc: Global,
     words: &[String],
     seen: &Seen,
+    drawn: &[u8],
     outcome: &Outcome,
     last_seed: Option<u64>,
     notes: &mut N,
 ) {
     if let Some(remark) = &outcome.remark {
-        said_of(alloc, words, seen, remark, last_seed).write(notes);
+        said_of(alloc, words, seen, drawn, remark, last_seed).write(notes);
     }
     if outcome.is_fair() {
         let is_done = outcome.status != UNFINISHED;
@@ -68,10 +69,11 @@ fn said_of(
     alloc: Global,
     words: &[String],
     seen: &Seen,
+    drawn: &[u8],
     remark: &Remark,
     last_seed: Option<u64>,
 ) -> Said {
-    match place_of(alloc, words, seen, remark, last_seed) {
+    match place_of(alloc, words, seen, drawn, remark, last_seed) {
         Some(text) => Said::Note(text),
         None => cause_of(alloc, words, seen, remark),
     }
@@ -93,6 +95,7 @@ fn cause_of(alloc: Global, words: &[String], seen: &Seen, remark: &Remark) -> Sa
         Remark::Refused(refusal) => refusal_of(alloc, words, *refusal),
         Remark::Unfinished => Said::Text(UNEXPLAINED),
         Remark::SomeUnfinished => Said::Text(SEEDS_LEFT),
+        Remark::NoneFinished => Said::Text(NO_SEED_DONE),
         Remark::Ends { sent } => of_end(alloc, seen, *sent),
         Remark::NoTrace { line, cause } => Said::Line {
             line: *line,

@@ -6,7 +6,7 @@ use crate::wrong_line::WrongLine;
 use ra_book::TextCause;
 use ra_trace::{Cause, MarkCause, MarksVerdict, Verdict};
 
-/// The run ended with something left to do, the text is no trace or no mark log, or the books do not settle.
+/// The run ended with something left to do, the text is not a trace or not a mark log, or the books do not settle.
 pub const UNFINISHED: u8 = 3;
 
 /// What there is to say to a person of what came of a command. A note is made of it when everything else is done, so that it
@@ -19,7 +19,9 @@ pub enum Remark {
     Unfinished,
     /// The run of some seed ended so.
     SomeUnfinished,
-    /// The text is no trace: its first wrong line, and why.
+    /// The run of each seed ended so, and a finished one was looked for.
+    NoneFinished,
+    /// The text is not a trace: its first wrong line, and why.
     NoTrace {
         line: u64,
         cause: Cause,
@@ -36,7 +38,7 @@ pub enum Remark {
     },
     /// The text of books is too long.
     TooManyBooks,
-    /// The log is no run of the lock table: its first wrong line, and why.
+    /// The log is not a run of the lock table: its first wrong line, and why.
     NoLog {
         line: u64,
         cause: MarkCause,

@@ -5,7 +5,7 @@ use crate::error::RunScriptError;
 use crate::note_texts::{cause_text, mark_cause_text};
 use crate::outcome::Remark;
 use crate::refusal::Refusal;
-use crate::seen::Seen;
+use crate::seen::{MAX_LINE, Seen};
 use crate::serving::policy_of;
 use crate::settle_notes::unsettled_note;
 use ra_cluster::ClusterError;
@@ -142,7 +142,7 @@ fn known_place(
     cause: LineCause,
     text: &str,
 ) -> Said {
-    // A text that is drawn is not read line by line, so its lines are followed now.
+    // A text that was to be drawn was not read line by line, so its lines are followed now.
     let before = OpenText::before(alloc, read, line);
     line_note(
         alloc,
@@ -156,8 +156,40 @@ fn known_place(
     )
 }
 
-/// Returns what is said of a wrong line.
-fn line_place(alloc: Global, seen: &Seen, line: u64, cause: LineCause, text: &str) -> Said {
+/// Returns what `ra check` reads of a text that was to be drawn, up to a wrong line, counted from 1, and how many lines it reads with
+/// their line feeds.
+fn as_checked(text: &[u8], line: u64) -> (&[u8], u64) {
+    let (before, feeds) = through_line(text, line.saturating_sub(1));
+    let rest = text.get(before.len()..).unwrap_or(b"");
+    let (shown, after) = cut(&rest[..rest.len().min(MAX_LINE)], b'\n');
+    let end = before.len().saturating_add(shown.len());
+    match after {
+        Some(_) => (
+            text.get(..end.saturating_add(1)).unwrap_or(text),
+            feeds.saturating_add(1),
+        ),
+        None => (text.get(..end).unwrap_or(text), feeds),
+    }
+}
+
+/// Returns what is said of a wrong line of a text that was to be drawn, which is here as a whole.
+fn drawn_place(alloc: Global, drawn: &[u8], line: u64, cause: LineCause, text: &str) -> Said {
+    let (read, feeds) = as_checked(drawn, line);
+    known_place(alloc, read, line, feeds, cause, text)
+}
+
+/// Returns what is said of a wrong line. A text that was to be drawn is `drawn`, and any other one was read line by line.
+fn line_place(
+    alloc: Global,
+    seen: &Seen,
+    drawn: &[u8],
+    line: u64,
+    cause: LineCause,
+    text: &str,
+) -> Said {
+    if !drawn.is_empty() {
+        return drawn_place(alloc, drawn, line, cause, text);
+    }
     // Only its first byte is read of a line after the last one of a trace.
     if let (true, Some(shown)) = (seen.is_after_end(), seen.shown_line()) {
         return last_line_place(alloc, seen, shown, line, cause, text);
@@ -192,22 +224,24 @@ fn place_in(
     }
 }
 
-/// Returns what there is to say of the place of what a remark is about, or `None`.
+/// Returns what there is to say of the place of what a remark is about, or `None`. A text that was to be drawn, and is not of its
+/// kind, is `drawn`.
 pub fn place_of(
     alloc: Global,
     words: &[String],
     seen: &Seen,
+    drawn: &[u8],
     remark: &Remark,
     last_seed: Option<u64>,
 ) -> Option<String> {
     let said = match *remark {
         Remark::NoTrace { line, cause } => {
             let text = cause_text(cause);
-            line_place(alloc, seen, line, LineCause::Trace(cause), text)
+            line_place(alloc, seen, drawn, line, LineCause::Trace(cause), text)
         }
         Remark::NoLog { line, cause } => {
             let text = mark_cause_text(cause);
-            line_place(alloc, seen, line, LineCause::Marks(cause), text)
+            line_place(alloc, seen, drawn, line, LineCause::Marks(cause), text)
         }
         Remark::Unsettled { line, cause, place } => unsettled_note(alloc, line, cause, &place),
         _ => place_in(alloc, words, seen.bytes()?, remark, last_seed),

@@ -9,7 +9,7 @@ use std::io;
 use std::io::{BufRead, Read};
 
 /// The most bytes of a line that are remembered: as many as are read of one.
-const MAX_LINE: usize = 128;
+pub const MAX_LINE: usize = 128;
 
 /// What was read.
 #[derive(Drop)]

@@ -232,7 +232,7 @@ fn simulate<R: Read, W: Write>(
     }
 }
 
-/// Returns what there is to say of seeds if a run was stuck, or none was finished.
+/// Returns what there is to say of seeds if a run was stuck, or some run or each one was not finished.
 fn remark_on(find: Option<Search>) -> Remark {
     match find {
         Some(
@@ -241,7 +241,8 @@ fn remark_on(find: Option<Search>) -> Remark {
                 ..
             },
         ) => Remark::Unfinished,
-        _ => Remark::SomeUnfinished,
+        Some(_) => Remark::NoneFinished,
+        None => Remark::SomeUnfinished,
     }
 }
 
@@ -359,13 +360,14 @@ fn deny<W: Write>(denial: Denial, writer: &mut W) -> Outcome
     Outcome::judged(status, Some(remark))
 }
 
-/// Draws a part of the reader's input, or writes the line that says why it is not of this kind.
+/// Draws a part of the reader's input, or writes the line that says why it is not of this kind. Then the whole input is in `text`.
 fn paint<R: Read, W: Write>(
     alloc: Global,
     kind: InputKind,
     part: Part,
     reader: &mut R,
     writer: &mut W,
+    text: &mut Vec<u8>,
 ) -> Outcome
     ensures range { result.status ≤ 3 }
     ensures drawn { result.status ≡ 0 → DrawsPart kind part (R.remaining reader.old) (R.remaining reader.new)
@@ -379,14 +381,15 @@ fn paint<R: Read, W: Write>(
     ensures broken { (words : List (List ℕ)) → ReadsBy words kind → result.status ≡ 1
         → IsBroken words (R.remaining reader.old) (W.contents writer.old) (W.contents writer.new) }
 {
-    match draw_input(alloc, kind, part, reader, writer) {
+    match draw_input(alloc, kind, part, reader, writer, text) {
         Ok(None) => Outcome::new(DONE, None),
         Ok(Some(denial)) => deny(denial, writer),
         Err(fault) => refuse(writer, Refusal::Draw(fault)),
     }
 }
 
-/// Does a task that needs no threads, and returns what came of it. It waits for nothing but the reader and the writer.
+/// Does a task that needs no threads, and returns what came of it. It waits for nothing but the reader and the writer. An input
+/// that was to be drawn and is not of its kind is left in `text`.
 ///
 /// # Errors
 ///
@@ -396,6 +399,7 @@ fn do_alone<R: BufRead, W: Write, O: Observer>(
     task: Task<'_>,
     reader: &mut R,
     writer: &mut W,
+    text: &mut Vec<u8>,
     observer: &mut O,
 ) -> Result<Outcome, ClusterOutput>
     ensures range { IfOk result (λ outcome. outcome.status ≤ 3) }
@@ -426,7 +430,7 @@ fn do_alone<R: BufRead, W: Write, O: Observer>(
         } => survey_seeds(alloc, faults, find, first, last, reader, writer, observer),
         Task::Check => judge(alloc, reader, writer),
         Task::CheckMarks => judge_marks(alloc, reader, writer),
-        Task::Draw { kind, part } => paint(alloc, kind, part, reader, writer),
+        Task::Draw { kind, part } => paint(alloc, kind, part, reader, writer, text),
         Task::Cluster(printed) => return Err(printed),
         Task::Help(text) => Outcome::new(written(writer, text.as_bytes(), DONE), None),
     };
@@ -456,13 +460,14 @@ fn run_by_threads<T: Threads + Wait + Sync, R: Read, W: Write>(
     }
 }
 
-/// Does a task, and returns what came of it.
+/// Does a task, and returns what came of it. An input that was to be drawn and is not of its kind is left in `text`.
 fn do_task<T: Threads + Wait + Sync, R: BufRead, W: Write, O: Observer>(
     rt: &T,
     alloc: Global,
     task: Task<'_>,
     reader: &mut R,
     writer: &mut W,
+    text: &mut Vec<u8>,
     observer: &mut O,
 ) -> Outcome
     ensures range { result.status ≤ 3 }
@@ -481,19 +486,20 @@ fn do_task<T: Threads + Wait + Sync, R: BufRead, W: Write, O: Observer>(
         → IsBroken words (R.remaining reader.old) (W.contents writer.old) (W.contents writer.new) }
 {
     orderly_scripts_are_finished();
-    match do_alone(alloc, task, reader, writer, observer) {
+    match do_alone(alloc, task, reader, writer, text, observer) {
         Ok(outcome) => outcome,
         Err(printed) => run_by_threads(rt, alloc, printed, reader, writer),
     }
 }
 
-/// Does what the words ask for, and returns what came of it.
+/// Does what the words ask for, and returns what came of it. An input that was to be drawn and is not of its kind is left in `text`.
 fn outcome_of<T: Threads + Wait + Sync, R: BufRead, W: Write, O: Observer>(
     rt: &T,
     alloc: Global,
     words: &[String],
     reader: &mut R,
     writer: &mut W,
+    text: &mut Vec<u8>,
     observer: &mut O,
 ) -> Outcome
     ensures { Serves (map string_bytes words.now) (R.remaining reader.old) (R.remaining reader.new)
@@ -506,7 +512,7 @@ fn outcome_of<T: Threads + Wait + Sync, R: BufRead, W: Write, O: Observer>(
         return settle_books(alloc, asked, reader, writer);
     }
     match parse(alloc, words) {
-        Ok(task) => do_task(rt, alloc, task, reader, writer, observer),
+        Ok(task) => do_task(rt, alloc, task, reader, writer, text, observer),
         Err(fault) => refuse(writer, Refusal::Command(fault)),
     }
 }
@@ -532,7 +538,8 @@ pub fn serve<T: Threads + Wait + Sync, R: BufRead, W: Write>(
     ensures { Serves (map string_bytes words.now) (R.remaining reader.old) (R.remaining reader.new)
         (W.contents writer.old) (W.contents writer.new) (reader.new ≡ reader.old) result }
 {
-    outcome_of(rt, alloc, words, reader, writer, &mut ()).status
+    let mut text = Vec::new(alloc);
+    outcome_of(rt, alloc, words, reader, writer, &mut text, &mut ()).status
 }
 
 /// Does as [`serve`], and then writes lines for a person to `notes`:
@@ -546,8 +553,7 @@ pub fn serve<T: Threads + Wait + Sync, R: BufRead, W: Write>(
 ///
 /// While many seeds take long, it writes there how far it is. Each line begins with `ra: `. Nothing of it goes to `writer`, and
 /// it is left out if memory or `notes` fails, which changes nothing else. To find the place in a script it is read once more. To
-/// find which client waits for which it is run once more. For the mark that is due, or an ask or a release that is refused, the
-/// steps of a trace are made once more.
+/// find which client waits for which it is run once more. For the mark that is due, the steps of a trace are made once more.
 pub fn serve_with_notes<T: Threads + Wait + Sync, R: BufRead, W: Write, N: Write>(
     rt: &T,
     alloc: Global,
@@ -561,9 +567,10 @@ pub fn serve_with_notes<T: Threads + Wait + Sync, R: BufRead, W: Write, N: Write
         (W.contents writer.old.inner) (W.contents writer.new.inner) (reader.new ≡ reader.old) result }
 {
     let mut progress = SeedProgress::new(alloc, notes);
-    let outcome = outcome_of(rt, alloc, words, reader, writer, &mut progress);
+    let mut text = Vec::new(alloc);
+    let outcome = outcome_of(rt, alloc, words, reader, writer, &mut text, &mut progress);
     let last = progress.last();
-    write_notes(alloc, words, reader.seen(), &outcome, last, notes);
+    write_notes(alloc, words, reader.seen(), &text, &outcome, last, notes);
     write_output_note(writer.fault(), notes);
     outcome.status
 }

@@ -124,9 +124,9 @@ fn draw_text<W: Write>(
 /// - beside the lanes, bars for clients that are queued, that wait and that hold a name.
 ///
 /// A message that is under way at the end of the part has a dotted path. One that is sent before the part and not delivered or
-/// lost in it has none. Returns the verdict on the text, as `check` does. If it is no trace, nothing is written. No read or write that failed is
-/// tried again. Time and memory are linear in the text and in what `World::step` takes for its steps, and in the columns of bars
-/// beside a node.
+/// lost in it has none. Returns the verdict on the text, as `check` does, and leaves the text in `text`, so that it need not be kept
+/// elsewhere to say what is wrong with it. If it is no trace, nothing is written. No read or write that failed is tried again. Time
+/// and memory are linear in the text and in what `World::step` takes for its steps, and in the columns of bars beside a node.
 ///
 /// # Errors
 ///
@@ -139,17 +139,20 @@ fn draw_text<W: Write>(
 /// 5. `Memory`: memory ran out.
 /// 6. `Write`: the writer failed or took nothing, with bytes left to write. A prefix of the picture was written.
 ///
-/// After each of the others the writer is as before.
+/// After each of the others the writer is as before. After a refusal nothing is promised of `text`.
 pub fn draw<R: Read, W: Write>(
     alloc: Global,
     reader: &mut R,
     writer: &mut W,
     part: Part,
+    text: &mut Vec<u8>,
 ) -> Result<Verdict, DrawError>
     // The verdict is that of the whole input. A picture is written exactly if it is a trace, and nothing else is.
     ensures ok { IfOk result (λ verdict. (input : List ℕ) × IsInput (R.remaining reader.old) (R.remaining reader.new) input
         × IsVerdict input verdict × Draws part input (W.contents writer.old) (W.contents writer.new) verdict) }
     ensures invalid { (line : ℕ) (why : Cause) → result ≡ Ok (Verdict.Invalid line why) → writer.new ≡ writer.old }
+    ensures text { IfOk result (λ verdict. IsInput (R.remaining reader.old) (R.remaining reader.new) text.new.items
+        × IsVerdict text.new.items verdict) }
 
     ensures failed { IsErrOf result DrawError.Read → (taken : List ℕ) × (length taken ≤ 16777216)
         × Consumes (R.remaining reader.old) (R.remaining reader.new) taken }
@@ -168,9 +171,11 @@ pub fn draw<R: Read, W: Write>(
         × IsPicture (prefix ++ rest) × (rest ≢ []) × Appends (W.contents writer.old) (W.contents writer.new) prefix }
 {
     // All of it before the verdict: so `Read` and `Limit` come first, and the lines of the part are there once it is known.
-    let text = read_up_to(alloc, reader, MAX_TEXT + 1)?;
-    if text.len() > MAX_TEXT {
+    let read = read_up_to(alloc, reader, MAX_TEXT + 1)?;
+    if read.len() > MAX_TEXT {
         return Err(DrawError::Limit);
     }
-    draw_text(alloc, &text, writer, part)
+    let drawn = draw_text(alloc, &read, writer, part);
+    *text = read;
+    drawn
 }

@@ -67,23 +67,27 @@ fn draw_log<W: Write>(
 
 /// Reads a text. If it is a mark log, writes a picture of a part of it, as `draw` does for a trace. The picture has a row for
 /// each mark, a lane for each node up to the highest one that asks in or before the part, and the bars beside the lanes. A log
-/// has no messages. Returns the verdict on the text, as `check_marks` does. If it is no mark log, nothing is written. No read or
-/// write that failed is tried again. Time and memory are linear in the text, and in the columns of bars beside a node.
+/// has no messages. Returns the verdict on the text, as `check_marks` does, and leaves the text in `text`. If it is no mark log,
+/// nothing is written. No read or write that failed is tried again. Time and memory are linear in the text, and in the columns of
+/// bars beside a node.
 ///
 /// # Errors
 ///
 /// Those of `draw`, in their order. `NoLines` comes if the text is a mark log and the part has none of its lines, so also for an
-/// empty log, and `TooLong` if it is one and the part has more than 4,096 lines.
+/// empty log, and `TooLong` if it is one and the part has more than 4,096 lines. After a refusal nothing is promised of `text`.
 pub fn draw_marks<R: Read, W: Write>(
     alloc: Global,
     reader: &mut R,
     writer: &mut W,
     part: Part,
+    text: &mut Vec<u8>,
 ) -> Result<MarksVerdict, DrawError>
     // The verdict is that of the whole input. A picture is written exactly if it is a mark log, and nothing else is.
     ensures ok { IfOk result (λ verdict. (input : List ℕ) × IsInput (R.remaining reader.old) (R.remaining reader.new) input
         × IsMarksVerdict input verdict × DrawsMarks part input (W.contents writer.old) (W.contents writer.new) verdict) }
     ensures invalid { (line : ℕ) (why : MarkCause) → result ≡ Ok (MarksVerdict.Invalid line why) → writer.new ≡ writer.old }
+    ensures text { IfOk result (λ verdict. IsInput (R.remaining reader.old) (R.remaining reader.new) text.new.items
+        × IsMarksVerdict text.new.items verdict) }
 
     ensures failed { IsErrOf result DrawError.Read → (taken : List ℕ) × (length taken ≤ 16777216)
         × Consumes (R.remaining reader.old) (R.remaining reader.new) taken }
@@ -102,9 +106,11 @@ pub fn draw_marks<R: Read, W: Write>(
         × IsMarksVerdict input (MarksVerdict.Valid requests grants)
         × IsPicture (prefix ++ rest) × (rest ≢ []) × Appends (W.contents writer.old) (W.contents writer.new) prefix }
 {
-    let text = read_up_to(alloc, reader, MAX_TEXT + 1)?;
-    if text.len() > MAX_TEXT {
+    let read = read_up_to(alloc, reader, MAX_TEXT + 1)?;
+    if read.len() > MAX_TEXT {
         return Err(DrawError::Limit);
     }
-    draw_log(alloc, &text, writer, part)
+    let drawn = draw_log(alloc, &read, writer, part);
+    *text = read;
+    drawn
 }

@@ -41,7 +41,7 @@ pub fn drawn_to<R: Read, W: Write>(
     writer: &mut W,
     part: Part,
 ) -> Result<Verdict, DrawError> {
-    draw(alloc, reader, writer, part)
+    draw(alloc, reader, writer, part, &mut Vec::new(alloc))
 }
 
 /// Draws a part of the mark log that a reader gives.
@@ -51,7 +51,7 @@ pub fn drawn_marks_to<R: Read, W: Write>(
     writer: &mut W,
     part: Part,
 ) -> Result<MarksVerdict, DrawError> {
-    draw_marks(alloc, reader, writer, part)
+    draw_marks(alloc, reader, writer, part, &mut Vec::new(alloc))
 }
 
 /// Returns the picture of a part of a trace.
