@@ -1,7 +1,7 @@
 """The book of a node, in a file, and the node that it determines."""
 import fcntl
-import itertools
 import os
+import select
 import subprocess
 
 from failing import fail
@@ -17,8 +17,10 @@ class Book:
         try:
             self.file = open(self.path, "ab")
             fcntl.flock(self.file, fcntl.LOCK_EX | fcntl.LOCK_NB)
+            self.check_first(f"{first}\n")
             # A crash may have cut the last line off. Nothing that it caused went out, so it never happened.
-            whole = sum(len(line) for line in open(self.path, "rb") if line.endswith(b"\n"))
+            with open(self.path, "rb") as file:
+                whole = sum(len(line) for line in file if line.endswith(b"\n"))
             self.file.truncate(whole)
             if not whole:
                 self.add(first)
@@ -29,8 +31,13 @@ class Book:
             fail(f"another host has the book {self.path} open")
         except OSError as why:
             fail(f"cannot open the book: {why}")
-        found = next(self.lines())
-        if found != first:
+
+    def check_first(self, first):
+        """Ends the host before it changes a file that is no book of this node. A first line may have been cut off."""
+        with open(self.path, encoding="latin-1", newline="\n") as file:
+            found = file.readline(256)
+        if found != first and not (first.startswith(found) and len(found) < len(first)):
+            found, first = found.rstrip("\n"), first.rstrip("\n")
             fail(f"the book {self.path} begins with '{found}' instead of '{first}': it is of another node or cluster")
 
     def sync_folder(self):
@@ -78,7 +85,7 @@ class Node:
 
     def answers(self, lines):
         """Hands these lines to the node, and returns the answer to each: its lines, as lists of words. The last one is
-        `ok` or `refused WORD`. The lines must fit into a pipe together, or both processes would wait for each other."""
+        `ok` or `refused WORD`. The lines must fit into any pipe together, or both processes could wait for each other."""
         try:
             self.process.stdin.write("".join(f"{line}\n" for line in lines).encode("latin-1"))
             self.process.stdin.flush()
@@ -97,6 +104,11 @@ class Node:
 
     def replay(self, lines):
         """Hands a whole book to the node. Returns the answers in turn."""
-        lines = iter(lines)
-        while some := list(itertools.islice(lines, 100)):
-            yield from self.answers(some)
+        some, size = [], 0
+        for line in lines:
+            if size + len(line) >= select.PIPE_BUF:
+                yield from self.answers(some)
+                some, size = [], 0
+            some.append(line)
+            size += len(line) + 1
+        yield from self.answers(some)

@@ -19,8 +19,8 @@ A host may be killed at any moment, and be started again with its book. Three ru
 3. A host takes the frames of each other node in the order of their numbers, and each once. So the book says how many it
    has taken. This number is all that it acknowledges, and the other host goes on after it.
 
-The hosts send each other messages of the form `CLUSTER NODE KIND NUMBER`, with the sender's node. A carrier may lose and
-repeat them:
+The hosts send each other messages of the form `CLUSTER FROM TO KIND NUMBER`, with the nodes of the sender and of the
+receiver. A carrier may lose and repeat them:
 
     frame K HEX     the frame with number K
     ack K           I have taken your first K frames
@@ -41,7 +41,7 @@ from failing import fail
 from options import parse
 
 DELAY = 0.05  # seconds until a frame is acknowledged
-MESSAGE = re.compile(r"([A-Za-z0-9_.-]+) ([0-9]+) (frame|ack|hello) ([0-9]+)(?: ([0-9a-f]+))?\n?")
+MESSAGE = re.compile(r"([A-Za-z0-9_.-]+) ([0-9]{1,2}) ([0-9]{1,2}) (frame|ack|hello) ([0-9]{1,19})(?: ([0-9a-f]{1,112}))?\n?")
 
 
 class Peer:
@@ -66,6 +66,7 @@ class Host:
         self.outbox = []  # calls that send something
         self.owed = set()  # the peers that an acknowledgement is due to
         self.all_known = asyncio.Event()  # set when each peer has said how many of our frames it has
+        self.is_confused = False  # whether messages for other nodes came
         self.scan()
 
     def scan(self):
@@ -92,7 +93,7 @@ class Host:
             send(*what)
 
     def tell(self, number, message):
-        self.later(self.carrier.send, number, f"{self.options.cluster} {self.options.node} {message}".encode())
+        self.later(self.carrier.send, number, f"{self.options.cluster} {self.options.node} {number} {message}".encode())
 
     def send(self, number, frame):
         """Sends a frame of our node, unless the peer is known to have it."""
@@ -131,7 +132,10 @@ class Host:
         found = MESSAGE.fullmatch(message.decode("latin-1"))
         if not found or found[1] != self.options.cluster or int(found[2]) not in self.peers:
             return
-        sender, kind, count, frame = int(found[2]), found[3], int(found[4]), found[5] or ""
+        sender, receiver, kind, count, frame = int(found[2]), int(found[3]), found[4], int(found[5]), found[6] or ""
+        if receiver != self.options.node:
+            self.confused(sender, receiver)
+            return
         if kind == "frame":
             self.take(sender, count, frame)
         else:
@@ -139,6 +143,16 @@ class Host:
         if kind == "hello":
             self.acknowledge(sender)
             self.send_again(sender)
+
+    def confused(self, sender, receiver):
+        """Says once that the addresses of the hosts are not in order. Their messages are passed over, so nothing breaks."""
+        if not self.is_confused:
+            self.is_confused = True
+            print(
+                f"host: node {self.options.node} gets messages of node {sender} that are for node {receiver}: every host"
+                " needs the same --peers, in the order of the nodes",
+                file=sys.stderr,
+            )
 
     def take(self, sender, count, frame):
         """Takes a frame if it is the next one. If not, it will come again, or has come before."""
@@ -195,8 +209,8 @@ class Host:
         if (client, name) in self.waiting:
             self.waiting.pop((client, name)).set_result(number)
         else:
-            # It has waited since before the host was killed, and its connection ended then.
-            self.give_back(client, name)
+            # Its connection has ended. With a single node, the next client enters at once: so this is not done within the step.
+            asyncio.get_running_loop().call_soon(self.give_back, client, name)
 
     def give_back(self, client, name):
         """Releases a name for a client that is gone."""
@@ -230,26 +244,25 @@ class Host:
         self.clients += 1
         client, held = self.clients, set()
         try:
-            while line := await reader.readline():
-                answer = await self.answer(client, held, line.decode("latin-1").split())
+            line = await reader.readline()
+            # A last line that was cut off is none.
+            while line.endswith(b"\n"):
+                # The next line is awaited meanwhile, so that the end of the connection is noticed.
+                coming = asyncio.ensure_future(reader.readline())
+                answer = await self.answer(client, held, line.decode("latin-1").split(), coming)
                 self.later(writer.write, f"{answer}\n".encode())
+                line = await coming
+                # A client that does not read its answers gets no more.
+                await writer.drain()
         except (OSError, ValueError):
             pass  # The connection broke, or a line was far too long.
         for name in held:
             self.give_back(client, name)
         self.later(writer.close)
 
-    async def answer(self, client, held, words):
+    async def answer(self, client, held, words, coming):
         if len(words) == 3 and words[0] == "lock":
-            _, name, mode = words
-            granted = self.waiting[client, name] = asyncio.get_running_loop().create_future()
-            said = self.step(f"ask {client} {name} {mode}")
-            if said == "ok":
-                number = await granted
-                held.add(name)
-                return f"granted {number}"
-            del self.waiting[client, name]
-            return f"refused {said}"
+            return await self.lock(client, held, words[1], words[2], coming)
         if len(words) == 2 and words[0] == "unlock":
             said = self.step(f"release {client} {words[1]}")
             if said == "ok":
@@ -257,6 +270,21 @@ class Host:
                 return "unlocked"
             return f"refused {said}"
         return "refused Line"
+
+    async def lock(self, client, held, name, mode, coming):
+        granted = self.waiting[client, name] = asyncio.get_running_loop().create_future()
+        said = self.step(f"ask {client} {name} {mode}")
+        if said != "ok":
+            del self.waiting[client, name]
+            return f"refused {said}"
+        await asyncio.wait([granted, coming], return_when=asyncio.FIRST_COMPLETED)
+        if not granted.done() and (coming.exception() or not coming.result().endswith(b"\n")):
+            # The client is gone. Its request cannot be withdrawn, so the name is given back once it is granted.
+            del self.waiting[client, name]
+            raise ConnectionError
+        number = await granted
+        held.add(name)
+        return f"granted {number}"
 
     # From start to end
 

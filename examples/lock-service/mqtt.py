@@ -30,6 +30,8 @@ class Mqtt:
         self.client.on_connect = self.on_connect
         self.client.on_message = self.on_message
         self.client.reconnect_delay_set(1, 1)
+        # If the broker takes nothing, what would wait for it beyond this is dropped, and the host sends it again.
+        self.client.max_queued_messages_set(10_000)
 
     async def run(self):
         self.loop = asyncio.get_running_loop()

@@ -17,6 +17,12 @@ def addresses(text):
     return [address(each) for each in text.split(",")]
 
 
+def first_number(text):
+    if not text.isdecimal() or int(text) >= 1 << 64:
+        raise argparse.ArgumentTypeError(f"'{text}' is not 0 to 18446744073709551615")
+    return int(text)
+
+
 def cluster_name(text):
     if not text or set(text) - LETTERS:
         raise argparse.ArgumentTypeError(f"'{text}' has other characters than letters, digits, _, - and .")
@@ -32,7 +38,7 @@ def parse():
     add("--clients", type=address, help="where clients connect; by default 127.0.0.1:7101 for node 1, and so on")
     add("--peers", type=addresses, help="the addresses of all hosts in order; by default 127.0.0.1:7001,127.0.0.1:7002,..")
     add("--cluster", type=cluster_name, default="locks", help="the name of the cluster: letters, digits, _, - and .")
-    add("--start", type=int, default=0, help="the number with which each name begins; by default 0")
+    add("--start", type=first_number, default=0, help="the number with which each name begins; by default 0")
     add("--carrier", choices=["tcp", "mqtt"], default="tcp", help="what carries messages between hosts")
     add("--broker", type=address, default="127.0.0.1:1883", help="the broker of --carrier mqtt; by default 127.0.0.1:1883")
     add("--fsync", action="store_true", help="keep the book through a power cut, too, which makes each lock slower")

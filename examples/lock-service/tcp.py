@@ -5,6 +5,8 @@ import socket
 from failing import fail
 
 PAUSE = 0.2  # seconds before it connects again
+LOST = 5  # seconds without an answer, after which a connection is given up
+MOST_WAITING = 1 << 20  # bytes that wait for a peer which takes none, after which no more are sent
 
 
 class Tcp:
@@ -25,19 +27,23 @@ class Tcp:
         await asyncio.gather(server.serve_forever(), *map(self.keep_connected, self.host.peers))
 
     def send(self, peer, message):
-        if peer in self.writers:
-            self.writers[peer].write(message + b"\n")
+        writer = self.writers.get(peer)
+        if writer and writer.transport.get_write_buffer_size() < MOST_WAITING:
+            writer.write(message + b"\n")
 
     async def keep_connected(self, peer):
         while True:
             try:
-                reader, writer = await asyncio.open_connection(*self.options.peers[peer - 1])
-                # If the other machine is gone without a word, the connection ends after five seconds.
-                writer.get_extra_info("socket").setsockopt(socket.IPPROTO_TCP, socket.TCP_USER_TIMEOUT, 5000)
+                # By itself, the system tries for minutes, with ever longer pauses.
+                connecting = asyncio.open_connection(*self.options.peers[peer - 1])
+                reader, writer = await asyncio.wait_for(connecting, LOST)
+                # So the connection ends if the other machine is gone without a word.
+                writer.get_extra_info("socket").setsockopt(socket.IPPROTO_TCP, socket.TCP_USER_TIMEOUT, 1000 * LOST)
                 self.writers[peer] = writer
                 self.host.reached(peer)
-                await reader.read()  # Nothing comes this way but the end.
-            except OSError:
+                while await reader.read(1 << 16):
+                    pass  # Nothing comes this way but the end.
+            except (OSError, asyncio.TimeoutError):
                 pass
             if peer in self.writers:
                 self.writers.pop(peer).close()
