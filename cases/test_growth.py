@@ -30,6 +30,7 @@ NOT_A_MARK = """not a mark: expected request, enter or leave and then NODE CLIEN
 ended by a line feed alone
 """
 NOT_SENT = "its sender's book did not send this frame with this clock: expected one that ra node prints for that book\n"
+NOT_TAKEN = "the node of this book does not take this event: give the book to ra node to see why\n"
 NO_CLUSTER = """a node has two books, or books name different numbers of nodes or starts, or the book of a node is missing: \
 expected one book of each node, with one NODES and one START
 """
@@ -186,6 +187,13 @@ class Growth(PreloadTest):
         line = "receive 02020002000100000000000000000100000000000000020172"
         cause = f", in the book of node 1, a frame of node 2 with clock 2: {NOT_SENT.rstrip()}"
         self.expect_of_line("settle", TEXTS["BOOKS_UNASKED"], "invalid 3 NotSent\n", line, cause, NOT_SENT, quotes=False)
+
+    def test_growth_of_a_note_on_a_refused_line_of_books(self):
+        """To tell why, a node takes the lines of the book once more. Without memory for that, the cause is not named."""
+        waits = "client 7 has waited for 'r' (X) since line 2 and does not hold it: expected its grant first"
+        books, line, at = "book 1 1 2 0\nask 7 r X\nrelease 7 r\n", "release 7 r", ", in the book of node 1: "
+        less = f"{at}{NOT_TAKEN.rstrip()}"
+        self.expect_of_line("settle", books, "invalid 3 Refused\n", line, f"{at}{waits}", NOT_TAKEN, quotes=False, less=less)
 
     def test_growth_of_a_note_on_a_second_book(self):
         line = "book 1 1 2 0"

@@ -43,6 +43,24 @@ class Books(unittest.TestCase):
         status, trace, _ = run("settle --trace", highest_books(64))
         self.assertEqual((0, b"trace 2 64 7"), (status, trace.split(b"\n")[0]))
 
+    def test_a_grant_by_63_nodes_settles(self):
+        """Client 7 at node 64 asks at clock 1, each other node replies at clock 2, and the client leaves. The books and the
+        replies may come in any order."""
+        end = "000000000000000100000000000000{clock}0172"
+        request, reply = "020100400{to}01" + end, "02020{sender}004000" + end
+        others = [f"{it:03x}" for it in range(1, 64)]
+        heard = [f"book 1 {int(it, 16)} 64 0\nreceive {request.format(to=it, clock='01')}\n" for it in others]
+        came = [f"receive {reply.format(sender=it, clock='02')}\n" for it in others]
+        marks = [f"{it} 64 7 r X 1" for it in ("request", "enter", "leave")]
+        printed = "\n".join([*marks, "requests 1", "messages 126", "under-way 0", "lost 0", "waiting 0", "queued 0", ""]).encode()
+        for step in (1, -1):
+            asks = "".join(["book 1 64 64 0\nask 7 r X\n", *came[::step], "release 7 r\n"])
+            books = "".join([*heard, asks][::step]).encode()
+            self.assertEqual((0, printed), run("settle", books)[:2])
+            self.assertEqual((0, printed), run("settle --repeats", books)[:2])
+            trace = run("settle --trace", books)[1]
+            self.assertEqual((0, b"valid\nrequests 1\nmessages 126\n"), run("check", trace)[:2])
+
     def test_the_book_of_each_node_is_needed(self):
         self.assertEqual((3, b"invalid 127 Books\n"), run("settle", highest_books(63))[:2])
 
@@ -55,7 +73,7 @@ REQUEST = "receive 02010001000201000000000000000100000000000000010172"
 REQUEST_AT_2 = "receive 02010001000201000000000000000100000000000000020172"
 NO_LINE = "not a line of a book (see ra settle --help); each line ends with a line feed alone, and the text begins with the \
 first line of a book"
-NOT_TAKEN = "the node of this book does not take this event: give the book to ra node to see why"
+NOT_GRANTED = "and does not hold it: expected its grant first"
 ONE_EACH = "expected one book of each node"
 NOT_SENT = "its sender's book did not send this frame with this clock: expected one that ra node prints for that book"
 TWICE = "this message came by an earlier line: expected each message once, unless --repeats is given"
@@ -79,9 +97,18 @@ class LongBooks(RaTest):
             self.expect_note(f"{LONG}{'w' * count}\n", 6002, "Line", f", '{shown}', in the book of node 1: {NO_LINE}")
 
     def test_an_event_that_is_refused(self):
-        self.expect_note(f"{LONG}release 9 r\n", 6002, "Refused", f", 'release 9 r', in the book of node 1: {NOT_TAKEN}")
+        # Client 0 asked in line 2, and so on.
+        queued = f"in the book of node 1: client 9 has been queued for 'r' (X) since line 11 {NOT_GRANTED}"
+        self.expect_note(f"{LONG}release 9 r\n", 6002, "Refused", f", 'release 9 r', {queued}")
+        waits = f"in the book of node 1: client 0 has waited for 'r' (X) since line 2 {NOT_GRANTED}"
+        self.expect_note(f"{LONG}release 0 r\n", 6002, "Refused", f", 'release 0 r', {waits}")
         frame = f", '{REQUEST}', in the book of node 1, a frame of node 1 with clock 1"
-        self.expect_note(f"{LONG}{REQUEST}\n", 6002, "Refused", f"{frame}: {NOT_TAKEN}")
+        self.expect_note(f"{LONG}{REQUEST}\n", 6002, "Refused", f"{frame}: the frame is for node 2: expected one for node 1")
+        # The book of node 1 comes after a long one of node 2.
+        other = "".join(f"ask {client} k X\n" for client in range(6000))
+        books = f"book 1 2 2 0\n{other}book 1 1 2 0\nask 9 r S\nrelease 9 r\n"
+        waits = f"in the book of node 1: client 9 has waited for 'r' (S) since line 6003 {NOT_GRANTED}"
+        self.expect_note(books, 6004, "Refused", f", 'release 9 r', {waits}")
 
     def test_a_second_book(self):
         again = "this node has a book already, which begins at line"

@@ -21,6 +21,8 @@ mod option_rows;
 mod outcome;
 mod places;
 mod refusal;
+mod refused_event;
+mod refused_notes;
 mod running;
 mod said;
 mod search;

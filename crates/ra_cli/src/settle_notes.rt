@@ -1,5 +1,6 @@
 //! What is said of the line at which a text of books is wrong.
 use crate::note_texts::text_cause_text;
+use crate::refused_notes::push_refused;
 use crate::wrong_line::{BooksFault, WrongLine};
 use ra_book::TextCause;
 use ra_stamp::Memory;
@@ -76,8 +77,9 @@ pub fn unsettled_note(
     note.number(line);
     push_place(&mut note, place);
     note.push(": ");
-    match (cause, &place.fault) {
-        (TextCause::Books, Some(fault)) => push_fault(&mut note, fault),
+    match (cause, &place.fault, &place.refused) {
+        (TextCause::Books, Some(fault), _) => push_fault(&mut note, fault),
+        (TextCause::Refused, _, Some(refused)) => push_refused(&mut note, place, refused),
         _ => note.push(text_cause_text(cause)),
     }
     note.finish()

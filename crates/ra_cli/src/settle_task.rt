@@ -224,7 +224,8 @@ fn settle_input<W: Write>(alloc: Global, asked: SettleTask, input: &[u8], writer
     match settle_text(alloc, input, asked.repeats) {
         Ok(text) => show(alloc, asked, &text, writer),
         Err(SettleTextError::Invalid { line, cause }) => {
-            contradict(alloc, line, cause, wrong_line(input, line), writer)
+            let place = wrong_line(alloc, input, line, cause);
+            contradict(alloc, line, cause, place, writer)
         }
         Err(SettleTextError::Memory) => refuse_memory(writer),
     }

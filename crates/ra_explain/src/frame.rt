@@ -98,8 +98,9 @@ fn push_field_fault(note: &mut Note, digits: &[u8], fields: &[Field], fault: Fra
     }
 }
 
-/// Adds the description of a frame's fault.
-fn push_fault(note: &mut Note, digits: &[u8], fault: FrameError) {
+/// Adds the description of a frame's fault: which field of these hexadecimal digits it is, where its bytes are, what they are, and
+/// what is allowed there.
+pub fn push_frame_fault(note: &mut Note, digits: &[u8], fault: FrameError) {
     let fields = fields_of(byte_at(digits, 0) == 1);
     match fault {
         FrameError::Short => push_end(
@@ -133,6 +134,6 @@ pub fn frame_note(
 ) -> Result<Option<String>, Memory> {
     let mut note = Note::new(alloc);
     let (digits, _) = first_line(input);
-    push_fault(&mut note, digits, fault);
+    push_frame_fault(&mut note, digits, fault);
     note.finish()
 }

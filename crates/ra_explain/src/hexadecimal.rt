@@ -22,15 +22,23 @@ fn no_digit(line: &[u8]) -> Option<(usize, u8)> {
     None
 }
 
-/// Adds which byte of a line is not a hexadecimal digit.
-fn push_no_digit(note: &mut Note, place: usize, byte: u8) {
+/// Adds that a line ends with a carriage return, in which so many bytes come before the digits of a frame.
+fn push_return(note: &mut Note, before: usize) {
+    // A line that has the digits alone may be the last one of its text without a line feed.
+    note.push(if before == 0 {
+        "a carriage return (end the line with a line feed alone, or with nothing)"
+    } else {
+        "a carriage return (end the line with a line feed alone)"
+    });
+}
+
+/// Adds which byte of a line is not a hexadecimal digit, by its place in the digits, before which so many other bytes come.
+fn push_no_digit(note: &mut Note, before: usize, place: usize, byte: u8) {
     note.push("not a hexadecimal digit at offset ");
-    note.number(place as u64);
+    note.number(place.saturating_add(before) as u64);
     note.push(" of the line: ");
     match byte {
-        b'\r' => note.push(
-            "a carriage return (end the line with a line feed alone, or with nothing)",
-        ),
+        b'\r' => push_return(note, before),
         b'\t' => note.push("a tab"),
         b' '..=b'~' => note.quoted(&[byte]),
         _ => {
@@ -40,13 +48,14 @@ fn push_no_digit(note: &mut Note, place: usize, byte: u8) {
     }
 }
 
-/// Adds what is wrong with the bytes of a line that is not too long.
-fn push_fault(note: &mut Note, line: &[u8]) {
-    if let Some((place, byte)) = no_digit(line) {
-        push_no_digit(note, place, byte);
-    } else if line.len() % 2 == 1 {
+/// Adds why the bytes of a line after so many others are not an even number of hexadecimal digits: which byte is none, or how many
+/// digits there are.
+pub fn push_digits_fault(note: &mut Note, digits: &[u8], before: usize) {
+    if let Some((place, byte)) = no_digit(digits) {
+        push_no_digit(note, before, place, byte);
+    } else if digits.len() % 2 == 1 {
         note.push("the line has ");
-        note.number(line.len() as u64);
+        note.number(digits.len() as u64);
         note.push(" hexadecimal digits, an odd number: each byte of a frame takes two");
     }
 }
@@ -68,7 +77,7 @@ pub fn digits_note(alloc: Global, input: &[u8]) -> Result<Option<String>, Memory
         note.number(line.len() as u64);
         note.push(": only one frame is read at a time");
     } else {
-        push_fault(&mut note, line);
+        push_digits_fault(&mut note, line, 0);
     }
     note.finish()
 }

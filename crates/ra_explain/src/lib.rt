@@ -38,8 +38,8 @@ mod words;
 
 pub use choosing::choices_note;
 pub use ending::script_end_note;
-pub use frame::frame_note;
-pub use hexadecimal::digits_note;
+pub use frame::{frame_note, push_frame_fault};
+pub use hexadecimal::{digits_note, push_digits_fault};
 pub use line::{LineCause, line_note};
 pub use line_text::version_of;
 pub use open_text::OpenText;
