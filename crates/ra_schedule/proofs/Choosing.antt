@@ -33,7 +33,7 @@ next_is_one script moves client a b (who, op, at, is, step) (who', op', at', is'
     let node : who.node ≡ who'.node = ap (λ (w : ScriptClient). w.node) same in
     cc
 
-place_is_one : OneList → (moves : List Move) (place : ℕ) (a b : Sent) → IsAtPlace moves place a → IsAtPlace moves place b → a ≡ b
+pub place_is_one : OneList → (moves : List Move) (place : ℕ) (a b : Sent) → IsAtPlace moves place a → IsAtPlace moves place b → a ≡ b
 place_is_one one moves place a b (left, leaves, is) (left', leaves', is') =
     let same = one moves left left' leaves leaves' in
     same_some is (ap (λ (xs : List Sent). slice_get xs place) same ∙ is')

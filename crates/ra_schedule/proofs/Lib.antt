@@ -42,3 +42,6 @@ mod CarriedOn
 mod ThoroughPolicies
 mod Endings
 mod SurveyEnds
+mod OldestChoices
+mod Replayed
+mod ShrunkRuns

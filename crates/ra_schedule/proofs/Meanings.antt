@@ -40,7 +40,7 @@ pub repeated : (script : ScriptState) (moves : List Move) (choice : Choice) (pla
 repeated script moves choice place message is (left, leaves, at) =
     subst (λ (c : Choice). StandsFor script moves c (Repeat message)) (sym is) (message, (left, leaves, sym at), refl)
 
-absent : OneList → (moves : List Move) (place : ℕ) → AtPlace moves place None → (message : Sent) → IsAtPlace moves place message → ⊥
+pub absent : OneList → (moves : List Move) (place : ℕ) → AtPlace moves place None → (message : Sent) → IsAtPlace moves place message → ⊥
 absent one moves place (left, leaves, none) message (other, leaves', got) =
     let same : left ≡ other = one moves left other leaves leaves' in
     let clash : None ≡ Some message = none ∙ ap (λ (xs : List Sent). slice_get xs place) same ∙ got in

@@ -26,6 +26,7 @@ use Rattle.ra_schedule.specs.Progress.{IsProgress, Tracks, OfEach, IsProgressAft
 use Rattle.ra_schedule.specs.PolicyState.{AreDraws, AreDrawsElsewhere, generator_at, generator_in, words_drawn, words_for}
 use Rattle.ra_schedule.specs.LockOrder.{IsOutOfOrder, IsUnreleased}
 use Rattle.ra_schedule.specs.Performing.{ChoosesItself, LosesNothing}
+use Rattle.ra_schedule.specs.Shrinking.{IsStuckRun}
 use Rattle.ra_schedule.specs.Driving.{IsDriven, IsReady, IsAtEnd, IsThrough, HasMade, Records}
 use Rattle.ra_schedule.proofs.ChoicesMade.{no_choices, choices_more}
 use Rattle.ra_schedule.specs.Below.{LawsBelow}
@@ -325,8 +326,9 @@ pub records_all : (script : ScriptState) (policy : Policy) (world : WorldState) 
     → driven.steps.items ≡ driver.steps.items → driven.choices.items ≡ driver.choices.items → driven.turns ≡ length world.moves
     → Reports script.nodes 0 world.moves driven.report → MainTheorem script.nodes driven.report
     → IsTrue driven.finished ↔ IsFinished script (steps_of world.moves) driven.report → WaitingEnds script policy driven.finished
+    → IsTrue driven.stuck ↔ IsStuckRun script world.moves
     → Records script policy limit records driven
-records_all script policy world driver limit records driven through steps choices turns reports theorem finished waiting = record {
+records_all script policy world driver limit records driven through steps choices turns reports theorem finished waiting stuck = record {
   moves = world.moves;
   run = record {
     follows = through.at_end.follows;
@@ -340,6 +342,7 @@ records_all script policy world driver limit records driven through steps choice
   steps = steps ∙ through.at_end.steps ∙ ap (λ (b : Bool). recorded b world.moves) through.records_as;
   choices = λ kept. subst (λ (cs : List Choice). AreChoicesBy script policy cs world.moves) (sym choices) (through.at_end.choices (through.records_as ∙ kept));
   turns = turns;
+  stuck = stuck;
 }
 
 -- ---- A list that was lent whole comes back whole

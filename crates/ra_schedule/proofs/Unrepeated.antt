@@ -96,7 +96,7 @@ no_operation node client (Lock name mode) = refl
 no_operation node client (Unlock name) = refl
 
 -- and what is no repeat stands for none
-no_choice : (script : ScriptState) (moves : List Move) (choice : Choice) (step : Step) → IsNoRepeat choice → StandsFor script moves choice step
+pub no_choice : (script : ScriptState) (moves : List Move) (choice : Choice) (step : Step) → IsNoRepeat choice → StandsFor script moves choice step
     → repeated_in step ≡ []
 no_choice script moves (Client client) step none means =
     let (who, op, at, is, made) = means.next in ap repeated_in made ∙ no_operation who.node client op
@@ -104,7 +104,7 @@ no_choice script moves (Message place) step none (message, at, is) = ap repeated
 no_choice script moves (Lost place) step none (message, at, is) = ap repeated_in is
 no_choice script moves (Repeated place) step none means = absurd (none place refl)
 
-of_each : (moves : List Move)
+pub of_each : (moves : List Move)
     → ((before after : List Move) (move : Move) → moves ≡ before ++ move ∷ after → repeated_in move.step ≡ [])
     → repeated_by moves ≡ []
 of_each [] each = refl

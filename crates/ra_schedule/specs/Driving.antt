@@ -1,5 +1,5 @@
 -- How far the driver has come with a script, and how it ends. No public contract speaks of it.
-use Rattle.std.specs.Prelude.{◌≡◌, ◌⊎◌, ℕ, ◌+◌, ◌<◌, ◌≤◌, Bool, true, false, List, [], ◌∷◌, ◌++◌, length, Result, IsTrue, IfOk, IfErr, IfSome}
+use Rattle.std.specs.Prelude.{◌≡◌, ◌⊎◌, ◌↔◌, ℕ, ◌+◌, ◌<◌, ◌≤◌, Bool, true, false, List, [], ◌∷◌, ◌++◌, length, Result, IsTrue, IfOk, IfErr, IfSome}
 use Rattle.ra_stamp.specs.NodeId.{IsNodeNumber}
 use Rattle.ra_world.specs.Traffic.{Move}
 use Rattle.ra_world.specs.Run.{IsRun}
@@ -14,6 +14,7 @@ use Rattle.ra_schedule.specs.declared.error.DriveError.TheVariants.{BadPlace, No
 use Rattle.ra_schedule.specs.Script.{ScriptState}
 use Rattle.ra_schedule.specs.Schedule.{StandsFor, Picks, IsBadPlace, IsNotEnabled, Ends, Follows, Stops}
 use Rattle.ra_schedule.specs.Listing.{AreChoicesBy}
+use Rattle.ra_schedule.specs.Shrinking.{IsStuckRun}
 use Rattle.ra_schedule.specs.Drive.{IsWholeRun}
 use Rattle.ra_schedule.specs.Progress.{Tracks, AreStuck, recorded}
 use Rattle.ra_schedule.specs.PolicyState.{AreDraws, generator_at, generator_in, words_drawn}
@@ -113,3 +114,4 @@ pub record Records (script : ScriptState) (policy : Policy) (limit : ℕ) (recor
   pub steps : driven.steps.items ≡ recorded records moves
   pub choices : IsTrue records → AreChoicesBy script policy driven.choices.items moves
   pub turns : driven.turns ≡ length moves
+  pub stuck : IsTrue driven.stuck ↔ IsStuckRun script moves

@@ -16,3 +16,5 @@ pub mod Driving
 pub mod Survey
 pub mod Telling
 pub mod Finding
+pub mod Shrinking
+pub mod Replaying

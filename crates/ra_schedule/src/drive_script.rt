@@ -7,8 +7,10 @@ ghost use Rattle.ra_schedule.specs.Schedule.{steps_of, IsFinished};
 ghost use Rattle.ra_schedule.specs.Progress.{Tracks, AreDone};
 ghost use Rattle.ra_schedule.specs.Drive.{IsRecording, IsSummary, Answers, IsInTime};
 ghost use Rattle.ra_schedule.specs.Driving.{Records, IsStopped, IsThrough, MayNeedMemory};
+ghost use Rattle.ra_schedule.specs.Shrinking.{IsStuckRun};
 ghost use Rattle.ra_schedule.specs.declared.error.DriveError.{DriveError};
 
+use crate::begun::is_stuck;
 use crate::driver::Driver;
 use crate::finishing::endings_rest_on_nodes_and_runs;
 use crate::laws::schedules_rest_on_runs;
@@ -43,12 +45,14 @@ pub struct Summary {
 
 /// What a driver made of a script, with the steps and choices if they were to be recorded.
 #[derive(Drop)]
-struct Driven {
-    steps: Steps,
-    choices: Choices,
+pub struct Driven {
+    pub steps: Steps,
+    pub choices: Choices,
     turns: u64,
     report: Report,
-    finished: bool,
+    pub finished: bool,
+    /// Whether the run is stuck.
+    pub stuck: bool,
 }
 
 /// Drives a cluster through a script, from numbers that begin at 0. At each turn the policy makes a choice, and what it stands
@@ -123,7 +127,7 @@ pub fn summarize(
 /// # Errors
 ///
 /// Those of `drive`.
-fn drive_through(
+pub fn drive_through(
     alloc: Global,
     script: &Script,
     policy: &Policy,
@@ -184,6 +188,7 @@ fn driven_of(script: &Script, world: World, driver: Driver) -> Driven
     ensures report { Reports script.now.nodes 0 world.moves result.report }
     ensures main_theorem { MainTheorem script.now.nodes result.report }
     ensures finished { IsTrue result.finished ↔ IsFinished script.now (steps_of world.moves) result.report }
+    ensures stuck { IsTrue result.stuck ↔ IsStuckRun script.now world.moves }
 {
     let Driver {
         clients,
@@ -191,6 +196,7 @@ fn driven_of(script: &Script, world: World, driver: Driver) -> Driven
         choices,
         ..
     } = driver;
+    let stuck = is_stuck(script, &world, &clients);
     let turns = world.steps();
     let report = world.into_report();
     let finished = has_nothing_left(&report) && are_done(script, &clients);
@@ -200,6 +206,7 @@ fn driven_of(script: &Script, world: World, driver: Driver) -> Driven
         turns,
         report,
         finished,
+        stuck,
     }
 }
 

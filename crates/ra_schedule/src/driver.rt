@@ -148,7 +148,7 @@ impl Driver {
     /// # Errors
     ///
     /// Those of `drive`, except for `TurnLimit`.
-    fn follow(
+    pub fn follow(
         &mut self,
         alloc: Global,
         script: &Script,

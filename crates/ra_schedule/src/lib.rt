@@ -1,6 +1,7 @@
 //! Scripts of what clients do, as data, and policies that drive a cluster through them.
 #![tactic(auto)]
 
+mod begun;
 mod chance_state;
 mod choice;
 mod drive_script;
@@ -15,9 +16,11 @@ mod observer;
 mod outcomes;
 mod picking;
 mod progress;
+mod replaying;
 mod rosters;
 mod script;
 mod seed_range;
+mod shrinking;
 mod surveying;
 mod word_choice;
 
@@ -35,4 +38,5 @@ pub use observer::Observer;
 pub use outcomes::{Figures, SeedOutcome, Spread, Survey, Tally};
 pub use script::{Op, Script};
 pub use seed_range::SeedRange;
+pub use shrinking::{Shrunk, shrink};
 pub use surveying::{chance, survey};

@@ -86,7 +86,7 @@ fn first_enabled(script: &Script, world: &World, clients: &[Progress], first: u3
 }
 
 /// Returns a choice with its meaning.
-fn with_meaning(script: &Script, world: &World, clients: &[Progress], choice: Choice) -> Picked
+pub fn with_meaning(script: &Script, world: &World, clients: &[Progress], choice: Choice) -> Picked
     requires { Tracks script.now world.now clients.now }
     ensures choice { result.choice ≡ choice }
     ensures meaning { IsMeaning script.now world.now.moves choice result.meaning }

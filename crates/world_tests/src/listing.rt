@@ -6,7 +6,8 @@ use crate::plans::adds_locker;
 use Chooser::{Faulty, Newest, Oldest, Seeded};
 use Ending::{Finished, Stuck};
 use ra_schedule::{
-    Choice, Ending, Figures, Observer, Policy, Script, SeedOutcome, SeedRange, first_seed, survey,
+    Choice, Ending, Figures, Observer, Policy, Script, SeedOutcome, SeedRange, first_seed, shrink,
+    survey,
 };
 use ra_stamp::{Memory, Mode};
 use std::alloc::Global;
@@ -119,6 +120,47 @@ fn the_choices_of_a_run_are_those_of_a_model(rt: HostRuntime) {
         ),
     ];
     assert_rows(&rt, are_listed(rt.alloc(), ROWS), ROWS.len());
+}
+
+/// Returns whether a policy's run of a script is shrunk to these choices, or is not stuck if the words are `none`.
+fn shrinks(alloc: Global, script: &Script, policy: &Policy, words: &str) -> bool {
+    match shrink(alloc, script, policy, 10_000) {
+        Ok(shrunk) => match shrunk.choices {
+            Some(choices) => are_words(words, choices.as_slice()),
+            None => words == "none",
+        },
+        Err(_) => false,
+    }
+}
+
+/// Returns whether a policy's run of four clients is shrunk to these choices.
+fn is_shrunk(alloc: Global, row: &Listed) -> bool {
+    match (lockers(alloc, 4), policy(alloc, row.0)) {
+        (Some(script), Some(policy)) => shrinks(alloc, &script, &policy, row.1),
+        _ => false,
+    }
+}
+
+/// Returns how many rows hold, up to the first that does not.
+fn are_shrunk(alloc: Global, rows: &[Listed]) -> usize {
+    for place in 0..rows.len() {
+        if !is_shrunk(alloc, &rows[place]) {
+            return place;
+        }
+    }
+    rows.len()
+}
+
+/// The words were computed from those above by a separate Python model, `cases/shrink_model.py`.
+#[test]
+fn runs_are_shrunk_to_those_of_a_model(rt: HostRuntime) {
+    const ROWS: &[Listed] = &[
+        Listed(Oldest, "none"),
+        Listed(Faulty(0, 100, 300), "c4 l0"),
+        Listed(Faulty(1, 100, 300), "c2 l0"),
+        Listed(Faulty(7, 100, 300), "none"),
+    ];
+    assert_rows(&rt, are_shrunk(rt.alloc(), ROWS), ROWS.len());
 }
 
 /// Returns the first seed of a range with which a script comes to this end within this many turns.

@@ -13,6 +13,7 @@ returns-in-Ok-drive_world-clause-ok c =
     through told.steps told.choices told.turns told.report told.main_theorem told.finished
     (waiting_ends laws.nodes laws.runs c.args.script.now c.nodes.ensures.script c.args.policy.now c.drive_world.new.world.moves c.driven_of.result
     through.at_end.follows through.at_end.ends told.report told.finished)
+    told.stuck
 
 pub returns-in-Ok-drive_world-clause-answers : goal.returns-in-Ok-drive_world-clause-answers
 returns-in-Ok-drive_world-clause-answers c =

@@ -14,8 +14,8 @@ returns-clause-finished c =
     let nothing = c.has_nothing_left.ensures in
     elim c.if-has_nothing_left.branch [
       | then-has_nothing_left w ↦
-          let clients = w.deref.result.now in
-          let tracks = subst (λ (of : List Progress). Tracks script world of) (sym w.deref.ensures.value) c.requires.tracked in (
+          let clients = w.deref-then-has_nothing_left.result.now in
+          let tracks = subst (λ (of : List Progress). Tracks script world of) (sym w.deref-then-has_nothing_left.ensures.value) c.requires.tracked in (
             λ h.
                 let left = nothing.0 w.if-has_nothing_left.true in
                 record {
@@ -31,3 +31,7 @@ returns-clause-finished c =
         λ h. w.finished-is ∙ nothing.1 (h.none_waits, h.none_queued, h.none_under_way),
       )
     ]
+
+pub is_stuck-stuck-requires : goal.is_stuck-stuck-requires
+is_stuck-stuck-requires c =
+    subst (λ (list : List Progress). Tracks c.args.script.now c.args.world list) (sym c.deref.ensures.value) c.requires.tracked

@@ -1,0 +1,306 @@
+-- Steps that are left out, and runs that are made shorter.
+use Rattle.std.proofs.Common.{◌≡◌, ◌⊎◌, ℕ, zero, suc, ◌+◌, ◌<◌, ◌≤◌, Bool, true, false, Option, Some, None, Result, Ok, Err, IfOk, List, [], ◌∷◌, ◌++◌, length, take, drop, get_or, refl, sym, ap, ◌∙◌, subst, arith, inl, inr}
+use Rattle.std.specs.Prelude.{◌↔◌, if◌then◌else◌, IsTrue, OnOk, MatchOption}
+use Rattle.std.proofs.lemmas.Bool.{false≢true}
+use Rattle.std.proofs.lemmas.List as lists
+use Rattle.ra_stamp.specs.Sequence.{Listed as Listing}
+use Rattle.ra_stamp.specs.declared.message.Message.{Message as Sent}
+use Rattle.ra_world.specs.declared.step.Step.{Step}
+use Rattle.ra_world.specs.declared.step.Step.TheVariants.{Ask, Leave, Deliver, Lose, Repeat}
+use Rattle.ra_world.specs.Traffic.{Move, repeated_in, repeated_by}
+use Rattle.ra_world.specs.World.{WorldState}
+use Rattle.ra_schedule.specs.declared.choice.Choice.{Choice}
+use Rattle.ra_schedule.specs.declared.choice.Choice.TheVariants.{Client, Message, Lost, Repeated}
+use Rattle.ra_schedule.specs.declared.choice.Policy.{Policy}
+use Rattle.ra_schedule.specs.declared.choice.Policy.TheVariants as policies
+use Rattle.ra_schedule.specs.declared.driver.Driver.{Driver}
+use Rattle.ra_schedule.specs.declared.drive_script.Driven.{Driven}
+use Rattle.ra_schedule.specs.declared.shrinking.Listed.{Listed}
+use Rattle.ra_schedule.specs.declared.shrinking.Found.{Found}
+use Rattle.ra_schedule.specs.Script.{ScriptState}
+use Rattle.ra_schedule.specs.Schedule.{steps_of}
+use Rattle.ra_schedule.specs.Listing.{AreChoicesBy}
+use Rattle.ra_schedule.specs.Progress.{recorded}
+use Rattle.ra_schedule.specs.Driving.{IsReady, Records}
+use Rattle.ra_schedule.specs.Shrinking.{are_of_one_client, others, without_first, cut, IsFor, Redone, Replays, IsOldest, GoesOnOldest, ComesOf, IsInVain, IsLeast, IsLeastOf, IsStuckRun}
+use Rattle.ra_schedule.specs.Replaying.{AreChoicesFor, IsReplay, IsStuckList, IsShorter, IsFoundIn}
+use Rattle.ra_schedule.proofs.ChoicesMade.{made_again}
+use Rattle.ra_schedule.proofs.Unrepeated.{IsNoRepeat, no_choice, of_each}
+use Rattle.ra_schedule.proofs.Replayed.{made_by_these}
+
+-- ---- What is left of steps
+
+-- a step of the same client is passed over, and any other is kept
+pub others_more : (gone step : Step) (list new old rest later : List Step) (all : List Step) → rest ≡ step ∷ later
+    → list ++ others gone rest ≡ all → new ≡ (if are_of_one_client gone step then list else list ++ step ∷ [])
+    → new ++ others gone later ≡ all
+others_more gone step list new old rest later all is so_far kept =
+    elim (are_of_one_client gone step) as (λ (b : Bool). list ++ (if b then others gone later else step ∷ others gone later) ≡ all
+    → new ≡ (if b then list else list ++ step ∷ []) → new ++ others gone later ≡ all) [
+      | true ↦ λ before same. ap (λ (xs : List Step). xs ++ others gone later) same ∙ before
+      | false ↦ λ before same. ap (λ (xs : List Step). xs ++ others gone later) same ∙ lists.append_assoc list (step ∷ []) (others gone later) ∙ before
+    ] (subst (λ (xs : List Step). list ++ others gone xs ≡ all) is so_far) kept
+
+-- ---- Nothing is repeated that was not
+
+-- no step is a repeat
+abbrev pub NoneRepeats : List Step → Type 0
+NoneRepeats [] = Unit {0}
+NoneRepeats (step ∷ steps) = (repeated_in step ≡ []) × NoneRepeats steps
+
+nil_parts : {X : Type 0} (xs ys : List X) → xs ++ ys ≡ [] → (xs ≡ []) × (ys ≡ [])
+nil_parts [] ys e = (refl, e)
+nil_parts (x ∷ xs) ys e = absurd cc
+
+of_moves : (moves : List Move) → repeated_by moves ≡ [] → NoneRepeats (steps_of moves)
+of_moves [] none = tt
+of_moves (move ∷ moves) none =
+    let (one, rest) = nil_parts (repeated_in move.step) (repeated_by moves) none in (one, of_moves moves rest)
+
+append_keeps : (a b : List Step) → NoneRepeats a → NoneRepeats b → NoneRepeats (a ++ b)
+append_keeps [] b none none' = none'
+append_keeps (step ∷ a) b (one, none) none' = (one, append_keeps a b none none')
+
+take_keeps : (n : ℕ) (steps : List Step) → NoneRepeats steps → NoneRepeats (take n steps)
+take_keeps zero steps none = tt
+take_keeps (suc n) [] none = tt
+take_keeps (suc n) (step ∷ steps) (one, none) = (one, take_keeps n steps none)
+
+drop_keeps : (n : ℕ) (steps : List Step) → NoneRepeats steps → NoneRepeats (drop n steps)
+drop_keeps zero steps none = none
+drop_keeps (suc n) [] none = tt
+drop_keeps (suc n) (step ∷ steps) (one, none) = drop_keeps n steps none
+
+others_keep : (gone : Step) (steps : List Step) → NoneRepeats steps → NoneRepeats (others gone steps)
+others_keep gone [] none = tt
+others_keep gone (step ∷ steps) (one, none) =
+    elim (are_of_one_client gone step) as (λ (b : Bool). NoneRepeats (if b then others gone steps else step ∷ others gone steps)) [
+      | true ↦ others_keep gone steps none
+      | false ↦ (one, others_keep gone steps none)
+    ]
+
+first_keeps : (steps : List Step) → NoneRepeats steps → NoneRepeats (without_first steps)
+first_keeps [] none = tt
+first_keeps (gone ∷ later) (one, none) = others_keep gone later none
+
+cut_keeps : (steps : List Step) (place : ℕ) → NoneRepeats steps → NoneRepeats (cut steps place)
+cut_keeps steps place none =
+    append_keeps (take place steps) (without_first (drop place steps)) (take_keeps place steps none)
+    (first_keeps (drop place steps) (drop_keeps place steps none))
+
+repeated_append : (a b : List Move) → repeated_by a ≡ [] → repeated_by b ≡ [] → repeated_by (a ++ b) ≡ []
+repeated_append [] b none none' = none'
+repeated_append (move ∷ a) b none none' =
+    let (one, rest) = nil_parts (repeated_in move.step) (repeated_by a) none in
+    ap (λ (ms : List Sent). ms ++ repeated_by (a ++ b)) one ∙ repeated_append a b rest none'
+
+one_move : (move : Move) → repeated_in move.step ≡ [] → repeated_by (move ∷ []) ≡ []
+one_move move none = ap (λ (ms : List Sent). ms ++ []) none
+
+for_no_repeat : (moves : List Move) (step : Step) (choice : Choice) → repeated_in step ≡ [] → IsFor moves step choice → IsNoRepeat choice
+for_no_repeat moves (Ask node client name mode) choice none is place e = absurd cc
+for_no_repeat moves (Leave node client name) choice none is place e = absurd cc
+for_no_repeat moves (Deliver message) choice none (at, is, first) place e = absurd cc
+for_no_repeat moves (Lose message) choice none (at, is, first) place e = absurd cc
+for_no_repeat moves (Repeat message) choice none is place e = absurd cc
+
+oldest_no_repeat : (script : ScriptState) (moves : List Move) (choice : Choice) → IsOldest script moves choice → IsNoRepeat choice
+oldest_no_repeat script moves (Client client) oldest place e = absurd cc
+oldest_no_repeat script moves (Message message) oldest place e = absurd cc
+oldest_no_repeat script moves (Lost message) oldest place e = oldest
+oldest_no_repeat script moves (Repeated message) oldest place e = oldest
+
+redone_none : (script : ScriptState) (step : Step) (old new : List Move) → repeated_in step ≡ [] → repeated_by old ≡ [] → Redone script step old new
+    → repeated_by new ≡ []
+redone_none script step old new one none (inl (choice, move, is, means, moves)) =
+    ap repeated_by moves
+    ∙ repeated_append old (move ∷ []) none (one_move move (no_choice script old choice move.step (for_no_repeat old step choice one is) means))
+redone_none script step old new one none (inr (not, same)) = ap repeated_by same ∙ none
+
+replays_none : (script : ScriptState) (steps : List Step) (old new : List Move) → NoneRepeats steps → repeated_by old ≡ []
+    → Replays script old steps new → repeated_by new ≡ []
+replays_none script [] old new steps_none none same = ap repeated_by same ∙ none
+replays_none script (step ∷ steps) old new (one, steps_none) none (between, redone, rest) =
+    replays_none script steps between new steps_none (redone_none script step old between one none redone) rest
+
+goes_on_unrepeated : (script : ScriptState) (old new : List Move) → repeated_by old ≡ [] → GoesOnOldest script old new → repeated_by new ≡ []
+goes_on_unrepeated script old new none (rest, is, each) =
+    ap repeated_by is
+    ∙ repeated_append old rest none (of_each rest (λ before after move e.
+    let (choice, oldest, means) = each before after move e in
+    no_choice script (old ++ before) choice move.step (oldest_no_repeat script (old ++ before) choice oldest) means))
+
+comes_none : (script : ScriptState) (steps : List Step) (limit : ℕ) (moves : List Move) → NoneRepeats steps → ComesOf script steps limit moves
+    → repeated_by moves ≡ []
+comes_none script steps limit moves none comes =
+    goes_on_unrepeated script comes.redone moves (replays_none script steps [] comes.redone none refl comes.replays) comes.goes_on
+
+-- ---- From one run to the next
+
+-- each of its choices stands for the step of its move, so the list makes the run
+pub listed_by : (script : ScriptState) (policy : Policy) (choices : Listing Choice) (moves : List Move)
+    → AreChoicesBy script policy choices.items moves → AreChoicesBy script (policies.Listed choices) choices.items moves
+listed_by script policy choices moves by = record {
+  one_each = by.one_each;
+  each = λ before after move is. let (choice, at, picks, means) = by.each before after move is in (choice, at, at, means);
+}
+
+-- what the driver has before the first turn
+pub opening_replay : (script : ScriptState) (policy : Policy) (world : WorldState) (driver : Driver) → IsReady script policy world driver → driver.records ≡ true
+    → IsReplay script world driver
+opening_replay script policy world driver ready records = record {
+  driven = ready.driven;
+  records = records;
+  choices = let by = ready.choices records in record {
+    one_each = by.one_each;
+    each = λ before after move is. let (choice, at, picks, means) = by.each before after move is in (choice, at, means);
+  };
+}
+
+same_ok : {E : Type 0} {a b : Bool} → ◌≡◌ {A = Result Bool E} (Ok a) (Ok b) → a ≡ b
+same_ok e = cc
+
+no_ok : {E : Type 0} {e : E} {b : Bool} → ◌≡◌ {A = Result Bool E} (Err e) (Ok b) → ⊥
+no_ok h = absurd cc
+
+-- which of two numbers is less, or not
+at_least_or_less : (x y : ℕ) → (x ≤ y) ⊎ (y < x)
+at_least_or_less zero y = inl (omega arith)
+at_least_or_less (suc x) zero = inr (omega arith)
+at_least_or_less (suc x) (suc y) =
+    elim (at_least_or_less x y) [
+      | inl more ↦ inl (omega arith)
+      | inr less ↦ inr (omega arith)
+    ]
+
+-- what was replayed is shorter and stuck, and kept, or in vain
+pub kept_or_in_vain : (script : ScriptState) (steps : List Step) (limit : ℕ) (world : WorldState) (driver : Driver) (is : Bool) (found : Option Listed)
+    → IsReplay script world driver → ComesOf script steps limit world.moves
+    → IsTrue is ↔ ((length world.moves < limit) × IsStuckRun script world.moves)
+    → MatchOption found (is ≡ false) (λ list. (is ≡ true) × (list ≡ record { steps = driver.steps; choices = driver.choices }))
+    → MatchOption found (IsInVain script steps limit) (IsShorter script steps limit)
+kept_or_in_vain script steps limit world driver is None replay comes decides not_kept = record {
+  moves = world.moves;
+  run = replay.driven.run;
+  comes = comes;
+  vain = elim (at_least_or_less limit (length world.moves)) [
+    | inl more ↦ inl more
+    | inr less ↦ inr (λ stuck. false≢true (sym not_kept ∙ decides.1 (less, stuck)))
+  ];
+}
+kept_or_in_vain script steps limit world driver is (Some list) replay comes decides (kept, same) =
+    let steps_are : list.steps.items ≡ driver.steps.items = ap (λ (l : Listed). l.steps.items) same in
+    let choices_are : list.choices ≡ driver.choices = ap (λ (l : Listed). l.choices) same in
+    let (less, stuck) = decides.0 kept in
+    let choices : AreChoicesFor script list.choices.items world.moves =
+    subst (λ (c : Listing Choice). AreChoicesFor script c.items world.moves) (sym choices_are) replay.choices in
+    record {
+      moves = world.moves;
+      is = record {
+        steps = steps_are ∙ replay.driven.steps ∙ ap (λ (b : Bool). recorded b world.moves) replay.records;
+        by = record {
+          one_each = choices.one_each;
+          each = λ before after move e. let (choice, at, means) = choices.each before after move e in (choice, at, at, means);
+        };
+        makes = made_by_these script list.choices world.moves replay.driven.run choices;
+        stuck = stuck;
+      };
+      comes = comes;
+      shorter = less;
+    }
+
+-- the same, if there was memory
+pub kept_if_replayed : {E F : Type 0} (script : ScriptState) (steps : List Step) (limit : ℕ) (world : WorldState) (driver : Driver)
+    (r : Result Bool E) (out : Result (Option Listed) F) → OnOk r (IsReplay script world driver) → OnOk r (ComesOf script steps limit world.moves)
+    → IfOk r (λ is. IsTrue is ↔ ((length world.moves < limit) × IsStuckRun script world.moves))
+    → IfOk out (λ found. MatchOption found (r ≡ Ok false) (λ list. (r ≡ Ok true) × (list ≡ record { steps = driver.steps; choices = driver.choices })))
+    → IfOk out (λ found. MatchOption found (IsInVain script steps limit) (IsShorter script steps limit))
+kept_if_replayed script steps limit world driver r (Err f) replay comes decides kept = tt
+kept_if_replayed script steps limit world driver (Ok is) (Ok None) replay comes decides kept =
+    kept_or_in_vain script steps limit world driver is None replay comes decides (same_ok kept)
+kept_if_replayed script steps limit world driver (Ok is) (Ok (Some list)) replay comes decides (kept, same) =
+    kept_or_in_vain script steps limit world driver is (Some list) replay comes decides (same_ok kept, same)
+kept_if_replayed script steps limit world driver (Err e) (Ok None) replay comes decides kept = absurd (no_ok kept)
+kept_if_replayed script steps limit world driver (Err e) (Ok (Some list)) replay comes decides (kept, same) = absurd (no_ok kept)
+
+-- a list to which a given run was shrunk so far
+pub record SoFar (script : ScriptState) (given : List Move) (list : Listed) : Type 0 where
+  pub moves : List Move
+  pub is : IsStuckList script moves list
+  pub no_longer : length moves ≤ length given
+  pub unrepeated : repeated_by given ≡ [] → repeated_by moves ≡ []
+
+-- the given one
+pub given_one : (script : ScriptState) (moves : List Move) (list : Listed) → IsStuckList script moves list → SoFar script moves list
+given_one script moves list is = record { moves = moves; is = is; no_longer = omega arith; unrepeated = λ none. none }
+
+as_many : (moves : List Move) → length (steps_of moves) ≡ length moves
+as_many [] = refl
+as_many (move ∷ moves) = ap suc (as_many moves)
+
+-- a shorter one has fewer steps
+pub fewer : (script : ScriptState) (steps : List Step) (limit : ℕ) (list : Listed) → IsShorter script steps limit list → length list.steps.items < limit
+fewer script steps limit list shorter =
+    let count : length list.steps.items ≡ length shorter.moves = ap length shorter.is.steps ∙ as_many shorter.moves in
+    let less = shorter.shorter in
+    omega (arith, count, less)
+
+-- a shorter one
+pub next_one : (script : ScriptState) (given : List Move) (list next : Listed) (place : ℕ) → SoFar script given list
+    → IsShorter script (cut list.steps.items place) (length list.steps.items) next → SoFar script given next
+next_one script given list next place so_far shorter =
+    let count : length list.steps.items ≡ length so_far.moves = ap length so_far.is.steps ∙ as_many so_far.moves in
+    let less = shorter.shorter in
+    let few = so_far.no_longer in
+    record {
+      moves = shorter.moves;
+      is = shorter.is;
+      no_longer = omega (arith, count, less, few);
+      unrepeated = λ none.
+          comes_none script (cut list.steps.items place) (length list.steps.items) shorter.moves
+          (cut_keeps list.steps.items place (subst NoneRepeats (sym so_far.is.steps) (of_moves so_far.moves (so_far.unrepeated none))))
+          shorter.comes;
+    }
+
+-- the last one
+pub last_one : (script : ScriptState) (given : List Move) (list : Listed) → SoFar script given list → IsLeast script list.steps.items
+    → IsLeastOf script given list.choices
+last_one script given list so_far least = record {
+  moves = so_far.moves;
+  by = so_far.is.by;
+  makes = so_far.is.makes;
+  stuck = so_far.is.stuck;
+  no_longer = so_far.no_longer;
+  unrepeated = so_far.unrepeated;
+  least = subst (IsLeast script) so_far.is.steps least;
+}
+
+-- the run of a policy
+pub of_policy : (script : ScriptState) (policy : Policy) (limit : ℕ) (driven : Driven) (told : Records script policy limit true driven) → IsTrue driven.stuck
+    → IsStuckList script told.moves (record { steps = driven.steps; choices = driven.choices })
+of_policy script policy limit driven told stuck =
+    let by = told.choices refl in
+    record {
+      steps = told.steps;
+      by = listed_by script policy driven.choices told.moves by;
+      makes = made_again script policy driven.choices told.moves told.run.follows by;
+      stuck = told.stuck.0 stuck;
+    }
+
+-- the step at a place, or some other one past the end
+abbrev pub step_there : List Step → ℕ → Step
+step_there steps place = get_or steps place (Leave 0 0 [])
+
+-- a shorter one, as it was found among the steps of the one before
+pub next_told : (script : ScriptState) (given : List Move) (list : Listed) (next : Found) (steps : List Step) (found : Option Found) → steps ≡ list.steps.items
+    → found ≡ Some next → MatchOption found (IsLeast script steps) (IsFoundIn script steps)
+    → SoFar script given list → SoFar script given next.list
+next_told script given list next steps found same is told so_far =
+    let some : IsFoundIn script steps next =
+    subst (λ (o : Option Found). MatchOption o (IsLeast script steps) (IsFoundIn script steps)) is told in
+    next_one script given list next.list next.place so_far (subst (λ (xs : List Step). IsFoundIn script xs next) same some)
+
+-- the last one, as it was found that there is no shorter one
+pub last_told : (script : ScriptState) (given : List Move) (list : Listed) (steps : List Step) → steps ≡ list.steps.items → IsLeast script steps
+    → SoFar script given list → IsLeastOf script given list.choices
+last_told script given list steps same least so_far = last_one script given list so_far (subst (IsLeast script) same least)
