@@ -51,6 +51,16 @@ held_entry (HoldsBy e) = Some e
 abbrev pub holder_of : Resource → Option Entry
 holder_of r = held_entry (use_of r)
 
+-- the request of a use, if it waits
+abbrev pub waiting_entry : Use → Option Entry
+waiting_entry Nobody = None
+waiting_entry (WaitsBy e) = Some e
+waiting_entry (HoldsBy e) = None
+
+-- the request of the node that waits at this resource for its REPLYs, if there is one
+abbrev pub waiter_of : Resource → Option Entry
+waiter_of r = waiting_entry (use_of r)
+
 -- the client holds the resource, with this request
 pub record Holds (r : Resource) (client : ℕ) (entry : Entry) : Type 0 where
   pub granted : holder_of r ≡ Some entry

@@ -60,4 +60,5 @@ pub use laws::{
 };
 pub use node::Node;
 pub use outcome::Outcome;
+pub use queued_client::Queued;
 pub use ra_automaton::{NewError, ReceiveError};

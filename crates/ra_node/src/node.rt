@@ -1,4 +1,4 @@
-ghost use Rattle.std.specs.Prelude.{◌≡◌, ◌≢◌, ◌<◌, ◌≤◌, ◌⊎◌, ◌↔◌, None, IsErrOf, IsOk, IsOkUnless, IfOk, OnErr, MatchResult, IsNone, IfSome, IsTrue};
+ghost use Rattle.std.specs.Prelude.{◌≡◌, ◌≢◌, ◌<◌, ◌≤◌, ◌⊎◌, ◌↔◌, None, length, slice_get, IsErrOf, IsOk, IsOkUnless, IfOk, OnErr, MatchResult, IsNone, IfSome, IsTrue};
 ghost use Rattle.indexmap.specs.IndexMap.{spare};
 ghost use Rattle.ra_stamp.specs.NodeId.{IsNodeNumber};
 ghost use Rattle.ra_node.specs.Resource.{unmet};
@@ -7,7 +7,7 @@ ghost use Rattle.ra_node.specs.View.{Finds};
 
 use crate::outcome::nothing;
 use crate::slot::Slot;
-use crate::{AskError, LeaveError, NewError, Outcome, ReceiveError};
+use crate::{AskError, LeaveError, NewError, Outcome, Queued, ReceiveError};
 use indexmap::IndexMap;
 use ra_stamp::{Entry, Memory, Message, Mode, Name, NodeId};
 use std::alloc::Global;
@@ -93,8 +93,9 @@ impl Node {
     ghost use Rattle.ra_automaton.specs.State.{IsForNode};
     ghost use Rattle.ra_automaton.specs.Steps.{greatest_number};
     ghost use Rattle.std.specs.FinMap as map;
+    ghost use Rattle.std.specs.FinSet as set;
     ghost use Rattle.ra_stamp.specs.Message.{from_of, to_of, name_of};
-    ghost use Rattle.ra_node.specs.Resource.{IsBusy, Holds, holder_of};
+    ghost use Rattle.ra_node.specs.Resource.{IsBusy, Holds, holder_of, waiter_of};
     ghost use Rattle.ra_node.specs.Turns.{MayAsk};
     ghost use Rattle.ra_node.specs.Node.{opening_node, resource_at, waiting_count, queued_count, IsConsistentNode};
     ghost use Rattle.ra_node.specs.Events.{AskEvent, LeaveEvent, ReceiveEvent};
@@ -339,6 +340,59 @@ impl Node {
     {
         let slot = self.slot_of(name)?;
         slot.holder()
+    }
+
+    /// Returns the request of this node that waits on a name for its REPLYs, or `None`. It does not allocate.
+    pub fn waiter(&self, name: &Name) -> Option<Entry>
+        ensures value { result ≡ waiter_of (resource_at self.now name.now) }
+        ensures consistent { IsConsistentNode self.now }
+    {
+        let slot = self.slot_of(name)?;
+        slot.waiter()
+    }
+
+    /// Returns whether this node awaits the REPLY of another node on a name. It does not allocate.
+    pub fn waits_for(&self, name: &Name, other: NodeId) -> bool
+        ensures value { result ≡ set.contains (resource_at self.now name.now).state.awaited other }
+        ensures consistent { IsConsistentNode self.now }
+    {
+        match self.slot_of(name) {
+            Some(slot) => slot.waits_for(other),
+            None => false,
+        }
+    }
+
+    /// Returns the number of the request of another node on a name whose REPLY is deferred, or `None` if it is not. It does
+    /// not allocate.
+    pub fn deferred(&self, name: &Name, other: NodeId) -> Option<u64>
+        ensures value { result ≡ map.get (resource_at self.now name.now).state.deferred other }
+        ensures consistent { IsConsistentNode self.now }
+    {
+        match self.slot_of(name) {
+            Some(slot) => slot.deferred(other),
+            None => None,
+        }
+    }
+
+    /// Returns how many clients are queued on a name. It does not allocate.
+    pub fn queued_on(&self, name: &Name) -> usize
+        ensures value { result ≡ length (resource_at self.now name.now).queue }
+        ensures consistent { IsConsistentNode self.now }
+    {
+        match self.slot_of(name) {
+            Some(slot) => slot.queued(),
+            None => 0,
+        }
+    }
+
+    /// Returns the client at this place in the queue of a name, counted from 0 from the next one on, or `None` past the end.
+    /// It does not allocate.
+    pub fn queued_at(&self, name: &Name, place: usize) -> Option<Queued>
+        ensures value { result ≡ slice_get (resource_at self.now name.now).queue place }
+        ensures consistent { IsConsistentNode self.now }
+    {
+        let slot = self.slot_of(name)?;
+        slot.queued_at(place)
     }
 
     /// Returns the highest number that this node has met on a name, 0 to 2^64-1. It does not allocate.

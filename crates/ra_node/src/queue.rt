@@ -1,5 +1,5 @@
 //! The clients that wait for their turns at one resource.
-ghost use Rattle.std.specs.Prelude.{◌≡◌, ◌≢◌, ◌↔◌, ◌++◌, ◌∷◌, [], List, take, length, Any, MatchOption, IsTrue, IsNone, IfSome, OnOk, OnErr};
+ghost use Rattle.std.specs.Prelude.{◌≡◌, ◌≢◌, ◌↔◌, ◌++◌, ◌∷◌, [], List, take, length, slice_get, Any, MatchOption, IsTrue, IsNone, IfSome, OnOk, OnErr};
 ghost use Rattle.indexmap.specs.IndexMap.{keys};
 ghost use Rattle.ra_node.specs.Queue.{AreApart, IsKnown};
 ghost use Rattle.ra_node.specs.declared.queued_client.Queued.{Queued};
@@ -75,6 +75,13 @@ impl Queue {
         ensures none { IsNone result → self.now ≡ [] }
     {
         self.clients.front().copied()
+    }
+
+    /// Returns the client at this place, counted from 0, or `None` past the end.
+    pub fn at(&self, place: usize) -> Option<Queued>
+        ensures { result ≡ slice_get self.now place }
+    {
+        self.clients.get(place).copied()
     }
 
     /// Puts a client after all others, in amortized constant time on average, or in time linear in the length of the queue if

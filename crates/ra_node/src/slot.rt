@@ -1,4 +1,4 @@
-ghost use Rattle.std.specs.Prelude.{◌≡◌, ◌≢◌, ◌*◌, ◌<◌, ◌≤◌, ◌⊎◌, ◌↔◌, ◌∷◌, [], length, take, IsTrue, IsErrOf, IsOk, IfOk, MatchResult, AllPairs, IsNone, IfSome, OnErr};
+ghost use Rattle.std.specs.Prelude.{◌≡◌, ◌≢◌, ◌*◌, ◌<◌, ◌≤◌, ◌⊎◌, ◌↔◌, ◌∷◌, [], length, slice_get, take, IsTrue, IsErrOf, IsOk, IfOk, MatchResult, AllPairs, IsNone, IfSome, OnErr};
 ghost use Rattle.ra_stamp.specs.declared.entry.Entry.{Entry};
 ghost use Rattle.ra_node.specs.Resource.{entry_of};
 ghost use Rattle.ra_node.specs.Room.{IsNothing, HasRoomToLeave};
@@ -36,11 +36,13 @@ impl Model for Slot {
 }
 
 impl Slot {
+    ghost use Rattle.std.specs.FinSet as set;
+    ghost use Rattle.std.specs.FinMap as finmap;
     ghost use Rattle.ra_stamp.specs.Message.{name_of};
     ghost use Rattle.ra_stamp.specs.NodeId.{IsNodeNumber};
     ghost use Rattle.ra_automaton.specs.State.{IsAddressed, IsConsistent, IsInside};
     ghost use Rattle.ra_automaton.specs.Steps.{greatest_number, LetsEnter};
-    ghost use Rattle.ra_node.specs.Resource.{unmet, holder_of, Holds, IsBusy, waiting_at, ClientFits, clients_of};
+    ghost use Rattle.ra_node.specs.Resource.{unmet, holder_of, waiter_of, Holds, IsBusy, waiting_at, ClientFits, clients_of};
     ghost use Rattle.ra_node.specs.Turns.{MayAsk, AskTurn, AsksAtOnce, QueuesUp, LeaveTurn, LeavesToNobody, LeavesToNext, ReceiveTurn, next_entry};
     ghost use Rattle.ra_node.specs.Faults.{IsAskRefusal, IsLeaveRefusal};
     ghost use Rattle.ra_node.specs.HandedOver.{IsHandedOver};
@@ -80,6 +82,30 @@ impl Slot {
         }
     }
 
+    /// Returns the request that waits here for its replies, or `None`.
+    pub fn waiter(&self) -> Option<Entry>
+        ensures { result ≡ waiter_of self.now }
+    {
+        match (self.automaton.phase(), self.client) {
+            (Phase::Waiting { seq, mode }, Some(client)) => Some(self.entry(seq, client, mode)),
+            _ => None,
+        }
+    }
+
+    /// Returns whether the reply of a node is awaited.
+    pub fn waits_for(&self, node: NodeId) -> bool
+        ensures { result ≡ set.contains self.now.state.awaited node }
+    {
+        self.automaton.waits_for(node)
+    }
+
+    /// Returns the number of the request of a node whose reply is deferred, or `None` if it is not.
+    pub fn deferred(&self, node: NodeId) -> Option<u64>
+        ensures { result ≡ finmap.get self.now.state.deferred node }
+    {
+        self.automaton.deferred(node)
+    }
+
     /// Returns how many requests of this node wait here for their replies: one at most.
     pub fn waiting(&self) -> u64
         ensures { result ≡ waiting_at self.now }
@@ -95,6 +121,13 @@ impl Slot {
         ensures { result ≡ length self.now.queue }
     {
         self.queue.len()
+    }
+
+    /// Returns the queued client at this place, counted from 0 from the next one on, or `None` past the end.
+    pub fn queued_at(&self, place: usize) -> Option<Queued>
+        ensures { result ≡ slice_get self.now.queue place }
+    {
+        self.queue.at(place)
     }
 
     /// Returns whether the client waits, is queued or holds here.
