@@ -33,7 +33,7 @@ fn line_of(words: &[u8], stage: Stage) -> ArrayVec<u8, MAX_LINE> {
 /// Returns the client with these words.
 pub fn client_of(words: &Words, open: &Open) -> Option<Client> {
     // Zeros come after the words, which have none.
-    let (words, _) = cut(words, 0);
+    let (words, _) = cut(words.bytes(), 0);
     match mark_in(&line_of(words, open.stage)) {
         Some(mark) => Some(Client {
             claim: Claim {

@@ -144,7 +144,7 @@ fn count_of(line: &Line) -> Option<u16> {
 /// Returns the number of nodes of a trace, if its first line was followed.
 pub fn nodes_of(text: &OpenText) -> Option<u16> {
     // Zeros come after the words, which have none.
-    let (words, _) = cut(&text.first, 0);
+    let (words, _) = cut(text.first.bytes(), 0);
     let mut line: ArrayVec<u8, 77> = ArrayVec::new();
     line.try_extend_from_slice(b"trace ").ok();
     line.try_extend_from_slice(words).ok();
