@@ -1,5 +1,5 @@
 -- What `perform`, `perform_as` and `perform_trace` make of their input.
-use Rattle.std.specs.Prelude.{◌≡◌, ◌≢◌, ℕ, ◌<◌, ◌≤◌, List, [], ◌++◌, length, Bool, Option, IfSome, Result, Ok, Err, IfOk, IfErr, IsErrOf, IsTrue, codes}
+use Rattle.std.specs.Prelude.{◌≡◌, ◌≢◌, ◌⊎◌, ℕ, ◌<◌, ◌≤◌, List, [], ◌++◌, length, Bool, Option, IfSome, Result, Ok, Err, IfOk, IfErr, IsErrOf, IsTrue, codes}
 use Rattle.std.specs.Io.KnownBytes.{Consumes, Appends}
 use Rattle.ra_stamp.specs.Sequence.{Listed as Listing}
 use Rattle.ra_world.specs.declared.report.Report.{Report}
@@ -14,10 +14,11 @@ use Rattle.ra_schedule.specs.Listing.{AreChoicesBy, AreChoicesOf}
 use Rattle.ra_schedule.specs.LockOrder.{IsOutOfOrder, IsUnreleased}
 use Rattle.ra_schedule.specs.Performing.{ChoosesItself, LosesNothing}
 use Rattle.ra_schedule.specs.Script.{ScriptState}
+use Rattle.ra_schedule.specs.Shrinking.{IsStuckRun, IsLeastOf}
 use Rattle.ra_schedule.specs.Schedule.{Follows, Ends, Stops, RepeatsNothing}
 use Rattle.ra_trace.specs.TraceText.{IsTrace}
 use Rattle.ra_script.specs.declared.format.Format.{Format}
-use Rattle.ra_script.specs.declared.format.Format.TheVariants.{Lines, Trace, Choices}
+use Rattle.ra_script.specs.declared.format.Format.TheVariants.{Lines, Trace, Choices, Shrunk}
 use Rattle.ra_script.specs.ChoicesText.{Lists}
 use Rattle.ra_script.specs.declared.error.ScriptError.TheVariants as script_fault
 use Rattle.ra_script.specs.declared.error.PerformError.{PerformError}
@@ -37,11 +38,20 @@ pub record SaysChoices (policy : Policy) (script : ScriptState) (moves : List Mo
   pub lists : Lists text choices.items
   pub line : output ≡ text ++ codes "\n"
 
--- what the output says of a policy's run of a script: the lines of its report, its trace, or its choices
+-- the output is one line: the words of the least list of choices that was found if this run is stuck, and otherwise `none`
+abbrev pub SaysShrunk : ScriptState → List Move → List ℕ → Type 0
+SaysShrunk script moves output =
+    ((choices : Listing Choice) × (text : List ℕ) × IsStuckRun script moves × IsLeastOf script moves choices
+    × Lists text choices.items × (output ≡ text ++ codes "\n"))
+    ⊎ ((IsStuckRun script moves → ⊥) × (output ≡ codes "none\n"))
+
+-- what the output says of a policy's run of a script: the lines of its report, its trace, its choices, or what it is
+-- shrunk to
 abbrev pub Says : Format → Policy → ScriptState → List Move → Report → List ℕ → Type 0
 Says Lines policy script moves report output = output ≡ report_text report
 Says Trace policy script moves report output = IsTrace script.nodes 0 moves output
 Says Choices policy script moves report output = SaysChoices policy script moves output
+Says Shrunk policy script moves report output = SaysShrunk script moves output
 
 -- The output says in this format what came of the script that the input is, under this policy, which was followed to
 -- its end. `finished` says whether this run is finished.
@@ -71,6 +81,7 @@ abbrev pub Unwritten : Format → Policy → List ℕ → Type 0
 Unwritten Lines policy input = ⊥
 Unwritten Trace policy input = ⊥
 Unwritten Choices policy input = HasNoWords policy input
+Unwritten Shrunk policy input = HasNoWords policy input
 
 -- when each refusal may come: its cause applies. `Memory` and faults of the reader and the writer come from outside,
 -- but the writer fails only if there is something to write.

@@ -1,13 +1,14 @@
-ghost use Rattle.std.specs.Prelude.{◌≡◌, ◌≢◌, ◌≤◌, ◌<◌, List, ℕ, ◌++◌, length, string_bytes, codes, Ok, OnOk, IfOk, IfErr, IfSome, IsErrOf};
+ghost use Rattle.std.specs.Prelude.{◌≡◌, ◌≢◌, ◌≤◌, ◌<◌, ◌⊎◌, All, MatchOption, List, ℕ, ◌++◌, length, string_bytes, codes, Ok, OnOk, IfOk, IfErr, IfSome, IsErrOf};
 ghost use Rattle.std.specs.Io.KnownBytes.{Consumes};
 ghost use Rattle.ra_script.specs.declared.format.Format.{Format};
+ghost use Rattle.ra_script.specs.ChoicesText.{HasText, Lists};
 ghost use Rattle.ra_script.specs.ScriptText.{script_of};
 ghost use Rattle.ra_script.specs.Performed.{IsPerformedAs, PerformsScript, RefusesAs};
 
 use crate::format::Format;
 use crate::laws::{choices_have_words_unless_messages_are_repeated, read_scripts_come_to_rest};
-use crate::{PerformError, choices_text, read_script};
-use ra_schedule::{Policy, Script, drive, summarize};
+use crate::{ChoicesError, PerformError, choices_text, read_script};
+use ra_schedule::{Choices, Policy, Script, drive, shrink, summarize};
 use ra_stamp::Memory;
 use ra_trace::trace_text;
 use ra_world::{read_up_to, report_text, runs_are_determined, write_out};
@@ -113,6 +114,52 @@ fn choices_of(alloc: Global, policy: &Policy, script: &Script) -> Result<Printed
     })
 }
 
+/// Returns the words of choices, or `none` if there are none.
+///
+/// # Errors
+///
+/// Those of `choices_text`.
+fn text_or_none(alloc: Global, choices: &Option<Choices>) -> Result<String, ChoicesError>
+    ensures ok { IfOk result (λ text. MatchOption choices.now (string_bytes text ≡ codes "none") (λ list. Lists (string_bytes text) list.items)) }
+    ensures err { IfErr result (λ fault. ((fault ≡ ChoicesError.Choice)
+        × MatchOption choices.now ⊥ (λ list. All HasText list.items → ⊥)) ⊎ (fault ≡ ChoicesError.Memory)) }
+{
+    match choices {
+        Some(choices) => choices_text(alloc, choices),
+        None => match String::from_str(alloc, "none") {
+            Ok(text) => Ok(text),
+            Err(_) => Err(ChoicesError::Memory),
+        },
+    }
+}
+
+/// Drives a cluster through a script by a policy, and returns the line of the choices to which the run is shrunk if it is stuck, or
+/// a line that says that it is not.
+///
+/// # Errors
+///
+/// The first that holds, except that `Memory` may come before the others:
+///
+/// 1. `Drive`: the policy can't go on.
+/// 2. `Choice`: a message is repeated, for which there is no word.
+/// 3. `Memory`: memory ran out.
+fn shrunk_of(alloc: Global, policy: &Policy, script: &Script) -> Result<Printed, PerformError>
+    ensures ok { (input : List ℕ) → script_of input ≡ Ok script.now
+        → IfOk result (λ printed. IsPerformedAs Format.Shrunk policy.now input (string_bytes printed.text) printed.finished) }
+    ensures err { (input : List ℕ) → script_of input ≡ Ok script.now → IfErr result (RefusesAs Format.Shrunk policy.now input) }
+    ensures early { IfErr result (λ fault. fault ≢ PerformError.Write) }
+    ensures unread { ¬ IsErrOf result PerformError.Read }
+{
+    choices_have_words_unless_messages_are_repeated();
+    let shrunk = shrink(alloc, script, policy, MAX_TURNS)?;
+    let mut text = text_or_none(alloc, &shrunk.choices)?;
+    end_line(&mut text)?;
+    Ok(Printed {
+        text,
+        finished: shrunk.finished,
+    })
+}
+
 /// Drives a cluster through a script by a policy, and returns what is written of the run in a format.
 ///
 /// # Errors
@@ -138,6 +185,7 @@ pub fn print_run(
         Format::Lines => lines_of(alloc, policy, script),
         Format::Trace => trace_of(alloc, policy, script),
         Format::Choices => choices_of(alloc, policy, script),
+        Format::Shrunk => shrunk_of(alloc, policy, script),
     }
 }
 
