@@ -1,5 +1,5 @@
 -- How scripts end, from the laws of nodes and of runs.
-use Rattle.std.proofs.Common.{◌≡◌, ◌≢◌, ℕ, ◌≤◌, true, Option, Some, None, Result, Ok, Err, IfOk, List, [], refl, arith}
+use Rattle.std.proofs.Common.{◌≡◌, ◌≢◌, ℕ, ◌≤◌, true, Option, Some, None, Result, Ok, Err, List, [], refl, arith}
 use Rattle.std.proofs.lemmas.Bool.{false≢true}
 use Rattle.std.specs.Prelude.{◌↔◌, IsTrue}
 use Rattle.ra_world.specs.declared.report.Report.{Report}

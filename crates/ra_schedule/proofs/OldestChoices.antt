@@ -1,6 +1,6 @@
 -- Who can go on of the clients that have begun.
-use Rattle.std.proofs.Common.{◌≡◌, ℕ, zero, suc, ◌+◌, ◌<◌, ◌≤◌, Bool, true, false, Option, Some, None, List, [], ◌∷◌, length, slice_get, slice_index_or, refl, sym, ap, ◌∙◌, subst, arith}
-use Rattle.std.specs.Prelude.{◌↔◌, IsTrue}
+use Rattle.std.proofs.Common.{◌≡◌, ℕ, zero, suc, ◌+◌, ◌<◌, ◌≤◌, Some, List, [], ◌∷◌, length, slice_get, slice_index_or, refl, sym, ap, ◌∙◌, subst, arith}
+use Rattle.std.specs.Prelude.{◌↔◌}
 use Rattle.ra_stamp.specs.declared.message.Message.{Message as Sent}
 use Rattle.ra_world.specs.declared.step.Step.{Step}
 use Rattle.ra_world.specs.declared.step.Step.TheVariants.{Deliver}
@@ -10,9 +10,9 @@ use Rattle.ra_schedule.specs.declared.choice.Choice.{Choice}
 use Rattle.ra_schedule.specs.declared.choice.Choice.TheVariants.{Client, Message, Lost, Repeated}
 use Rattle.ra_schedule.specs.declared.progress.Progress.{Progress}
 use Rattle.ra_schedule.specs.Script.{ScriptClient, ScriptState, client_at}
-use Rattle.ra_schedule.specs.Schedule.{IsWaiting, IsEnabled, IsAtPlace, StandsFor}
+use Rattle.ra_schedule.specs.Schedule.{IsWaiting, IsAtPlace, StandsFor}
 use Rattle.ra_schedule.specs.Progress.{Tracks}
-use Rattle.ra_schedule.specs.Shrinking.{CanGoOn, IsFirstToGoOn, IsOldest, IsQuiet, Waits}
+use Rattle.ra_schedule.specs.Shrinking.{CanGoOn, IsOldest, IsQuiet, Waits}
 use Rattle.ra_schedule.specs.Replaying.{SomeoneWaits}
 use Rattle.ra_schedule.proofs.Choosing.{OneList}
 use Rattle.ra_schedule.proofs.EnabledLists.{nobody_is_zero}

@@ -1,5 +1,5 @@
 -- Steps that are done again, one after the other, and what comes after them.
-use Rattle.std.proofs.Common.{◌≡◌, ◌⊎◌, ℕ, zero, suc, ◌+◌, ◌<◌, ◌≤◌, Bool, true, Option, Some, None, Result, Ok, Err, IfOk, IfErr, List, [], ◌∷◌, ◌++◌, length, take, drop, slice_get, refl, sym, ap, ◌∙◌, subst, arith, inl, inr}
+use Rattle.std.proofs.Common.{◌≡◌, ◌⊎◌, ℕ, zero, suc, ◌+◌, ◌<◌, ◌≤◌, Some, Result, Ok, Err, List, [], ◌∷◌, ◌++◌, length, slice_get, refl, sym, ap, ◌∙◌, subst, arith, inl, inr}
 use Rattle.std.specs.Prelude.{OnOk}
 use Rattle.std.proofs.lemmas.List as lists
 use Rattle.ra_stamp.specs.Sequence.{Listed as Listing}
@@ -10,14 +10,13 @@ use Rattle.ra_world.specs.Traffic.{Move, LeavesUnderWay}
 use Rattle.ra_world.specs.World.{WorldState}
 use Rattle.ra_world.specs.Run.{IsRun}
 use Rattle.ra_schedule.specs.declared.choice.Choice.{Choice}
-use Rattle.ra_schedule.specs.declared.choice.Choice.TheVariants.{Client, Message, Lost, Repeated}
-use Rattle.ra_schedule.specs.declared.choice.Policy.TheVariants.{Listed}
+use Rattle.ra_schedule.specs.declared.choice.Choice.TheVariants.{Message, Lost, Repeated}
 use Rattle.ra_schedule.specs.declared.driver.Driver.{Driver}
 use Rattle.ra_schedule.specs.declared.error.DriveError.{DriveError}
 use Rattle.ra_schedule.specs.Script.{ScriptState}
-use Rattle.ra_schedule.specs.Schedule.{IsAtPlace, StandsFor, Follows}
+use Rattle.ra_schedule.specs.Schedule.{StandsFor}
 use Rattle.ra_schedule.specs.Listing.{AreChoicesOf}
-use Rattle.ra_schedule.specs.Driving.{HasFault, HasMade, IsMeaning}
+use Rattle.ra_schedule.specs.Driving.{HasMade, IsMeaning}
 use Rattle.ra_schedule.specs.Shrinking.{IsAlikeAt, IsFirstAlike, IsFor, Redone, Replays, IsOldest, GoesOnOldest}
 use Rattle.ra_schedule.specs.Replaying.{AreChoicesFor, IsReplay, MadeIfPossible}
 use Rattle.ra_schedule.proofs.Lists.{split_last}

@@ -1,6 +1,6 @@
 -- What the driver keeps from turn to turn, and how its end is read off.
-use Rattle.std.proofs.Common.{◌≡◌, ℕ, zero, suc, ◌+◌, ◌<◌, ◌≤◌, ◌^◌, Bool, true, false, Some, None, Result, Ok, Err, List, [], ◌∷◌, ◌++◌, All, length, take, replicate, slice_get, slice_index_or, refl, sym, ap, ◌∙◌, subst, arith, inl, inr}
-use Rattle.std.specs.Prelude.{◌↔◌, IsTrue, IfOk, IfSome, ◌==◌, if◌then◌else◌, option_map, option_and_then, Contains}
+use Rattle.std.proofs.Common.{◌≡◌, ℕ, zero, suc, ◌+◌, ◌<◌, ◌≤◌, ◌^◌, Bool, true, false, Some, None, List, [], ◌∷◌, ◌++◌, All, length, take, replicate, slice_get, slice_index_or, refl, sym, ap, ◌∙◌, subst, arith, inl, inr}
+use Rattle.std.specs.Prelude.{◌↔◌, IsTrue, IfSome, ◌==◌, if◌then◌else◌, option_map, option_and_then, Contains}
 use Rattle.std.proofs.lemmas.List as lists
 use Rattle.std.proofs.lemmas.List.Elements.{All-replicate}
 use Rattle.std.proofs.lemmas.Option.{IfSome_then}
@@ -14,7 +14,6 @@ use Rattle.ra_world.specs.MainTheorem.{MainTheorem}
 use Rattle.ra_world.specs.Run.{IsRun, GoesOn}
 use Rattle.ra_schedule.specs.declared.driver.Driver.{Driver}
 use Rattle.ra_schedule.specs.declared.drive_script.Driven.{Driven}
-use Rattle.ra_schedule.specs.declared.error.DriveError.{DriveError}
 use Rattle.ra_schedule.specs.declared.progress.Progress.{Progress}
 use Rattle.ra_schedule.specs.declared.choice.Choice.{Choice}
 use Rattle.ra_schedule.specs.declared.choice.Choice.TheVariants.{Client, Message, Lost, Repeated}
@@ -27,7 +26,7 @@ use Rattle.ra_schedule.specs.PolicyState.{AreDraws, AreDrawsElsewhere, generator
 use Rattle.ra_schedule.specs.LockOrder.{IsOutOfOrder, IsUnreleased}
 use Rattle.ra_schedule.specs.Performing.{ChoosesItself, LosesNothing}
 use Rattle.ra_schedule.specs.Shrinking.{IsStuckRun}
-use Rattle.ra_schedule.specs.Driving.{IsDriven, IsReady, IsAtEnd, IsThrough, HasMade, Records}
+use Rattle.ra_schedule.specs.Driving.{IsDriven, IsReady, IsThrough, HasMade, Records}
 use Rattle.ra_schedule.proofs.ChoicesMade.{no_choices, choices_more}
 use Rattle.ra_schedule.specs.Below.{LawsBelow}
 use Rattle.ra_schedule.proofs.Waiting.{nobody_waits, goes_on}

@@ -1,4 +1,4 @@
-use Rattle.std.proofs.Common.{◌≡◌, ◌≤◌, arith, refl, subst}
+use Rattle.std.proofs.Common.{◌≤◌, arith, refl, subst}
 use Rattle.std.proofs.lemmas.Bool.{false≢true}
 use Rattle.ra_schedule.proofs.Meanings.{some_number}
 use Rattle.ra_schedule.proofs.begun.can_go_on.Goals as goal

@@ -1,4 +1,4 @@
-use Rattle.std.proofs.Common.{◌≡◌, ℕ, ◌<◌, Bool, arith, refl, sym, ap, ◌∙◌, below_more, slice_index_or}
+use Rattle.std.proofs.Common.{ℕ, arith, refl, sym, ap, ◌∙◌, below_more, slice_index_or}
 use Rattle.std.specs.Prelude.{IsTrue}
 use Rattle.std.proofs.lemmas.Bool.{false≢true}
 use Rattle.ra_schedule.specs.declared.progress.Progress.{Progress}

@@ -1,4 +1,4 @@
-use Rattle.std.proofs.Common.{ℕ, ◌≤◌, List, [], length, drop}
+use Rattle.std.proofs.Common.{◌≤◌, List, [], length, drop}
 use Rattle.ra_world.specs.Traffic.{Move}
 use Rattle.ra_schedule.specs.Shrinking.{Replays}
 use Rattle.ra_schedule.specs.Replaying.{IsReplay}

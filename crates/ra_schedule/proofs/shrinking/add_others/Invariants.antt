@@ -1,5 +1,4 @@
 use Rattle.std.proofs.Common.{◌≡◌, ◌++◌, drop}
-use Rattle.ra_world.specs.declared.step.Step.{Step}
 use Rattle.ra_schedule.specs.Shrinking.{others, without_first}
 use Rattle.ra_schedule.proofs.ShrunkRuns.{step_there}
 use Rattle.ra_schedule.proofs.shrinking.add_others.Given as goal

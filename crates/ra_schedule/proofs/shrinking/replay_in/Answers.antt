@@ -1,7 +1,4 @@
-use Rattle.std.proofs.Common.{ap}
-use Rattle.ra_world.specs.World.{WorldState}
-use Rattle.ra_schedule.specs.declared.choice.Policy.TheVariants.{Oldest}
-use Rattle.ra_schedule.proofs.ShrunkRuns.{opening_replay, kept_if_replayed}
+use Rattle.ra_schedule.proofs.ShrunkRuns.{kept_if_replayed}
 use Rattle.ra_schedule.proofs.shrinking.replay_in.Goals as goal
 
 pub returns : goal.returns
