@@ -49,6 +49,7 @@ mod Worlds
 pub mod Refusing
 mod NameText
 mod Written
+mod StateTexts
 mod Elsewhere
 pub mod Times
 pub mod FittingRuns

@@ -12,4 +12,5 @@ pub mod Log
 pub mod Keeping
 pub mod Refused
 pub mod Lines
+pub mod StateLines
 pub mod Input

@@ -17,6 +17,7 @@ mod output;
 mod report;
 mod running;
 mod source;
+mod state_lines;
 mod step;
 mod target;
 mod world;

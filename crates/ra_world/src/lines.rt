@@ -69,7 +69,7 @@ fn push_entry(text: &mut String, entry: &Entry) -> Result<(), Memory>
 }
 
 /// Adds a line of a word and the fields of an entry.
-fn push_entry_line(text: &mut String, word: &str, entry: &Entry) -> Result<(), Memory>
+pub fn push_entry_line(text: &mut String, word: &str, entry: &Entry) -> Result<(), Memory>
     ensures ok { OnOk result (string_bytes text.new
         ≡ string_bytes text.old ++ (word.now ++ spec.entry_fields entry.now ++ codes "\n")) }
     ensures err { OnErr result (spec.AddsPrefix (string_bytes text.old) (string_bytes text.new)
@@ -98,7 +98,7 @@ pub fn push_mark_line(text: &mut String, mark: &Mark) -> Result<(), Memory>
 }
 
 /// Adds the line of a total.
-fn push_total_line(text: &mut String, word: &str, total: u128) -> Result<(), Memory>
+pub fn push_total_line(text: &mut String, word: &str, total: u128) -> Result<(), Memory>
     ensures { OnOk result (string_bytes text.new ≡ string_bytes text.old ++ spec.total_line word.now total) }
 {
     text.push_str(word)?;

@@ -1,4 +1,4 @@
-ghost use Rattle.std.specs.Prelude.{◌≡◌, ◌↔◌, [], List, length, slice_get, IsTrue, IsErrOf, IfOk, OnOk};
+ghost use Rattle.std.specs.Prelude.{◌≡◌, ◌↔◌, [], List, length, slice_get, string_bytes, IsTrue, IsErrOf, IfOk, OnOk};
 ghost use Rattle.ra_stamp.specs.declared.message.Message.{Message};
 
 use crate::keeping::{
@@ -8,7 +8,11 @@ use crate::keeping::{
 use crate::log::Log;
 use crate::numbering::{is_held_by, opening_nodes, place_of, queued_at, waiting_at};
 use crate::report::Figures;
-use crate::{NewError, NodeRefusal, Report, Step, StepError, runs_go_on_where_steps_are_allowed};
+use crate::state_lines::state_text;
+use crate::{
+    NewError, NodeRefusal, Report, Step, StepError, marks_of_runs_are_table_runs,
+    runs_go_on_where_steps_are_allowed, tables_of_runs_are_those_of_their_nodes,
+};
 use ra_bag::Bag;
 use ra_node::{Node, Outcome, ReceiveError, events_keep_a_node_consistent};
 use ra_stamp::{Memory, Message, Mode, Name, NodeId};
@@ -53,6 +57,7 @@ impl<const KEEPS_MARKS: u8> WorldOf<KEEPS_MARKS> {
     ghost use Rattle.ra_world.specs.Quiet.{requests_in};
     ghost use Rattle.ra_world.specs.Run.{IsRun, GoesOn, marks_of};
     ghost use Rattle.ra_world.specs.World.{AnswersStep, AreWaiting, AreQueued};
+    ghost use Rattle.ra_world.specs.StateLines.{IsStateText};
     ghost use Rattle.ra_world.specs.Keeping.{Tries};
 
     /// Makes a world of this many nodes, in which nothing has happened yet. The highest number of each resource begins
@@ -226,6 +231,26 @@ impl<const KEEPS_MARKS: u8> WorldOf<KEEPS_MARKS> {
         ensures count { IsNodeNumber self.now.count }
     {
         self.log.sent()
+    }
+
+    /// Returns the lines of the state after the steps so far: how many they were, what each node knows of each of these names,
+    /// the messages under way, these lines about clients, and the requests that wait and hold, which are the lock table. The
+    /// cost is linear in the text and in the number of nodes times that of names, and for a name on which a node has a request
+    /// linear in the number of nodes. Finding the messages takes what `message_at` takes for each.
+    ///
+    /// # Errors
+    ///
+    /// `Memory`: there is none for the text.
+    pub fn state_text(&self, alloc: Global, names: &[Name], clients: &str) -> Result<String, Memory>
+        ensures ok { IfOk result (λ text. IsStateText self.now.count self.now.start self.now.moves names.now clients.now
+            (string_bytes text)) }
+        ensures run { IsRun self.now.count self.now.start self.now.moves }
+        ensures count { IsNodeNumber self.now.count }
+    {
+        marks_of_runs_are_table_runs();
+        tables_of_runs_are_those_of_their_nodes();
+        let steps = self.log.len();
+        state_text(alloc, steps, &self.nodes, &self.under_way, names, clients)
     }
 
     /// Makes the step in which a client asks for a name at a node.

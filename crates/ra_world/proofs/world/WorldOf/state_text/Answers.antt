@@ -1,0 +1,25 @@
+use Rattle.std.proofs.Common.{◌≡◌, ℕ, List, length, string_bytes, sym, ap, ◌∙◌, subst}
+use Rattle.std.specs.Prelude.{IfOk}
+use Rattle.std.proofs.lemmas.Result.{IfOk-weaker}
+use Rattle.ra_stamp.specs.NodeId.{IsNodeNumber}
+use Rattle.ra_node.specs.Node.{NodeState}
+use Rattle.ra_world.specs.Keeping.{nodes_of}
+use Rattle.ra_world.specs.StateLines.{IsStateText, state_text}
+use Rattle.ra_world.specs.World.{WorldState}
+use Rattle.ra_world.proofs.StateTexts.{state_here}
+use Rattle.ra_world.proofs.world.WorldOf.state_text.Goals as goal
+
+pub state_text-requires : goal.state_text-requires
+state_text-requires g c = subst (λ (ns : List NodeState). IsNodeNumber (length ns)) (sym c.deref.ensures.value) c.self.invariant.count
+
+pub returns-clause-ok : goal.returns-clause-ok
+returns-clause-ok g c =
+    let w = c.self.inside in
+    let laws = c.marks_of_runs_are_table_runs.ensures in
+    subst (λ (s : WorldState). IfOk c.state_text.result (λ t. IsStateText s.count s.start s.moves c.args.names.now c.args.clients.now (string_bytes t))) c.self.view_is
+    (IfOk-weaker c.state_text.result _ _
+    (λ t is. state_here w.start w.nodes.items w.under_way.items w.log.moves c.args.names.now c.args.clients.now (string_bytes t) c.self.invariant
+    laws.table c.tables_of_runs_are_those_of_their_nodes.ensures
+    (is ∙ ap (λ (ns : List NodeState). state_text (length ns) c.len-steps.result c.args.names.now (nodes_of ns) w.under_way.items c.args.clients.now) c.deref.ensures.value
+    ∙ ap (λ (n : ℕ). state_text (length w.nodes.items) n c.args.names.now (nodes_of w.nodes.items) w.under_way.items c.args.clients.now) c.len-steps.ensures))
+    c.state_text.ensures)
