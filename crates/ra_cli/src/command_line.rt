@@ -207,18 +207,22 @@ pub fn has_word(words: &[String], sought: &str) -> bool
     false
 }
 
-/// Returns what is to be printed of a run. Returns `None` if the words ask for two things, or for the choices when some may be
-/// repeats, for which there is no word. It does not allocate.
+/// Returns what is to be printed of a run. Returns `None` if the words ask for two things, or for choices when some may be repeats,
+/// for which there is no word. It does not allocate.
 pub fn format_of(policy: &PolicyName, words: &[String], sim: &ArgMatches) -> Option<Format>
-    ensures { IfSome result (λ format. ¬ Any (λ word. string_bytes word ≡ codes "--as-choices") words.now
+    ensures choices { IfSome result (λ format. ¬ Any (λ word. string_bytes word ≡ codes "--as-choices") words.now
         → format ≢ Format.Choices) }
+    ensures shrunk { IfSome result (λ format. ¬ Any (λ word. string_bytes word ≡ codes "--shrink") words.now
+        → format ≢ Format.Shrunk) }
 {
     let repeat: u16 = sim.get_one("repeat")?;
     let has_words = repeat == 0 || !matches!(policy, PolicyName::Faulty { .. });
-    match (sim.get_flag("trace"), has_word(words, "--as-choices")) {
-        (false, false) => Some(Format::Lines),
-        (true, false) => Some(Format::Trace),
-        (false, true) if has_words => Some(Format::Choices),
+    let lists = has_word(words, "--as-choices");
+    match (sim.get_flag("trace"), lists, has_word(words, "--shrink")) {
+        (false, false, false) => Some(Format::Lines),
+        (true, false, false) => Some(Format::Trace),
+        (false, true, false) if has_words => Some(Format::Choices),
+        (false, false, true) if has_words => Some(Format::Shrunk),
         _ => None,
     }
 }
@@ -252,22 +256,25 @@ fn chance_of(policy: PolicyName) -> Option<Option<Faults>>
     }
 }
 
-/// Returns what is printed of a run that was looked for: its trace, unless the choices are asked for. It does not allocate.
+/// Returns what is printed of a run that was looked for: its trace, unless choices are asked for. It does not allocate.
 fn found_format(format: Format) -> Format
-    ensures { format ≢ Format.Choices → result ≢ Format.Choices }
+    ensures choices { format ≢ Format.Choices → result ≢ Format.Choices }
+    ensures shrunk { format ≢ Format.Shrunk → result ≢ Format.Shrunk }
 {
     match format {
-        Format::Choices => Format::Choices,
+        Format::Choices | Format::Shrunk => format,
         _ => Format::Trace,
     }
 }
 
 /// Returns what is looked for among the runs of many seeds, if an end is given. Returns `None` if a format of one run is asked
-/// for, but no end is. It does not allocate.
+/// for, but no end is, or if a finished run is to be shrunk. It does not allocate.
 fn search_of(ending: Option<Ending>, format: Format) -> Option<Option<Search>>
-    ensures { IfSome result (λ find. format ≢ Format.Choices → IfSome find (λ search. search.format ≢ Format.Choices)) }
+    ensures choices { IfSome result (λ find. format ≢ Format.Choices → IfSome find (λ search. search.format ≢ Format.Choices)) }
+    ensures shrunk { IfSome result (λ find. format ≢ Format.Shrunk → IfSome find (λ search. search.format ≢ Format.Shrunk)) }
 {
     match ending {
+        Some(Ending::Finished) if matches!(format, Format::Shrunk) => None,
         Some(ending) => Some(Some(Search {
             ending,
             format: found_format(format),

@@ -77,6 +77,13 @@ ends so or, with --as-choices, its choices, and tries no seed after it; if there
 is none, it prints `none`.
 Example: ra sim --policy seeded --seeds 1..1000 --find stuck < script.toml
 
+--shrink prints the choices of a shorter run that is stuck, too: no client that
+has begun can go on, nothing is under way, and some client waits. One step after
+the other is left out, with all that the client does after it, as long as the
+others, done again, get stuck in fewer steps. If the run is not stuck, it prints
+`none`. Like --as-choices, it needs --repeat 0 under faulty.
+Example: ra sim --policy seeded --seed 7 --shrink < script.toml
+
 Exit status:
   0  every run finished: all operations are done, and nothing waits, is queued
      or is under way. With --find: the printed run finished, or --find stuck

@@ -124,6 +124,11 @@ const SIM_OPTIONS: &[OptionRow] = &[
         help: "Print the choices in place of marks and totals",
         ..FLAG
     },
+    OptionRow {
+        name: "shrink",
+        help: "Print the choices of a shorter run that is stuck, too",
+        ..FLAG
+    },
 ];
 
 /// The options of the command `cluster`.

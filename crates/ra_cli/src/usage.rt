@@ -18,7 +18,7 @@ const SEEDS_POLICY_TEXT: &str = "--seeds requires --policy seeded or faulty; see
 
 /// What is said about seeds with an option that prints one run.
 const SEEDS_FORMAT_TEXT: &str =
-    "--seeds takes --trace or --as-choices only with --find; see ra sim --help";
+    "--seeds takes --trace, --as-choices or --shrink only with --find; see ra sim --help";
 
 /// What is said if an end is looked for without seeds.
 const FIND_TEXT: &str = "--find requires --seeds; see ra sim --help";
@@ -26,6 +26,13 @@ const FIND_TEXT: &str = "--find requires --seeds; see ra sim --help";
 /// What is said about choices that can't be printed.
 const AS_CHOICES_TEXT: &str =
     "--as-choices cannot be used with --trace, nor with --policy faulty unless --repeat is 0; see ra sim --help";
+
+/// What is said about a run that can't be shrunk.
+const SHRINK_TEXT: &str =
+    "--shrink cannot be used with --trace or --as-choices, nor with --policy faulty unless --repeat is 0; see ra sim --help";
+
+/// What is said about a run to be shrunk that is not stuck.
+const SHRINK_FIND_TEXT: &str = "--shrink cannot be used with --find finished; see ra sim --help";
 
 /// What is said about a part of a trace that has no lines.
 const PART_TEXT: &str = "--from must be at least 1, and at most --to; see ra draw --help";
@@ -274,9 +281,9 @@ fn is_seed(text: &str) -> bool {
     seed.is_some()
 }
 
-/// Returns whether the trace or the choices of one run are to be printed.
+/// Returns whether the trace or choices of one run are to be printed.
 fn prints_one_run(sim: &ArgMatches) -> bool {
-    sim.get_flag("trace") || sim.get_flag("as-choices")
+    sim.get_flag("trace") || sim.get_flag("as-choices") || sim.get_flag("shrink")
 }
 
 /// Adds what is wrong with words of the command `sim` that ask for many seeds.
@@ -285,6 +292,8 @@ fn push_survey(note: &mut Note, words: &[String], policy: &PolicyName, sim: &Arg
         note.push(SEEDS_POLICY_TEXT);
     } else if prints_one_run(sim) && !is_given(words, "--find") {
         note.push(SEEDS_FORMAT_TEXT);
+    } else if sim.get_flag("shrink") && text_of(words, "--find") == Some("finished") {
+        note.push(SHRINK_FIND_TEXT);
     } else {
         push_seeds(note, text_of(words, "--seeds").unwrap_or(""));
     }
@@ -293,7 +302,11 @@ fn push_survey(note: &mut Note, words: &[String], policy: &PolicyName, sim: &Arg
 /// Adds what is wrong with words of the command `sim` that name this policy, the next cause after the policy.
 fn push_under(note: &mut Note, words: &[String], policy: &PolicyName, sim: &ArgMatches) {
     if format_of(policy, words, sim).is_none() {
-        note.push(AS_CHOICES_TEXT);
+        note.push(if sim.get_flag("shrink") {
+            SHRINK_TEXT
+        } else {
+            AS_CHOICES_TEXT
+        });
     } else if is_given(words, "--seeds") {
         push_survey(note, words, policy, sim);
     } else {

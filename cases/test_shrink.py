@@ -1,0 +1,25 @@
+"""Random runs that are shrunk by `ra sim --shrink`, beside a model of it."""
+from cases import TEXTS, RaTest, run
+from shrink_model import shrunk
+
+# Scripts of which some runs are stuck: two clients cross, twice, beside two others; and any, if messages are lost.
+CROSSED_TWICE = """
+nodes = 3
+client = [
+    { node = 1, ops = ["X a", "X b", "U b", "U a", "X a", "X b", "U b", "U a"] },
+    { node = 2, ops = ["X b", "X a", "U a", "U b", "X b", "X a", "U a", "U b"] },
+    { node = 3, ops = ["X c", "U c", "X a", "U a"] },
+    { node = 3, ops = ["S d", "U d", "S b", "U b"] },
+]
+"""
+POLICIES = ["--policy seeded", "--policy faulty --lose 50"]
+
+
+class Shrunk(RaTest):
+    def test_runs_are_shrunk_as_by_a_model(self):
+        for script in (CROSSED_TWICE, *(TEXTS[it] for it in ("A_WRITER", "A_TABLE", "A_QUEUE", "A_DEADLOCK"))):
+            for policy in (f"{it} --seed {seed}" for it in POLICIES for seed in range(10)):
+                with self.subTest(script=script, policy=policy):
+                    status, choices, _ = run(f"sim {policy} --as-choices", script.encode())
+                    expected = shrunk(script, choices.decode())
+                    self.expect(words=f"sim {policy} --shrink", input=script, status=status, output=expected)
