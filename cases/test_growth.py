@@ -154,6 +154,13 @@ class Growth(PreloadTest):
             "check", "trace 2 2 0\nask 1 1 r X\nask 2 2 r X\n", "invalid 3 Marks\n",
             "ask 2 2 r X", ": expected the mark 'request 1 1 r X 1' here", NOT_DUE)
 
+    def test_growth_of_a_note_on_a_reply_that_is_awaited(self):
+        given = "trace 2 2 0\nask 1 1 r X\nrequest 1 1 r X 1\nenter 1 1 r X 1\n"
+        cause = ": expected no mark here: client 1 at node 1 still awaits the REPLY of node 2"
+        # Without memory for the request, it is not known that the client waits.
+        less = ": expected no mark here"
+        self.expect_of_line("check", given, "invalid 4 Marks\n", "enter 1 1 r X 1", cause, NOT_DUE, less=less)
+
     def test_growth_of_a_note_on_a_message_that_is_not_under_way(self):
         given = "trace 2 2 0\nask 1 1 r X\nrequest 1 1 r X 1\ndeliver reply 2 1 r 1\n"
         cause = ": this message is not under way: its request has not come to node 2"

@@ -2,6 +2,7 @@
 //! covers the wording of an explanation.
 #![tactic(auto)]
 
+mod awaited;
 mod before;
 mod choosing;
 mod claim;

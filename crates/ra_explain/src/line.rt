@@ -45,7 +45,9 @@ fn push_cause(
         LineCause::Trace(Cause::Line) => {
             push_trace_text(alloc, note, line, tail, version, text);
         }
-        LineCause::Trace(Cause::Marks) => push_due(alloc, note, line, read, text),
+        LineCause::Trace(Cause::Marks) => {
+            push_due(alloc, note, line, read, before, tail.line, text);
+        }
         LineCause::Trace(Cause::Refused) => push_refused(note, line, before, tail.line, text),
         LineCause::Trace(Cause::NotUnderWay) => {
             push_not_under_way(note, line, version, before, tail.line, text);
@@ -63,8 +65,9 @@ fn push_cause(
 /// the end of that line. If they begin with the line before, what comes after `end` is known as such. If they are all that were
 /// read, it is said which mark is due. `feeds` is how many line feeds were read in all: as many as `line` if the line was read to
 /// its line feed, and fewer if it has none or the text ends before it. `before` has followed the lines before that one. If it has,
-/// it is said what is in the way of a mark, why a node refuses a step, and why a message is not under way. The cost is linear in
-/// `read`, plus that of the steps in it for the mark that is due; and linear in how much `before` keeps.
+/// it is said what is in the way of a mark, whose REPLY a client still awaits, why a node refuses a step, and why a message is not
+/// under way. The cost is linear in `read`, plus that of the steps in it for the mark that is due; and linear in how much `before`
+/// keeps.
 ///
 /// # Errors
 ///

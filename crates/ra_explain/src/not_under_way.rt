@@ -47,7 +47,7 @@ fn reply_of(message: &Message) -> Option<Reply> {
 }
 
 /// Returns the message with these words.
-fn message_with(words: &Words) -> Option<Message> {
+pub fn message_with(words: &Words) -> Option<Message> {
     // Zeros come after the words, which have none.
     let (words, _) = cut(words.bytes(), 0);
     let mut line: ArrayVec<u8, 79> = ArrayVec::new();
