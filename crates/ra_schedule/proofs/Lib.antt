@@ -45,3 +45,7 @@ mod SurveyEnds
 mod OldestChoices
 mod Replayed
 mod ShrunkRuns
+mod SinceAsks
+mod ScriptNames
+mod ClientLines
+mod ToldStates

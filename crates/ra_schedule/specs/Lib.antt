@@ -18,3 +18,4 @@ pub mod Telling
 pub mod Finding
 pub mod Shrinking
 pub mod Replaying
+pub mod StateText

@@ -1,12 +1,17 @@
 -- How the driver keeps the progress of the clients. No public contract speaks of it.
 use Rattle.std.specs.Prelude.{◌≡◌, ◌⊎◌, ◌↔◌, ℕ, ◌+◌, ◌^◌, ◌<◌, Bool, true, false, List, [], length, slice_index_or, Some, None, option_map, IsTrue, All}
 use Rattle.ra_stamp.specs.declared.entry.Mark.{Mark}
+use Rattle.ra_stamp.specs.declared.mode.Mode.{Mode}
 use Rattle.ra_world.specs.declared.step.Step.{Step}
+use Rattle.ra_world.specs.declared.step.Step.TheVariants.{Ask}
 use Rattle.ra_world.specs.Traffic.{Move}
 use Rattle.ra_world.specs.World.{WorldState}
+use Rattle.ra_schedule.specs.declared.client_state.ClientState.{ClientState}
+use Rattle.ra_schedule.specs.declared.client_state.ClientState.TheVariants.{Done, Waits, Next}
 use Rattle.ra_schedule.specs.declared.progress.Progress.{Progress}
 use Rattle.ra_schedule.specs.Script.{ScriptState, client_at, op_at}
 use Rattle.ra_schedule.specs.Schedule.{steps_of, steps_in, steps_by, Asks, IsWaiting, Enters}
+use Rattle.ra_schedule.specs.StateText.{WaitsSince}
 
 -- this is the progress of a client after these moves
 pub record IsProgress (client : ℕ) (moves : List Move) (progress : Progress) : Type 0 where
@@ -66,3 +71,14 @@ NoneEnters first marks = (k : ℕ) → k < first → All (λ mark. Enters (k + 1
 abbrev pub recorded : Bool → List Move → List Step
 recorded true moves = steps_of moves
 recorded false moves = []
+
+-- the client waits, and this says since when
+abbrev pub IsWaitingAt : ℕ → List Move → ClientState → Type 0
+IsWaitingAt client moves Done = ⊥
+IsWaitingAt client moves (Waits name mode number) = WaitsSince client moves name mode number
+IsWaitingAt client moves (Next op enabled) = ⊥
+
+-- this says what a client asks for in a step with this number
+abbrev pub IsAskedIn : Step → ℕ → ℕ → ClientState → Type 0
+IsAskedIn step client number state =
+    (node : ℕ) × (name : List ℕ) × (mode : Mode) × (step ≡ Ask node client name mode) × (state ≡ Waits name mode number)

@@ -48,8 +48,8 @@ pub struct Summary {
 pub struct Driven {
     pub steps: Steps,
     pub choices: Choices,
-    turns: u64,
-    report: Report,
+    pub turns: u64,
+    pub report: Report,
     pub finished: bool,
     /// Whether the run is stuck.
     pub stuck: bool,
@@ -158,7 +158,7 @@ pub fn drive_through(
 /// # Errors
 ///
 /// Those of `drive`.
-fn drive_world(
+pub fn drive_world(
     alloc: Global,
     script: &Script,
     policy: &Policy,
@@ -179,7 +179,7 @@ fn drive_world(
 }
 
 /// Reports what a policy made of a script. It takes no memory.
-fn driven_of(script: &Script, world: World, driver: Driver) -> Driven
+pub fn driven_of(script: &Script, world: World, driver: Driver) -> Driven
     requires fit { IsScript script.now }
     requires tracked { Tracks script.now world driver.clients.items }
     ensures steps { result.steps.items ≡ driver.steps.items }
