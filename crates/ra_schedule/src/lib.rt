@@ -22,8 +22,8 @@ mod replaying;
 mod rosters;
 mod script;
 mod seed_range;
-mod shrinking;
 mod showing;
+mod shrinking;
 mod surveying;
 mod word_choice;
 
@@ -41,6 +41,6 @@ pub use observer::Observer;
 pub use outcomes::{Figures, SeedOutcome, Spread, Survey, Tally};
 pub use script::{Op, Script};
 pub use seed_range::SeedRange;
-pub use shrinking::{Shrunk, shrink};
 pub use showing::{Shown, show};
+pub use shrinking::{Shrunk, shrink};
 pub use surveying::{chance, survey};

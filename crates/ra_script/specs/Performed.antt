@@ -16,9 +16,10 @@ use Rattle.ra_schedule.specs.Performing.{ChoosesItself, LosesNothing}
 use Rattle.ra_schedule.specs.Script.{ScriptState}
 use Rattle.ra_schedule.specs.Shrinking.{IsStuckRun, IsLeastOf}
 use Rattle.ra_schedule.specs.Schedule.{Follows, Ends, Stops, RepeatsNothing}
+use Rattle.ra_schedule.specs.StateText.{ShowsState}
 use Rattle.ra_trace.specs.TraceText.{IsTrace}
 use Rattle.ra_script.specs.declared.format.Format.{Format}
-use Rattle.ra_script.specs.declared.format.Format.TheVariants.{Lines, Trace, Choices, Shrunk}
+use Rattle.ra_script.specs.declared.format.Format.TheVariants.{Lines, Trace, Choices, Shrunk, State}
 use Rattle.ra_script.specs.ChoicesText.{Lists}
 use Rattle.ra_script.specs.declared.error.ScriptError.TheVariants as script_fault
 use Rattle.ra_script.specs.declared.error.PerformError.{PerformError}
@@ -45,13 +46,14 @@ SaysShrunk script moves output =
     × Lists text choices.items × (output ≡ text ++ codes "\n"))
     ⊎ ((IsStuckRun script moves → ⊥) × (output ≡ codes "none\n"))
 
--- what the output says of a policy's run of a script: the lines of its report, its trace, its choices, or what it is
--- shrunk to
+-- what the output says of a policy's run of a script: the lines of its report, its trace, its choices, what it is shrunk
+-- to, or the state at its end
 abbrev pub Says : Format → Policy → ScriptState → List Move → Report → List ℕ → Type 0
 Says Lines policy script moves report output = output ≡ report_text report
 Says Trace policy script moves report output = IsTrace script.nodes 0 moves output
 Says Choices policy script moves report output = SaysChoices policy script moves output
 Says Shrunk policy script moves report output = SaysShrunk script moves output
+Says State policy script moves report output = ShowsState script moves output
 
 -- The output says in this format what came of the script that the input is, under this policy, which was followed to
 -- its end. `finished` says whether this run is finished.
@@ -82,6 +84,7 @@ Unwritten Lines policy input = ⊥
 Unwritten Trace policy input = ⊥
 Unwritten Choices policy input = HasNoWords policy input
 Unwritten Shrunk policy input = HasNoWords policy input
+Unwritten State policy input = ⊥
 
 -- when each refusal may come: its cause applies. `Memory` and faults of the reader and the writer come from outside,
 -- but the writer fails only if there is something to write.

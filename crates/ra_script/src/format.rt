@@ -10,4 +10,6 @@ pub enum Format {
     /// If it is stuck, the choices of the least run that is found by leaving out one step after the other, and otherwise the
     /// word `none`.
     Shrunk,
+    /// The lines of the state at its end.
+    State,
 }

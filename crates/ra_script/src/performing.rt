@@ -8,7 +8,7 @@ ghost use Rattle.ra_script.specs.Performed.{IsPerformedAs, PerformsScript, Refus
 use crate::format::Format;
 use crate::laws::{choices_have_words_unless_messages_are_repeated, read_scripts_come_to_rest};
 use crate::{ChoicesError, PerformError, choices_text, read_script};
-use ra_schedule::{Choices, Policy, Script, drive, shrink, summarize};
+use ra_schedule::{Choices, Policy, Script, Shown, drive, show, shrink, summarize};
 use ra_stamp::Memory;
 use ra_trace::trace_text;
 use ra_world::{read_up_to, report_text, runs_are_determined, write_out};
@@ -160,6 +160,25 @@ fn shrunk_of(alloc: Global, policy: &Policy, script: &Script) -> Result<Printed,
     })
 }
 
+/// Drives a cluster through a script by a policy, and returns the lines of the state at the end of its run.
+///
+/// # Errors
+///
+/// The first that holds, except that `Memory` may come before the other:
+///
+/// 1. `Drive`: the policy can't go on.
+/// 2. `Memory`: memory ran out.
+fn state_of(alloc: Global, policy: &Policy, script: &Script) -> Result<Printed, PerformError>
+    ensures ok { (input : List ℕ) → script_of input ≡ Ok script.now
+        → IfOk result (λ printed. IsPerformedAs Format.State policy.now input (string_bytes printed.text) printed.finished) }
+    ensures err { (input : List ℕ) → script_of input ≡ Ok script.now → IfErr result (RefusesAs Format.State policy.now input) }
+    ensures early { IfErr result (λ fault. fault ≢ PerformError.Write) }
+    ensures unread { ¬ IsErrOf result PerformError.Read }
+{
+    let Shown { text, finished } = show(alloc, script, policy, MAX_TURNS)?;
+    Ok(Printed { text, finished })
+}
+
 /// Drives a cluster through a script by a policy, and returns what is written of the run in a format.
 ///
 /// # Errors
@@ -186,6 +205,7 @@ pub fn print_run(
         Format::Trace => trace_of(alloc, policy, script),
         Format::Choices => choices_of(alloc, policy, script),
         Format::Shrunk => shrunk_of(alloc, policy, script),
+        Format::State => state_of(alloc, policy, script),
     }
 }
 
