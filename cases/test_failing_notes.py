@@ -26,6 +26,7 @@ BROKEN = [
     ("sim", "ONE_CLIENT", "request 1 1 r X 1\n", ""),
     ("sim --trace", "ONE_CLIENT", "trace 2 2 0\n", ""),
     ("sim --as-choices", "ONE_CLIENT", "c1 m0 m0 c1\n", ""),
+    ("sim --state", "ONE_CLIENT", "steps 4\n", ""),
     ("sim --policy seeded --seeds 1..2", "ONE_CLIENT", "finished 2 first 1\n", ""),
     ("sim --policy seeded --seeds 1..2 --find finished", "ONE_CLIENT", "trace 2 2 0\n", ""),
     ("cluster", "ONE_CLIENT", "request 1 1 r X 1\n", ""),

@@ -89,6 +89,7 @@ class Growth(PreloadTest):
         self.expect_growth("sim", SCRIPT, TEXTS["ONE_CLIENT_PRINTED"])
         self.expect_growth("sim --trace", SCRIPT, TEXTS["ONE_CLIENT_TRACE"])
         self.expect_growth("sim --as-choices", SCRIPT, "c1 m0 m0 c1\n")
+        self.expect_growth("sim --state", SCRIPT, "steps 4\nnode 1 r 1 idle\nnode 2 r 1 idle\nclient 1 1 done\n")
 
     def test_growth_of_sim_with_many_seeds(self):
         # The client asks, has its answer and leaves, whatever the seed.

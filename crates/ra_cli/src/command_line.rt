@@ -218,11 +218,13 @@ pub fn format_of(policy: &PolicyName, words: &[String], sim: &ArgMatches) -> Opt
     let repeat: u16 = sim.get_one("repeat")?;
     let has_words = repeat == 0 || !matches!(policy, PolicyName::Faulty { .. });
     let lists = has_word(words, "--as-choices");
-    match (sim.get_flag("trace"), lists, has_word(words, "--shrink")) {
-        (false, false, false) => Some(Format::Lines),
-        (true, false, false) => Some(Format::Trace),
-        (false, true, false) if has_words => Some(Format::Choices),
-        (false, false, true) if has_words => Some(Format::Shrunk),
+    let shrinks = has_word(words, "--shrink");
+    match (sim.get_flag("trace"), lists, shrinks, sim.get_flag("state")) {
+        (false, false, false, false) => Some(Format::Lines),
+        (true, false, false, false) => Some(Format::Trace),
+        (false, true, false, false) if has_words => Some(Format::Choices),
+        (false, false, true, false) if has_words => Some(Format::Shrunk),
+        (false, false, false, true) => Some(Format::State),
         _ => None,
     }
 }
@@ -273,14 +275,15 @@ fn search_of(ending: Option<Ending>, format: Format) -> Option<Option<Search>>
     ensures choices { IfSome result (λ find. format ≢ Format.Choices → IfSome find (λ search. search.format ≢ Format.Choices)) }
     ensures shrunk { IfSome result (λ find. format ≢ Format.Shrunk → IfSome find (λ search. search.format ≢ Format.Shrunk)) }
 {
-    match ending {
-        Some(Ending::Finished) if matches!(format, Format::Shrunk) => None,
-        Some(ending) => Some(Some(Search {
+    match (ending, format) {
+        (_, Format::State) => None,
+        (Some(Ending::Finished), Format::Shrunk) => None,
+        (Some(ending), _) => Some(Some(Search {
             ending,
             format: found_format(format),
         })),
-        None if matches!(format, Format::Lines) => Some(None),
-        None => None,
+        (None, Format::Lines) => Some(None),
+        (None, _) => None,
     }
 }
 

@@ -67,6 +67,11 @@ so that you can edit them. A repeated message cannot be written as a choice, so
 faulty needs --repeat 0 here.
 Example: ra sim --policy seeded --seed 7 --as-choices < script.toml
 
+--state prints the state at the end of the run: what each node knows of each
+name, the messages under way with the places that --choices takes, what each
+client is at, and which requests wait and hold.
+Example: ra sim --policy listed --choices \"c1 m0\" --state < script.toml
+
 --seeds A..B runs the script under seeded or faulty with each seed from A to B,
 0 <= A <= B < 2^64. It prints how many runs ended finished and stuck, the first
 seed of each, and the least and the most turns and messages of a run.

@@ -129,6 +129,11 @@ const SIM_OPTIONS: &[OptionRow] = &[
         help: "Print the choices of a shorter run that is stuck, too",
         ..FLAG
     },
+    OptionRow {
+        name: "state",
+        help: "Print the final state in place of marks and totals",
+        ..FLAG
+    },
 ];
 
 /// The options of the command `cluster`.

@@ -29,10 +29,14 @@ const AS_CHOICES_TEXT: &str =
 
 /// What is said about a run that can't be shrunk.
 const SHRINK_TEXT: &str =
-    "--shrink cannot be used with --trace or --as-choices, nor with --policy faulty unless --repeat is 0; see ra sim --help";
+    "--shrink cannot be used with --trace, --as-choices or --state, nor with --policy faulty unless --repeat is 0; see ra sim --help";
 
 /// What is said about a run to be shrunk that is not stuck.
 const SHRINK_FIND_TEXT: &str = "--shrink cannot be used with --find finished; see ra sim --help";
+
+/// What is said about a state that can't be printed.
+const STATE_TEXT: &str =
+    "--state cannot be used with --trace, --as-choices, --shrink or --seeds; see ra sim --help";
 
 /// What is said about a part of a trace that has no lines.
 const PART_TEXT: &str = "--from must be at least 1, and at most --to; see ra draw --help";
@@ -290,6 +294,8 @@ fn prints_one_run(sim: &ArgMatches) -> bool {
 fn push_survey(note: &mut Note, words: &[String], policy: &PolicyName, sim: &ArgMatches) {
     if !matches!(policy, PolicyName::Seeded(_) | PolicyName::Faulty { .. }) {
         note.push(SEEDS_POLICY_TEXT);
+    } else if sim.get_flag("state") {
+        note.push(STATE_TEXT);
     } else if prints_one_run(sim) && !is_given(words, "--find") {
         note.push(SEEDS_FORMAT_TEXT);
     } else if sim.get_flag("shrink") && text_of(words, "--find") == Some("finished") {
@@ -302,7 +308,9 @@ fn push_survey(note: &mut Note, words: &[String], policy: &PolicyName, sim: &Arg
 /// Adds what is wrong with words of the command `sim` that name this policy, the next cause after the policy.
 fn push_under(note: &mut Note, words: &[String], policy: &PolicyName, sim: &ArgMatches) {
     if format_of(policy, words, sim).is_none() {
-        note.push(if sim.get_flag("shrink") {
+        note.push(if sim.get_flag("state") {
+            STATE_TEXT
+        } else if sim.get_flag("shrink") {
             SHRINK_TEXT
         } else {
             AS_CHOICES_TEXT

@@ -174,8 +174,11 @@ fn growth_of_a_performance(rt: HostRuntime) {
         try_format(rt.alloc(), Format::Lines),
         try_format(rt.alloc(), Format::Trace),
     );
-    let choices = try_format(rt.alloc(), Format::Choices);
-    assert_grown(&rt, both(both(lines, trace), choices));
+    let (choices, state) = (
+        try_format(rt.alloc(), Format::Choices),
+        try_format(rt.alloc(), Format::State),
+    );
+    assert_grown(&rt, both(both(lines, trace), both(choices, state)));
 }
 
 /// What is said of a line if nothing more precise is known.

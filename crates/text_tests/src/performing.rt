@@ -2,7 +2,7 @@
 use crate::acts::assert_whole;
 use crate::asserting::assert_row;
 use crate::helpers::{ONE_LOCK, ONE_LOCK_LENGTH, ONE_LOCK_SCRIPT, failing};
-use Format::{Choices, Lines, Trace};
+use Format::{Choices, Lines, State, Trace};
 use ra_schedule::Policy;
 use ra_script::{Format, PerformError, perform, perform_as, perform_trace};
 use std::alloc::Global;
@@ -31,12 +31,23 @@ pub const ONE_LOCK_CHOICES: &str = "c1 m0 m0 c1\n";
 /// How many bytes it has.
 const ONE_LOCK_CHOICES_LENGTH: usize = 12;
 
+/// The lines of the state at its end.
+pub const ONE_LOCK_STATE: &str = "steps 4
+node 1 r 1 idle
+node 2 r 1 idle
+client 1 1 done
+";
+
+/// How many bytes they have.
+const ONE_LOCK_STATE_LENGTH: usize = 56;
+
 /// Returns what is written of the script.
 pub fn text_of(format: Format) -> &'static str {
     match format {
         Lines => ONE_LOCK_LINES,
         Trace => ONE_LOCK,
         Choices => ONE_LOCK_CHOICES,
+        State => ONE_LOCK_STATE,
     }
 }
 
@@ -71,7 +82,7 @@ pub fn performed(
     match format {
         Lines => perform(alloc, reader, writer, policy),
         Trace => perform_trace(alloc, reader, writer, policy),
-        Choices => perform_as(alloc, reader, writer, Choices, policy),
+        Choices | State => perform_as(alloc, reader, writer, format, policy),
     }
 }
 
@@ -104,6 +115,7 @@ fn a_reader_that_fails_behind_any_byte_is_a_fault(rt: HostRuntime) {
     assert_unread(&rt, Lines);
     assert_unread(&rt, Trace);
     assert_unread(&rt, Choices);
+    assert_unread(&rt, State);
 }
 
 /// Asserts that the fault of a writer after this many bytes is named, and just these are written.
@@ -145,4 +157,5 @@ fn a_writer_that_fails_behind_any_byte_has_those_before(rt: HostRuntime) {
     assert_unwritten(&rt, Lines, ONE_LOCK_LINES_LENGTH);
     assert_unwritten(&rt, Trace, ONE_LOCK_LENGTH);
     assert_unwritten(&rt, Choices, ONE_LOCK_CHOICES_LENGTH);
+    assert_unwritten(&rt, State, ONE_LOCK_STATE_LENGTH);
 }
