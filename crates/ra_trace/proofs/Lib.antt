@@ -17,6 +17,7 @@ pub mod Lengths
 pub mod Ends
 pub mod Along
 pub mod Inputs
+pub mod Telling
 pub mod Shown
 pub mod MarkRefusals
 pub mod MarkVerdicts

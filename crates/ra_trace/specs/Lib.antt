@@ -3,6 +3,7 @@ pub mod Forms
 pub mod Ranges
 pub mod TraceText
 pub mod Verdict
+pub mod Due
 pub mod Below
 pub mod Checking
 pub mod Reading

@@ -1,4 +1,5 @@
 ghost use Rattle.std.specs.Prelude.{◌≡◌, ◌≤◌, ◌-◌, ℕ, List, Option, length, IfOk};
+ghost use Rattle.ra_trace.specs.Due.{TellsDue};
 ghost use Rattle.ra_trace.specs.declared.verdict.Verdict.{Verdict};
 ghost use Rattle.ra_trace.specs.Along.{IsAlong, Judged, Opens, SomeTaken, Turns};
 ghost use Rattle.ra_trace.specs.Check.{ChecksTrace};
@@ -11,6 +12,7 @@ use crate::line::Line;
 use crate::reading::{LineBytes, is_at_end, next_line};
 use crate::source::{ByBytes, FromBuffer, LineSource};
 use crate::{Cause, TraceError, Verdict};
+use ra_stamp::Mark;
 use std::alloc::Global;
 use std::io::{BufRead, Read};
 
@@ -117,7 +119,8 @@ fn take_next<R: Read, S: LineSource<R>>(
     }
 }
 
-/// Returns the verdict of a text whose first line is these bytes, from the checker after that line.
+/// Returns the verdict of a text whose first line is these bytes, from the checker after that line. If a line is wrong for its
+/// marks, `due` becomes the mark that was due there.
 ///
 /// # Errors
 ///
@@ -128,18 +131,25 @@ fn verdict_behind<R: Read, S: LineSource<R>>(
     bytes: &mut LineBytes,
     checker: &mut Checker,
     limit: usize,
+    due: &mut Option<Mark>,
 ) -> Result<Verdict, TraceError>
     requires most { limit ≤ 16777216 }
     requires within { length bytes.old.items ≤ limit }
-    ensures { (old : Option (List ℕ))
+    ensures answers { (old : Option (List ℕ))
         → IsAlong limit (limit - length bytes.old.items) old (R.remaining reader.old) checker.old 2
         → Answers limit old (R.remaining reader.new) result }
+    ensures due { (old : Option (List ℕ))
+        → IsAlong limit (limit - length bytes.old.items) old (R.remaining reader.old) checker.old 2
+        → TellsDue old result due.new }
 {
     let mut left = limit - bytes.len();
     let mut number = 2;
     loop {
+        // Before the line, since nothing is promised of the checker after a wrong one.
+        let expected = checker.due();
         let next = take_next::<R, S>(alloc, reader, bytes, checker, left)?;
         if let Next::Wrong(cause) = next {
+            *due = expected;
             return Ok(Verdict::Invalid {
                 line: number,
                 cause,
@@ -153,7 +163,8 @@ fn verdict_behind<R: Read, S: LineSource<R>>(
     }
 }
 
-/// Returns the verdict of a text of at most `limit` bytes, line by line: at the first wrong line, or at the end of the text.
+/// Returns the verdict of a text of at most `limit` bytes, line by line: at the first wrong line, or at the end of the text. If a
+/// line is wrong for its marks, `due` becomes the mark that was due there.
 ///
 /// # Errors
 ///
@@ -162,14 +173,23 @@ fn verdict_of<R: Read, S: LineSource<R>>(
     alloc: Global,
     reader: &mut R,
     limit: usize,
+    due: &mut Option<Mark>,
 ) -> Result<Verdict, TraceError>
     requires { limit ≤ 16777216 }
-    ensures { Answers limit (R.remaining reader.old) (R.remaining reader.new) result }
+    ensures answers { Answers limit (R.remaining reader.old) (R.remaining reader.new) result }
+    ensures due { TellsDue (R.remaining reader.old) result due.new }
 {
     let mut bytes = LineBytes::new();
     match take_first::<R, S>(alloc, reader, &mut bytes, limit)? {
         Some(mut checker) => {
-            let verdict = verdict_behind::<R, S>(alloc, reader, &mut bytes, &mut checker, limit);
+            let verdict = verdict_behind::<R, S>(
+                alloc,
+                reader,
+                &mut bytes,
+                &mut checker,
+                limit,
+                due,
+            );
             // By a call, since to drop each of its parts here is long to prove.
             drop(checker);
             verdict
@@ -178,7 +198,8 @@ fn verdict_of<R: Read, S: LineSource<R>>(
     }
 }
 
-/// Checks a text as `check_within` does, and takes the bytes from the reader in the way of `S`.
+/// Checks a text as `check_within` does, and takes the bytes from the reader in the way of `S`. If a line is wrong for its marks,
+/// `due` becomes the mark that was due there.
 ///
 /// # Errors
 ///
@@ -187,13 +208,15 @@ fn check_by<R: Read, S: LineSource<R>>(
     alloc: Global,
     reader: &mut R,
     limit: u64,
+    due: &mut Option<Mark>,
 ) -> Result<Verdict, TraceError>
     requires { limit ≤ 16777216 }
-    ensures { ChecksTrace limit (R.remaining reader.old) (R.remaining reader.new) result }
+    ensures checks { ChecksTrace limit (R.remaining reader.old) (R.remaining reader.new) result }
+    ensures due { TellsDue (R.remaining reader.old) result due.new }
 {
     each_text_has_one_verdict();
     traces_rest_on_runs();
-    verdict_of::<R, S>(alloc, reader, limit as usize)
+    verdict_of::<R, S>(alloc, reader, limit as usize, due)
 }
 
 /// Checks the text of a trace of either version. Returns that it is the trace of a run, with the counts of requests and
@@ -222,7 +245,7 @@ pub fn check_within<R: Read>(
     requires { limit ≤ 16777216 }
     ensures { ChecksTrace limit (R.remaining reader.old) (R.remaining reader.new) result }
 {
-    check_by::<R, ByBytes>(alloc, reader, limit)
+    check_by::<R, ByBytes>(alloc, reader, limit, &mut None)
 }
 
 /// Checks the text of a trace of at most 16,777,216 bytes, as `check_within` does.
@@ -246,5 +269,23 @@ pub fn check<R: Read>(alloc: Global, reader: &mut R) -> Result<Verdict, TraceErr
 pub fn check_buffered<B: BufRead>(alloc: Global, reader: &mut B) -> Result<Verdict, TraceError>
     ensures { ChecksTrace 16777216 (B.remaining reader.old) (B.remaining reader.new) result }
 {
-    check_by::<B, FromBuffer>(alloc, reader, MAX_TEXT)
+    check_buffered_with_due(alloc, reader, &mut None)
+}
+
+/// Checks the text of a trace as [`check_buffered`] does. If the verdict is that a line is wrong for its marks (`Cause::Marks`),
+/// `due` becomes the next mark of the step before, which should come in that line, or `None` if all of them came before. For any
+/// other result nothing is promised of `due`.
+///
+/// # Errors
+///
+/// Those of `check_within`.
+pub fn check_buffered_with_due<B: BufRead>(
+    alloc: Global,
+    reader: &mut B,
+    due: &mut Option<Mark>,
+) -> Result<Verdict, TraceError>
+    ensures checks { ChecksTrace 16777216 (B.remaining reader.old) (B.remaining reader.new) result }
+    ensures due { TellsDue (B.remaining reader.old) result due.new }
+{
+    check_by::<B, FromBuffer>(alloc, reader, MAX_TEXT, due)
 }

@@ -1,4 +1,4 @@
-ghost use Rattle.std.specs.Prelude.{◌≡◌, ◌≢◌, ◌⊎◌, ◌<◌, ◌+◌, List, ◌∷◌, [], false, drop, length, IfOk, IfErr, IfSome, IsNone, IsTrue};
+ghost use Rattle.std.specs.Prelude.{◌≡◌, ◌≢◌, ◌⊎◌, ◌<◌, ◌+◌, List, ◌∷◌, [], false, drop, length, slice_get, IfOk, IfErr, IfSome, IsNone, IsTrue};
 ghost use Rattle.ra_stamp.specs.declared.entry.Mark.{Mark};
 ghost use Rattle.ra_table.specs.Laws.{AllowsMark};
 ghost use Rattle.ra_world.specs.Quiet.{requests_in};
@@ -130,6 +130,13 @@ impl Checker {
             requests: self.world.requests(),
             messages: self.world.sent(),
         }
+    }
+
+    /// Returns the next mark of the last step, if one has not come yet. It does not allocate.
+    pub fn due(&self) -> Option<Mark>
+        ensures { result ≡ slice_get self.now.marks.items self.now.come }
+    {
+        self.marks.at(self.come)
     }
 
     /// Returns whether a mark of the last step has not come yet.

@@ -21,7 +21,7 @@ mod verdict;
 mod version;
 mod writing;
 
-pub use check_text::{check, check_buffered, check_within};
+pub use check_text::{check, check_buffered, check_buffered_with_due, check_within};
 pub use error::{TraceError, WriteTraceError};
 pub use fields::{client_of, cut, mode_of, name_of, node_of, start_of};
 pub use forms::behind;

@@ -3,6 +3,7 @@ use Rattle.std.proofs.lemmas.Result.{err_from_is_err_and}
 use Rattle.ra_trace.specs.Along.{IsAlong, IsDone}
 use Rattle.ra_trace.proofs.Along.{answers_at_end, right_turns, some_taken, at_first, few_taken, fewer_left, still_short}
 use Rattle.ra_trace.proofs.Shown.{at_most}
+use Rattle.ra_trace.proofs.Telling.{tells_at, none_at_end, none_at_fault}
 use Rattle.ra_trace.proofs.check_text.verdict_behind.Goals as goal
 
 pub overflow_sub-left : goal.overflow_sub-left
@@ -42,17 +43,17 @@ loop-next-preserved g c =
           c.loop-next.invariant.short;
     }
 
-pub returns-in_err-next : goal.returns-in_err-next
-returns-in_err-next g c old first =
+pub returns-in_err-next-clause-answers : goal.returns-in_err-next-clause-answers
+returns-in_err-next-clause-answers g c old first =
     let p = err_from_is_err_and c.from_residual.result c.from_residual.ensures.1 in
     rw (p.1, p.2) (c.in_err-next.ensures.turned c.args.limit c.loop-next.number old (c.loop-next.invariant.along old first))
 
-pub returns-in-Wrong : goal.returns-in-Wrong
-returns-in-Wrong g c old first =
+pub returns-in-Wrong-clause-answers : goal.returns-in-Wrong-clause-answers
+returns-in-Wrong-clause-answers g c old first =
     rw c.in-Wrong.is at (c.in_ok-next.ensures.turned c.args.limit c.loop-next.number old (c.loop-next.invariant.along old first))
 
-pub returns-in-Last : goal.returns-in-Last
-returns-in-Last g c old first =
+pub returns-in-Last-clause-answers : goal.returns-in-Last-clause-answers
+returns-in-Last-clause-answers g c old first =
     let bytes = c.take_next.new.bytes.items in
     let after = c.take_next.new.checker in
     let behind = g.R.Read.remaining c.take_next.new.reader in
@@ -61,3 +62,18 @@ returns-in-Last g c old first =
     c.ending.result
     (subst (λ (n : ℕ). IsDone c.args.limit (c.loop-next.left - n) old behind after (c.loop-next.number + 1)) (sym c.len-left.ensures.value) done)
     c.ending.ensures
+
+pub returns-in_err-next-clause-due : goal.returns-in_err-next-clause-due
+returns-in_err-next-clause-due g c old first =
+    let p = err_from_is_err_and c.from_residual.result c.from_residual.ensures.1 in
+    rw (p.1, p.2) (none_at_fault old _ _)
+
+pub returns-in-Wrong-clause-due : goal.returns-in-Wrong-clause-due
+returns-in-Wrong-clause-due g c old first =
+    tells_at c.args.limit c.loop-next.left old (g.R.Read.remaining c.loop-next.reader) c.loop-next.checker c.loop-next.number c.in-Wrong.cause c.due-expected.result
+    (c.loop-next.invariant.along old first) c.due-expected.ensures
+
+pub returns-in-Last-clause-due : goal.returns-in-Last-clause-due
+returns-in-Last-clause-due g c old first =
+    none_at_end (c.loop-next.left - c.len-left.result) old (g.R.Read.remaining c.take_next.new.reader) (g.R.Read.remaining c.ending.new.reader)
+    c.take_next.new.checker (c.loop-next.number + 1) c.ending.result _ c.ending.ensures
