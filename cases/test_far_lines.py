@@ -166,10 +166,13 @@ class FarLines(RaTest):
             self.expect_said("check", before + after, cause, said)
             self.expect_said("draw", before + after, cause, said)
 
-    def test_a_mark_that_is_not_due_far_on_is_explained_if_it_was_to_be_drawn(self):
+    def test_a_mark_that_is_not_due_far_on_is_explained(self):
         before = ["trace 2 2 0", "ask 1 1 r X", "request 1 1 r X 1"] + REPEATS * ["repeat request 1 2 r X 1"]
-        self.expect_said("draw", before + ["enter 1 1 r X 1"], "Marks", "expected no mark here")
-        self.expect_said("draw", before + ["ask 2 2 r X", "end"], "Marks", "expected the mark 'request 2 2 r X 1' here")
+        for words in ("check", "draw"):
+            early = "expected no mark here: client 1 at node 1 still awaits the REPLY of node 2"
+            self.expect_said(words, before + ["enter 1 1 r X 1"], "Marks", early)
+            due = "expected the mark 'request 2 2 r X 1' here"
+            self.expect_said(words, before + ["ask 2 2 r X", "end"], "Marks", due)
 
     def test_no_more_is_followed_than_there_is_room_for(self):
         open_ones = [f"request 1 7 n{place} X 1" for place in range(MOST_OPEN)]

@@ -151,9 +151,10 @@ class Growth(PreloadTest):
             "ask 3 1 r X", ": there is no node 3: the highest node of the trace is 2", REFUSED)
 
     def test_growth_of_a_note_on_a_mark_that_is_not_due(self):
-        self.expect_of_line(
-            "check", "trace 2 2 0\nask 1 1 r X\nask 2 2 r X\n", "invalid 3 Marks\n",
-            "ask 2 2 r X", ": expected the mark 'request 1 1 r X 1' here", NOT_DUE)
+        for words in ("check", "draw"):
+            self.expect_of_line(
+                words, "trace 2 2 0\nask 1 1 r X\nask 2 2 r X\n", "invalid 3 Marks\n",
+                "ask 2 2 r X", ": expected the mark 'request 1 1 r X 1' here", NOT_DUE)
 
     def test_growth_of_a_note_on_a_reply_that_is_awaited(self):
         given = "trace 2 2 0\nask 1 1 r X\nrequest 1 1 r X 1\nenter 1 1 r X 1\n"

@@ -56,7 +56,11 @@ fn draw_trace<R: Read, W: Write>(
         Ok(Verdict::Valid { .. }) => Ok(None),
         Ok(Verdict::Invalid { line, cause }) => denied(
             verdict_text(alloc, &Verdict::Invalid { line, cause }),
-            Remark::NoTrace { line, cause },
+            Remark::NoTrace {
+                line,
+                cause,
+                due: None,
+            },
         ),
         Err(fault) => Err(fault),
     }

@@ -97,7 +97,7 @@ fn cause_of(alloc: Global, words: &[String], seen: &Seen, remark: &Remark) -> Sa
         Remark::SomeUnfinished => Said::Text(SEEDS_LEFT),
         Remark::NoneFinished => Said::Text(NO_SEED_DONE),
         Remark::Ends { sent } => of_end(alloc, seen, *sent),
-        Remark::NoTrace { line, cause } => Said::Line {
+        Remark::NoTrace { line, cause, .. } => Said::Line {
             line: *line,
             text: cause_text(*cause),
         },

@@ -4,6 +4,7 @@ ghost use Rattle.std.specs.Prelude.{◌≡◌};
 use crate::refusal::Refusal;
 use crate::wrong_line::WrongLine;
 use ra_book::TextCause;
+use ra_stamp::Mark;
 use ra_trace::{Cause, MarkCause, MarksVerdict, Verdict};
 
 /// The run ended with something left to do, the text is not a trace or not a mark log, or the books do not settle.
@@ -21,10 +22,12 @@ pub enum Remark {
     SomeUnfinished,
     /// The run of each seed ended so, and a finished one was looked for.
     NoneFinished,
-    /// The text is not a trace: its first wrong line, and why.
+    /// The text is not a trace: its first wrong line, and why. If it is wrong for its marks, the one that is due there, if one is;
+    /// of a text to be drawn that is not told.
     NoTrace {
         line: u64,
         cause: Cause,
+        due: Option<Mark>,
     },
     /// The text is not a book: its first line is not that of a book.
     NoBook,
@@ -89,11 +92,11 @@ impl Outcome {
     }
 }
 
-/// Returns what there is to say of a verdict.
-pub fn remark_of(verdict: &Verdict) -> Option<Remark> {
+/// Returns what there is to say of a verdict, and which mark is due if the verdict is that a line is wrong for its marks.
+pub fn remark_of(verdict: &Verdict, due: Option<Mark>) -> Option<Remark> {
     match *verdict {
         Verdict::Valid { messages, .. } => Some(Remark::Ends { sent: messages }),
-        Verdict::Invalid { line, cause } => Some(Remark::NoTrace { line, cause }),
+        Verdict::Invalid { line, cause } => Some(Remark::NoTrace { line, cause, due }),
     }
 }
 

@@ -15,8 +15,8 @@ use ra_explain::{
 };
 use ra_schedule::{Policy, chance};
 use ra_script::{PerformError, explain_script};
-use ra_stamp::Memory;
-use ra_trace::Version;
+use ra_stamp::{Mark, Memory};
+use ra_trace::{Cause, Version, check_buffered_with_due};
 use ra_world::cut;
 use std::alloc::Global;
 
@@ -224,6 +224,25 @@ fn place_in(
     }
 }
 
+/// Returns the mark that is due at the first wrong line of a text, which is wrong for its marks. If memory runs out, it is not known.
+fn due_in(alloc: Global, text: &[u8]) -> LineCause {
+    let (mut rest, mut due) = (text, None);
+    match check_buffered_with_due(alloc, &mut rest, &mut due) {
+        Ok(_) => LineCause::Due(due),
+        Err(_) => LineCause::Trace(Cause::Marks),
+    }
+}
+
+/// Returns why a line of a trace is wrong, with the mark that is due there. A text that was to be drawn is checked once more for
+/// that.
+fn cause_in(alloc: Global, drawn: &[u8], cause: Cause, due: Option<Mark>) -> LineCause {
+    match cause {
+        Cause::Marks if drawn.is_empty() => LineCause::Due(due),
+        Cause::Marks => due_in(alloc, drawn),
+        _ => LineCause::Trace(cause),
+    }
+}
+
 /// Returns what there is to say of the place of what a remark is about, or `None`. A text that was to be drawn, and is not of its
 /// kind, is `drawn`.
 pub fn place_of(
@@ -235,9 +254,10 @@ pub fn place_of(
     last_seed: Option<u64>,
 ) -> Option<String> {
     let said = match *remark {
-        Remark::NoTrace { line, cause } => {
+        Remark::NoTrace { line, cause, due } => {
             let text = cause_text(cause);
-            line_place(alloc, seen, drawn, line, LineCause::Trace(cause), text)
+            let why = cause_in(alloc, drawn, cause, due);
+            line_place(alloc, seen, drawn, line, why, text)
         }
         Remark::NoLog { line, cause } => {
             let text = mark_cause_text(cause);

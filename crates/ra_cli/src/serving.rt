@@ -45,7 +45,7 @@ use crate::{AnswerError, CommandFault, answer};
 use ra_draw::{DrawError, Part};
 use ra_schedule::{Ending, Faults, Observer, Policy};
 use ra_script::{ChoicesError, Format, PerformError, perform_as, read_choices};
-use ra_trace::{MarksVerdict, TraceError, Verdict, check_buffered, check_marks_buffered};
+use ra_trace::{MarksVerdict, TraceError, Verdict, check_buffered_with_due, check_marks_buffered};
 use ra_world::write_out;
 use std::alloc::Global;
 use std::io::{BufRead, Read, Write};
@@ -298,14 +298,15 @@ fn judge<R: BufRead, W: Write>(alloc: Global, reader: &mut R, writer: &mut W) ->
     ensures broken { (words : List (List ℕ)) → (HasMarksWord words → ⊥) → result.status ≡ 1
         → IsBroken words (R.remaining reader.old) (W.contents writer.old) (W.contents writer.new) }
 {
-    let verdict = match check_buffered(alloc, reader) {
+    let mut due = None;
+    let verdict = match check_buffered_with_due(alloc, reader, &mut due) {
         Ok(verdict) => verdict,
         Err(fault) => return refuse(writer, Refusal::Check(fault)),
     };
     match verdict_text(alloc, &verdict) {
         Ok(text) => {
             let status = written(writer, text.as_bytes(), status_of(&verdict));
-            Outcome::judged(status, remark_of(&verdict))
+            Outcome::judged(status, remark_of(&verdict, due))
         }
         Err(_) => refuse(writer, Refusal::Check(TraceError::Memory)),
     }
@@ -553,7 +554,8 @@ pub fn serve<T: Threads + Wait + Sync, R: BufRead, W: Write>(
 ///
 /// While many seeds take long, it writes there how far it is. Each line begins with `ra: `. Nothing of it goes to `writer`, and
 /// it is left out if memory or `notes` fails, which changes nothing else. To find the place in a script it is read once more. To
-/// find which client waits for which it is run once more. For the mark that is due, the steps of a trace are made once more.
+/// find which client waits for which it is run once more. For the mark that is due, a trace that was to be drawn is checked once
+/// more.
 pub fn serve_with_notes<T: Threads + Wait + Sync, R: BufRead, W: Write, N: Write>(
     rt: &T,
     alloc: Global,

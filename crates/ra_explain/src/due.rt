@@ -1,6 +1,5 @@
 //! Which mark is due at a line of a trace.
 use crate::awaited::push_awaited;
-use crate::course::Course;
 use crate::open_text::OpenText;
 use ra_stamp::Mark;
 use ra_world::{Note, mark_line};
@@ -18,32 +17,13 @@ fn push_mark(alloc: Global, note: &mut Note, mark: &Mark) {
     }
 }
 
-/// Adds which mark is due at the line with the number `line` of a trace, or that no mark is due. If that is not known,
-/// it adds `other`. It is known if the text begins with the first line and ends with that one, and memory does not run
-/// out. If no mark is due, it adds which REPLY the client still awaits that the line lets in, if `before`, which has followed
-/// the lines before it, knows that. The cost is linear in the text, plus that of the steps in it, and in how much `before` keeps.
+/// Adds which mark is due at line `line` of a trace. If none is, it adds that, and which REPLY the client still awaits that the line
+/// lets in, if that is known.
 pub fn push_due(
     alloc: Global,
     note: &mut Note,
     line: u64,
-    text: &[u8],
-    before: &OpenText,
-    shown: &[u8],
-    other: &str,
-) {
-    match Course::at_line(alloc, note, line, text) {
-        Some(course) => push_known(alloc, note, line, before, shown, &course.due()),
-        None => note.push(other),
-    }
-}
-
-/// Adds which mark is due at line `line` of a trace. If none is, it adds that, and which REPLY the client still awaits that the line
-/// lets in, if that is known.
-fn push_known(
-    alloc: Global,
-    note: &mut Note,
-    line: u64,
-    before: &OpenText,
+    text: &OpenText,
     shown: &[u8],
     due: &Option<Mark>,
 ) {
@@ -55,7 +35,7 @@ fn push_known(
         }
         None => {
             note.push("expected no mark here");
-            push_awaited(note, line, before, shown);
+            push_awaited(note, line, text, shown);
         }
     }
 }

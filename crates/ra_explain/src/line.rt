@@ -6,7 +6,7 @@ use crate::obstacle::push_obstacle;
 use crate::open_text::OpenText;
 use crate::refused_step::push_refused;
 use crate::tail::{Tail, tail_of};
-use ra_stamp::Memory;
+use ra_stamp::{Mark, Memory};
 use ra_trace::{Cause, MarkCause, Version};
 use ra_world::Note;
 use std::alloc::Global;
@@ -15,6 +15,8 @@ use std::alloc::Global;
 #[derive(Clone, Copy, Debug)]
 pub enum LineCause {
     Trace(Cause),
+    /// It is wrong for its marks: this mark is due, or none is.
+    Due(Option<Mark>),
     Marks(MarkCause),
 }
 
@@ -36,7 +38,6 @@ fn push_cause(
     version: Option<Version>,
     line: u64,
     tail: &Tail<'_>,
-    read: &[u8],
     before: &OpenText,
     cause: LineCause,
     text: &str,
@@ -45,9 +46,8 @@ fn push_cause(
         LineCause::Trace(Cause::Line) => {
             push_trace_text(alloc, note, line, tail, version, text);
         }
-        LineCause::Trace(Cause::Marks) => {
-            push_due(alloc, note, line, read, before, tail.line, text);
-        }
+        LineCause::Trace(Cause::Marks) => note.push(text),
+        LineCause::Due(due) => push_due(alloc, note, line, before, tail.line, &due),
         LineCause::Trace(Cause::Refused) => push_refused(note, line, before, tail.line, text),
         LineCause::Trace(Cause::NotUnderWay) => {
             push_not_under_way(note, line, version, before, tail.line, text);
@@ -62,12 +62,11 @@ fn push_cause(
 /// Returns what is said of the first wrong line of a text, the one with the number `line`, counted from 1: which it is, the line
 /// itself, and what is wrong with it. The last is `text` if nothing more precise is found. `version` is that which the first line
 /// of a trace names, as far as it is known ([`version_of`](crate::version_of)). `read` are the last bytes that were read, up to
-/// the end of that line. If they begin with the line before, what comes after `end` is known as such. If they are all that were
-/// read, it is said which mark is due. `feeds` is how many line feeds were read in all: as many as `line` if the line was read to
-/// its line feed, and fewer if it has none or the text ends before it. `before` has followed the lines before that one. If it has,
-/// it is said what is in the way of a mark, whose REPLY a client still awaits, why a node refuses a step, and why a message is not
-/// under way. The cost is linear in `read`, plus that of the steps in it for the mark that is due; and linear in how much `before`
-/// keeps.
+/// the end of that line. If they begin with the line before, what comes after `end` is known as such. `feeds` is how many line
+/// feeds were read in all: as many as `line` if the line was read to its line feed, and fewer if it has none or the text ends
+/// before it. `before` has followed the lines before that one. If it has, it is said what is in the way of a mark, whose REPLY a
+/// client still awaits, why a node refuses a step, and why a message is not under way. The cost is linear in `read`, and in how
+/// much `before` keeps.
 ///
 /// # Errors
 ///
@@ -85,8 +84,6 @@ pub fn line_note(
     let mut note = Note::new(alloc);
     let tail = tail_of(read, feeds >= line);
     push_line(&mut note, line, &tail);
-    push_cause(
-        alloc, &mut note, version, line, &tail, read, before, cause, text,
-    );
+    push_cause(alloc, &mut note, version, line, &tail, before, cause, text);
     note.finish()
 }

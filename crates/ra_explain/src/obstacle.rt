@@ -177,7 +177,7 @@ fn push_mark_fault(note: &mut Note, mark: &Mark, before: &Before, cause: LineCau
             note.push(other);
             why
         }
-        LineCause::Trace(_) => {
+        LineCause::Trace(_) | LineCause::Due(_) => {
             let why = cause_of(mark, &before.claims);
             note.push("the lock table does not allow this mark");
             note.push(cause_text(why));

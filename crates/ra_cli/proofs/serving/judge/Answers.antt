@@ -36,8 +36,8 @@ returns-in-Ok-verdict_text-clause-valid g c is =
     let after = g.W.Write.contents c.written-status.new.writer in
     elim c.written-status.ensures.value [
       | inl all ↦ elim c.status_of.ensures [
-        | inl status ↦ checks 16777216 (g.R.Read.remaining c.args.reader.now) (g.R.Read.remaining c.check_buffered.new.reader) before after c.in-Ok.verdict true c.in-Ok.ensures.ok
-            c.in-Ok.ensures.valid c.in-Ok.ensures.alone status.1 (subst (Appends before after) (c.as_bytes.ensures.value ∙ c.in-Ok-verdict_text.ensures) all.1)
+        | inl status ↦ checks 16777216 (g.R.Read.remaining c.args.reader.now) (g.R.Read.remaining c.check_buffered_with_due.new.reader) before after c.in-Ok.verdict true c.in-Ok.ensures.checks.ok
+            c.in-Ok.ensures.checks.valid c.in-Ok.ensures.checks.alone status.1 (subst (Appends before after) (c.as_bytes.ensures.value ∙ c.in-Ok-verdict_text.ensures) all.1)
         | inr status ↦ left_not_0 _ (c.judged.ensures ∙ all.0 ∙ status.0) is
       ]
       | inr part ↦ broken_not_0 _ (c.judged.ensures ∙ part.0) is
@@ -50,8 +50,8 @@ returns-in-Ok-verdict_text-clause-invalid g c is =
     elim c.written-status.ensures.value [
       | inl all ↦ elim c.status_of.ensures [
         | inl status ↦ done_not_3 _ (c.judged.ensures ∙ all.0 ∙ status.0) is
-        | inr status ↦ checks 16777216 (g.R.Read.remaining c.args.reader.now) (g.R.Read.remaining c.check_buffered.new.reader) before after c.in-Ok.verdict false c.in-Ok.ensures.ok
-            c.in-Ok.ensures.valid c.in-Ok.ensures.alone status.1 (subst (Appends before after) (c.as_bytes.ensures.value ∙ c.in-Ok-verdict_text.ensures) all.1)
+        | inr status ↦ checks 16777216 (g.R.Read.remaining c.args.reader.now) (g.R.Read.remaining c.check_buffered_with_due.new.reader) before after c.in-Ok.verdict false c.in-Ok.ensures.checks.ok
+            c.in-Ok.ensures.checks.valid c.in-Ok.ensures.checks.alone status.1 (subst (Appends before after) (c.as_bytes.ensures.value ∙ c.in-Ok-verdict_text.ensures) all.1)
       ]
       | inr part ↦ broken_not_3 _ (c.judged.ensures ∙ part.0) is
     ]
@@ -102,7 +102,7 @@ returns-in-Ok-verdict_text-clause-broken g c words trace one =
       | inr part ↦
           let (is_one, prefix, rest, is, left, some) = part in
           prefix_of words old (g.W.Write.contents c.args.writer.now) (g.W.Write.contents c.written-status.new.writer) (verdict_text c.in-Ok.verdict) prefix rest
-          (of_verdict words old c.in-Ok.verdict trace c.in-Ok.ensures.ok) (sym (c.as_bytes.ensures.value ∙ c.in-Ok-verdict_text.ensures) ∙ is) left some
+          (of_verdict words old c.in-Ok.verdict trace c.in-Ok.ensures.checks.ok) (sym (c.as_bytes.ensures.value ∙ c.in-Ok-verdict_text.ensures) ∙ is) left some
     ]
 
 pub returns-in-Err-clause-range : goal.returns-in-Err-clause-range
