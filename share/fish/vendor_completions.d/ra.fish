@@ -22,6 +22,7 @@ complete -c ra -n '__fish_seen_subcommand_from sim' -l find -x -a 'finished stuc
 complete -c ra -n '__fish_seen_subcommand_from sim' -l trace -d 'Print the trace in place of marks and totals'
 complete -c ra -n '__fish_seen_subcommand_from sim' -l as-choices -d 'Print the choices in place of marks and totals'
 complete -c ra -n '__fish_seen_subcommand_from sim' -l shrink -d 'Print the choices of a shorter run that is stuck, too'
+complete -c ra -n '__fish_seen_subcommand_from sim' -l state -d 'Print the final state in place of marks and totals'
 complete -c ra -n '__fish_seen_subcommand_from sim' -s h -l help -d 'Print help, or a summary with -h'
 complete -c ra -n '__fish_seen_subcommand_from cluster' -l trace -d 'Print the trace in place of marks and totals'
 complete -c ra -n '__fish_seen_subcommand_from cluster' -l books -d 'Print the books in place of marks and totals'
