@@ -18,7 +18,7 @@ const NO_MARK: LineCause = LineCause::Marks(MarkCause::Line);
 /// Wrong lines after others that are wrong or not known. If a line has no explanation of its own, its note has the text for all
 /// lines, `said of all`.
 const AFTER_OTHERS: &[Note] = &[
-    // What is wrong before a line does not matter: a number that is too low, and more nodes than version 1 has.
+    // What is wrong before a line does not matter: a number that is too low.
     Note(
         Line(
             5,
@@ -28,10 +28,11 @@ const AFTER_OTHERS: &[Note] = &[
         ),
         "line 5, 'enter 2 8 r S 1': said of all: client 7 at node 1 asked for 'r' (X) in line 3",
     ),
+    // The longest mark is due.
     Note(
         Line(
             3,
-            "trace 1 64 4294967295\nask 64 4294967295 abcdefghijklmnopqrstuvwxyzABCDEF SIX\nend\n",
+            "trace 2 64 4294967295\nask 64 4294967295 abcdefghijklmnopqrstuvwxyzABCDEF SIX\nend\n",
             3,
             LineCause::Trace(Cause::Marks),
         ),

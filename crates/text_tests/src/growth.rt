@@ -215,9 +215,9 @@ const OF_LINES: &[Note] = &[
         Field(
             "trace 2 2 0\nask 1 1 r X\nask 2 2 r X\n",
             3,
-            LineCause::Due(None),
+            LineCause::Trace(Cause::Marks),
         ),
-        "line 3, 'ask 2 2 r X': expected no mark here",
+        "line 3, 'ask 2 2 r X': expected the mark 'request 1 1 r X 1' here",
     ),
     Note(
         Field(

@@ -10,6 +10,7 @@ use ra_frame::FrameError;
 use ra_schedule::Policy;
 use ra_script::explain_script;
 use ra_stamp::Memory;
+use ra_trace::{Cause, TraceError, Verdict, check_buffered_with_due};
 use std::alloc::Global;
 use std::process::Abort;
 
@@ -41,10 +42,34 @@ pub enum Asked {
 /// What is said: nothing, or a text. Or memory ran out.
 pub type Told = Result<Option<String>, Memory>;
 
+/// Returns why a line is wrong. If it is the first wrong line of these, and wrong for its marks, that is with the mark that is due.
+fn with_due(
+    alloc: Global,
+    number: u64,
+    tail: &[u8],
+    cause: LineCause,
+) -> Result<LineCause, Memory> {
+    let LineCause::Trace(Cause::Marks) = cause else {
+        return Ok(cause);
+    };
+    let (mut rest, mut due) = (tail, None);
+    match check_buffered_with_due(alloc, &mut rest, &mut due) {
+        Ok(
+            Verdict::Invalid {
+                line,
+                cause: Cause::Marks,
+            },
+        ) if line == number => Ok(LineCause::Due(due)),
+        Err(TraceError::Memory) => Err(Memory),
+        _ => Ok(cause),
+    }
+}
+
 /// Returns what is said of a wrong line.
 fn said_of_line(alloc: Global, number: u64, tail: &[u8], feeds: u64, cause: LineCause) -> Told {
     let version = version_of(tail);
     let before = OpenText::before(alloc, tail, number);
+    let why = with_due(alloc, number, tail, cause)?;
     line_note(
         alloc,
         version,
@@ -52,7 +77,7 @@ fn said_of_line(alloc: Global, number: u64, tail: &[u8], feeds: u64, cause: Line
         tail,
         feeds,
         &before,
-        cause,
+        why,
         "said of all",
     )
 }
