@@ -2,18 +2,17 @@
 //! that no list of choices makes, and when there is nothing to say. Tables of `cases/` have the rest.
 use crate::helpers::ONE_LOCK_SCRIPT;
 use crate::notes::Asked::{Choice, Digits, Field, Line, Order, Unfinished};
-use crate::notes::{Note, assert_said, assert_told, said_of_run};
-use ra_explain::LineCause;
+use crate::notes::{Note, Wrong, assert_said, assert_told, said_of_run};
 use ra_schedule::{Choices, Policy};
 use ra_trace::{Cause, MarkCause};
 use std::alloc::Global;
 use std::process::Abort;
 
 /// The cause of a line of a trace that has none of the forms.
-const NO_LINE: LineCause = LineCause::Trace(Cause::Line);
+const NO_LINE: Wrong = Wrong::Trace(Cause::Line);
 
 /// The same for a mark log.
-const NO_MARK: LineCause = LineCause::Marks(MarkCause::Line);
+const NO_MARK: Wrong = Wrong::Marks(MarkCause::Line);
 
 /// Wrong lines after others that are wrong or not known. If a line has no explanation of its own, its note has the text for all
 /// lines, `said of all`.
@@ -24,7 +23,7 @@ const AFTER_OTHERS: &[Note] = &[
             5,
             "request 3 9 r S 1\nenter 3 9 r S 1\nrequest 1 7 r X 1\nrequest 2 8 r S 1\nenter 2 8 r S 1\n",
             5,
-            LineCause::Marks(MarkCause::Earlier),
+            Wrong::Marks(MarkCause::Earlier),
         ),
         "line 5, 'enter 2 8 r S 1': said of all: client 7 at node 1 asked for 'r' (X) in line 3",
     ),
@@ -34,7 +33,7 @@ const AFTER_OTHERS: &[Note] = &[
             3,
             "trace 2 64 4294967295\nask 64 4294967295 abcdefghijklmnopqrstuvwxyzABCDEF SIX\nend\n",
             3,
-            LineCause::Trace(Cause::Marks),
+            Wrong::Trace(Cause::Marks),
         ),
         "line 3, 'end': expected the mark 'request 64 4294967295 abcdefghijklmnopqrstuvwxyzABCDEF SIX 4294967296' here",
     ),
@@ -43,7 +42,7 @@ const AFTER_OTHERS: &[Note] = &[
             13,
             "leave 1 1 r X 1\nenter 2 2 r X 1\n",
             13,
-            LineCause::Trace(Cause::Table),
+            Wrong::Trace(Cause::Table),
         ),
         "line 13, 'enter 2 2 r X 1': said of all",
     ),
@@ -69,7 +68,7 @@ const AFTER_OTHERS: &[Note] = &[
             3,
             "ask 1 1 r X\nask 2 2 r X\n",
             3,
-            LineCause::Trace(Cause::Marks),
+            Wrong::Trace(Cause::Marks),
         ),
         "line 3, 'ask 2 2 r X': said of all",
     ),
@@ -79,7 +78,7 @@ const AFTER_OTHERS: &[Note] = &[
             6,
             "request 1 7 r X 1\nenter 1 7 r X 1\nrequest 2 8 r S 2\nenter 2 8 r S 2\n",
             6,
-            LineCause::Marks(MarkCause::Held),
+            Wrong::Marks(MarkCause::Held),
         ),
         "line 6, 'enter 2 8 r S 2': said of all",
     ),
@@ -97,23 +96,19 @@ const AFTER_OTHERS: &[Note] = &[
         "line 2, 'ask 17 1 r X': said of all",
     ),
     Note(
-        Field(
-            "request 2 2 r X 4\n",
-            4,
-            LineCause::Marks(MarkCause::NotAbove),
-        ),
+        Field("request 2 2 r X 4\n", 4, Wrong::Marks(MarkCause::NotAbove)),
         "line 4, 'request 2 2 r X 4': said of all",
     ),
     // If the first lines are not known, neither is what came before.
     Note(
-        Field("release 1 1 r\n", 2, LineCause::Trace(Cause::Refused)),
+        Field("release 1 1 r\n", 2, Wrong::Trace(Cause::Refused)),
         "line 2, 'release 1 1 r': said of all",
     ),
     Note(
         Field(
             "deliver reply 2 1 r 1\n",
             2,
-            LineCause::Trace(Cause::NotUnderWay),
+            Wrong::Trace(Cause::NotUnderWay),
         ),
         "line 2, 'deliver reply 2 1 r 1': said of all",
     ),

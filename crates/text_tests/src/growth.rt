@@ -8,14 +8,13 @@ use crate::log_readers::TWO_WRITERS;
 use crate::notes::Asked::{
     Choice, Digits, Field, Frame, Kept, Order, Script, Unanswered, Unfinished,
 };
-use crate::notes::{Note, Told, said};
+use crate::notes::{Note, Told, Wrong, said};
 use crate::performing::{performed, reader_of, text_of};
 use crate::pictures::{drawn_marks_to, drawn_to};
 use crate::readers::Way;
 use crate::script_clients::script_of;
 use crate::{log_readers, readers};
 use ra_draw::{DrawError, Part};
-use ra_explain::LineCause;
 use ra_explain::Unanswered::WrongNode;
 use ra_frame::FrameError;
 use ra_schedule::{Ending, Policy, SeedRange};
@@ -215,23 +214,19 @@ const OF_LINES: &[Note] = &[
         Field(
             "trace 2 2 0\nask 1 1 r X\nask 2 2 r X\n",
             3,
-            LineCause::Trace(Cause::Marks),
+            Wrong::Trace(Cause::Marks),
         ),
         "line 3, 'ask 2 2 r X': expected the mark 'request 1 1 r X 1' here",
     ),
     Note(
-        Field(
-            "trace 2 2 0\nask 1 1 r x\n",
-            2,
-            LineCause::Trace(Cause::Line),
-        ),
+        Field("trace 2 2 0\nask 1 1 r x\n", 2, Wrong::Trace(Cause::Line)),
         "line 2, 'ask 1 1 r x': MODE is 'x': must be S, X, IS, IX or SIX",
     ),
     Note(
         Field(
             "trace 2 2 0\nask 1 1 r X\nrequest 1 1 r X 1\nask 1 1 r S\n",
             4,
-            LineCause::Trace(Cause::Refused),
+            Wrong::Trace(Cause::Refused),
         ),
         "line 4, 'ask 1 1 r S': client 1 has waited for 'r' (X) at node 1 since line 3 and may not ask for it again",
     ),
@@ -239,7 +234,7 @@ const OF_LINES: &[Note] = &[
         Field(
             "trace 2 2 18446744073709551615\nask 1 1 r X\n",
             2,
-            LineCause::Trace(Cause::Refused),
+            Wrong::Trace(Cause::Refused),
         ),
         "line 2, 'ask 1 1 r X': no sequence number is left for 'r': the greatest is 18446744073709551615",
     ),

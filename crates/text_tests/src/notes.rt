@@ -10,17 +10,24 @@ use ra_frame::FrameError;
 use ra_schedule::Policy;
 use ra_script::explain_script;
 use ra_stamp::Memory;
-use ra_trace::{Cause, TraceError, Verdict, check_buffered_with_due};
+use ra_trace::{Cause, MarkCause, TraceError, Verdict, check_buffered_with_due};
 use std::alloc::Global;
 use std::process::Abort;
+
+/// Why a line is wrong.
+#[derive(Clone, Copy)]
+pub enum Wrong {
+    Trace(Cause),
+    Marks(MarkCause),
+}
 
 /// What is asked about.
 #[derive(Clone, Copy)]
 pub enum Asked {
     /// The wrong line with this number, the last of these lines, of which this many are whole.
-    Line(u64, &'static str, u64, LineCause),
+    Line(u64, &'static str, u64, Wrong),
     /// The wrong line with this number, the last of these whole lines.
-    Field(&'static str, u64, LineCause),
+    Field(&'static str, u64, Wrong),
     /// A run of a script that does not finish, by these choices or by the oldest ones.
     Unfinished(&'static str, Option<&'static str>),
     /// Choices for a script that cannot be made.
@@ -42,16 +49,8 @@ pub enum Asked {
 /// What is said: nothing, or a text. Or memory ran out.
 pub type Told = Result<Option<String>, Memory>;
 
-/// Returns why a line is wrong. If it is the first wrong line of these, and wrong for its marks, that is with the mark that is due.
-fn with_due(
-    alloc: Global,
-    number: u64,
-    tail: &[u8],
-    cause: LineCause,
-) -> Result<LineCause, Memory> {
-    let LineCause::Trace(Cause::Marks) = cause else {
-        return Ok(cause);
-    };
+/// Returns the cause of a line of a trace that is wrong for its marks: with the mark that is due if it is the first wrong line.
+fn with_due(alloc: Global, number: u64, tail: &[u8]) -> Result<LineCause, Memory> {
     let (mut rest, mut due) = (tail, None);
     match check_buffered_with_due(alloc, &mut rest, &mut due) {
         Ok(
@@ -61,15 +60,24 @@ fn with_due(
             },
         ) if line == number => Ok(LineCause::Due(due)),
         Err(TraceError::Memory) => Err(Memory),
-        _ => Ok(cause),
+        _ => Ok(LineCause::Trace(Cause::Marks)),
+    }
+}
+
+/// Returns the cause of a line that is wrong so.
+fn cause_of(alloc: Global, number: u64, tail: &[u8], wrong: Wrong) -> Result<LineCause, Memory> {
+    match wrong {
+        Wrong::Trace(Cause::Marks) => with_due(alloc, number, tail),
+        Wrong::Trace(cause) => Ok(LineCause::Trace(cause)),
+        Wrong::Marks(cause) => Ok(LineCause::Marks(cause)),
     }
 }
 
 /// Returns what is said of a wrong line.
-fn said_of_line(alloc: Global, number: u64, tail: &[u8], feeds: u64, cause: LineCause) -> Told {
+fn said_of_line(alloc: Global, number: u64, tail: &[u8], feeds: u64, wrong: Wrong) -> Told {
     let version = version_of(tail);
     let before = OpenText::before(alloc, tail, number);
-    let why = with_due(alloc, number, tail, cause)?;
+    let cause = cause_of(alloc, number, tail, wrong)?;
     line_note(
         alloc,
         version,
@@ -77,7 +85,7 @@ fn said_of_line(alloc: Global, number: u64, tail: &[u8], feeds: u64, cause: Line
         tail,
         feeds,
         &before,
-        why,
+        cause,
         "said of all",
     )
 }
@@ -146,10 +154,10 @@ fn said_of_scripts(alloc: Global, asked: Asked) -> Told {
 /// Returns what is said.
 pub fn said(alloc: Global, asked: Asked) -> Told {
     match asked {
-        Line(number, tail, feeds, cause) => {
-            said_of_line(alloc, number, tail.as_bytes(), feeds, cause)
+        Line(number, tail, feeds, wrong) => {
+            said_of_line(alloc, number, tail.as_bytes(), feeds, wrong)
         }
-        Field(text, number, cause) => said_of_line(alloc, number, text.as_bytes(), number, cause),
+        Field(text, number, wrong) => said_of_line(alloc, number, text.as_bytes(), number, wrong),
         Frame(digits, fault) => said_of_frame(alloc, digits, fault),
         Digits(input) => said_of_digits(alloc, input),
         Unanswered(frame, why) => said_of_unanswered(alloc, frame, why),
