@@ -9,7 +9,7 @@ use ra_explain::{
 use ra_frame::FrameError;
 use ra_schedule::Policy;
 use ra_script::explain_script;
-use ra_stamp::Memory;
+use ra_stamp::{Mark, Memory};
 use ra_trace::{Cause, MarkCause, TraceError, Verdict, check_buffered_with_due};
 use std::alloc::Global;
 use std::process::Abort;
@@ -49,35 +49,26 @@ pub enum Asked {
 /// What is said: nothing, or a text. Or memory ran out.
 pub type Told = Result<Option<String>, Memory>;
 
-/// Returns the cause of a line of a trace that is wrong for its marks: with the mark that is due if it is the first wrong line.
-fn with_due(alloc: Global, number: u64, tail: &[u8]) -> Result<LineCause, Memory> {
-    let (mut rest, mut due) = (tail, None);
-    match check_buffered_with_due(alloc, &mut rest, &mut due) {
-        Ok(
-            Verdict::Invalid {
-                line,
-                cause: Cause::Marks,
-            },
-        ) if line == number => Ok(LineCause::Due(due)),
+/// Returns whether a line of a trace is the first wrong one, and is wrong for its marks. If so, `due` becomes the mark that is due.
+fn is_first_wrong(
+    alloc: Global,
+    number: u64,
+    tail: &[u8],
+    due: &mut Option<Mark>,
+) -> Result<bool, Memory> {
+    let mut rest = tail;
+    match check_buffered_with_due(alloc, &mut rest, due) {
+        Ok(Verdict::Invalid { line, cause }) => Ok(line == number && cause == Cause::Marks),
+        Ok(Verdict::Valid { .. }) => Ok(false),
         Err(TraceError::Memory) => Err(Memory),
-        _ => Ok(LineCause::Trace(Cause::Marks)),
+        Err(_) => Ok(false),
     }
 }
 
-/// Returns the cause of a line that is wrong so.
-fn cause_of(alloc: Global, number: u64, tail: &[u8], wrong: Wrong) -> Result<LineCause, Memory> {
-    match wrong {
-        Wrong::Trace(Cause::Marks) => with_due(alloc, number, tail),
-        Wrong::Trace(cause) => Ok(LineCause::Trace(cause)),
-        Wrong::Marks(cause) => Ok(LineCause::Marks(cause)),
-    }
-}
-
-/// Returns what is said of a wrong line.
-fn said_of_line(alloc: Global, number: u64, tail: &[u8], feeds: u64, wrong: Wrong) -> Told {
+/// Returns what is said of a line that is wrong for this cause.
+fn said_of_cause(alloc: Global, number: u64, tail: &[u8], feeds: u64, cause: LineCause) -> Told {
     let version = version_of(tail);
     let before = OpenText::before(alloc, tail, number);
-    let cause = cause_of(alloc, number, tail, wrong)?;
     line_note(
         alloc,
         version,
@@ -88,6 +79,25 @@ fn said_of_line(alloc: Global, number: u64, tail: &[u8], feeds: u64, wrong: Wron
         cause,
         "said of all",
     )
+}
+
+/// Returns what is said of a line of a trace that is wrong for its marks: with the mark that is due if it is the first wrong line.
+fn said_of_marks(alloc: Global, number: u64, tail: &[u8], feeds: u64) -> Told {
+    let mut due: Option<Mark> = None;
+    match is_first_wrong(alloc, number, tail, &mut due) {
+        Ok(true) => said_of_cause(alloc, number, tail, feeds, LineCause::Due(due)),
+        Ok(false) => said_of_cause(alloc, number, tail, feeds, LineCause::Trace(Cause::Marks)),
+        Err(Memory) => Err(Memory),
+    }
+}
+
+/// Returns what is said of a wrong line.
+fn said_of_line(alloc: Global, number: u64, tail: &[u8], feeds: u64, wrong: Wrong) -> Told {
+    match wrong {
+        Wrong::Trace(Cause::Marks) => said_of_marks(alloc, number, tail, feeds),
+        Wrong::Trace(cause) => said_of_cause(alloc, number, tail, feeds, LineCause::Trace(cause)),
+        Wrong::Marks(cause) => said_of_cause(alloc, number, tail, feeds, LineCause::Marks(cause)),
+    }
 }
 
 /// Returns what is said of a run by a policy that does not finish.
