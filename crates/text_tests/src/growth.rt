@@ -177,7 +177,9 @@ fn growth_of_a_performance(rt: HostRuntime) {
         try_format(rt.alloc(), Format::Choices),
         try_format(rt.alloc(), Format::State),
     );
-    assert_grown(&rt, both(both(lines, trace), both(choices, state)));
+    let shrunk = try_format(rt.alloc(), Format::Shrunk);
+    let first = both(both(lines, trace), both(choices, state));
+    assert_grown(&rt, both(first, shrunk));
 }
 
 /// What is said of a line if nothing more precise is known.

@@ -2,7 +2,7 @@
 use crate::acts::assert_whole;
 use crate::asserting::assert_row;
 use crate::helpers::{ONE_LOCK, ONE_LOCK_LENGTH, ONE_LOCK_SCRIPT, failing};
-use Format::{Choices, Lines, State, Trace};
+use Format::{Choices, Lines, Shrunk, State, Trace};
 use ra_schedule::Policy;
 use ra_script::{Format, PerformError, perform, perform_as, perform_trace};
 use std::alloc::Global;
@@ -31,6 +31,12 @@ pub const ONE_LOCK_CHOICES: &str = "c1 m0 m0 c1\n";
 /// How many bytes it has.
 const ONE_LOCK_CHOICES_LENGTH: usize = 12;
 
+/// The line that says that the run is not stuck.
+pub const ONE_LOCK_SHRUNK: &str = "none\n";
+
+/// How many bytes it has.
+const ONE_LOCK_SHRUNK_LENGTH: usize = 5;
+
 /// The lines of the state at its end.
 pub const ONE_LOCK_STATE: &str = "steps 4
 node 1 r 1 idle
@@ -47,6 +53,7 @@ pub fn text_of(format: Format) -> &'static str {
         Lines => ONE_LOCK_LINES,
         Trace => ONE_LOCK,
         Choices => ONE_LOCK_CHOICES,
+        Shrunk => ONE_LOCK_SHRUNK,
         State => ONE_LOCK_STATE,
     }
 }
@@ -82,7 +89,7 @@ pub fn performed(
     match format {
         Lines => perform(alloc, reader, writer, policy),
         Trace => perform_trace(alloc, reader, writer, policy),
-        Choices | State => perform_as(alloc, reader, writer, format, policy),
+        Choices | Shrunk | State => perform_as(alloc, reader, writer, format, policy),
     }
 }
 
@@ -115,6 +122,7 @@ fn a_reader_that_fails_behind_any_byte_is_a_fault(rt: HostRuntime) {
     assert_unread(&rt, Lines);
     assert_unread(&rt, Trace);
     assert_unread(&rt, Choices);
+    assert_unread(&rt, Shrunk);
     assert_unread(&rt, State);
 }
 
@@ -157,5 +165,6 @@ fn a_writer_that_fails_behind_any_byte_has_those_before(rt: HostRuntime) {
     assert_unwritten(&rt, Lines, ONE_LOCK_LINES_LENGTH);
     assert_unwritten(&rt, Trace, ONE_LOCK_LENGTH);
     assert_unwritten(&rt, Choices, ONE_LOCK_CHOICES_LENGTH);
+    assert_unwritten(&rt, Shrunk, ONE_LOCK_SHRUNK_LENGTH);
     assert_unwritten(&rt, State, ONE_LOCK_STATE_LENGTH);
 }
