@@ -24,6 +24,15 @@ def find_browser():
     return next(filter(None, map(shutil.which, BROWSERS)), None)
 
 
+def remove(folder):
+    """Removes a folder, into which processes of a browser that has just ended may still write."""
+    for _ in range(100):
+        shutil.rmtree(folder, ignore_errors=True)
+        if not os.path.exists(folder):
+            return
+        time.sleep(0.1)
+
+
 class WebSocket:
     """A connection of texts, as RFC 6455 has it."""
 
@@ -90,8 +99,7 @@ class Browser:
     def __enter__(self):
         with contextlib.ExitStack() as stack:
             folder = tempfile.mkdtemp(prefix="explorer-")
-            # The browser may still write into it.
-            stack.callback(shutil.rmtree, folder, ignore_errors=True)
+            stack.callback(remove, folder)
             self.process = subprocess.Popen(self.words(folder), stdin=subprocess.DEVNULL, stdout=subprocess.DEVNULL, stderr=subprocess.DEVNULL)
             stack.callback(self.end)
             port = self.find_port(folder)

@@ -346,6 +346,9 @@ function titled({kind, from, to, name, mode, number}) {
 
 const cellAt = (state, node, name) => state.cells.find((cell) => cell.node === node && cell.name === name);
 
+// "a REQUEST goes to node 2", "REQUESTs go to nodes 2 and 3".
+const sentTo = (article, kind, nodes) => nodes.length === 1 ? `${article} ${kind} goes to ${nodesOf(nodes)}` : `${kind}s go to ${nodesOf(nodes)}`;
+
 // Says what the marks of a step add: a request that was made, and a client that entered.
 function tellMarks(marks, nodes) {
     return marks.map((line) => {
@@ -353,7 +356,7 @@ function tellMarks(marks, nodes) {
         const others = Array.from({length: nodes}, (_, place) => place + 1).filter((other) => other !== Number(node));
         if (word === "request")
             return `Client ${client} gets the number ${number}, one above the highest of node ${node}`
-                + (others.length ? `, and REQUESTs go to ${nodesOf(others)}.` : ".");
+                + (others.length ? `, and ${sentTo("a", "REQUEST", others)}.` : ".");
         return word === "enter" ? `Client ${client} enters.` : "";
     }).filter(Boolean).join(" ");
 }
@@ -366,32 +369,32 @@ function tellAsk({words: [, node, client, name, mode], marks}, before, after) {
 
 function tellLeave({words: [, node, client, name], marks}, before, after) {
     const owed = cellAt(before, Number(node), name).defers.map((each) => each.node);
-    const replies = owed.length ? `The deferred REPLYs go to ${nodesOf(owed)}.` : "No REPLY was deferred.";
+    const replies = owed.length ? `Now ${sentTo("the", "deferred REPLY", owed)}.` : "No REPLY was deferred.";
     return `Client ${client} at node ${node} leaves ${name}. ${replies} ${tellMarks(marks, after.nodes)}`.trim();
 }
 
-function tellRequest({words}, before, after) {
+function tellRequest({words, isAgain}, before, after) {
     const {from, to, name, mode, number} = messageOf(words);
     const old = cellAt(before, to, name), now = cellAt(after, to, name);
-    const told = [`Node ${to} receives REQUEST ${number} of node ${from} for ${inMode(name, mode)}.`];
+    const told = [`Node ${to} receives REQUEST ${number} of node ${from} for ${inMode(name, mode)}${isAgain ? ", again" : ""}.`];
     if (now.highest !== old.highest) told.push(`Its highest number rises from ${old.highest} to ${now.highest}.`);
     if (old.phase === "idle") told.push("It has no request of its own, so it replies at once.");
     else {
-        const own = `Its own request has the number ${old.number} and the mode ${old.mode}`;
+        const own = `Its own request, number ${old.number} in mode ${old.mode},`;
         const tie = old.number === number ? " (of equal numbers, the lower node goes first)" : "";
-        if (!conflict(old.mode, mode)) told.push(`${own}, which does not conflict, so it replies at once.`);
+        if (!conflict(old.mode, mode)) told.push(`${own} does not conflict, so it replies at once.`);
         else if (isEarlier({number: old.number, node: to}, {number, node: from}))
-            told.push(`${own}, conflicts and is earlier${tie}, so it `
+            told.push(`${own} conflicts and is earlier${tie}, so it `
                 + (old.defers.some((each) => each.node === from) ? "still defers its REPLY." : "defers its REPLY."));
-        else told.push(`${own}, conflicts and is later${tie}, so it replies at once.`);
+        else told.push(`${own} conflicts and is later${tie}, so it replies at once.`);
     }
     return told.join(" ");
 }
 
-function tellReply({words, marks}, before, after) {
+function tellReply({words, marks, isAgain}, before, after) {
     const {from, to, name, number} = messageOf(words);
     const old = cellAt(before, to, name), now = cellAt(after, to, name);
-    const told = `Node ${to} receives REPLY ${number} of node ${from} for ${name}.`;
+    const told = `Node ${to} receives REPLY ${number} of node ${from} for ${name}${isAgain ? ", again" : ""}.`;
     if (old.phase !== "waiting" || old.number !== number || !old.awaits.includes(from))
         return `${told} It does not await this number from this node, so it is a stray, and nothing changes.`;
     if (marks.length) return `${told} It was the last one that it awaited. ${tellMarks(marks, after.nodes)}`;
@@ -440,13 +443,14 @@ function showWalk() {
 }
 
 function showNow(view, before) {
-    const step = view.trace.steps[view.trace.steps.length - 1];
+    const earlier = view.trace.steps.slice(0, -1), step = view.trace.steps[view.trace.steps.length - 1];
     if (!before) {
         const more = run.steps.length ? "Step forward to see what happens." : "Click a client to let it ask.";
         return at("now").replaceChildren(make("b", {}, "The beginning. "), `No node has met any name. ${more}`);
     }
     const taken = run.steps[run.at - 1], choice = isChoice(taken) ? [", ", make("code", {}, taken)] : [];
-    at("now").replaceChildren(make("b", {}, `Step ${run.at}`, ...choice, ". "), explain(step, before.state, view.state));
+    at("now").replaceChildren(make("b", {}, `Step ${run.at}`, ...choice, ". "),
+        explain({...step, isAgain: earlier.some(({line}) => line === step.line)}, before.state, view.state));
 }
 
 // Returns a button that takes a step.
