@@ -32,7 +32,8 @@ class Cluster:
             message = self.under_way[number]
             self.steps.append((f"{word}{number}", (word, message)))
             if word in "ml":
-                del self.under_way[number]
+                # The first of equal ones, as in the definition of what is under way.
+                self.under_way.remove(message)
             if word == "m":
                 self.happen(message.receiver, Receive(Frame(message, 1)))
             if word == "r":

@@ -157,7 +157,7 @@ fn runs_are_shrunk_to_those_of_a_model(rt: HostRuntime) {
     const ROWS: &[Listed] = &[
         Listed(Oldest, "none"),
         Listed(Faulty(0, 100, 300), "c4 l0"),
-        Listed(Faulty(1, 100, 300), "c2 l0"),
+        Listed(Faulty(1, 100, 300), "c3 l0"),
         Listed(Faulty(7, 100, 300), "none"),
     ];
     assert_rows(&rt, are_shrunk(rt.alloc(), ROWS), ROWS.len());
