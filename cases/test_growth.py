@@ -130,6 +130,9 @@ class Growth(PreloadTest):
         books = TEXTS["BOOKS_ONE"] + TEXTS["BOOKS_TWO"]
         self.expect_growth("settle", books, TEXTS["BOOKS_DONE"])
         self.expect_growth("settle --trace", books, TEXTS["BOOKS_DONE_TRACE"])
+        # The REQUEST came twice and was answered twice. One of the two REPLYs came.
+        again = TEXTS["MARKS_OF_7"] + TEXTS["THREE_ONE_LEFT"]
+        self.expect_growth("settle --repeats", TEXTS["BOOKS_ONE"] + TEXTS["BOOKS_TWO_AGAIN"], again)
 
     def test_growth_of_a_note_on_a_frame(self):
         note = "ra: the version at offset 0 is 03: must be 01 or 02\n"

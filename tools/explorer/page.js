@@ -1,7 +1,8 @@
 "use strict";
-// The page that tools/explore serves. What it shows of a run is what `ra` prints: of each beginning of the run, the state by
-// `sim --state`, the trace by `sim --trace`, the verdict by `check` and the picture by `draw`. It knows no step of the algorithm
-// by itself. What it adds are words: what the last step changed, and who waits for whom.
+// The page that tools/explore serves. Of each beginning of the run, `ra` prints the state by `sim --state`, the trace by
+// `sim --trace`, the verdict by `check` and the picture by `draw`. The page makes no step by itself. It adds words on what the
+// last step changed and why, on who waits for whom, and on whether the run is quiet; for these it knows which modes conflict and
+// which stamp is earlier. Of a run with copies, it asks for the state without them.
 
 const MODES = {S: "shared", X: "exclusive", IS: "intent shared", IX: "intent exclusive", SIX: "shared and intent exclusive"};
 const COMPATIBLE = new Set(["IS IS", "IS IX", "IX IS", "IX IX", "IS S", "S IS", "S S", "IS SIX", "SIX IS"]);
