@@ -1,10 +1,20 @@
 """The book of a node, in a file, and the node that it determines."""
 import fcntl
 import os
+import re
 import select
 import subprocess
 
 from failing import fail
+
+FIRST = re.compile(r"book 1 ([1-9][0-9]?) ([1-9][0-9]?) (0|[1-9][0-9]{0,19})\n")
+
+
+def node_of(line):
+    """Returns the node, the number of nodes and the start that the first line of a book names, or `None` if the line is none."""
+    fields = FIRST.fullmatch(line)
+    node, nodes, start = map(int, fields.groups()) if fields else (0, 0, 0)
+    return (node, nodes, start) if 1 <= node <= nodes <= 64 and start < 1 << 64 else None
 
 
 class Book:
@@ -36,9 +46,14 @@ class Book:
         """Ends the host before it changes a file that is no book of this node. A first line may have been cut off."""
         with open(self.path, encoding="latin-1", newline="\n") as file:
             found = file.readline(256)
-        if found != first and not (first.startswith(found) and len(found) < len(first)):
-            found, first = found.rstrip("\n"), first.rstrip("\n")
-            fail(f"the book {self.path} begins with '{found}' instead of '{first}': it is of another node or cluster")
+        if first.startswith(found):
+            return
+        named = node_of(found)
+        if not named:
+            found = ascii(found.rstrip("\n")[:60])
+            fail(f"{self.path} is no book of a node: it begins with {found}, and not with a line such as '{first.rstrip()}'")
+        other, this = ("node {} of {} with numbers from {} on".format(*it) for it in (named, node_of(first)))
+        fail(f"the book {self.path} is of {other}, and not of {this}")
 
     def sync_folder(self):
         folder = os.open(os.path.dirname(os.path.abspath(self.path)), os.O_RDONLY)
