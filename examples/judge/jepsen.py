@@ -8,8 +8,9 @@ outcome, in the order in which the clients made and got them, as EDN, which Jeps
 After `fail` a call had no effect, and after `info` that is unknown. The `value`, or its first part, names the lock. All
 but `acquire` and `release` is passed over. README.md says what is judged, and why the verdict is exact. The client of a
 mark is the line of the history at which the lock was acquired."""
-import json, re, sys
+import json, re, signal, sys
 
+signal.signal(signal.SIGPIPE, signal.SIG_DFL)  # `ra check` stops reading at a wrong mark
 WORD = re.compile(r'"(?:\\.|[^"\\])*"|[{}()\[\]]|[^\s,"{}()\[\]]+')
 NAME = re.compile(r"[A-Za-z0-9_-][A-Za-z0-9_.-]{0,31}")
 
