@@ -2,9 +2,11 @@
 import concurrent.futures
 import os
 import random
+import subprocess
+import tempfile
 import unittest
 
-from cases import TEXTS, run, shown, text
+from cases import LIMIT, RA, TEXTS, run, shown, text
 from settle_model import MODES, Ask, Frame, Node, Receive, Release, encoded, settled
 
 # Each command, and the options of the model.
@@ -15,6 +17,9 @@ COMMANDS = {
     "settle --repeats --trace": {"repeats": True, "traces": True},
 }
 RUNS = 600
+# The most bytes that a text of books may have, which `ra settle` keeps, and the memory that a test with it should find.
+MOST = 1_073_741_824
+ENOUGH = 2 * MOST
 # Books of two nodes. The REQUEST of client 7, for which client 8 waits in the queue, comes to node 2 twice, in both versions;
 # client 7 does not hold there. After each number of lines the verdict was worked out by hand.
 CUT_OFF = ["ASKS", "ask 8 r S\n", "ANSWERS", "REQUEST_AT_1", "ask 9 k IS\n", "REQUEST_AT_1_OF_1", "LEAVES"]
@@ -128,3 +133,16 @@ class Settling(unittest.TestCase):
         # Each verdict comes.
         found = {it.split()[-1] for it in came}
         self.assertEqual(found, {"settled", "Line", "Books", "Refused", "NotSent", "Twice"})
+
+    def test_a_text_that_is_too_long(self):
+        """The file takes no room on the disk. All its bytes are zeros, which are no first line."""
+        if os.sysconf("SC_AVPHYS_PAGES") * os.sysconf("SC_PAGE_SIZE") < ENOUGH:
+            self.skipTest("too little memory is free")
+        rows = [(MOST, 3, b"invalid 1 Line\n"), (MOST + 1, 2, b"refused Limit\n")]
+        with tempfile.TemporaryFile() as zeros:
+            for size, *expected in rows:
+                zeros.truncate(size)
+                zeros.seek(0)
+                done = subprocess.run([RA, "settle"], stdin=zeros, capture_output=True, timeout=LIMIT, check=False)
+                with self.subTest(size):
+                    self.assertEqual([done.returncode, done.stdout], expected)
