@@ -1,15 +1,17 @@
-"""What is said of a wrong line that comes far on in a long text: the same as in a short one."""
+"""What is said of a wrong line that comes far on in a long text, and of the end of one: the same as of a short one."""
 from cases import RaTest
 
-# How often a client locks a name before the wrong line. These lines have more bytes than are remembered of an input.
+# How often a client locks a name before the wrong line.
 ROUNDS = 5000
 # How often a message is repeated before the wrong line of a trace, which takes 25 bytes each time.
 REPEATS = 2700
-# The most requests that are followed at once, and how many are kept of the last releases, and of the last messages that
-# were delivered or lost.
-MOST_OPEN = 65536
-MOST_RELEASED = 2048
-MOST_TAKEN = 4096
+# How many clients wait, how many requests were released, and how many messages were delivered or lost, in a short text and in a
+# long one.
+WAITING = (1, 70_000)
+RELEASED = (1, 3000)
+TAKEN = (1, 5000)
+# The most bytes that a text may have.
+LIMIT = 16_777_216
 NOT_UNDER_WAY = "this message is not under way: "
 
 # Lines after those of a mark log, the cause for which the last of them is wrong, and what is said of it.
@@ -63,11 +65,10 @@ WRONG_MARKS = [
         "NotWaiting",
         "no such request waits for the name: client 8 at node 1 asked for 'r' (X) in line 15001, with number 5001",
     ),
-    # It may have been released before the last 2,048 releases.
     (
         ["leave 1 7 s X 1"],
         "NotHeld",
-        "no such request holds the name",
+        "no such request holds the name: it was never requested",
     ),
     (
         ["leave 1 7 r X 2953"],
@@ -75,9 +76,9 @@ WRONG_MARKS = [
         "no such request holds the name: it was released in line 8859",
     ),
     (
-        ["leave 1 7 r X 2952"],
+        ["leave 1 7 r X 1"],
         "NotHeld",
-        "no such request holds the name: client 7 at node 1 last released 'r' (X) in line 15000, with number 5000",
+        "no such request holds the name: it was released in line 3",
     ),
 ]
 
@@ -142,7 +143,9 @@ def rounds(names, numbers):
     ]
 
 
-class FarLines(RaTest):
+class SaidOfLines(RaTest):
+    """A test of what is said of the last line of a text."""
+
     def expect_said(self, words, lines, cause, said):
         """Fails unless the last of these lines is wrong for this cause, and this is said of it."""
         with self.subTest(words=words, last=lines[-1]):
@@ -154,6 +157,8 @@ class FarLines(RaTest):
                 note=f"ra: line {len(lines)}, '{lines[-1]}': {said}\n",
             )
 
+
+class FarLines(SaidOfLines):
     def test_a_wrong_mark_far_on_is_explained(self):
         before = rounds(["r"], range(1, ROUNDS + 1))
         for after, cause, said in WRONG_MARKS:
@@ -174,33 +179,101 @@ class FarLines(RaTest):
             due = "expected the mark 'request 2 2 r X 1' here"
             self.expect_said(words, before + ["ask 2 2 r X", "end"], "Marks", due)
 
-    def test_no_more_is_followed_than_there_is_room_for(self):
-        open_ones = [f"request 1 7 n{place} X 1" for place in range(MOST_OPEN)]
-        busy = "the node of this request already waits for the name or holds it"
-        who = ": client 7 at node 1 asked for 'n0' (X) in line 1"
-        again = ["request 1 7 n0 X 2"]
-        self.expect_said("check --marks", open_ones + again, "NodeBusy", busy + who)
-        self.expect_said("check --marks", open_ones + ["request 1 7 more X 1"] + again, "NodeBusy", busy)
+    def test_each_client_that_waits_is_known(self):
+        busy = "the node of this request already waits for the name or holds it: client 7 at node 1 asked for 'n0' (X) in line 1"
+        held = "no such request holds the name: it has waited since line 1"
+        for count in WAITING:
+            waiting = [f"request 1 7 n{place} X 1" for place in range(count)]
+            self.expect_said("check --marks", waiting + ["request 1 8 n0 X 2"], "NodeBusy", busy)
+            self.expect_said("check --marks", waiting + ["leave 1 7 n0 X 1"], "NotHeld", held)
 
-    def test_no_more_releases_are_kept_than_there_is_room_for(self):
-        past = rounds([f"n{place}" for place in range(MOST_RELEASED)], [1])
-        held = "no such request holds the name"
-        never = ["leave 1 7 s X 1"]
-        self.expect_said("check --marks", past + never, "NotHeld", held + ": it was never requested")
-        self.expect_said("check --marks", past + rounds(["more"], [1]) + never, "NotHeld", held)
+    def test_each_release_is_known(self):
+        low = "the number of this request is not above every number granted for the name: 1 was granted in line 2"
+        waits, holds = "no such request waits for the name: ", "no such request holds the name: "
+        for count in RELEASED:
+            past = rounds([f"n{place}" for place in range(count)], [1])
+            self.expect_said("check --marks", past + ["request 2 9 n0 X 1"], "NotAbove", low)
+            self.expect_said("check --marks", past + ["leave 1 7 s X 1"], "NotHeld", f"{holds}it was never requested")
+            self.expect_said("check --marks", past + ["leave 1 7 n0 X 1"], "NotHeld", f"{holds}it was released in line 3")
+            other = "client 7 at node 1 last released 'n0' (X) in line 3, with number 1"
+            self.expect_said("check --marks", past + ["enter 1 8 n0 X 2"], "NotWaiting", waits + other)
 
-    def test_no_more_messages_are_kept_than_there_is_room_for(self):
+    def expect_not_under_way(self, lines, said):
+        """Fails unless this is said of the last of these lines, of which the message is not under way."""
+        for words in ("check", "draw"):
+            self.expect_said(words, lines, "NotUnderWay", NOT_UNDER_WAY + said)
+
+    def test_each_message_that_was_delivered_or_lost_is_known(self):
         begins = ["trace 2 2 0", "ask 1 1 r X", "request 1 1 r X 1"]
-        came = ["repeat request 1 2 r X 1", "deliver request 1 2 r X 1"]
-        never = ["deliver reply 2 1 s 1"]
-        self.expect_said("check", begins + MOST_TAKEN * came + never, "NotUnderWay", NOT_UNDER_WAY + "it was never sent")
-        more = begins + (MOST_TAKEN + 1) * came
-        unknown = "it was never sent, or was already delivered or lost"
-        self.expect_said("check", more + never, "NotUnderWay", NOT_UNDER_WAY + unknown)
-        # The last ones are kept, and the first one is not.
-        lost = begins + ["repeat request 1 2 r X 1", "lose request 1 2 r X 1", "deliver request 1 2 r X 1"]
-        again = ["ask 2 2 s X", "request 2 2 s X 1"] + MOST_TAKEN * ["repeat request 2 1 s X 1", "lose request 2 1 s X 1"]
-        self.expect_said("check", lost + again + ["deliver request 1 2 r X 1"], "NotUnderWay", NOT_UNDER_WAY + unknown)
-        kept = lost + again[:-2] + ["deliver request 1 2 r X 1"]
-        said = "it was last delivered in line 6; a copy needs a repeat line before that"
-        self.expect_said("check", kept, "NotUnderWay", NOT_UNDER_WAY + said)
+        again = "; a copy needs a repeat line before that"
+        for count in TAKEN:
+            came = count * ["repeat request 1 2 r X 1", "deliver request 1 2 r X 1"]
+            self.expect_not_under_way(begins + came + ["deliver reply 2 1 s 1"], "it was never sent")
+            late = count * ["repeat request 2 1 s X 1", "lose request 2 1 s X 1"]
+            asked = ["deliver request 1 2 r X 1", "ask 2 2 s X", "request 2 2 s X 1"]
+            lines = begins + asked + late + ["deliver request 1 2 r X 1"]
+            self.expect_not_under_way(lines, f"it was last delivered in line 4{again}")
+            lost = ["lose request 1 2 r X 1", "ask 2 2 s X", "request 2 2 s X 1"]
+            self.expect_not_under_way(begins + lost + late + ["deliver request 1 2 r X 1"], "it was lost in line 4")
+
+    def test_a_deferral_and_a_request_that_has_not_come_are_known(self):
+        begins = ["trace 2 3 0", "ask 1 1 r X", "request 1 1 r X 1"]
+        for count in TAKEN:
+            came = count * ["repeat request 1 3 r X 1", "deliver request 1 3 r X 1"]
+            lines = begins + came + ["deliver reply 2 1 r 1"]
+            self.expect_not_under_way(lines, "its request has not come to node 2")
+            deferred = ["ask 2 2 r X", "request 2 2 r X 1", "deliver request 2 1 r X 1"]
+            lines = begins + deferred + came + ["deliver reply 1 2 r 1"]
+            self.expect_not_under_way(lines, "node 1 deferred it in line 6, as its own request 1 is earlier")
+
+    def test_a_reply_that_came_is_known(self):
+        begins = ["trace 2 3 0", "ask 1 1 r X", "request 1 1 r X 1", "deliver request 1 2 r X 1", "deliver reply 2 1 r 1"]
+        early = "expected no mark here: client 1 at node 1 still awaits the REPLY of node 3"
+        for count in TAKEN:
+            lost = count * ["repeat request 1 3 r X 1", "lose request 1 3 r X 1"]
+            for words in ("check", "draw"):
+                self.expect_said(words, begins + lost + ["enter 1 1 r X 1"], "Marks", early)
+
+
+class LongestTexts(SaidOfLines):
+    """Texts with as many bytes as one may have."""
+
+    def full(self, before, line, after):
+        """Returns these lines with as many of one line between them as fit into a text, and how many these are."""
+        room = LIMIT - sum(len(it) + 1 for it in before + after)
+        count = room // (len(line) + 1)
+        return before + count * [line] + after, count
+
+    def test_a_wrong_step_of_the_longest_trace_is_explained(self):
+        begins = ["trace 2 2 0", "ask 1 1 r X", "request 1 1 r X 1"]
+        lines, _ = self.full(begins, "repeat request 1 2 r X 1", ["ask 1 1 r S"])
+        busy = "client 1 has waited for 'r' (X) at node 1 since line 3 and may not ask for it again"
+        for words in ("check", "draw"):
+            self.expect_said(words, lines, "Refused", busy)
+
+    def test_a_wrong_mark_of_the_longest_log_is_explained(self):
+        # Each name has 32 bytes, as many as one may have.
+        names = [f"n{place:031}" for place in range(117_300)]
+        lines = rounds(["r"], [1]) + rounds(names, [1]) + ["request 2 9 r X 1"]
+        size = sum(len(it) + 1 for it in lines)
+        self.assertTrue(LIMIT - 10_000 < size <= LIMIT, size)
+        low = "the number of this request is not above every number granted for the name: 1 was granted in line 2"
+        for words in ("check --marks", "draw --marks"):
+            self.expect_said(words, lines, "NotAbove", low)
+
+    def test_what_is_left_of_the_longest_trace_is_said(self):
+        begins = ["trace 2 2 0", "ask 1 1 r X", "request 1 1 r X 1"]
+        lines, count = self.full(begins, "repeat request 1 2 r X 1", ["end"])
+        waits = "client 1 at node 1 has waited for 'r' (X) since line 3: no client blocks it, but a message is under way"
+        self.expect(
+            words="check",
+            input="".join(f"{line}\n" for line in lines),
+            output="valid\nrequests 1\nmessages 1\n",
+            note=f"ra: the trace ends with {count + 1} messages under way, 1 request waiting: {waits}\n",
+        )
+
+    def test_a_line_after_the_end_of_the_longest_trace_is_shown(self):
+        begins = ["trace 2 2 0", "ask 1 1 r X", "request 1 1 r X 1"]
+        lines, _ = self.full(begins, "repeat request 1 2 r X 1", ["end", "end of the trace"])
+        for words in ("check", "draw"):
+            self.expect_said(words, lines, "Line", "nothing may follow end, the last line of a trace")

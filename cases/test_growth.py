@@ -36,6 +36,11 @@ expected one book of each node, with one NODES and one START
 """
 
 
+def locks(count):
+    """Returns a mark log in which a client locks a name so many times."""
+    return "".join(f"request 1 1 r X {it}\nenter 1 1 r X {it}\nleave 1 1 r X {it}\n" for it in range(1, count + 1))
+
+
 def is_refused(words, done):
     """Returns whether a run says that memory ran out. Of threads it may stop a node."""
     if done.status != 2:
@@ -117,8 +122,23 @@ class Growth(PreloadTest):
         self.expect_all("draw", given, is_whole, "a picture, or that memory ran out")
 
     def test_growth_of_check(self):
-        self.expect_growth("check", TEXTS["ONE_CLIENT_TRACE"], "valid\nrequests 1\nmessages 2\n")
-        self.expect_growth("check --marks", MARKS, "valid\nrequests 1\ngrants 1\n")
+        # Without memory for the text, it is not known what is left at its end.
+        self.expect_growth("check", TEXTS["ONE_CLIENT_TRACE"], "valid\nrequests 1\nmessages 2\n", less=[NO_MORE])
+        self.expect_growth("check --marks", MARKS, "valid\nrequests 1\ngrants 1\n", less=[NO_MORE])
+
+    def allocations(self, words, given):
+        """Returns how many allocations a command makes."""
+        for first in itertools.count(1, GROUP):
+            came = self.expect_of([Run(words, given, refused=it) for it in range(first, first + GROUP)])
+            for place, done in enumerate(came):
+                if not done.is_refused:
+                    return first + place - 1
+
+    def test_the_text_that_is_kept_grows_by_doubling(self):
+        few, many = (self.allocations("check --marks", locks(count)) for count in (1, 20_000))
+        # The longer text has 1.2 million bytes, and the buffer 8,192.
+        self.assertLess(few, many)
+        self.assertLess(many, few + 16)
 
     def test_growth_of_cluster(self):
         # The one client's marks have one order.

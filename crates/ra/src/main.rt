@@ -38,7 +38,7 @@ fn main(rt: HostRuntime) -> ExitCode {
     }
     // It is read in small pieces, which would otherwise be a call of the system each.
     let mut reader = match BufReader::new(alloc, EndReader::new(input)) {
-        Ok(reader) => SeenReader::new(alloc, reader),
+        Ok(reader) => SeenReader::new(alloc, words.as_slice(), reader),
         Err(_) => {
             let status = refuse_words_with_note(&mut writer, CommandFault::Memory, &mut notes);
             return ExitCode::from(status);

@@ -81,7 +81,10 @@ fn said_of(
 
 /// Returns what there is to say about the end of a trace in which this many messages were sent, or of a mark log.
 fn of_end(alloc: Global, seen: &Seen, sent: u128) -> Said {
-    match end_note(alloc, seen.open(), sent) {
+    let Some(text) = seen.bytes() else {
+        return Said::Text(UNEXPLAINED);
+    };
+    match end_note(alloc, text, sent) {
         Ok(Some(text)) => Said::Note(text),
         Ok(None) => Said::Nothing,
         // Without a note, nothing would seem to be left.

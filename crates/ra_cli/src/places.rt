@@ -5,19 +5,18 @@ use crate::error::RunScriptError;
 use crate::note_texts::{cause_text, mark_cause_text};
 use crate::outcome::Remark;
 use crate::refusal::Refusal;
-use crate::seen::{MAX_LINE, Seen};
+use crate::seen::Seen;
 use crate::serving::policy_of;
 use crate::settle_notes::unsettled_note;
 use ra_cluster::ClusterError;
 use ra_explain::{
-    LineCause, OpenText, Unanswered, choices_note, digits_note, frame_note, line_note, order_note,
-    unanswered_note, unfinished_note, version_of,
+    LineCause, Unanswered, choices_note, digits_note, frame_note, line_note, order_note,
+    unanswered_note, unfinished_note,
 };
 use ra_schedule::{Policy, chance};
 use ra_script::{PerformError, explain_script};
 use ra_stamp::{Mark, Memory};
-use ra_trace::{Cause, Version, check_buffered_with_due};
-use ra_world::cut;
+use ra_trace::{Cause, check_buffered_with_due};
 use std::alloc::Global;
 
 /// What is said of a place, or nothing, if there is nothing to say or no memory for it: then the cause alone is named.
@@ -89,124 +88,6 @@ fn unfinished_place(
     }
 }
 
-/// Returns a text up to the end of one of its lines, counted from 1, and how many lines that is.
-fn through_line(text: &[u8], line: u64) -> (&[u8], u64) {
-    let mut rest = text;
-    for feeds in 0..line {
-        let (_, Some(after)) = cut(rest, b'\n') else {
-            return (text, feeds);
-        };
-        rest = after;
-    }
-    let read = text.len().saturating_sub(rest.len());
-    (text.get(..read).unwrap_or(text), line)
-}
-
-/// Returns the version that a trace names, if its first line is remembered.
-fn version_in(seen: &Seen) -> Option<Version> {
-    version_of(seen.bytes()?)
-}
-
-/// Returns what is said of a wrong line of a text of which the last line is remembered, and perhaps that the line before is `end`.
-fn last_line_place(
-    alloc: Global,
-    seen: &Seen,
-    last: &[u8],
-    line: u64,
-    cause: LineCause,
-    text: &str,
-) -> Said {
-    let mut tail = Vec::new(alloc);
-    if seen.is_after_end() {
-        tail.extend_from_slice(b"end\n")?;
-    }
-    tail.extend_from_slice(last)?;
-    line_note(
-        alloc,
-        version_in(seen),
-        line,
-        &tail,
-        seen.feeds(),
-        seen.open(),
-        cause,
-        text,
-    )
-}
-
-/// Returns what is said of a wrong line at the end of these lines, which are remembered from the first one on.
-fn known_place(
-    alloc: Global,
-    read: &[u8],
-    line: u64,
-    feeds: u64,
-    cause: LineCause,
-    text: &str,
-) -> Said {
-    // A text that was to be drawn was not read line by line, so its lines are followed now.
-    let before = OpenText::before(alloc, read, line);
-    line_note(
-        alloc,
-        version_of(read),
-        line,
-        read,
-        feeds,
-        &before,
-        cause,
-        text,
-    )
-}
-
-/// Returns what `ra check` reads of a text that was to be drawn, up to a wrong line, counted from 1, and how many lines it reads with
-/// their line feeds.
-fn as_checked(text: &[u8], line: u64) -> (&[u8], u64) {
-    let (before, feeds) = through_line(text, line.saturating_sub(1));
-    let rest = text.get(before.len()..).unwrap_or(b"");
-    let (shown, after) = cut(&rest[..rest.len().min(MAX_LINE)], b'\n');
-    let end = before.len().saturating_add(shown.len());
-    match after {
-        Some(_) => (
-            text.get(..end.saturating_add(1)).unwrap_or(text),
-            feeds.saturating_add(1),
-        ),
-        None => (text.get(..end).unwrap_or(text), feeds),
-    }
-}
-
-/// Returns what is said of a wrong line of a text that was to be drawn, which is here as a whole.
-fn drawn_place(alloc: Global, drawn: &[u8], line: u64, cause: LineCause, text: &str) -> Said {
-    let (read, feeds) = as_checked(drawn, line);
-    known_place(alloc, read, line, feeds, cause, text)
-}
-
-/// Returns what is said of a wrong line. A text that was to be drawn is `drawn`, and any other one was read line by line.
-fn line_place(
-    alloc: Global,
-    seen: &Seen,
-    drawn: &[u8],
-    line: u64,
-    cause: LineCause,
-    text: &str,
-) -> Said {
-    if !drawn.is_empty() {
-        return drawn_place(alloc, drawn, line, cause, text);
-    }
-    // Only its first byte is read of a line after the last one of a trace.
-    if let (true, Some(shown)) = (seen.is_after_end(), seen.shown_line()) {
-        return last_line_place(alloc, seen, shown, line, cause, text);
-    }
-    if let Some(bytes) = seen.bytes() {
-        let (read, feeds) = through_line(bytes, line);
-        // Of a longer text only the first bytes are remembered.
-        if feeds >= line || bytes.len() < Seen::MAX_BYTES {
-            return known_place(alloc, read, line, feeds, cause, text);
-        }
-    }
-    match seen.line() {
-        Some(last) => last_line_place(alloc, seen, last, line, cause, text),
-        None => Ok(None),
-    }
-}
-
 /// Returns what is said of a remark that is about what was read.
 fn place_in(
     alloc: Global,
@@ -243,6 +124,15 @@ fn cause_in(alloc: Global, drawn: &[u8], cause: Cause, due: Option<Mark>) -> Lin
     }
 }
 
+/// Returns the text that was checked or was to be drawn, or `None` if there is no memory for it. One that was to be drawn is `drawn`.
+fn text_in<'a>(seen: &'a Seen, drawn: &'a [u8]) -> Option<&'a [u8]> {
+    if drawn.is_empty() {
+        seen.bytes()
+    } else {
+        Some(drawn)
+    }
+}
+
 /// Returns what there is to say of the place of what a remark is about, or `None`. A text that was to be drawn, and is not of its
 /// kind, is `drawn`.
 pub fn place_of(
@@ -255,13 +145,18 @@ pub fn place_of(
 ) -> Option<String> {
     let said = match *remark {
         Remark::NoTrace { line, cause, due } => {
-            let text = cause_text(cause);
             let why = cause_in(alloc, drawn, cause, due);
-            line_place(alloc, seen, drawn, line, why, text)
+            line_note(alloc, text_in(seen, drawn)?, line, why, cause_text(cause))
         }
         Remark::NoLog { line, cause } => {
-            let text = mark_cause_text(cause);
-            line_place(alloc, seen, drawn, line, LineCause::Marks(cause), text)
+            let why = LineCause::Marks(cause);
+            line_note(
+                alloc,
+                text_in(seen, drawn)?,
+                line,
+                why,
+                mark_cause_text(cause),
+            )
         }
         Remark::Unsettled { line, cause, place } => unsettled_note(alloc, line, cause, &place),
         _ => place_in(alloc, words, seen.bytes()?, remark, last_seed),

@@ -1,65 +1,50 @@
 //! A reader that remembers what was read of it, so that it can be said where something is wrong.
 ghost use Rattle.std.specs.Prelude.{◌≡◌};
 
-use arrayvec::ArrayVec;
-use ra_explain::OpenText;
-use ra_world::cut;
 use std::alloc::Global;
 use std::io;
 use std::io::{BufRead, Read};
 
-/// The most bytes of a line that are remembered: as many as are read of one.
-pub const MAX_LINE: usize = 128;
-
 /// What was read.
 #[derive(Drop)]
 pub struct Seen {
-    /// The first bytes that were read.
+    /// The first bytes that were read, and what the reader showed after them.
     bytes: Vec<u8>,
-    /// Whether there was memory for them, and none was taken that was not remembered.
-    is_whole: bool,
-    /// Whether they were looked at before they were taken, no more than a line at once.
-    is_by_lines: bool,
-    /// The last line, and what the reader showed after what was taken of it.
-    line: ArrayVec<u8, MAX_LINE>,
-    /// How many bytes of the line were taken.
+    /// The most bytes that are remembered.
+    most: usize,
+    /// How many bytes were read.
     taken: usize,
-    /// How many lines were taken whole.
-    feeds: u64,
-    /// Whether the line before was `end`.
-    is_after_end: bool,
-    /// What is open after the lines that were looked at and taken whole, but for the last one if nothing was read after it.
-    open: OpenText,
-}
-
-/// Adds bytes to the first ones, as far as these are remembered, and returns whether there was memory for them.
-fn has_kept(first: &mut Vec<u8>, more: &[u8]) -> bool {
-    let room = Seen::MAX_BYTES.saturating_sub(first.len());
-    first
-        .extend_from_slice(&more[..more.len().min(room)])
-        .is_ok()
+    /// Whether there was memory for the bytes.
+    is_whole: bool,
 }
 
 impl Seen {
-    /// The most bytes that are remembered: as many as are read of a script.
+    /// The most bytes that are remembered of what is checked: as many as a text may have, and a line as far as it is read.
+    pub const MAX_TEXT: usize = 16_777_216 + 128;
+
+    /// The most bytes that are remembered of another input: as many as are read of a script.
     pub const MAX_BYTES: usize = 65_537;
 
-    /// Makes that of a reader of which nothing was read.
-    fn new(alloc: Global) -> Seen {
+    /// Makes that of a reader of which nothing was read, by a command with these words.
+    fn new(alloc: Global, words: &[String]) -> Seen {
+        let is_check = match words.get(1) {
+            Some(command) => command.as_str() == "check",
+            None => false,
+        };
         Seen {
             bytes: Vec::new(alloc),
-            is_whole: true,
-            is_by_lines: false,
-            line: ArrayVec::new(),
+            most: if is_check {
+                Seen::MAX_TEXT
+            } else {
+                Seen::MAX_BYTES
+            },
             taken: 0,
-            feeds: 0,
-            is_after_end: false,
-            open: OpenText::new(alloc),
+            is_whole: true,
         }
     }
 
-    /// Returns the first bytes that were read, at most 65,537, or `None` if memory ran out, or more than a line was taken at once of what
-    /// was looked at.
+    /// Returns the first bytes that were read, and what the reader showed after them. There are at most 16,777,344 by the command
+    /// `check`, so a text that it checks is whole, and 65,537 by another one. Returns `None` if memory ran out.
     pub fn bytes(&self) -> Option<&[u8]> {
         if self.is_whole {
             Some(self.bytes.as_slice())
@@ -68,123 +53,25 @@ impl Seen {
         }
     }
 
-    /// Returns what was taken of the last line, at most 128 bytes, and its line feed if it came. It does not allocate.
-    fn taken_line(&self) -> &[u8] {
-        let line = self.line.as_slice();
-        &line[..self.taken.min(line.len())]
-    }
-
-    /// Returns what was taken of the last line, at most 128 bytes, and its line feed if it came. Returns `None` if the input was
-    /// not read line by line, as a trace is. It does not allocate.
-    pub fn line(&self) -> Option<&[u8]> {
-        if self.is_by_lines {
-            Some(self.taken_line())
-        } else {
-            None
-        }
-    }
-
-    /// Returns the last line as far as the reader showed it, at most 128 bytes, with its line feed if that was taken. Returns
-    /// `None` if the input was not read line by line, as a trace is. It does not allocate.
-    pub fn shown_line(&self) -> Option<&[u8]> {
-        if !self.is_by_lines {
-            return None;
-        }
-        if self.is_over() {
-            return Some(self.taken_line());
-        }
-        let (line, _) = cut(self.line.as_slice(), b'\n');
-        Some(line)
-    }
-
-    /// Returns whether the line before the last one was `end`.
-    pub fn is_after_end(&self) -> bool {
-        self.is_after_end
-    }
-
-    /// Returns what is open after the lines that were looked at and taken whole, but for the last one if nothing was read after it.
-    pub fn open(&self) -> &OpenText {
-        &self.open
-    }
-
-    /// Returns how many lines were taken with their line feeds.
-    pub fn feeds(&self) -> u64 {
-        self.feeds
-    }
-
-    /// Returns whether the last line was taken with its line feed.
-    fn is_over(&self) -> bool {
-        self.taken_line().last() == Some(&b'\n')
-    }
-
-    /// Remembers the bytes that were read.
-    fn keep(&mut self, bytes: &[u8]) {
+    /// Remembers bytes after those that are known, as far as there is room.
+    fn keep(&mut self, more: &[u8]) {
+        let room = self.most.saturating_sub(self.bytes.len());
+        let kept = &more[..more.len().min(room)];
         // What comes after bytes for which there was no memory would be at a wrong place.
-        self.is_whole = self.is_whole && has_kept(&mut self.bytes, bytes);
+        self.is_whole = self.is_whole && self.bytes.extend_from_slice(kept).is_ok();
     }
 
-    /// Remembers what comes next, of which nothing is taken yet.
+    /// Remembers what is read next, unless it was shown before, as most lines are: a reader with a buffer shows many at once.
     fn show(&mut self, next: &[u8]) {
-        if self.is_over() {
-            self.end_line();
-        }
-        self.line.truncate(self.taken);
-        let room = self.line.remaining_capacity();
-        let shown = &next[..next.len().min(room)];
-        self.line.try_extend_from_slice(shown).ok();
-    }
-
-    /// Returns what was shown after a line that was taken whole, if that goes on after these bytes, which are read next.
-    fn shown_behind(&self, read: &[u8]) -> Option<ArrayVec<u8, MAX_LINE>> {
-        let shown = self.line.as_slice().get(self.taken..)?;
-        if !self.is_over() || shown.len() <= read.len() || !shown.starts_with(read) {
-            return None;
-        }
-        let mut line = ArrayVec::new();
-        line.try_extend_from_slice(shown).ok();
-        Some(line)
-    }
-
-    /// Remembers what is read next without being looked at, such as the one byte that is asked for after the last line of a
-    /// trace. What was shown there stays known.
-    fn show_read(&mut self, read: &[u8]) {
-        match self.shown_behind(read) {
-            Some(line) => {
-                self.end_line();
-                self.line = line;
-            }
-            None => self.show(read),
+        let known = self.bytes.len().saturating_sub(self.taken);
+        if known < next.len() {
+            self.keep(&next[known..]);
         }
     }
 
-    /// Remembers that `count` bytes that were looked at are taken.
-    fn pass(&mut self, count: usize) {
-        self.is_by_lines = true;
-        self.is_whole = self.is_whole
-            && match self.line.get(self.taken..self.taken.saturating_add(count)) {
-                Some(passed) => has_kept(&mut self.bytes, passed),
-                None => false,
-            };
-        self.take(count);
-    }
-
-    /// Follows the last line, which was taken with its line feed, and goes on to the next one. So what is open is known as it was
-    /// before a wrong line, after which nothing is read.
-    fn end_line(&mut self) {
-        self.is_after_end = self.taken_line() == b"end\n".as_slice();
-        let end = self.taken.saturating_sub(1);
-        if let (true, Some(line)) = (self.is_by_lines, self.line.as_slice().get(..end)) {
-            self.open.take_line(line);
-        }
-        self.taken = 0;
-    }
-
-    /// Remembers that `count` bytes of what was shown are taken.
+    /// Remembers that `count` bytes of what was shown are read.
     fn take(&mut self, count: usize) {
-        self.taken = self.taken.saturating_add(count).min(self.line.len());
-        if count > 0 && self.is_over() {
-            self.feeds = self.feeds.saturating_add(1);
-        }
+        self.taken = self.taken.saturating_add(count);
     }
 }
 
@@ -196,13 +83,14 @@ pub struct SeenReader<R> {
 }
 
 impl<R> SeenReader<R> {
-    /// Makes one of a reader. It does not allocate, and reads that follow do so for what they remember, unless memory runs out.
-    pub fn new(alloc: Global, inner: R) -> SeenReader<R>
+    /// Makes one of a reader, for a command with these words, of which the first is the program's name. It does not allocate, and
+    /// reads that follow do so for what they remember, unless memory runs out.
+    pub fn new(alloc: Global, words: &[String], inner: R) -> SeenReader<R>
         ensures { result.inner ≡ inner }
     {
         SeenReader {
             inner,
-            seen: Seen::new(alloc),
+            seen: Seen::new(alloc, words),
         }
     }
 
@@ -217,9 +105,7 @@ impl<R: Read> Read for SeenReader<R> {
 
     fn read(&mut self, buf: &mut [u8]) -> io::Result<usize> {
         let count = self.inner.read(buf)?;
-        let read = &buf[..count];
-        self.seen.keep(read);
-        self.seen.show_read(read);
+        self.seen.show(&buf[..count]);
         self.seen.take(count);
         Ok(count)
     }
@@ -239,7 +125,7 @@ impl<R: BufRead> BufRead for SeenReader<R> {
     }
 
     fn consume(&mut self, amount: usize) {
-        self.seen.pass(amount);
+        self.seen.take(amount);
         self.inner.consume(amount);
     }
 }

@@ -1,12 +1,11 @@
 //! Which REPLY a client still awaits that a trace lets in.
-use crate::mark::mark_in;
-use crate::not_under_way::message_with;
+use crate::mark::{delivered_in, mark_in};
 use crate::open_text::{OpenText, Stage};
-use crate::past::{End, Pasts};
-use crate::refused_step::nodes_of;
-use crate::words::kept;
+use crate::refused_step::nodes_in;
+use crate::text_line::TextLine;
 use ra_stamp::{Entry, Mark, Message, NodeId};
 use ra_world::{Note, cut};
+use std::alloc::Global;
 
 /// The numbers of nodes, and 0.
 const NUMBERS: usize = 65;
@@ -19,23 +18,12 @@ fn entered_in(shown: &[u8]) -> Option<Entry> {
     }
 }
 
-/// Returns the line since which the request of a mark's line waits, if it does.
-fn waiting_since(text: &OpenText, shown: &[u8]) -> Option<u64> {
-    let (_, words) = cut(shown, b' ');
-    match text.open.get(&kept(words?)) {
-        Some(open) if open.stage == Stage::Waits => Some(open.since),
-        _ => None,
+/// Returns whether an entry waits after these lines.
+fn is_waiting(alloc: Global, lines: &[u8], entry: &Entry) -> bool {
+    match OpenText::after(alloc, lines).client_of(entry) {
+        Some(client) => client.stage == Stage::Waits,
+        None => false,
     }
-}
-
-/// Returns whether each message is known that was delivered after a line.
-fn is_known_since(taken: &Pasts, line: u64) -> bool {
-    for past in &taken.last {
-        if past.line <= line {
-            return true;
-        }
-    }
-    taken.is_whole
 }
 
 /// Returns the node whose REPLY to the request of an entry a message is, if it is one.
@@ -51,25 +39,29 @@ fn replier(message: &Message, entry: &Entry) -> Option<NodeId> {
     }
 }
 
-/// Returns, by their numbers, which nodes have a REPLY to the request of an entry among the messages that are known to be delivered.
-fn repliers(text: &OpenText, entry: &Entry) -> [bool; NUMBERS] {
+/// Returns, by their numbers, which nodes have a REPLY to the request of an entry delivered in these lines.
+fn repliers(lines: &[u8], entry: &Entry) -> [bool; NUMBERS] {
     let mut have = [false; NUMBERS];
-    for past in &text.taken.last {
-        if let (End::Delivered, Some(message)) = (past.end, message_with(&past.words)) {
-            if let Some(node) = replier(&message, entry) {
-                if let Some(has) = have.get_mut(usize::from(node.get())) {
-                    *has = true;
-                }
-            }
+    let mut rest = lines;
+    for _ in 0..u64::MAX {
+        let (line, Some(after)) = cut(rest, b'\n') else {
+            break;
+        };
+        if let Some(message) = delivered_in(line)
+            && let Some(node) = replier(&message, entry)
+            && let Some(has) = have.get_mut(usize::from(node.get()))
+        {
+            *has = true;
         }
+        rest = after;
     }
     have
 }
 
 /// Returns the first of these nodes, other than that of an entry, that has no REPLY to its request delivered, and how many such nodes
 /// there are. If there is none, both are 0.
-fn missing(text: &OpenText, entry: &Entry, nodes: u16) -> (u64, u64) {
-    let have = repliers(text, entry);
+fn missing(lines: &[u8], entry: &Entry, nodes: u16) -> (u64, u64) {
+    let have = repliers(lines, entry);
     let own = entry.stamp.node.get();
     let (mut first, mut count) = (0, 0u64);
     for node in 1..=nodes {
@@ -102,20 +94,12 @@ fn push_missing(note: &mut Note, entry: &Entry, first: u64, count: u64) {
     }
 }
 
-/// Adds whose REPLY the client still awaits that line `line` of a trace lets in, if it does that. It is known if the lines before
-/// it were followed, and each message that was delivered since the client's request. The cost is linear in how many of these are
-/// kept.
-pub fn push_awaited(note: &mut Note, line: u64, text: &OpenText, shown: &[u8]) {
-    if !text.is_trace || !text.is_before(line) {
-        return;
-    }
-    if let (Some(entry), Some(nodes), Some(since)) = (
-        entered_in(shown),
-        nodes_of(text),
-        waiting_since(text, shown),
-    ) {
-        let (first, count) = missing(text, &entry, nodes);
-        if count > 0 && is_known_since(&text.taken, since) {
+/// Adds whose REPLY the client still awaits that a line of a trace lets in, if its request waits and that is known. The cost is linear
+/// in the lines before.
+pub fn push_awaited(alloc: Global, note: &mut Note, line: &TextLine<'_>) {
+    if let (Some(entry), Some(nodes)) = (entered_in(line.bytes), nodes_in(line.before)) {
+        let (first, count) = missing(line.before, &entry, nodes);
+        if count > 0 && is_waiting(alloc, line.before, &entry) {
             push_missing(note, &entry, first, count);
         }
     }

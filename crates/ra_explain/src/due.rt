@@ -1,6 +1,6 @@
 //! Which mark is due at a line of a trace.
 use crate::awaited::push_awaited;
-use crate::open_text::OpenText;
+use crate::text_line::TextLine;
 use ra_stamp::Mark;
 use ra_world::{Note, mark_line};
 use std::alloc::Global;
@@ -17,16 +17,9 @@ fn push_mark(alloc: Global, note: &mut Note, mark: &Mark) {
     }
 }
 
-/// Adds which mark is due at line `line` of a trace. If none is, it adds that, and which REPLY the client still awaits that the line
-/// lets in, if that is known.
-pub fn push_due(
-    alloc: Global,
-    note: &mut Note,
-    line: u64,
-    text: &OpenText,
-    shown: &[u8],
-    due: &Option<Mark>,
-) {
+/// Adds which mark is due at a line of a trace. If none is, it adds that, and which REPLY the client still awaits that the line lets
+/// in, if it does that.
+pub fn push_due(alloc: Global, note: &mut Note, line: &TextLine<'_>, due: &Option<Mark>) {
     match due {
         Some(mark) => {
             note.push("expected the mark ");
@@ -35,7 +28,7 @@ pub fn push_due(
         }
         None => {
             note.push("expected no mark here");
-            push_awaited(note, line, text, shown);
+            push_awaited(alloc, note, line);
         }
     }
 }

@@ -3,7 +3,6 @@
 #![tactic(auto)]
 
 mod awaited;
-mod before;
 mod choosing;
 mod claim;
 mod digits;
@@ -22,26 +21,22 @@ mod line_text;
 mod mark;
 mod not_under_way;
 mod obstacle;
-mod open_client;
 mod open_text;
 mod order;
 mod past;
 mod refused_step;
 mod script;
 mod standing;
-mod tail;
 mod text_end;
+mod text_line;
 mod unanswered;
 mod unfinished;
-mod words;
 
 pub use choosing::choices_note;
 pub use ending::script_end_note;
 pub use frame::{frame_note, push_frame_fault};
 pub use hexadecimal::{digits_note, push_digits_fault};
 pub use line::{LineCause, line_note};
-pub use line_text::version_of;
-pub use open_text::OpenText;
 pub use order::order_note;
 pub use text_end::end_note;
 pub use unanswered::{Unanswered, unanswered_note};

@@ -2,13 +2,10 @@
 use crate::hint::{AT_FIRST, AT_LATER, AT_MARKS, TAB, hint_at};
 use crate::line_fault::push_line_fault;
 use crate::line_form::{FIRST_FORMS, MARK_FORMS, STEP_FORMS, form_of};
-use crate::tail::Tail;
+use crate::text_line::{MAX_LINE, TextLine};
 use ra_trace::Version;
 use ra_world::Note;
 use std::alloc::Global;
-
-/// How many bytes of a line without a line feed are read.
-const MAX_LINE: usize = 128;
 
 /// The text for a later line that does not begin with any of the words of a trace.
 const WORDS: &str =
@@ -36,10 +33,10 @@ fn unended_text(line: &[u8]) -> &'static str {
 }
 
 /// Returns the text for a line that does not end as lines must, or `None`.
-fn end_text(tail: &Tail<'_>) -> Option<&'static str> {
-    if !tail.has_feed {
-        Some(unended_text(tail.line))
-    } else if let [.., b'\r'] = tail.line {
+fn end_text(line: &TextLine<'_>) -> Option<&'static str> {
+    if !line.has_feed {
+        Some(unended_text(line.bytes))
+    } else if let [.., b'\r'] = line.bytes {
         Some(
             "this line ends with a carriage return and a line feed, but each line must end with a line feed alone",
         )
@@ -102,32 +99,24 @@ fn push_later_line(
     }
 }
 
-/// Adds the text for a line that does not belong in a trace of this version or is out of place, or `other` if
-/// nothing is found.
-pub fn push_trace_text(
-    alloc: Global,
-    note: &mut Note,
-    line: u64,
-    tail: &Tail<'_>,
-    version: Option<Version>,
-    other: &str,
-) {
-    if tail.is_after_end {
+/// Adds the text for a line that does not belong in a trace or is out of place, or `other` if nothing is found.
+pub fn push_trace_text(alloc: Global, note: &mut Note, line: &TextLine<'_>, other: &str) {
+    if line.is_after_end() {
         note.push("nothing may follow end, the last line of a trace");
-    } else if let Some(text) = end_text(tail) {
+    } else if let Some(text) = end_text(line) {
         note.push(text);
-    } else if line == 1 {
-        push_first_line(alloc, note, tail.line);
+    } else if line.number == 1 {
+        push_first_line(alloc, note, line.bytes);
     } else {
-        push_later_line(alloc, note, tail.line, version, other);
+        push_later_line(alloc, note, line.bytes, line.version(), other);
     }
 }
 
 /// Adds the text for a line that is not a mark, or `other` if nothing is found.
-pub fn push_mark_text(alloc: Global, note: &mut Note, tail: &Tail<'_>, other: &str) {
-    if let Some(text) = end_text(tail) {
+pub fn push_mark_text(alloc: Global, note: &mut Note, line: &TextLine<'_>, other: &str) {
+    if let Some(text) = end_text(line) {
         note.push(text);
-    } else if !push_line_fault(alloc, note, MARK_FORMS, tail.line, Some(Version::Two)) {
-        note.push(hint_at(AT_MARKS, tail.line).unwrap_or(unless_tab(tail.line, other)));
+    } else if !push_line_fault(alloc, note, MARK_FORMS, line.bytes, Some(Version::Two)) {
+        note.push(hint_at(AT_MARKS, line.bytes).unwrap_or(unless_tab(line.bytes, other)));
     }
 }

@@ -1,5 +1,5 @@
-//! The marks and the steps in lines.
-use ra_stamp::{Entry, Mark};
+//! The marks, the steps and the messages in lines.
+use ra_stamp::{Entry, Mark, Message};
 use ra_trace::Line;
 use ra_world::Step;
 
@@ -30,6 +30,14 @@ pub fn mark_in(text: &[u8]) -> Option<Mark> {
 pub fn step_in(text: &[u8]) -> Option<Step> {
     match &Line::parse(text) {
         Some(Line::Stepped(step)) => Some(*step),
+        _ => None,
+    }
+}
+
+/// Returns the message that a text without its line feed delivers, if it delivers one.
+pub fn delivered_in(text: &[u8]) -> Option<Message> {
+    match &step_in(text) {
+        Some(Step::Deliver(message)) => Some(*message),
         _ => None,
     }
 }

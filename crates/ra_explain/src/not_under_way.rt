@@ -1,15 +1,12 @@
 //! Why a message is not under way at a line of a trace.
-use crate::claim::Claim;
-use crate::mark::step_in;
-use crate::open_client::client_of;
-use crate::open_text::OpenText;
-use crate::past::{End, Past};
-use crate::refused_step::nodes_of;
-use crate::words::{Words, kept};
-use arrayvec::ArrayVec;
+use crate::mark::{delivered_in, step_in};
+use crate::open_text::{Client, OpenText, Sought};
+use crate::refused_step::nodes_in;
+use crate::text_line::TextLine;
 use ra_stamp::{Message, Name, NodeId};
 use ra_trace::Version;
 use ra_world::{Note, Step, cut};
+use std::alloc::Global;
 
 /// A REPLY of one node to another one, for the request with a number.
 #[derive(Clone, Copy)]
@@ -46,16 +43,6 @@ fn reply_of(message: &Message) -> Option<Reply> {
     }
 }
 
-/// Returns the message with these words.
-pub fn message_with(words: &Words) -> Option<Message> {
-    // Zeros come after the words, which have none.
-    let (words, _) = cut(words.bytes(), 0);
-    let mut line: ArrayVec<u8, 79> = ArrayVec::new();
-    line.try_extend_from_slice(b"deliver ").ok();
-    line.try_extend_from_slice(words).ok();
-    message_of(&step_in(&line)?)
-}
-
 impl Reply {
     /// Returns whether a message is the REQUEST that it answers.
     fn answers(&self, message: &Message) -> bool {
@@ -66,123 +53,122 @@ impl Reply {
             && message.seq() == self.seq
     }
 
-    /// Returns the last line in which its REQUEST was delivered, if that is known.
-    fn came(&self, text: &OpenText) -> Option<u64> {
-        let mut line = None;
-        let mut last = 0;
-        for past in &text.taken.last {
-            if let (End::Delivered, Some(message)) = (past.end, message_with(&past.words)) {
-                if past.line > last && self.answers(&message) {
-                    line = Some(past.line);
-                    last = past.line;
-                }
+    /// Returns the last of these lines in which its REQUEST was delivered, if there is one.
+    fn came(&self, lines: &[u8]) -> Option<u64> {
+        let (mut rest, mut last) = (lines, None);
+        for number in 1..u64::MAX {
+            let (line, Some(after)) = cut(rest, b'\n') else {
+                break;
+            };
+            if let Some(message) = delivered_in(line)
+                && self.answers(&message)
+            {
+                last = Some(number);
             }
+            rest = after;
         }
-        line
+        last
     }
 
-    /// Returns the request that it answers, if that waits.
-    fn request(&self, text: &OpenText) -> Option<Claim> {
-        for (words, open) in text.open.iter() {
-            if let Some(client) = client_of(words, open) {
-                let entry = &client.claim.entry;
-                if entry.stamp.node == self.to
-                    && entry.stamp.seq == self.seq
-                    && entry.name == self.name
-                {
-                    return Some(client.claim);
-                }
-            }
+    /// Returns the client whose request it answers, if that waits.
+    fn client_in(&self, open: &OpenText) -> Option<Client> {
+        let client = open.first_of(&Sought::AtNode(self.to, self.name))?;
+        if client.claim.entry.stamp.seq == self.seq {
+            Some(client)
+        } else {
+            None
         }
-        None
     }
 
-    /// Returns a request of its sender that blocks this one.
-    fn blocker(&self, text: &OpenText, request: &Claim) -> Option<Claim> {
-        for (words, open) in text.open.iter() {
-            if let Some(client) = client_of(words, open) {
-                let claim = client.claim;
-                if claim.entry.stamp.node == self.from && claim.blocks(&request.entry) {
-                    return Some(claim);
-                }
-            }
+    /// Returns the client at its sender that blocks this one, if there is one.
+    fn blocker_in(&self, open: &OpenText, client: &Client) -> Option<Client> {
+        let own = open.first_of(&Sought::AtNode(self.from, self.name))?;
+        if own.claim.blocks(&client.claim.entry) {
+            Some(own)
+        } else {
+            None
         }
-        None
     }
 
     /// Returns whether its sender is a node of the trace that is not the other one.
-    fn is_of_another_node(&self, text: &OpenText) -> bool {
-        match nodes_of(text) {
+    fn is_of_another_node(&self, lines: &[u8]) -> bool {
+        match nodes_in(lines) {
             Some(nodes) => self.from != self.to && self.from.get() <= nodes,
             None => false,
         }
     }
 
     /// Adds that its sender deferred it in a line, since this request of its own is earlier.
-    fn push_deferred(&self, note: &mut Note, line: u64, own: &Claim) {
+    fn push_deferred(&self, note: &mut Note, line: u64, own: &Client) {
         note.push("node ");
         note.number(u64::from(self.from.get()));
         note.push(" deferred it in line ");
         note.number(line);
         note.push(", as its own request ");
-        note.number(own.entry.stamp.seq);
+        note.number(own.claim.entry.stamp.seq);
         note.push(" is earlier");
+    }
+
+    /// Adds why it was never sent, although this client waits for it.
+    fn push_awaited(&self, note: &mut Note, lines: &[u8], open: &OpenText, client: &Client) {
+        match (self.came(lines), self.blocker_in(open, client)) {
+            (Some(line), Some(own)) => self.push_deferred(note, line, &own),
+            (None, _) if self.is_of_another_node(lines) => {
+                note.push("its request has not come to node ");
+                note.number(u64::from(self.from.get()));
+            }
+            _ => note.push(NEVER_SENT),
+        }
     }
 }
 
-/// The beginning of what is said of each message that is not under way.
-const NOT_UNDER_WAY: &str = "this message is not under way: ";
+/// What is said of a message for which there is no reason to be sent.
+const NEVER_SENT: &str = "it was never sent";
 
-/// Adds when the message was taken last, and how a trace of this version says that it came twice.
-fn push_taken(note: &mut Note, past: &Past, version: Option<Version>) {
-    note.push(NOT_UNDER_WAY);
-    match past.end {
-        End::Lost => note.push("it was lost in line "),
-        End::Delivered | End::Released { .. } => note.push("it was last delivered in line "),
+/// Returns the last of these lines that delivered or lost the message with these words, and whether it was lost.
+fn last_taken(lines: &[u8], words: &[u8]) -> Option<(u64, bool)> {
+    let (mut rest, mut last) = (lines, None);
+    for number in 1..u64::MAX {
+        let (line, Some(after)) = cut(rest, b'\n') else {
+            break;
+        };
+        match cut(line, b' ') {
+            (b"deliver", Some(taken)) if taken == words => last = Some((number, false)),
+            (b"lose", Some(taken)) if taken == words => last = Some((number, true)),
+            _ => {}
+        }
+        rest = after;
     }
-    note.number(past.line);
-    let is_delivered = matches!(past.end, End::Delivered);
-    if is_delivered && !matches!(version, Some(Version::One)) {
+    last
+}
+
+/// Adds in which line the message was taken last, and how a trace of this version says that it came twice.
+fn push_taken(note: &mut Note, line: u64, is_lost: bool, version: Option<Version>) {
+    note.push(if is_lost {
+        "it was lost in line "
+    } else {
+        "it was last delivered in line "
+    });
+    note.number(line);
+    if !is_lost && !matches!(version, Some(Version::One)) {
         note.push("; a copy needs a repeat line before that");
     }
 }
 
-/// Adds why a REPLY was never sent, or `other` if that is not known.
-fn push_no_reply(note: &mut Note, text: &OpenText, reply: &Reply, other: &str) {
-    let Some(request) = reply.request(text) else {
-        push_never(note, text, other);
-        return;
-    };
-    match (reply.came(text), reply.blocker(text, &request)) {
-        // Since then it would be known that it was delivered or lost.
-        (Some(line), Some(own)) => {
-            note.push(NOT_UNDER_WAY);
-            reply.push_deferred(note, line, &own);
-        }
-        (None, _) if text.taken.is_whole && reply.is_of_another_node(text) => {
-            note.push(NOT_UNDER_WAY);
-            note.push("its request has not come to node ");
-            note.number(u64::from(reply.from.get()));
-        }
-        _ => push_never(note, text, other),
+/// Adds why a REPLY was never sent.
+fn push_no_reply(alloc: Global, note: &mut Note, lines: &[u8], reply: &Reply) {
+    let open = OpenText::after(alloc, lines);
+    match &reply.client_in(&open) {
+        Some(client) => reply.push_awaited(note, lines, &open, client),
+        None => note.push(NEVER_SENT),
     }
 }
 
-/// Adds that a message was never sent, or `other` if that is not known.
-fn push_never(note: &mut Note, text: &OpenText, other: &str) {
-    if text.taken.is_whole {
-        note.push(NOT_UNDER_WAY);
-        note.push("it was never sent");
-    } else {
-        note.push(other);
-    }
-}
-
-/// Adds why a message that was not taken before is not under way, or `other` if that is not known.
-fn push_unsent(note: &mut Note, text: &OpenText, message: &Message, other: &str) {
+/// Adds why a message that was not taken before is not under way.
+fn push_unsent(alloc: Global, note: &mut Note, lines: &[u8], message: &Message) {
     match &reply_of(message) {
-        Some(reply) => push_no_reply(note, text, reply, other),
-        None => push_never(note, text, other),
+        Some(reply) => push_no_reply(alloc, note, lines, reply),
+        None => note.push(NEVER_SENT),
     }
 }
 
@@ -191,29 +177,18 @@ fn message_in(shown: &[u8]) -> Option<Message> {
     message_of(&step_in(shown)?)
 }
 
-/// Adds why the message that line `line` of a trace of this version delivers, loses or repeats is not under way, or `other` if that
-/// is not known. It is known if the lines before it were followed, and the message, or the REQUEST that it answers, is one of
-/// the last that were delivered or lost, or all of these are known. The cost is linear in how many of these are kept, and in how
-/// many wait, are queued and hold.
-pub fn push_not_under_way(
-    note: &mut Note,
-    line: u64,
-    version: Option<Version>,
-    text: &OpenText,
-    shown: &[u8],
-    other: &str,
-) {
-    let Some(message) = message_in(shown) else {
+/// Adds why the message is not under way that a line of a trace delivers, loses or repeats, or `other` if the line does none of these.
+/// Without memory for what waits, is queued and holds before it, it only adds of a REPLY that it was never sent. The cost is linear
+/// in the lines before.
+pub fn push_not_under_way(alloc: Global, note: &mut Note, line: &TextLine<'_>, other: &str) {
+    let Some(message) = message_in(line.bytes) else {
         note.push(other);
         return;
     };
-    if !text.is_trace || !text.is_before(line) {
-        note.push(other);
-        return;
-    }
-    let (_, words) = cut(shown, b' ');
-    match &text.taken.last_of(&kept(words.unwrap_or(b""))) {
-        Some(past) => push_taken(note, past, version),
-        None => push_unsent(note, text, &message, other),
+    let (_, words) = cut(line.bytes, b' ');
+    note.push("this message is not under way: ");
+    match last_taken(line.before, words.unwrap_or(b"")) {
+        Some((number, is_lost)) => push_taken(note, number, is_lost, line.version()),
+        None => push_unsent(alloc, note, line.before, &message),
     }
 }

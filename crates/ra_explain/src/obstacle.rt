@@ -1,82 +1,66 @@
 //! What is in the way of a mark that a lock table does not allow.
-use crate::before::Before;
 use crate::claim::Claim;
 use crate::line::LineCause;
 use crate::mark::{entry_of, mark_in};
-use crate::open_text::OpenText;
+use crate::open_text::{Client, OpenText, Sought, Stage};
+use crate::past::Past;
+use crate::text_line::TextLine;
 use ra_stamp::{Entry, Mark};
 use ra_trace::MarkCause;
 use ra_world::Note;
 use std::alloc::Global;
 
-/// Returns whether this claim is why a lock table does not allow the mark of an entry, given the cause.
-fn is_in_the_way(claim: &Claim, entry: &Entry, cause: MarkCause) -> bool {
+/// The lines before a mark, and which clients wait, are queued and hold after them.
+#[derive(Drop)]
+struct Before<'a> {
+    lines: &'a [u8],
+    open: OpenText,
+}
+
+/// Returns the first client that is why a lock table does not allow the mark of an entry, given the cause, if there is one.
+fn first_in_the_way(open: &OpenText, entry: &Entry, cause: MarkCause) -> Option<Client> {
     match cause {
-        MarkCause::NodeBusy => claim.entry.stamp.node == entry.stamp.node,
-        MarkCause::Held => claim.holds && claim.blocks(entry),
-        MarkCause::Earlier => !claim.holds && claim.blocks(entry),
-        MarkCause::Line | MarkCause::NotAbove | MarkCause::NotWaiting | MarkCause::NotHeld => false,
+        MarkCause::NodeBusy => open.first_of(&Sought::AtNode(entry.stamp.node, entry.name)),
+        MarkCause::Held => open.first_of(&Sought::Holding(*entry)),
+        MarkCause::Earlier => open.first_of(&Sought::Earlier(*entry)),
+        MarkCause::Line | MarkCause::NotAbove | MarkCause::NotWaiting | MarkCause::NotHeld => None,
     }
 }
 
-/// Returns the first claim that is in the way, if there is one.
-fn first_in_the_way(claims: &[Claim], entry: &Entry, cause: MarkCause) -> Option<Claim> {
-    for claim in claims {
-        if is_in_the_way(claim, entry, cause) {
-            return Some(*claim);
-        }
+/// Returns the client at the node of an entry that waits for its name or holds it, or if there is none, the first that has the number
+/// of its client, if there is one.
+fn nearest_of(open: &OpenText, entry: &Entry) -> Option<Client> {
+    let at_node = open.first_of(&Sought::AtNode(entry.stamp.node, entry.name));
+    if at_node.is_some() {
+        at_node
+    } else {
+        open.first_of(&Sought::Of(entry.client, entry.name))
     }
-    None
-}
-
-/// Returns the claim of an entry, if it has one.
-fn claim_of(claims: &[Claim], entry: &Entry) -> Option<Claim> {
-    for claim in claims {
-        if claim.entry == *entry {
-            return Some(*claim);
-        }
-    }
-    None
-}
-
-/// Returns the first claim at the node of an entry, or if there is none, the first of its client, if there is one.
-fn nearest_of(claims: &[Claim], entry: &Entry) -> Option<Claim> {
-    for claim in claims {
-        if claim.entry.stamp.node == entry.stamp.node {
-            return Some(*claim);
-        }
-    }
-    for claim in claims {
-        if claim.entry.client == entry.client {
-            return Some(*claim);
-        }
-    }
-    None
 }
 
 /// Returns whether an entry waits.
-fn is_waiting(claims: &[Claim], entry: &Entry) -> bool {
-    match claim_of(claims, entry) {
-        Some(claim) => !claim.holds,
+fn is_waiting(open: &OpenText, entry: &Entry) -> bool {
+    match open.client_of(entry) {
+        Some(client) => client.stage == Stage::Waits,
         None => false,
     }
 }
 
 /// Returns why a lock table does not allow a mark after those before it. The mark must be one that it does not allow.
 /// Causes are looked for in the same order as for a mark log.
-fn cause_of(mark: &Mark, claims: &[Claim]) -> MarkCause {
+fn cause_of(mark: &Mark, open: &OpenText) -> MarkCause {
     match mark {
         Mark::Requested(entry) => {
-            if first_in_the_way(claims, entry, MarkCause::NodeBusy).is_some() {
+            if first_in_the_way(open, entry, MarkCause::NodeBusy).is_some() {
                 MarkCause::NodeBusy
             } else {
                 MarkCause::NotAbove
             }
         }
         Mark::Entered(entry) => {
-            if !is_waiting(claims, entry) {
+            if !is_waiting(open, entry) {
                 MarkCause::NotWaiting
-            } else if first_in_the_way(claims, entry, MarkCause::Held).is_some() {
+            } else if first_in_the_way(open, entry, MarkCause::Held).is_some() {
                 MarkCause::Held
             } else {
                 MarkCause::Earlier
@@ -97,13 +81,13 @@ fn cause_text(cause: MarkCause) -> &'static str {
     }
 }
 
-/// Adds the number that a request must exceed, if it is known.
-fn push_granted(note: &mut Note, entry: &Entry, before: &Before) {
-    if before.granted >= entry.stamp.seq {
+/// Adds the number that a request must exceed.
+fn push_granted(note: &mut Note, entry: &Entry, past: &Past) {
+    if past.granted >= entry.stamp.seq {
         note.push(": ");
-        note.number(before.granted);
+        note.number(past.granted);
         note.push(" was granted in line ");
-        note.number(before.granted_at);
+        note.number(past.granted_at);
     }
 }
 
@@ -113,23 +97,23 @@ fn push_number(note: &mut Note, claim: &Claim) {
     note.number(claim.entry.stamp.seq);
 }
 
-/// Adds that an entry was never requested, if that is known. If there is a claim like it, adds that claim in its place, and if its
-/// node released another one before, adds that one.
-fn push_nearest(note: &mut Note, entry: &Entry, before: &Before) {
-    if let Some(claim) = nearest_of(&before.claims, entry) {
+/// Adds that an entry was never requested. If there is a client like it, adds that in its place, and if its node released another
+/// entry before, adds that one.
+fn push_nearest(note: &mut Note, entry: &Entry, open: &OpenText, released: &Option<Claim>) {
+    if let Some(client) = nearest_of(open, entry) {
         note.push(": ");
-        claim.push_in_the_way(note);
-        push_number(note, &claim);
-    } else if let Some(released) = &before.released {
+        client.claim.push_in_the_way(note);
+        push_number(note, &client.claim);
+    } else if let Some(released) = released {
         note.push(": ");
         released.push(note, " last released ", " in line ");
         push_number(note, released);
-    } else if before.is_past_whole {
+    } else {
         note.push(": it was never requested");
     }
 }
 
-/// Adds what became of an entry that has a claim: it holds, or still waits.
+/// Adds what became of an entry that waits or holds.
 fn push_claim(note: &mut Note, claim: &Claim) {
     note.push(if claim.holds {
         ": it was granted in line "
@@ -139,46 +123,57 @@ fn push_claim(note: &mut Note, claim: &Claim) {
     note.number(claim.since);
 }
 
-/// Adds what became of an entry that should wait or hold and does not: it already holds, still waits, was released, or
-/// was never requested. In the last case, a claim like it is named.
-fn push_fate(note: &mut Note, entry: &Entry, before: &Before) {
-    if let Some(claim) = claim_of(&before.claims, entry) {
-        push_claim(note, &claim);
-        return;
-    }
-    match &before.released {
+/// Adds what became of an entry that neither waits nor holds: it was released, or it was never requested.
+fn push_past(note: &mut Note, entry: &Entry, before: &Before<'_>) {
+    let past = Past::of(before.lines, entry);
+    match &past.released {
         Some(released) if released.entry == *entry => {
             note.push(": it was released in line ");
             note.number(released.since);
         }
-        _ => push_nearest(note, entry, before),
+        _ => push_nearest(note, entry, &before.open, &past.released),
+    }
+}
+
+/// Adds what became of an entry that should wait or hold and does not: it already holds, still waits, was released, or
+/// was never requested. In the last case, a client like it is named.
+fn push_fate(note: &mut Note, entry: &Entry, before: &Before<'_>) {
+    match &before.open.client_of(entry) {
+        Some(client) => push_claim(note, &client.claim),
+        None => push_past(note, entry, before),
     }
 }
 
 /// Adds what is in the way of a mark, for this cause.
-fn push_details(note: &mut Note, entry: &Entry, before: &Before, cause: MarkCause) {
+fn push_details(note: &mut Note, entry: &Entry, before: &Before<'_>, cause: MarkCause) {
     match cause {
         MarkCause::NodeBusy | MarkCause::Held | MarkCause::Earlier => {
-            if let Some(claim) = first_in_the_way(&before.claims, entry, cause) {
+            if let Some(client) = first_in_the_way(&before.open, entry, cause) {
                 note.push(": ");
-                claim.push_in_the_way(note);
+                client.claim.push_in_the_way(note);
             }
         }
-        MarkCause::NotAbove => push_granted(note, entry, before),
+        MarkCause::NotAbove => push_granted(note, entry, &Past::of(before.lines, entry)),
         MarkCause::NotWaiting | MarkCause::NotHeld => push_fate(note, entry, before),
         MarkCause::Line => {}
     }
 }
 
 /// Adds why a mark is wrong (in a mark log, `other`) and what is in its way.
-fn push_mark_fault(note: &mut Note, mark: &Mark, before: &Before, cause: LineCause, other: &str) {
+fn push_mark_fault(
+    note: &mut Note,
+    mark: &Mark,
+    before: &Before<'_>,
+    cause: LineCause,
+    other: &str,
+) {
     let why = match cause {
         LineCause::Marks(why) => {
             note.push(other);
             why
         }
         LineCause::Trace(_) | LineCause::Due(_) => {
-            let why = cause_of(mark, &before.claims);
+            let why = cause_of(mark, &before.open);
             note.push("the lock table does not allow this mark");
             note.push(cause_text(why));
             why
@@ -187,23 +182,26 @@ fn push_mark_fault(note: &mut Note, mark: &Mark, before: &Before, cause: LineCau
     push_details(note, entry_of(mark), before, why);
 }
 
-/// Adds why the mark in line `line` is wrong and what is in its way, or `other` if that is not known. It is known if the lines
-/// before it were followed. The cost is linear in how many wait, are queued, hold or were released last.
+/// Adds why the mark in a line is wrong and what is in its way, or `other` if that is not known since there is no memory for what waits,
+/// is queued and holds before it. The cost is linear in the lines before.
 pub fn push_obstacle(
     alloc: Global,
     note: &mut Note,
-    line: u64,
-    text: &OpenText,
-    shown: &[u8],
+    line: &TextLine<'_>,
     cause: LineCause,
     other: &str,
 ) {
-    let Some(mark) = mark_in(shown) else {
+    let Some(mark) = mark_in(line.bytes) else {
         note.push(other);
         return;
     };
-    match Before::at_line(alloc, note, line, text, entry_of(&mark)) {
-        Some(before) => push_mark_fault(note, &mark, &before, cause, other),
-        None => note.push(other),
+    let before = Before {
+        lines: line.before,
+        open: OpenText::after(alloc, line.before),
+    };
+    if before.open.is_whole {
+        push_mark_fault(note, &mark, &before, cause, other);
+    } else {
+        note.push(other);
     }
 }

@@ -1,18 +1,10 @@
-//! Follows the lines of a trace or of a mark log, for what comes before a wrong line and what is left at the end.
-use crate::past::{End, Past, Pasts};
-use crate::words::{Words, kept};
-use ra_world::cut;
+//! Which clients wait, are queued and hold after lines of a trace or of a mark log.
+use crate::claim::Claim;
+use ra_stamp::{Entry, Mark, Mode, Name, NodeId, Stamp};
+use ra_trace::Line;
+use ra_world::{Step, cut};
 use std::alloc::Global;
 use std::collections::HashMap;
-
-/// The most clients that are followed at once.
-const MAX_OPEN: usize = 65_536;
-
-/// How many of the last releases are kept.
-const MAX_RELEASED: usize = 2048;
-
-/// How many of the last messages that were delivered or lost are kept.
-const MAX_TAKEN: usize = 4096;
 
 /// What a client does between its ask and its release.
 #[derive(Clone, Copy, PartialEq, Eq)]
@@ -25,313 +17,254 @@ pub enum Stage {
     Holds,
 }
 
-/// At which stage a client is, and since which line.
+/// A client that waits, is queued or holds.
 #[derive(Clone, Copy)]
-pub struct Open {
+pub struct Client {
+    /// Its request. If the client is queued it has none yet, and the number in this one has no meaning.
+    pub claim: Claim,
     pub stage: Stage,
-    pub since: u64,
 }
 
-/// How much is left at the end of a text.
+/// What tells a client that waits, is queued or holds from the others.
+#[derive(Clone, Copy, PartialEq, Eq, Hash)]
+struct Seat {
+    node: NodeId,
+    client: u32,
+    name: Name,
+}
+
+/// What else is kept of it.
 #[derive(Clone, Copy)]
-pub struct Left {
-    /// How many messages and copies are under way, and how many were lost.
-    pub under_way: u128,
-    pub lost: u128,
-    /// How many requests wait and hold, and how many clients are queued.
-    pub waiting: u64,
-    pub queued: u64,
-    pub holding: u64,
+struct Open {
+    stage: Stage,
+    mode: Mode,
+    /// The number of its request, and the line since which it is at the stage.
+    seq: u64,
+    since: u64,
 }
 
-impl Left {
-    /// Returns whether nothing is left to do. A lost message is not.
-    pub fn is_nothing(&self) -> bool {
-        self.under_way == 0 && self.waiting == 0 && self.queued == 0 && self.holding == 0
-    }
-}
-
-/// What a line does, by its first word.
-#[derive(Clone, Copy)]
-enum Act {
-    Begin,
-    Ask,
-    Request,
-    Enter,
-    Leave,
-    Deliver,
-    Lose,
-    Repeat,
-    /// It changes nothing here. That a client releases shows in its mark.
-    Pass,
-    /// It is a line of neither a trace nor a mark log.
-    Stray,
-}
-
-/// A first word, and what a line that begins with it does.
-#[derive(Clone, Copy)]
-struct FirstWord {
-    word: &'static str,
-    act: Act,
-}
-
-/// The first words of the lines of traces and mark logs, those of most lines first.
-const FIRST_WORDS: &[FirstWord] = &[
-    FirstWord {
-        word: "deliver",
-        act: Act::Deliver,
-    },
-    FirstWord {
-        word: "request",
-        act: Act::Request,
-    },
-    FirstWord {
-        word: "enter",
-        act: Act::Enter,
-    },
-    FirstWord {
-        word: "leave",
-        act: Act::Leave,
-    },
-    FirstWord {
-        word: "ask",
-        act: Act::Ask,
-    },
-    FirstWord {
-        word: "release",
-        act: Act::Pass,
-    },
-    FirstWord {
-        word: "lose",
-        act: Act::Lose,
-    },
-    FirstWord {
-        word: "repeat",
-        act: Act::Repeat,
-    },
-    FirstWord {
-        word: "trace",
-        act: Act::Begin,
-    },
-    FirstWord {
-        word: "end",
-        act: Act::Pass,
-    },
-];
-
-/// Returns what a line does, by its first word.
-fn act_of(word: &[u8]) -> Act {
-    for first in FIRST_WORDS {
-        if word == first.word.as_bytes() {
-            return first.act;
-        }
-    }
-    Act::Stray
-}
-
-/// How many lines came of those that change what is left.
-#[derive(Clone, Copy)]
-pub struct Counts {
-    asks: u64,
-    requests: u64,
-    enters: u64,
-    leaves: u64,
-    deliveries: u64,
-    losses: u64,
-    repeats: u64,
-}
-
-impl Counts {
-    /// Counts a line that does this.
-    fn add(&mut self, act: Act) {
-        match act {
-            Act::Ask => self.asks = self.asks.saturating_add(1),
-            Act::Request => self.requests = self.requests.saturating_add(1),
-            Act::Enter => self.enters = self.enters.saturating_add(1),
-            Act::Leave => self.leaves = self.leaves.saturating_add(1),
-            Act::Deliver => self.deliveries = self.deliveries.saturating_add(1),
-            Act::Lose => self.losses = self.losses.saturating_add(1),
-            Act::Repeat => self.repeats = self.repeats.saturating_add(1),
-            Act::Begin | Act::Pass | Act::Stray => {}
+impl Seat {
+    /// Returns that of an entry.
+    fn of(entry: &Entry) -> Seat {
+        Seat {
+            node: entry.stamp.node,
+            client: entry.client,
+            name: entry.name,
         }
     }
 
-    /// Returns how much is left, if this many messages were sent. A client that asked is queued until its request is made, which
-    /// waits until it is granted. In a mark log nobody asks.
-    pub fn left(&self, sent: u128) -> Left {
-        let copied = sent.saturating_add(u128::from(self.repeats));
-        let lost = u128::from(self.losses);
-        let taken = lost.saturating_add(u128::from(self.deliveries));
-        Left {
-            under_way: copied.saturating_sub(taken),
-            lost,
-            waiting: self.requests.saturating_sub(self.enters),
-            queued: self.asks.saturating_sub(self.requests),
-            holding: self.enters.saturating_sub(self.leaves),
+    /// Returns the client with this seat.
+    fn client(&self, open: &Open) -> Client {
+        Client {
+            claim: Claim {
+                entry: Entry {
+                    name: self.name,
+                    stamp: Stamp {
+                        seq: open.seq,
+                        node: self.node,
+                    },
+                    client: self.client,
+                    mode: open.mode,
+                },
+                holds: open.stage == Stage::Holds,
+                since: open.since,
+            },
+            stage: open.stage,
         }
     }
 }
 
-/// Returns the words before the last one.
-fn without_last(words: &[u8]) -> &[u8] {
-    let mut end = words.len();
-    for place in 0..words.len() {
-        if words[place] == b' ' {
-            end = place;
-        }
-    }
-    words.get(..end).unwrap_or(words)
+/// Which clients are looked for.
+#[derive(Clone, Copy)]
+pub enum Sought {
+    /// Those at this stage.
+    At(Stage),
+    /// Those in the way of this one.
+    InTheWayOf(Client),
+    /// The one that waits for a name or holds it at this node.
+    AtNode(NodeId, Name),
+    /// Those with requests of this client for a name, at any node.
+    Of(u32, Name),
+    /// Those that hold and block this entry.
+    Holding(Entry),
+    /// Those that wait and block this entry.
+    Earlier(Entry),
 }
 
-/// Follows a text line by line, and knows what is left at its end if it is a trace or a mark log. It does not check that.
-/// So it only looks at the first word of a line, and compares the others as they are. It counts what is left without
-/// memory. For the clients that wait, are queued or hold it needs memory, at most for 65,536 of them at once, for the last
-/// 2,048 releases, and for the last 4,096 messages that were delivered or lost.
+impl Client {
+    /// Returns whether it waits for a name or holds it.
+    fn is_on(&self, name: &Name) -> bool {
+        self.stage != Stage::Queued && self.claim.entry.name == *name
+    }
+
+    /// Returns whether it waits for a name or holds it at a node.
+    fn is_at(&self, node: NodeId, name: &Name) -> bool {
+        self.is_on(name) && self.claim.entry.stamp.node == node
+    }
+
+    /// Returns whether it is in the way of another client: it blocks the request of one that waits, or is the one of its node for
+    /// which one that is queued waits.
+    fn is_in_the_way(&self, other: &Client) -> bool {
+        let entry = &other.claim.entry;
+        match other.stage {
+            Stage::Waits => self.is_on(&entry.name) && self.claim.blocks(entry),
+            Stage::Queued => self.is_at(entry.stamp.node, &entry.name),
+            Stage::Holds => false,
+        }
+    }
+
+    /// Returns whether it is one of these.
+    fn is_one_of(&self, sought: &Sought) -> bool {
+        match sought {
+            Sought::At(stage) => self.stage == *stage,
+            Sought::InTheWayOf(other) => self.is_in_the_way(other),
+            Sought::AtNode(node, name) => self.is_at(*node, name),
+            Sought::Of(client, name) => self.is_on(name) && self.claim.entry.client == *client,
+            Sought::Holding(entry) => self.stage == Stage::Holds && self.claim.blocks(entry),
+            Sought::Earlier(entry) => self.stage == Stage::Waits && self.claim.blocks(entry),
+        }
+    }
+}
+
+/// Which clients wait, are queued and hold after the lines of a trace or of a mark log.
 #[derive(Drop)]
 pub struct OpenText {
-    /// Whether each line began as one of a trace or of a mark log does.
-    goes_on: bool,
-    pub(crate) is_trace: bool,
-    /// The words of the first line of a trace.
-    pub(crate) first: Words,
-    pub(crate) lines: u64,
-    pub(crate) counts: Counts,
-    /// The clients that wait, are queued or hold: by the words of the ask if queued, and otherwise by those of the marks.
-    pub(crate) open: HashMap<Words, Open>,
-    /// Whether these are all: memory never ran out, and they were never too many.
-    pub(crate) is_whole: bool,
-    /// The last requests that were released.
-    pub(crate) released: Pasts,
-    /// The last messages that were delivered or lost.
-    pub(crate) taken: Pasts,
+    clients: HashMap<Seat, Open>,
+    /// Whether there was memory for all of them.
+    pub is_whole: bool,
 }
 
 impl OpenText {
-    /// Makes one of a text of which no line has come. It does not allocate.
-    pub fn new(alloc: Global) -> OpenText {
-        OpenText {
-            goes_on: true,
-            is_trace: false,
-            first: kept(b""),
-            lines: 0,
-            counts: Counts {
-                asks: 0,
-                requests: 0,
-                enters: 0,
-                leaves: 0,
-                deliveries: 0,
-                losses: 0,
-                repeats: 0,
-            },
-            open: HashMap::new(alloc),
+    /// Follows these lines. The cost is linear in them.
+    pub fn after(alloc: Global, lines: &[u8]) -> OpenText {
+        let mut open = OpenText {
+            clients: HashMap::new(alloc),
             is_whole: true,
-            released: Pasts::new(alloc, MAX_RELEASED),
-            taken: Pasts::new(alloc, MAX_TAKEN),
-        }
-    }
-
-    /// Makes one that has taken the lines of a text before the one with this number, as far as the text has them. The cost is linear
-    /// in the text.
-    pub fn before(alloc: Global, text: &[u8], line: u64) -> OpenText {
-        let mut open = OpenText::new(alloc);
-        let mut rest = text;
-        for _ in 1..line {
-            let (shown, Some(after)) = cut(rest, b'\n') else {
+        };
+        let mut rest = lines;
+        for number in 1..u64::MAX {
+            let (line, Some(after)) = cut(rest, b'\n') else {
                 break;
             };
-            open.take_line(shown);
+            open.take_line(line, number);
             rest = after;
         }
         open
     }
 
-    /// Returns whether it has taken the lines before the one with this number, and no others.
-    pub(crate) fn is_before(&self, line: u64) -> bool {
-        self.goes_on && self.lines.saturating_add(1) == line
-    }
-
-    /// Returns whether all that waits, is queued or holds before the line with this number is known.
-    pub(crate) fn is_whole_before(&self, line: u64) -> bool {
-        self.is_whole && self.is_before(line)
-    }
-
-    /// Takes the next line, without its line feed. After a line that belongs neither to a trace nor to a mark log it takes
-    /// no more. The cost is linear in the line.
-    pub fn take_line(&mut self, line: &[u8]) {
-        if self.goes_on {
-            self.lines = self.lines.saturating_add(1);
-            let (word, words) = cut(line, b' ');
-            let act = act_of(word);
-            self.counts.add(act);
-            self.take(act, words.unwrap_or(b""));
+    /// Takes the line with this number.
+    fn take_line(&mut self, line: &[u8], number: u64) {
+        match &Line::parse(line) {
+            Some(Line::Stepped(step)) => self.take_step(step, number),
+            Some(Line::Marked(mark)) => self.take_mark(mark, number),
+            Some(Line::First { .. }) | Some(Line::Last) | None => {}
         }
     }
 
-    /// Takes a line that does this and has these words after its first one, once it is counted.
-    fn take(&mut self, act: Act, words: &[u8]) {
-        match act {
-            Act::Begin => self.begin(words),
-            Act::Ask => self.keep(words, Stage::Queued),
-            Act::Request => self.take_request(words),
-            Act::Enter => self.keep(words, Stage::Holds),
-            Act::Leave => self.take_leave(words),
-            Act::Deliver => self.keep_taken(words, End::Delivered),
-            Act::Lose => self.keep_taken(words, End::Lost),
-            Act::Repeat | Act::Pass => {}
-            Act::Stray => self.goes_on = false,
+    /// Takes a step. Only an ask matters: that a client releases shows in its mark.
+    fn take_step(&mut self, step: &Step, number: u64) {
+        if let Step::Ask {
+            node,
+            client,
+            name,
+            mode,
+        } = step
+        {
+            let seat = Seat {
+                node: *node,
+                client: *client,
+                name: *name,
+            };
+            let open = Open {
+                stage: Stage::Queued,
+                mode: *mode,
+                seq: 1,
+                since: number,
+            };
+            self.keep(seat, open);
         }
     }
 
-    /// Takes the first line of a trace.
-    fn begin(&mut self, words: &[u8]) {
-        self.is_trace = true;
-        self.first = kept(words);
-    }
-
-    /// Takes that a request is made. In a trace its client asked before.
-    fn take_request(&mut self, words: &[u8]) {
-        if self.is_trace {
-            self.forget(without_last(words));
+    /// Takes a mark.
+    fn take_mark(&mut self, mark: &Mark, number: u64) {
+        match mark {
+            Mark::Requested(entry) => self.keep_entry(entry, Stage::Waits, number),
+            Mark::Entered(entry) => self.keep_entry(entry, Stage::Holds, number),
+            Mark::Left(entry) => {
+                self.clients.remove(&Seat::of(entry));
+            }
         }
-        self.keep(words, Stage::Waits);
     }
 
-    /// Keeps that a client is at a stage from this line on, unless there are too many or memory runs out. One that holds was kept
-    /// before, since it waited.
-    fn keep(&mut self, words: &[u8], stage: Stage) {
-        let has_room = stage == Stage::Holds || self.open.len() < MAX_OPEN;
+    /// Keeps that an entry is at a stage from this line on, unless memory runs out.
+    fn keep_entry(&mut self, entry: &Entry, stage: Stage, since: u64) {
         let open = Open {
             stage,
-            since: self.lines,
+            mode: entry.mode,
+            seq: entry.stamp.seq,
+            since,
         };
-        self.is_whole = self.is_whole && has_room && self.open.insert(kept(words), open).is_ok();
+        self.keep(Seat::of(entry), open);
     }
 
-    /// Takes that a client leaves.
-    fn take_leave(&mut self, words: &[u8]) {
-        let kept = kept(words);
-        if let Some(open) = self.open.remove(&kept) {
-            self.released.keep(Past {
-                words: kept,
-                end: End::Released {
-                    granted: open.since,
-                },
-                line: self.lines,
-            });
+    /// Keeps the client of a seat, unless memory runs out.
+    fn keep(&mut self, seat: Seat, open: Open) {
+        self.is_whole = self.is_whole && self.clients.insert(seat, open).is_ok();
+    }
+
+    /// Returns the client of this number at a node that waits for a name, is queued for it or holds it, if there is one.
+    pub fn client_at(&self, node: NodeId, client: u32, name: &Name) -> Option<Client> {
+        let seat = Seat {
+            node,
+            client,
+            name: *name,
+        };
+        match self.clients.get(&seat) {
+            Some(open) => Some(seat.client(open)),
+            None => None,
         }
     }
 
-    /// Keeps a message that was delivered or lost.
-    fn keep_taken(&mut self, words: &[u8], end: End) {
-        self.taken.keep(Past {
-            words: kept(words),
-            end,
-            line: self.lines,
-        });
+    /// Returns the client of an entry, if that waits or holds.
+    pub fn client_of(&self, entry: &Entry) -> Option<Client> {
+        let client = self.client_at(entry.stamp.node, entry.client, &entry.name)?;
+        if client.stage != Stage::Queued && client.claim.entry == *entry {
+            Some(client)
+        } else {
+            None
+        }
     }
 
-    /// Forgets the client with these words.
-    fn forget(&mut self, words: &[u8]) {
-        self.open.remove(&kept(words));
+    /// Returns the first client after a line that is one of these, in the order of the lines since which they are there. The cost is
+    /// linear in how many wait, are queued and hold.
+    pub fn next_of(&self, after: u64, sought: &Sought) -> Option<Client> {
+        let (mut found, mut first) = (None, u64::MAX);
+        for (seat, open) in self.clients.iter() {
+            if after < open.since && open.since < first {
+                let client = seat.client(open);
+                if client.is_one_of(sought) {
+                    found = Some(client);
+                    first = open.since;
+                }
+            }
+        }
+        found
+    }
+
+    /// Returns the first client that is one of these, as [`OpenText::next_of`] does.
+    pub fn first_of(&self, sought: &Sought) -> Option<Client> {
+        self.next_of(0, sought)
+    }
+
+    /// Returns how many clients are of these. The cost is linear in how many wait, are queued and hold.
+    pub fn count_of(&self, sought: &Sought) -> u64 {
+        let mut count = 0;
+        for (seat, open) in self.clients.iter() {
+            let client = seat.client(open);
+            if client.is_one_of(sought) {
+                count = u64::saturating_add(count, 1);
+            }
+        }
+        count
     }
 }

@@ -1,77 +1,70 @@
-//! What is over in a text: requests that were released, and messages that were delivered or lost.
-use crate::words::Words;
-use std::alloc::Global;
+//! What is over before a mark: what was granted and released on its name.
+use crate::claim::Claim;
+use crate::mark::mark_in;
+use ra_stamp::{Entry, Mark};
+use ra_world::cut;
 
-/// How something ended.
-#[derive(Clone, Copy)]
-pub enum End {
-    /// A request was released that had been granted in this line.
-    Released { granted: u64 },
-    /// A message was delivered.
-    Delivered,
-    /// A message was lost.
-    Lost,
-}
-
-/// A request or a message that is over.
+/// What was granted and released on the name of an entry.
 #[derive(Clone, Copy)]
 pub struct Past {
-    /// The words of its lines.
-    pub words: Words,
-    pub end: End,
-    /// The line in which it ended.
-    pub line: u64,
+    /// The greatest number that was granted, and its line. Both are 0 if none was.
+    pub granted: u64,
+    pub granted_at: u64,
+    /// The request of the entry, if it was released, and otherwise the last one that its node released, if there is one, with the
+    /// line in which it was.
+    pub released: Option<Claim>,
 }
 
-/// The last ones that are over, up to a number of them.
-#[derive(Drop)]
-pub struct Pasts {
-    pub last: Vec<Past>,
-    /// The most that are kept.
-    most: usize,
-    /// The place of the oldest one once there are so many: the next one comes there.
-    oldest: usize,
-    /// Whether these are all: memory never ran out, and they were never too many.
-    pub is_whole: bool,
-}
-
-impl Pasts {
-    /// Makes one that keeps at most so many. It does not allocate.
-    pub fn new(alloc: Global, most: usize) -> Pasts {
-        Pasts {
-            last: Vec::new(alloc),
-            most,
-            oldest: 0,
-            is_whole: true,
-        }
-    }
-
-    /// Keeps one, in place of the oldest one if there are too many. If memory runs out, no more are kept from then on than there are.
-    pub fn keep(&mut self, past: Past) {
-        if self.last.len() < self.most && self.last.push(past).is_ok() {
-            return;
-        }
-        self.is_whole = false;
-        self.most = self.last.len();
-        if let Some(oldest) = self.last.get_mut(self.oldest) {
-            *oldest = past;
-        }
-        self.oldest = if self.oldest < self.most.saturating_sub(1) {
-            self.oldest + 1
-        } else {
-            0
+impl Past {
+    /// Returns what these lines say. The cost is linear in them.
+    pub fn of(lines: &[u8], entry: &Entry) -> Past {
+        let mut past = Past {
+            granted: 0,
+            granted_at: 0,
+            released: None,
         };
+        let mut rest = lines;
+        for number in 1..u64::MAX {
+            let (line, Some(after)) = cut(rest, b'\n') else {
+                break;
+            };
+            if let Some(mark) = mark_in(line) {
+                past.take_mark(&mark, number, entry);
+            }
+            rest = after;
+        }
+        past
     }
 
-    /// Returns the last one with these words that is known, if there is one. The cost is linear in how many are kept.
-    pub fn last_of(&self, words: &Words) -> Option<Past> {
-        let (mut found, mut line) = (None, 0);
-        for past in &self.last {
-            if past.line > line && past.words == *words {
-                found = Some(*past);
-                line = past.line;
-            }
+    /// Takes the mark in the line with this number.
+    fn take_mark(&mut self, mark: &Mark, number: u64, entry: &Entry) {
+        match mark {
+            Mark::Entered(other) if other.name == entry.name => self.grant(other, number),
+            Mark::Left(other) if other.name == entry.name => self.release(other, number, entry),
+            _ => {}
         }
-        found
+    }
+
+    /// Takes that a request was granted.
+    fn grant(&mut self, granted: &Entry, number: u64) {
+        if granted.stamp.seq > self.granted {
+            self.granted = granted.stamp.seq;
+            self.granted_at = number;
+        }
+    }
+
+    /// Takes that a request was released. If its node is that of the entry, it says more than those before, but for that entry.
+    fn release(&mut self, released: &Entry, number: u64, entry: &Entry) {
+        let is_known = match &self.released {
+            Some(known) => known.entry == *entry,
+            None => false,
+        };
+        if released.stamp.node == entry.stamp.node && (*released == *entry || !is_known) {
+            self.released = Some(Claim {
+                entry: *released,
+                holds: false,
+                since: number,
+            });
+        }
     }
 }

@@ -1,12 +1,10 @@
 //! What is left at the end of a trace or of a mark log.
 use crate::claim::want_text;
-use crate::open_client::{Client, client_of};
-use crate::open_text::{Left, Open, OpenText, Stage};
-use crate::words::Words;
+use crate::open_text::{Client, OpenText, Sought, Stage};
+use memchr::memchr;
 use ra_stamp::Memory;
 use ra_world::Note;
 use std::alloc::Global;
-use std::collections::HashMap;
 
 /// The most clients that are named at each stage.
 const MAX_CLIENTS: u64 = 4;
@@ -14,58 +12,105 @@ const MAX_CLIENTS: u64 = 4;
 /// The most requests that are named as blocking one request.
 const MAX_BLOCKERS: u64 = 3;
 
-/// Which clients are looked for.
+/// How much is left at the end of a text.
 #[derive(Clone, Copy)]
-enum Sought<'a> {
-    /// Those at this stage.
-    At(Stage),
-    /// Those in the way of this one.
-    InTheWayOf(&'a Client),
+struct Left {
+    /// How many messages and copies are under way, and how many were lost.
+    under_way: u128,
+    lost: u128,
+    /// How many requests wait and hold, and how many clients are queued.
+    waiting: u64,
+    queued: u64,
+    holding: u64,
+}
+
+impl Left {
+    /// Returns whether nothing is left to do. A lost message is not.
+    fn is_nothing(&self) -> bool {
+        self.under_way == 0 && self.waiting == 0 && self.queued == 0 && self.holding == 0
+    }
+}
+
+/// How many lines came of those that change what is left.
+#[derive(Clone, Copy)]
+struct Counts {
+    asks: u64,
+    requests: u64,
+    enters: u64,
+    leaves: u64,
+    deliveries: u64,
+    losses: u64,
+    repeats: u64,
+}
+
+/// Returns what follows the first line feed of a text, if there is one.
+fn after_line(text: &[u8]) -> Option<&[u8]> {
+    text.get(memchr(b'\n', text)?.saturating_add(1)..)
+}
+
+impl Counts {
+    /// Counts the lines of a trace or of a mark log. The cost is linear in the text.
+    fn of(text: &[u8]) -> Counts {
+        let mut counts = Counts {
+            asks: 0,
+            requests: 0,
+            enters: 0,
+            leaves: 0,
+            deliveries: 0,
+            losses: 0,
+            repeats: 0,
+        };
+        let mut rest = text;
+        for _ in 0..u64::MAX {
+            counts.add(rest);
+            let Some(after) = after_line(rest) else {
+                break;
+            };
+            rest = after;
+        }
+        counts
+    }
+
+    /// Counts the first line of a text. Its first letters tell which one it is.
+    fn add(&mut self, text: &[u8]) {
+        match text {
+            [b'd', ..] => self.deliveries = self.deliveries.saturating_add(1),
+            [b'r', _, b'q', ..] => self.requests = self.requests.saturating_add(1),
+            [b'e', _, b't', ..] => self.enters = self.enters.saturating_add(1),
+            [b'l', b'e', ..] => self.leaves = self.leaves.saturating_add(1),
+            [b'a', ..] => self.asks = self.asks.saturating_add(1),
+            [b'l', b'o', ..] => self.losses = self.losses.saturating_add(1),
+            [b'r', _, b'p', ..] => self.repeats = self.repeats.saturating_add(1),
+            // That a client releases shows in its mark.
+            _ => {}
+        }
+    }
+
+    /// Returns how much is left, if this many messages were sent. A client that asked is queued until its request is made, which
+    /// waits until it is granted. In a mark log nobody asks.
+    fn left(&self, sent: u128) -> Left {
+        let copied = sent.saturating_add(u128::from(self.repeats));
+        let lost = u128::from(self.losses);
+        let taken = lost.saturating_add(u128::from(self.deliveries));
+        Left {
+            under_way: copied.saturating_sub(taken),
+            lost,
+            waiting: self.requests.saturating_sub(self.enters),
+            queued: self.asks.saturating_sub(self.requests),
+            holding: self.enters.saturating_sub(self.leaves),
+        }
+    }
 }
 
 /// The end of a text.
 #[derive(Drop)]
 struct TextEnd {
-    clients: Vec<Client>,
+    open: OpenText,
     left: Left,
     is_trace: bool,
 }
 
-/// Returns the clients with these words. If memory runs out, the note records it.
-fn clients_of(alloc: Global, note: &mut Note, all: &HashMap<Words, Open>) -> Vec<Client> {
-    let mut clients = Vec::new(alloc);
-    for (words, open) in all.iter() {
-        if let Some(client) = client_of(words, open) {
-            note.refuse_if(clients.push(client).is_err());
-        }
-    }
-    clients
-}
-
 impl Client {
-    /// Returns whether it is in the way of another client: it blocks the request of one that waits, or is the one of its node for
-    /// which one that is queued waits.
-    fn is_in_the_way(&self, other: &Client) -> bool {
-        let (entry, queued) = (&self.claim.entry, &other.claim.entry);
-        match other.stage {
-            Stage::Waits => self.stage != Stage::Queued && self.claim.blocks(queued),
-            Stage::Queued => {
-                self.stage != Stage::Queued
-                    && entry.stamp.node == queued.stamp.node
-                    && entry.name == queued.name
-            }
-            Stage::Holds => false,
-        }
-    }
-
-    /// Returns whether it is one of these.
-    fn is_one_of(&self, sought: Sought) -> bool {
-        match sought {
-            Sought::At(stage) => self.stage == stage,
-            Sought::InTheWayOf(other) => self.is_in_the_way(other),
-        }
-    }
-
     /// Adds what it does, and since which line.
     fn push(&self, note: &mut Note) {
         let does = match self.stage {
@@ -75,30 +120,6 @@ impl Client {
         };
         self.claim.push(note, does, " since line ");
     }
-}
-
-/// Returns the first client after a line that is one of these.
-fn next_of<'a>(clients: &'a [Client], after: u64, sought: Sought) -> Option<&'a Client> {
-    let (mut found, mut first) = (None, u64::MAX);
-    for client in clients {
-        let since = client.claim.since;
-        if after < since && since < first && client.is_one_of(sought) {
-            found = Some(client);
-            first = since;
-        }
-    }
-    found
-}
-
-/// Returns how many clients are in the way of another one.
-fn count_in_the_way(clients: &[Client], other: &Client) -> u64 {
-    let mut count = 0;
-    for client in clients {
-        if client.is_in_the_way(other) {
-            count = u64::saturating_add(count, 1);
-        }
-    }
-    count
 }
 
 impl TextEnd {
@@ -115,7 +136,7 @@ impl TextEnd {
     fn push_in_the_way(&self, note: &mut Note, client: &Client) {
         let mut after = 0;
         for named in 0..MAX_BLOCKERS {
-            let Some(other) = next_of(&self.clients, after, Sought::InTheWayOf(client)) else {
+            let Some(other) = self.open.next_of(after, &Sought::InTheWayOf(*client)) else {
                 break;
             };
             note.push(if named == 0 { ": " } else { ", " });
@@ -124,7 +145,7 @@ impl TextEnd {
         }
         note.push_more(
             " and ",
-            count_in_the_way(&self.clients, client),
+            self.open.count_of(&Sought::InTheWayOf(*client)),
             MAX_BLOCKERS,
         );
         if after == 0 && client.stage == Stage::Waits {
@@ -136,12 +157,12 @@ impl TextEnd {
     fn push_clients(&self, note: &mut Note, stage: Stage, before: u64) -> u64 {
         let (mut after, mut named) = (0, before);
         for _ in 0..MAX_CLIENTS {
-            let Some(client) = next_of(&self.clients, after, Sought::At(stage)) else {
+            let Some(client) = self.open.next_of(after, &Sought::At(stage)) else {
                 break;
             };
             note.push(if named == 0 { ": " } else { "; " });
             client.push(note);
-            self.push_in_the_way(note, client);
+            self.push_in_the_way(note, &client);
             after = client.claim.since;
             named = u64::saturating_add(named, 1);
         }
@@ -199,34 +220,34 @@ fn push_counts(note: &mut Note, left: &Left, is_trace: bool) {
 }
 
 /// Adds what is left at the end of a text.
-fn push_end(alloc: Global, note: &mut Note, text: &OpenText, left: &Left) {
-    push_counts(note, left, text.is_trace);
-    if text.is_whole {
-        let end = TextEnd {
-            clients: clients_of(alloc, note, &text.open),
-            left: *left,
-            is_trace: text.is_trace,
-        };
+fn push_end(alloc: Global, note: &mut Note, text: &[u8], left: &Left) {
+    let is_trace = text.starts_with(b"trace ");
+    push_counts(note, left, is_trace);
+    let end = TextEnd {
+        open: OpenText::after(alloc, text),
+        left: *left,
+        is_trace,
+    };
+    if end.open.is_whole {
         end.push(note);
     } else {
         note.push("; there was no room to name them");
     }
 }
 
-/// Returns a note on what is left at the end of a text whose lines were taken, and which is a mark log, or a trace in which
-/// this many messages were sent. The note counts the messages that are under way and lost, and the requests that wait, are
-/// queued or hold, and leaves out those of which there are none. At each stage it names the first four clients and since which
-/// lines they are there, and which clients those wait for that wait or are queued. If there was no memory for the clients, or
-/// there were more than 65,536 at once, it only counts. Of a log without a mark it says that. Returns `None` if nothing is left.
-/// The cost is linear in how many wait, are queued or hold.
+/// Returns a note on what is left at the end of a text, which is a mark log, or a trace in which this many messages were sent. The note
+/// counts the messages that are under way and lost, and the requests that wait, are queued or hold, and leaves out those of which
+/// there are none. At each stage it names the first four clients and since which lines they are there, and which clients those
+/// wait for that wait or are queued. If there is no memory for the clients, it only counts. Of a log without a mark it says that.
+/// Returns `None` if nothing is left. The cost is linear in the text. If nothing is left, it does not allocate.
 ///
 /// # Errors
 ///
 /// `Memory`: memory ran out.
-pub fn end_note(alloc: Global, text: &OpenText, sent: u128) -> Result<Option<String>, Memory> {
+pub fn end_note(alloc: Global, text: &[u8], sent: u128) -> Result<Option<String>, Memory> {
     let mut note = Note::new(alloc);
-    let left = text.counts.left(sent);
-    if text.lines == 0 {
+    let left = Counts::of(text).left(sent);
+    if text.is_empty() {
         note.push("the log has no mark, so nothing was judged");
     } else if !left.is_nothing() {
         push_end(alloc, &mut note, text, &left);

@@ -1,7 +1,7 @@
-//! What `ra_explain` tells a person, as far as no command shows it: of a line after others that are wrong or not known, of a run
+//! What `ra_explain` tells a person, as far as no command shows it: of a line after others that are wrong, of a run
 //! that no list of choices makes, and when there is nothing to say. Tables of `cases/` have the rest.
 use crate::helpers::ONE_LOCK_SCRIPT;
-use crate::notes::Asked::{Choice, Digits, Field, Line, Order, Unfinished};
+use crate::notes::Asked::{Choice, Digits, Field, Order, Unfinished};
 use crate::notes::{Note, Wrong, assert_said, assert_told, said_of_run};
 use ra_schedule::{Choices, Policy};
 use ra_trace::{Cause, MarkCause};
@@ -14,13 +14,12 @@ const NO_LINE: Wrong = Wrong::Trace(Cause::Line);
 /// The same for a mark log.
 const NO_MARK: Wrong = Wrong::Marks(MarkCause::Line);
 
-/// Wrong lines after others that are wrong or not known. If a line has no explanation of its own, its note has the text for all
-/// lines, `said of all`.
+/// Wrong lines after others that are wrong, too, which those that are checked never come after. If a line has no explanation of its
+/// own, its note has the text for all lines, `said of all`.
 const AFTER_OTHERS: &[Note] = &[
     // What is wrong before a line does not matter: a number that is too low.
     Note(
-        Line(
-            5,
+        Field(
             "request 3 9 r S 1\nenter 3 9 r S 1\nrequest 1 7 r X 1\nrequest 2 8 r S 1\nenter 2 8 r S 1\n",
             5,
             Wrong::Marks(MarkCause::Earlier),
@@ -29,8 +28,7 @@ const AFTER_OTHERS: &[Note] = &[
     ),
     // The longest mark is due.
     Note(
-        Line(
-            3,
+        Field(
             "trace 2 64 4294967295\nask 64 4294967295 abcdefghijklmnopqrstuvwxyzABCDEF SIX\nend\n",
             3,
             Wrong::Trace(Cause::Marks),
@@ -38,79 +36,73 @@ const AFTER_OTHERS: &[Note] = &[
         "line 3, 'end': expected the mark 'request 64 4294967295 abcdefghijklmnopqrstuvwxyzABCDEF SIX 4294967296' here",
     ),
     Note(
-        Line(
-            13,
+        Field(
             "leave 1 1 r X 1\nenter 2 2 r X 1\n",
-            13,
+            2,
             Wrong::Trace(Cause::Table),
         ),
-        "line 13, 'enter 2 2 r X 1': said of all",
+        "line 2, 'enter 2 2 r X 1': the lock table does not allow this mark: no such request waits for the name: it was never requested",
     ),
     Note(
-        Line(3, "ask 1 1 r X\nrequest 1 1 r X\n", 3, NO_LINE),
-        "line 3, 'request 1 1 r X': SEQ is missing: expected request NODE CLIENT NAME MODE SEQ",
+        Field("ask 1 1 r X\nrequest 1 1 r X\n", 2, NO_LINE),
+        "line 2, 'request 1 1 r X': SEQ is missing: expected request NODE CLIENT NAME MODE SEQ",
     ),
     Note(
-        Line(10, "leave 1 1 r X 1\nend\nx", 9, NO_LINE),
-        "line 10, 'x': nothing may follow end, the last line of a trace",
+        Field("leave 1 1 r X 1\nend\nx", 3, NO_LINE),
+        "line 3, 'x': nothing may follow end, the last line of a trace",
     ),
     Note(
-        Line(10, "end\n\n", 10, NO_LINE),
-        "line 10, '': nothing may follow end, the last line of a trace",
+        Field("end\n\n", 2, NO_LINE),
+        "line 2, '': nothing may follow end, the last line of a trace",
     ),
     Note(
-        Line(7, "leave 2 2 r X 2\nrequests 2\n", 7, NO_MARK),
-        "line 7, 'requests 2': this looks like the six totals of a report, which a mark log does not have",
+        Field("leave 2 2 r X 2\nrequests 2\n", 2, NO_MARK),
+        "line 2, 'requests 2': this looks like the six totals of a report, which a mark log does not have",
     ),
-    // Nothing more precise is said if the first lines are missing.
+    // No mark is due if an earlier line is wrong.
     Note(
-        Line(
-            3,
-            "ask 1 1 r X\nask 2 2 r X\n",
-            3,
-            Wrong::Trace(Cause::Marks),
-        ),
-        "line 3, 'ask 2 2 r X': said of all",
+        Field("ask 1 1 r X\nask 2 2 r X\n", 2, Wrong::Trace(Cause::Marks)),
+        "line 2, 'ask 2 2 r X': said of all",
     ),
-    // No client is named if earlier lines are missing.
+    // A line that is no mark does not matter before one that is.
     Note(
-        Line(
-            6,
-            "request 1 7 r X 1\nenter 1 7 r X 1\nrequest 2 8 r S 2\nenter 2 8 r S 2\n",
+        Field(
+            "request 1 7 r X 1\nenter 1 7 r X 1\nrequests 1\nrequest 2 8 r S 2\n\nenter 2 8 r S 2\n",
             6,
             Wrong::Marks(MarkCause::Held),
         ),
-        "line 6, 'enter 2 8 r S 2': said of all",
+        "line 6, 'enter 2 8 r S 2': said of all: client 7 at node 1 has held 'r' (X) since line 2",
     ),
-    // If the first line is not known, neither is the version.
+    // If the first line names no version, none is known.
     Note(
-        Field("ask 99 1 r X\n", 2, NO_LINE),
+        Field("trace\nask 99 1 r X\n", 2, NO_LINE),
         "line 2, 'ask 99 1 r X': NODE is '99': must be 1 to 16 in version 1, or 1 to 64 in version 2, without leading zeros",
     ),
     Note(
-        Field("ask 1 1 r Y\n", 2, NO_LINE),
+        Field("trace\nask 1 1 r Y\n", 2, NO_LINE),
         "line 2, 'ask 1 1 r Y': MODE is 'Y': must be S or X in version 1, or S, X, IS, IX or SIX in version 2",
     ),
     Note(
-        Field("ask 17 1 r X\n", 2, NO_LINE),
+        Field("trace\nask 17 1 r X\n", 2, NO_LINE),
         "line 2, 'ask 17 1 r X': said of all",
     ),
+    // No number is named if none was granted.
     Note(
-        Field("request 2 2 r X 4\n", 4, Wrong::Marks(MarkCause::NotAbove)),
-        "line 4, 'request 2 2 r X 4': said of all",
+        Field("request 2 2 r X 4\n", 1, Wrong::Marks(MarkCause::NotAbove)),
+        "line 1, 'request 2 2 r X 4': said of all",
     ),
-    // If the first lines are not known, neither is what came before.
+    // If the first line does not say how many nodes there are, it is not known whether there is this one.
     Note(
-        Field("release 1 1 r\n", 2, Wrong::Trace(Cause::Refused)),
+        Field("trace\nrelease 1 1 r\n", 2, Wrong::Trace(Cause::Refused)),
         "line 2, 'release 1 1 r': said of all",
     ),
     Note(
         Field(
-            "deliver reply 2 1 r 1\n",
+            "trace\ndeliver reply 2 1 r 1\n",
             2,
             Wrong::Trace(Cause::NotUnderWay),
         ),
-        "line 2, 'deliver reply 2 1 r 1': said of all",
+        "line 2, 'deliver reply 2 1 r 1': this message is not under way: it was never sent",
     ),
 ];
 

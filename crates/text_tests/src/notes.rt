@@ -1,10 +1,10 @@
 //! What `ra_explain` and `ra_script` tell a person: what is asked of them, and what is to be said.
 use crate::asserting::assert_row;
 use crate::choice_words::choices_of;
-use Asked::{Choice, Digits, Field, Frame, Kept, Line, Order, Script, Unanswered, Unfinished};
+use Asked::{Choice, Digits, Field, Frame, Kept, Order, Script, Unanswered, Unfinished};
 use ra_explain::{
-    LineCause, OpenText, choices_note, digits_note, frame_note, line_note, order_note,
-    script_end_note, unanswered_note, unfinished_note, version_of,
+    LineCause, choices_note, digits_note, frame_note, line_note, order_note, script_end_note,
+    unanswered_note, unfinished_note,
 };
 use ra_frame::FrameError;
 use ra_schedule::Policy;
@@ -24,9 +24,7 @@ pub enum Wrong {
 /// What is asked about.
 #[derive(Clone, Copy)]
 pub enum Asked {
-    /// The wrong line with this number, the last of these lines, of which this many are whole.
-    Line(u64, &'static str, u64, Wrong),
-    /// The wrong line with this number, the last of these whole lines.
+    /// The wrong line with this number, the last one of this text.
     Field(&'static str, u64, Wrong),
     /// A run of a script that does not finish, by these choices or by the oldest ones.
     Unfinished(&'static str, Option<&'static str>),
@@ -53,10 +51,10 @@ pub type Told = Result<Option<String>, Memory>;
 fn is_first_wrong(
     alloc: Global,
     number: u64,
-    tail: &[u8],
+    text: &[u8],
     due: &mut Option<Mark>,
 ) -> Result<bool, Memory> {
-    let mut rest = tail;
+    let mut rest = text;
     match check_buffered_with_due(alloc, &mut rest, due) {
         Ok(Verdict::Invalid { line, cause }) => Ok(line == number && cause == Cause::Marks),
         Ok(Verdict::Valid { .. }) => Ok(false),
@@ -66,37 +64,26 @@ fn is_first_wrong(
 }
 
 /// Returns what is said of a line that is wrong for this cause.
-fn said_of_cause(alloc: Global, number: u64, tail: &[u8], feeds: u64, cause: LineCause) -> Told {
-    let version = version_of(tail);
-    let before = OpenText::before(alloc, tail, number);
-    line_note(
-        alloc,
-        version,
-        number,
-        tail,
-        feeds,
-        &before,
-        cause,
-        "said of all",
-    )
+fn said_of_cause(alloc: Global, number: u64, text: &[u8], cause: LineCause) -> Told {
+    line_note(alloc, text, number, cause, "said of all")
 }
 
 /// Returns what is said of a line of a trace that is wrong for its marks: with the mark that is due if it is the first wrong line.
-fn said_of_marks(alloc: Global, number: u64, tail: &[u8], feeds: u64) -> Told {
+fn said_of_marks(alloc: Global, number: u64, text: &[u8]) -> Told {
     let mut due: Option<Mark> = None;
-    match is_first_wrong(alloc, number, tail, &mut due) {
-        Ok(true) => said_of_cause(alloc, number, tail, feeds, LineCause::Due(due)),
-        Ok(false) => said_of_cause(alloc, number, tail, feeds, LineCause::Trace(Cause::Marks)),
+    match is_first_wrong(alloc, number, text, &mut due) {
+        Ok(true) => said_of_cause(alloc, number, text, LineCause::Due(due)),
+        Ok(false) => said_of_cause(alloc, number, text, LineCause::Trace(Cause::Marks)),
         Err(Memory) => Err(Memory),
     }
 }
 
 /// Returns what is said of a wrong line.
-fn said_of_line(alloc: Global, number: u64, tail: &[u8], feeds: u64, wrong: Wrong) -> Told {
+fn said_of_line(alloc: Global, number: u64, text: &[u8], wrong: Wrong) -> Told {
     match wrong {
-        Wrong::Trace(Cause::Marks) => said_of_marks(alloc, number, tail, feeds),
-        Wrong::Trace(cause) => said_of_cause(alloc, number, tail, feeds, LineCause::Trace(cause)),
-        Wrong::Marks(cause) => said_of_cause(alloc, number, tail, feeds, LineCause::Marks(cause)),
+        Wrong::Trace(Cause::Marks) => said_of_marks(alloc, number, text),
+        Wrong::Trace(cause) => said_of_cause(alloc, number, text, LineCause::Trace(cause)),
+        Wrong::Marks(cause) => said_of_cause(alloc, number, text, LineCause::Marks(cause)),
     }
 }
 
@@ -164,10 +151,7 @@ fn said_of_scripts(alloc: Global, asked: Asked) -> Told {
 /// Returns what is said.
 pub fn said(alloc: Global, asked: Asked) -> Told {
     match asked {
-        Line(number, tail, feeds, wrong) => {
-            said_of_line(alloc, number, tail.as_bytes(), feeds, wrong)
-        }
-        Field(text, number, wrong) => said_of_line(alloc, number, text.as_bytes(), number, wrong),
+        Field(text, number, wrong) => said_of_line(alloc, number, text.as_bytes(), wrong),
         Frame(digits, fault) => said_of_frame(alloc, digits, fault),
         Digits(input) => said_of_digits(alloc, input),
         Unanswered(frame, why) => said_of_unanswered(alloc, frame, why),
