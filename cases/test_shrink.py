@@ -15,6 +15,17 @@ client = [
 POLICIES = ["--policy seeded", "--policy faulty --lose 50"]
 
 
+def note_on(script, choices, expected):
+    """Returns what is said of a run of these choices that is shrunk to the expected ones: by how much, and then what is said of
+    the shorter run."""
+    if expected == "none\n":
+        return ""
+    before, after = len(choices.split()), len(expected.split())
+    counts = f"shrunk from {before} choices to {after}" if after < before else f"none of the {before} choices can be left out"
+    _, _, left = run(["sim", "--policy", "listed", "--choices", expected.strip()], script.encode())
+    return f"ra: {counts}\n{left.decode()}"
+
+
 class Shrunk(RaTest):
     def test_runs_are_shrunk_as_by_a_model(self):
         for script in (CROSSED_TWICE, *(TEXTS[it] for it in ("A_WRITER", "A_TABLE", "A_QUEUE", "A_DEADLOCK"))):
@@ -22,4 +33,5 @@ class Shrunk(RaTest):
                 with self.subTest(script=script, policy=policy):
                     status, choices, _ = run(f"sim {policy} --as-choices", script.encode())
                     expected = shrunk(script, choices.decode())
-                    self.expect(words=f"sim {policy} --shrink", input=script, status=status, output=expected)
+                    note = note_on(script, choices.decode(), expected)
+                    self.expect(words=f"sim {policy} --shrink", input=script, status=status, output=expected, note=note)

@@ -79,14 +79,16 @@ Example: ra sim --policy seeded --seeds 1..1000 < script.toml
 
 --find finished or --find stuck prints the trace of the first of these runs that
 ends so or, with --as-choices, its choices, and tries no seed after it; if there
-is none, it prints `none`.
+is none, it prints `none`. With --shrink, --find stuck prints the choices of a
+shorter run.
 Example: ra sim --policy seeded --seeds 1..1000 --find stuck < script.toml
 
 --shrink prints the choices of a shorter run that is stuck, too: no client that
 has begun can go on, nothing is under way, and some client waits. One step after
 the other is left out, with all that the client does after it, as long as the
 others, done again, get stuck in fewer steps. If the run is not stuck, it prints
-`none`. Like --as-choices, it needs --repeat 0 under faulty.
+`none`. With --seeds it needs --find stuck, and shrinks the run that is found.
+Like --as-choices, it needs --repeat 0 under faulty.
 Example: ra sim --policy seeded --seed 7 --shrink < script.toml
 
 Exit status:

@@ -99,10 +99,15 @@ fn is_found(words: &[String], is_done: bool) -> bool {
     }
 }
 
-/// Writes which seed made the run that was found, unless memory runs out. It ignores a failure of the writer.
-fn write_seed<N: Write>(alloc: Global, seed: u64, notes: &mut N) {
+/// Writes which seed made the run that was found, and perhaps shrunk, unless memory runs out. It ignores a failure of the writer.
+fn write_seed<N: Write>(alloc: Global, words: &[String], seed: u64, notes: &mut N) {
+    let (run, options) = if has_word(words, "--shrink") {
+        ("the run that was shrunk", "--seeds, --find and --shrink")
+    } else {
+        ("this run", "--seeds and --find")
+    };
     let text = format!(in alloc;
-        "this run has seed {seed}: to make it again, use --seed {seed} in place of --seeds and --find"
+        "{run} has seed {seed}: to make it again, use --seed {seed} in place of {options}"
     );
     if let Ok(text) = text {
         write_line(notes, text.as_str());
@@ -130,7 +135,7 @@ pub fn write_hints<N: Write>(
         if let Some(seed) = last_seed
             && is_found(words, is_done)
         {
-            write_seed(alloc, seed, notes);
+            write_seed(alloc, words, seed, notes);
         }
     }
 }

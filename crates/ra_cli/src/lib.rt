@@ -32,6 +32,7 @@ mod seen_writer;
 mod serving;
 mod settle_notes;
 mod settle_task;
+mod shrunk_notes;
 mod survey_text;
 mod surveying;
 mod usage;

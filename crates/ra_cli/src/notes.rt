@@ -1,5 +1,5 @@
 //! The note that tells the user what came of a command: one line, which begins with `ra: `.
-use crate::command_line::{choices_word, text_of};
+use crate::command_line::{choices_word, has_word, text_of};
 use crate::error::RunScriptError;
 use crate::hints::write_hints;
 use crate::note_texts::{
@@ -13,6 +13,7 @@ use crate::refusal::Refusal;
 use crate::said::{NO_MEMORY, Said, write_line};
 use crate::seen::Seen;
 use crate::seen_writer::OutputFault;
+use crate::shrunk_notes::write_shrunk_notes;
 use crate::usage::usage_note;
 use crate::{AnswerError, CommandFault};
 use ra_draw::DrawError;
@@ -24,9 +25,9 @@ use ra_world::Note;
 use std::alloc::Global;
 use std::io::Write;
 
-/// Writes the note on what came of the words and the input. If nothing was refused, it adds a line for each option that
-/// has no effect, and one for the seed that was found. An input that was to be drawn and is not of its kind is `drawn`. With many
-/// seeds, `last_seed` is the last one that was tried. It ignores a failure of the writer.
+/// Writes the note on what came of the words and the input, and another on a run that was shrunk. If nothing was refused, it adds a
+/// line for each option that has no effect, and one for the seed that was found. An input that was to be drawn and is not of its kind
+/// is `drawn`. With many seeds, `last_seed` is the last one that was tried. It ignores a failure of the writer.
 pub fn write_notes<N: Write>(
     alloc: Global,
     words: &[String],
@@ -36,8 +37,12 @@ pub fn write_notes<N: Write>(
     last_seed: Option<u64>,
     notes: &mut N,
 ) {
-    if let Some(remark) = &outcome.remark {
-        said_of(alloc, words, seen, drawn, remark, last_seed).write(notes);
+    match &outcome.remark {
+        Some(Remark::Unfinished) if has_word(words, "--shrink") => {
+            write_shrunk_notes(alloc, words, seen, last_seed, notes);
+        }
+        Some(remark) => said_of(alloc, words, seen, drawn, remark, last_seed).write(notes),
+        None => {}
     }
     if outcome.is_fair() {
         let is_done = outcome.status != UNFINISHED;

@@ -62,7 +62,7 @@ fn answer_place(alloc: Global, words: &[String], input: &[u8], why: AnswerError)
 }
 
 /// Returns the policy that words name, of many seeds with the last one that was tried, or `None` if they name none.
-fn policy_in(alloc: Global, words: &[String], last_seed: Option<u64>) -> Option<Policy> {
+pub fn policy_in(alloc: Global, words: &[String], last_seed: Option<u64>) -> Option<Policy> {
     let task = parse(alloc, words).ok()?;
     match &task {
         Task::Sim {

@@ -546,7 +546,8 @@ pub fn serve<T: Threads + Wait + Sync, R: BufRead, W: Write>(
 /// Does as [`serve`], and then writes lines for a person to `notes`:
 ///
 /// - If something was refused, a text is no trace, a log is no mark log, books do not settle, or a run ended with something left
-///   to do, a line says what is wrong, where in what was read, and what would be right.
+///   to do, a line says what is wrong, where in what was read, and what would be right. Of a run that was shrunk, it is about the
+///   shorter one, and another line says by how much.
 /// - If a text is a trace or a mark log, a line says what is left at its end, if anything is, or that a log has no mark.
 /// - There is a line for each option that has no effect, if the policy `listed` has no choices, if a finished run leaves names
 ///   locked, and for the seed of a run that was found.
@@ -554,7 +555,7 @@ pub fn serve<T: Threads + Wait + Sync, R: BufRead, W: Write>(
 ///
 /// While many seeds take long, it writes there how far it is. Each line begins with `ra: `. Nothing of it goes to `writer`, and
 /// it is left out if memory or `notes` fails, which changes nothing else. To find the place in a script it is read once more. To
-/// find which client waits for which it is run once more. For the mark that is due, a trace that was to be drawn is checked once
+/// find which client waits for which it is run once more, and shrunk once more if it was. For the mark that is due, a trace that was to be drawn is checked once
 /// more.
 pub fn serve_with_notes<T: Threads + Wait + Sync, R: BufRead, W: Write, N: Write>(
     rt: &T,

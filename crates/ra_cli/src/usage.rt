@@ -51,14 +51,21 @@ const NODE_TEXT: &str = "node takes no arguments; see ra node --help";
 const SETTLE_TEXT: &str =
     "settle takes no arguments but --repeats and --trace; see ra settle --help";
 
-/// An option that takes a number, and which ones it takes.
+/// What is said of the seeds that --seeds takes.
+const SEEDS_RANGE: &str = "A..B, such as 1..1000, with two numbers from 0 to 18446744073709551615";
+
+/// An option that takes a value, and which ones it takes.
 struct Range {
     option: &'static str,
     text: &'static str,
 }
 
-/// The options that take a number.
+/// The options that take a value.
 const RANGES: &[Range] = &[
+    Range {
+        option: "--policy",
+        text: "oldest, newest, seeded, faulty or listed",
+    },
     Range {
         option: "--seed",
         text: "0 to 18446744073709551615",
@@ -70,6 +77,18 @@ const RANGES: &[Range] = &[
     Range {
         option: "--repeat",
         text: "0 to 400, of 1000 messages",
+    },
+    Range {
+        option: "--choices",
+        text: "choices with one space between them, each c, m or l and a number of 1 to 9 digits without leading zeros",
+    },
+    Range {
+        option: "--seeds",
+        text: SEEDS_RANGE,
+    },
+    Range {
+        option: "--find",
+        text: "finished or stuck",
     },
     Range {
         option: "--nodes",
@@ -89,7 +108,7 @@ const RANGES: &[Range] = &[
     },
 ];
 
-/// Returns which numbers an option takes, or `None` if it takes none.
+/// Returns which values an option takes, or `None` if it takes none.
 fn range_of(option: &str) -> Option<&'static str> {
     for range in RANGES {
         if range.option == option {
@@ -99,18 +118,21 @@ fn range_of(option: &str) -> Option<&'static str> {
     None
 }
 
-/// Returns whether a word is a negative number, which the parser takes for an option.
-fn is_negative(word: &str) -> bool {
-    matches!(word.as_bytes(), [b'-', b'0'..=b'9', ..])
+/// Returns whether the parser takes a word for an option, though it is none, such as a negative number.
+fn is_no_option(word: &str) -> bool {
+    match word.as_bytes() {
+        [b'-', next, ..] => !matches!(next, b'-' | b'h' | b'V'),
+        _ => false,
+    }
 }
 
-/// Returns the option that takes a number and is followed by a negative one, and that number, or `None`.
-fn negative_in(words: &[String]) -> Option<(&str, &str)> {
+/// Returns the option that takes a value and is followed by a word that the parser takes for an option, and that word, or `None`.
+fn no_option_in(words: &[String]) -> Option<(&str, &str)> {
     for place in 1..words.len() {
         let option = words[place].as_str();
         if range_of(option).is_some()
             && let Some(next) = words.get(place + 1)
-            && is_negative(next.as_str())
+            && is_no_option(next.as_str())
         {
             return Some((option, next.as_str()));
         }
@@ -130,18 +152,29 @@ fn between<'a>(said: &'a str, first: &str, second: &str) -> Option<(&'a str, &'a
     cut_at(rest, second)
 }
 
-/// Returns the option of which the parser says that its value is wrong, and that value, or `None`.
-fn wrong_value_in(said: &str) -> Option<(&str, &str)> {
+/// Returns the option of which the parser says that its number is wrong, and that number, or `None`. It says why after a colon, and
+/// otherwise lists the words that an option takes, and the nearest one.
+fn wrong_number_in(said: &str) -> Option<(&str, &str)> {
     let (value, rest) = between(said, "invalid value '", "' for '")?;
-    let (option, _) = cut_at(rest, " <")?;
+    let (option, after) = cut_at(rest, " <")?;
+    cut_at(after, ">': ")?;
     Some((option, value))
 }
 
-/// Adds which numbers an option takes if a wrong one is given, and returns whether one is.
-fn push_number(note: &mut Note, words: &[String], said: &str) -> bool {
-    let wrong = match negative_in(words) {
+/// Adds the value of an option, and which ones it takes.
+fn push_range(note: &mut Note, option: &str, value: &str, text: &str) {
+    note.push(option);
+    note.push(" is ");
+    note.quoted_text(value);
+    note.push(": must be ");
+    note.push(text);
+}
+
+/// Adds which values an option takes if a wrong one is given, and returns whether one is.
+fn push_value(note: &mut Note, words: &[String], said: &str) -> bool {
+    let wrong = match no_option_in(words) {
         Some(wrong) => Some(wrong),
-        None => wrong_value_in(said),
+        None => wrong_number_in(said),
     };
     let Some((option, value)) = wrong else {
         return false;
@@ -149,11 +182,7 @@ fn push_number(note: &mut Note, words: &[String], said: &str) -> bool {
     let Some(text) = range_of(option) else {
         return false;
     };
-    note.push(option);
-    note.push(" is ");
-    note.quoted_text(value);
-    note.push(": must be ");
-    note.push(text);
+    push_range(note, option, value, text);
     true
 }
 
@@ -230,7 +259,7 @@ fn push_help(note: &mut Note, words: &[String]) {
 
 /// Adds what the parser says, or which numbers an option takes, and what an unexpected word may be.
 fn push_parsed(alloc: Global, note: &mut Note, words: &[String], said: &str) {
-    if push_number(note, words, said) {
+    if push_value(note, words, said) {
         return;
     }
     push_said(note, said);
@@ -261,13 +290,13 @@ fn push_error(alloc: Global, note: &mut Note, words: &[String], error: &ParseErr
 
 /// Adds what is wrong with the text of `--seeds`.
 fn push_seeds(note: &mut Note, seeds: &str) {
-    note.push("--seeds is ");
-    note.quoted_text(seeds);
-    note.push(if is_range(seeds) {
-        ": the first seed is above the last"
+    if is_range(seeds) {
+        note.push("--seeds is ");
+        note.quoted_text(seeds);
+        note.push(": the first seed is above the last");
     } else {
-        ": must be A..B, such as 1..1000, with two numbers from 0 to 18446744073709551615"
-    });
+        push_range(note, "--seeds", seeds, SEEDS_RANGE);
+    }
     note.push("; see ra sim --help");
 }
 

@@ -86,14 +86,23 @@ fn push_standing(note: &mut Note, ending: &RunEnd<'_>, client: u32, standing: &S
     }
 }
 
-/// Adds what is left to do at the end of a run.
-fn push_ending(note: &mut Note, ending: &RunEnd<'_>) {
-    note.push("the run did not finish: ");
-    let mut count = 0;
+/// Returns whether a client has something left to do, and waits or is queued as told.
+fn is_left(standing: &Standing, waits: bool) -> bool {
+    match standing {
+        Standing::Waits(_) | Standing::Queued { .. } => waits,
+        Standing::Idle(_) => !waits,
+        Standing::Done => false,
+    }
+}
+
+/// Adds the clients with something left to do that wait or are queued, or those that do not, after this many others. Returns how many
+/// clients have something left to do so far.
+fn push_clients(note: &mut Note, ending: &RunEnd<'_>, waits: bool, before: u64) -> u64 {
+    let mut count = before;
     for place in 0..ending.script.clients() {
         let client = place + 1;
         let standing = ending.standing(client);
-        if let Standing::Done = standing {
+        if !is_left(&standing, waits) {
             continue;
         }
         if count < MAX_CLIENTS {
@@ -102,6 +111,14 @@ fn push_ending(note: &mut Note, ending: &RunEnd<'_>) {
         }
         count = u64::saturating_add(count, 1);
     }
+    count
+}
+
+/// Adds what is left to do at the end of a run, first for those that wait or are queued.
+fn push_ending(note: &mut Note, ending: &RunEnd<'_>) {
+    note.push("the run did not finish: ");
+    let waiting = push_clients(note, ending, true, 0);
+    let count = push_clients(note, ending, false, waiting);
     note.push_more("; and ", count, MAX_CLIENTS);
     if count == 0 {
         note.push("all operations are done, but messages are under way");
@@ -109,7 +126,7 @@ fn push_ending(note: &mut Note, ending: &RunEnd<'_>) {
 }
 
 /// Adds what is left to do when a policy has driven a script.
-fn push_run(alloc: Global, note: &mut Note, script: &Script, policy: &Policy) {
+pub fn push_run(alloc: Global, note: &mut Note, script: &Script, policy: &Policy) {
     let Some(summary) = run_of(alloc, note, script, policy) else {
         return;
     };
@@ -120,8 +137,8 @@ fn push_run(alloc: Global, note: &mut Note, script: &Script, policy: &Policy) {
 }
 
 /// Returns a note on what is left to do when a policy has driven the script in a text. For each client that waits or is
-/// queued, the note says for what, and which clients are in its way. Returns `None` if the run is finished or refused.
-/// It costs as much as the run.
+/// queued, the note says for what, and which clients are in its way; other clients come after these. Returns `None` if the run is
+/// finished or refused. It costs as much as the run.
 ///
 /// # Errors
 ///
