@@ -27,6 +27,7 @@ function is_number(text) {
     return text ~ /^[1-9][0-9]*$/ && (length(text) < 20 || length(text) == 20 && text "" <= "18446744073709551615")
 }
 
+{ sub(/\r$/, "") }
 $5 != "served" { next }
 {
     lock = substr($3, 6)

@@ -25,7 +25,7 @@ def read(text):
             values[-1].append(dict(zip(map(str, last[::2]), last[1::2])) if word == "}" else last)
         elif word and word[0] != "#":
             values[-1].append(json.loads(word) if word[0] == '"' else None if word in ("nil", "null") else word)
-    return values[0][0]
+    (it,) = values[0]; return it
 
 calls, running, names, held = [], {}, {None: "mutex"}, {}
 for line, text in enumerate(sys.stdin, 1):

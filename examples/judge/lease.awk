@@ -31,6 +31,9 @@ function is_number(text) {
     return text ~ /^[1-9][0-9]*$/ && (length(text) < 20 || length(text) == 20 && text "" <= "18446744073709551615")
 }
 $2 ~ /^(grant|renew|release)$/ {
+    sub(/\r$/, "")
+    if ($1 !~ /^[0-9]+$/) stop("the time in milliseconds is missing")
+    if (value("lock") == "") stop("lock=NAME is missing")
     lock = name_of(value("lock"))
     token = value("token")
     if (!is_number(token)) stop("token=NUMBER is missing")
