@@ -102,7 +102,7 @@ WRONG_STEPS = [
     (
         ["ask 1 2 r X", "ask 1 2 r S"],
         "Refused",
-        "client 2 is queued for 'r' at node 1 and may not ask for it again",
+        "client 2 has been queued for 'r' (X) at node 1 since line 2704 and may not ask for it again",
     ),
     (
         ["request 1 2 r S 2"],

@@ -16,7 +16,10 @@ const WORDS: [&str; 6] = ["ra", "answer", "--node", "2", "--nodes", "3"];
 
 /// Ends the test unless these bytes are those of the text.
 fn assert_text<T: Abort>(rt: &T, text: &str, bytes: &[u8]) {
-    assert!(rt; bytes == text.as_bytes(), "expected {text}");
+    let came = str::from_utf8(bytes).unwrap_or("no text");
+    if came != text {
+        panic!(rt; "expected {text:?}, and {came:?} came");
+    }
 }
 
 /// Returns those words, or `None` if there is no memory for them.

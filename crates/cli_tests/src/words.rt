@@ -5,12 +5,15 @@ use ra_cluster::{ClusterError, Stop};
 use ra_script::ScriptError;
 use std::fmt::Display;
 use std::process::Abort;
-use test_support::prints;
 
 /// Ends the test if one of these values does not print as the text beside it.
 fn assert_prints<R: Abort + AllocGlobal, T: Display>(rt: &R, rows: &[(T, &str)]) {
-    for row in rows {
-        assert!(rt; prints(rt.alloc(), &row.0, row.1), "expected {}", row.1);
+    for (value, expected) in rows {
+        match value.to_string(rt.alloc()) {
+            Ok(came) if came.as_str() == *expected => {}
+            Ok(came) => panic!(rt; "expected {expected:?}, and {came:?} came"),
+            Err(_) => panic!(rt; "there is no memory for a text"),
+        }
     }
 }
 

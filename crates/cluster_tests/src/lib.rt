@@ -3,72 +3,22 @@
 #![tactic(auto)]
 
 #[cfg(test)]
-mod asleep;
+mod audit_tests;
 #[cfg(test)]
-mod audit_acts;
+mod cluster_asserting;
 #[cfg(test)]
-mod audits;
+mod cluster_values;
 #[cfg(test)]
-mod books;
+mod growth_in_clusters;
 #[cfg(test)]
-mod changed_frames;
+mod kept_books;
 #[cfg(test)]
-mod clients;
+mod plays;
 #[cfg(test)]
-mod cluster_calls;
+mod settled_books;
 #[cfg(test)]
-mod clusters;
+mod site_tests;
 #[cfg(test)]
-mod endings;
+mod thread_scripts;
 #[cfg(test)]
-mod frame_clocks;
-#[cfg(test)]
-mod gates;
-#[cfg(test)]
-mod growth;
-#[cfg(test)]
-mod growth_of_auditors;
-#[cfg(test)]
-mod growth_of_clusters;
-#[cfg(test)]
-mod growth_of_losses;
-#[cfg(test)]
-mod growth_of_rounds;
-#[cfg(test)]
-mod growth_of_settling;
-#[cfg(test)]
-mod growth_of_sites;
-#[cfg(test)]
-mod helpers;
-#[cfg(test)]
-mod histories;
-#[cfg(test)]
-mod keeping;
-#[cfg(test)]
-mod losses;
-#[cfg(test)]
-mod orders;
-#[cfg(test)]
-mod outcomes;
-#[cfg(test)]
-mod plans;
-#[cfg(test)]
-mod rounds;
-#[cfg(test)]
-mod scripts;
-#[cfg(test)]
-mod settling;
-#[cfg(test)]
-mod shown;
-#[cfg(test)]
-mod site_cluster;
-#[cfg(test)]
-mod sites;
-#[cfg(test)]
-mod steps;
-#[cfg(test)]
-mod threads;
-#[cfg(test)]
-mod waiting;
-#[cfg(test)]
-mod whole;
+mod whole_clusters;

@@ -1,10 +1,14 @@
 //! The program `ra`.
 #![tactic(auto)]
 
-use ra_cli::{
-    CommandFault, EndReader, SeenReader, SeenWriter, refuse_words_with_note, serve_with_notes,
-    write_waiting_note,
-};
+mod note_places;
+mod serving_with_notes;
+mod user_notes;
+
+use crate::serving_with_notes::{refuse_words_with_note, serve_with_notes};
+use ra_cli::CommandFault;
+use ra_notes::{EndReader, RecordingReader, SeenWriter};
+use ra_task::write_waiting_note;
 use std::io::{BufReader, IsTerminal};
 use std::process::ExitCode;
 use std::{env, io};
@@ -38,7 +42,7 @@ fn main(rt: HostRuntime) -> ExitCode {
     }
     // It is read in small pieces, which would otherwise be a call of the system each.
     let mut reader = match BufReader::new(alloc, EndReader::new(input)) {
-        Ok(reader) => SeenReader::new(alloc, words.as_slice(), reader),
+        Ok(reader) => RecordingReader::new(alloc, words.as_slice(), reader),
         Err(_) => {
             let status = refuse_words_with_note(&mut writer, CommandFault::Memory, &mut notes);
             return ExitCode::from(status);

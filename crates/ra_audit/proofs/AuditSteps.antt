@@ -21,15 +21,15 @@ use Rattle.ra_world.specs.declared.step.Step.{Step}
 use Rattle.ra_world.specs.Traffic.{Move, lost_in, lost_by, repeated_in, repeated_by}
 use Rattle.ra_world.specs.Run.{IsRun, GoesOn, events_at, happened_at, marks_of}
 use Rattle.ra_world.specs.World.{WorldState, with_move}
-use Rattle.ra_history.specs.declared.event.BookEvent.{BookEvent}
+use Rattle.ra_history.specs.declared.book.event.BookEvent.{BookEvent}
 use Rattle.ra_audit.specs.declared.audit_error.AuditError.{AuditError}
 use Rattle.ra_audit.specs.declared.audit_error.AuditError.TheVariants as audit
 use Rattle.ra_audit.specs.declared.audit_error.AuditError.TheVariants.{Fault}
 use Rattle.ra_audit.specs.declared.audit_error.AuditFault.{AuditFault}
-use Rattle.ra_cluster.specs.declared.take_error.TakeError.{TakeError}
-use Rattle.ra_cluster.specs.declared.take_error.TakeError.TheVariants.{NoNode, OutOfTurn, NotNext}
-use Rattle.ra_history.specs.declared.event.BookKind.{BookKind}
-use Rattle.ra_history.specs.declared.event.BookKind.TheVariants.{Got}
+use Rattle.ra_cluster.specs.declared.site.take_error.TakeError.{TakeError}
+use Rattle.ra_cluster.specs.declared.site.take_error.TakeError.TheVariants.{NoNode, OutOfTurn, NotNext}
+use Rattle.ra_history.specs.declared.book.event.BookKind.{BookKind}
+use Rattle.ra_history.specs.declared.book.event.BookKind.TheVariants.{Got}
 use Rattle.ra_history.specs.History.{node_event, clock_of}
 use Rattle.ra_history.specs.Settled.{step_at}
 use Rattle.ra_audit.specs.Audit.{ProgressState, IsAudited, HasSettled, IsForNumber, IsDue, IsReady, IsMisfit, FitsRun, Advances, AreNextAt, AtNumber, Takes, TakesHanded, fresh_progress, taken_of, with_more}

@@ -17,7 +17,7 @@ use Rattle.ra_world.specs.Traffic.{Move, sent_by}
 use Rattle.ra_world.specs.Run.{events_at, happened_at}
 use Rattle.ra_world.specs.Fitting.{sent_in}
 use Rattle.ra_world.proofs.Moves.{happened_more}
-use Rattle.ra_history.specs.declared.event.BookEvent.{BookEvent}
+use Rattle.ra_history.specs.declared.book.event.BookEvent.{BookEvent}
 use Rattle.ra_history.specs.History.{frames_at, node_event}
 use Rattle.ra_history.specs.Settled.{step_at}
 use Rattle.ra_history.proofs.Projections.{one_event}

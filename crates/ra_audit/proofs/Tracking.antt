@@ -21,18 +21,18 @@ use Rattle.ra_world.specs.Traffic.{Move, IsUnderWay, taken_in, repeated_by}
 use Rattle.ra_world.specs.Run.{IsRun, GoesOn}
 use Rattle.ra_world.proofs.Moves.{fits_split}
 use Rattle.ra_world.specs.World.{WorldState, with_move}
-use Rattle.ra_history.specs.declared.event.BookKind.{BookKind}
-use Rattle.ra_history.specs.declared.event.BookKind.TheVariants.{Asked, Gave, Got}
-use Rattle.ra_history.specs.declared.event.BookEvent.{BookEvent}
+use Rattle.ra_history.specs.declared.book.event.BookKind.{BookKind}
+use Rattle.ra_history.specs.declared.book.event.BookKind.TheVariants.{Asked, Gave, Got}
+use Rattle.ra_history.specs.declared.book.event.BookEvent.{BookEvent}
 use Rattle.ra_history.specs.Settled.{step_at, frames_in, received_among}
-use Rattle.ra_cluster.specs.declared.take_error.TakeError.{TakeError}
+use Rattle.ra_cluster.specs.declared.site.take_error.TakeError.{TakeError}
 use Rattle.ra_history.proofs.Projections.{repeated_in_event}
 use Rattle.ra_audit.specs.Audit.{ProgressState, IsAudited, HasSettled, IsForNumber, WasSentIn, FitsRun, AtNumber, Takes, TakesHanded, with_more, fresh_progress}
-use Rattle.ra_audit.specs.AuditKeeping.{FlightState, LossState, HasClock, IsFlying, NoneFlies, FliesOn, FliesAfter, AreNoted, MessagesAreKnown, IsTracked, StaySent, noted_clock}
+use Rattle.ra_audit.specs.AuditKeeping.{FlightState, LossState, HasClock, IsFlying, NoneFlies, FliesOn, FliesAfter, AreNoted, MessagesAreKnown, IsTracked, StaySent, IsNoted, slot_of}
 use Rattle.ra_audit.proofs.AuditSteps.{number_of, repeated_more}
 use Rattle.ra_audit.proofs.AuditRounds.{length_of}
 use Rattle.ra_audit.proofs.SentFrames.{one_clock, stay_as, stay_lost, stay_sent, sends_are_sent}
-use Rattle.ra_audit.proofs.Flying.{in_none}
+use Rattle.ra_audit.proofs.Flying.{framed, in_none}
 
 -- ---- What came
 
@@ -62,7 +62,7 @@ module _ (known : MessagesAreKnown) (n start : ℕ) (nodes nodes' : List Progres
       subst (λ (k : ℕ). WasSentIn nodes' (moves ++ move ∷ []) (record { clock = k; message = message })) (sym (last.1 ∙ after.clock_is))
       (own message (subst (λ (ms : List Message). Contains ms message) after.last_is last.0))
 
-  noted_before : (message : Message) → IsFlying flights message → (c : ℕ) × ((noted_clock flights) message ≡ Some c)
+  noted_before : (message : Message) → IsFlying flights message → (c : ℕ) × (IsNoted flights message c)
   noted_before message (c, inl noted) = (c, noted)
   noted_before message (c, inr last) = absurd (in_none message (subst (λ (ms : List Message). Contains ms message) none last.0))
 
@@ -70,7 +70,7 @@ module _ (known : MessagesAreKnown) (n start : ℕ) (nodes nodes' : List Progres
   flies message under = elim ((known.go_on n start moves move message count run unrepeated).0 under) [
     | inl was ↦
         let noted = noted_before message ((tracked.under_way message).0 was.0) in
-        (noted.0, inl (after.others message was.1 ∙ noted.1))
+        (noted.0, inl (after.others message noted.0 was.1 noted.1))
     | inr sent ↦ (flights'.clock, inr (subst (λ (ms : List Message). Contains ms message) (sym after.last_is) sent, refl))
   ]
 
@@ -106,10 +106,10 @@ taken_by_event node (Got frame) = refl
 -- frames that are noted were sent
 pub noted_were_sent : (nodes : List ProgressState) (moves : List Move) (flights : FlightState) (frames : List Frame) → IsTracked nodes moves flights → AreNoted flights frames → All (WasSentIn nodes moves) frames
 noted_were_sent nodes moves flights frames tracked noted =
-    All-weaker (λ f. (noted_clock flights) f.message ≡ Some f.clock) (WasSentIn nodes moves) (λ f is. tracked.sent f.message f.clock (inl is)) frames noted
+    All-weaker (λ f. IsNoted flights f.message f.clock) (WasSentIn nodes moves) (λ f is. tracked.sent f.message f.clock (inl is)) frames noted
 
 pub noted_was_sent : (nodes : List ProgressState) (moves : List Move) (flights : FlightState) (frame : Frame) → IsTracked nodes moves flights → AreNoted flights (frame ∷ []) → WasSentIn nodes moves frame
-noted_was_sent nodes moves flights frame tracked noted = tracked.sent frame.message frame.clock (inl (All-head (λ f. (noted_clock flights) f.message ≡ Some f.clock) frame [] noted))
+noted_was_sent nodes moves flights frame tracked noted = tracked.sent frame.message frame.clock (inl (All-head (λ f. IsNoted flights f.message f.clock) frame [] noted))
 
 -- ---- A frame that does not fit
 
@@ -125,7 +125,7 @@ not_noted known w nodes flights frame a tracked none not under sent = of ((track
         one_clock nodes w.count w.moves (record { clock = c; message = frame.message }) frame a.numbers
         (known.different w.count w.start w.moves a.count a.run a.unrepeated) (tracked.sent frame.message c (inl noted)) sent refl
         in
-        not (All-cons (λ f. (noted_clock flights) f.message ≡ Some f.clock) frame [] (subst (λ (k : ℕ). (noted_clock flights) frame.message ≡ Some k) one noted) (All-nil (λ f. (noted_clock flights) f.message ≡ Some f.clock)))
+        not (All-cons (λ f. IsNoted flights f.message f.clock) frame [] (subst (λ (k : ℕ). IsNoted flights frame.message k) one noted) (All-nil (λ f. IsNoted flights f.message f.clock)))
 
 goes_by_way : (w : WorldState) (message : Message) → GoesOn w.count w.start w.moves (Deliver message) → IsUnderWay w.moves message
 goes_by_way w message goes =
@@ -133,8 +133,8 @@ goes_by_way w message goes =
 
 pub does_not_fit : (known : MessagesAreKnown) (w : WorldState) (nodes : List ProgressState) (flights : FlightState) (node : ℕ) (kind : BookKind) → IsAudited w nodes → IsTracked nodes w.moves flights → flights.last ≡ []
     → (AreNoted flights (frames_in kind) → ⊥) → FitsRun w nodes node kind → ⊥
-does_not_fit known w nodes flights node (Asked client name mode) a tracked none not fits = not (All-nil (λ f. (noted_clock flights) f.message ≡ Some f.clock))
-does_not_fit known w nodes flights node (Gave client name) a tracked none not fits = not (All-nil (λ f. (noted_clock flights) f.message ≡ Some f.clock))
+does_not_fit known w nodes flights node (Asked client name mode) a tracked none not fits = not (All-nil (λ f. IsNoted flights f.message f.clock))
+does_not_fit known w nodes flights node (Gave client name) a tracked none not fits = not (All-nil (λ f. IsNoted flights f.message f.clock))
 does_not_fit known w nodes flights node (Got frame) a tracked none not fits =
     not_noted known w nodes flights frame a tracked none not (goes_by_way w frame.message fits.goes_on) (All-head (WasSentIn nodes w.moves) frame [] fits.sent)
 
@@ -308,7 +308,8 @@ tracked_first nodes count flights nodes_are none =
     first = map fresh_progress (range_with_len 1 count)
 
     by_case : (message : Message) (c : ℕ) → HasClock flights message c → ⊥
-    by_case message c (inl noted) = none-some c (sym (ap (lookup (eq-value.it message)) none.entries) ∙ noted)
+    by_case message c (inl (inr among)) = none-some c (sym (ap (lookup (eq-value.it message)) none.others) ∙ among)
+    by_case message c (inl (inl is)) = none-some (framed c message) (sym (none.slots (slot_of flights.nodes message)) ∙ is)
     by_case message c (inr last) = in_none message (subst (λ (ms : List Message). Contains ms message) none.last last.0)
 
 -- ---- Nothing is put

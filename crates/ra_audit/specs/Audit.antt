@@ -15,11 +15,11 @@ use Rattle.ra_world.specs.World.{WorldState}
 use Rattle.ra_world.specs.MainTheorem.{AreGrantedInOrder}
 use Rattle.ra_frame.specs.declared.frame.Frame.{Frame}
 use Rattle.ra_audit.specs.declared.audit_error.AuditFault.{AuditFault}
-use Rattle.ra_cluster.specs.declared.take_error.TakeError.{TakeError}
-use Rattle.ra_cluster.specs.declared.take_error.TakeError.TheVariants.{NoNode, OutOfTurn, NotNext, Memory}
-use Rattle.ra_history.specs.declared.event.BookKind.{BookKind}
-use Rattle.ra_history.specs.declared.event.BookKind.TheVariants.{Asked, Gave, Got}
-use Rattle.ra_history.specs.declared.event.BookEvent.{BookEvent}
+use Rattle.ra_cluster.specs.declared.site.take_error.TakeError.{TakeError}
+use Rattle.ra_cluster.specs.declared.site.take_error.TakeError.TheVariants.{NoNode, OutOfTurn, NotNext, Memory}
+use Rattle.ra_history.specs.declared.book.event.BookKind.{BookKind}
+use Rattle.ra_history.specs.declared.book.event.BookKind.TheVariants.{Asked, Gave, Got}
+use Rattle.ra_history.specs.declared.book.event.BookEvent.{BookEvent}
 use Rattle.ra_history.specs.History.{clock_after, clock_of, frames_at, node_event}
 use Rattle.ra_history.specs.Book.{BookState, whole_events}
 use Rattle.ra_history.specs.Settled.{step_at, frames_in, received_among}

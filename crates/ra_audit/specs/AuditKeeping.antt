@@ -1,11 +1,12 @@
 -- How an auditor keeps what it knows of a node, of frames that were lost, and of messages under way. No public contract speaks
 -- of it.
-use Rattle.std.specs.Prelude.{◌≡◌, ◌≢◌, ◌⊎◌, ◌↔◌, ℕ, ◌<◌, ◌≤◌, ◌∷◌, ◌++◌, [], List, Option, Some, None, All, AllPairs, Contains, length, take, drop, slice_get}
+use Rattle.std.specs.Prelude.{◌≡◌, ◌≢◌, ◌⊎◌, ◌↔◌, ℕ, ◌+◌, ◌-◌, ◌*◌, ◌<◌, ◌≤◌, ◌∷◌, ◌++◌, [], List, Option, Some, None, All, AllPairs, Contains, length, take, drop, slice_get, slice_index_or}
 use Rattle.std.specs.List.{Any}
-use Rattle.ra_audit.specs.declared.progress.Progress.TheInside.{Inside}
-use Rattle.ra_audit.specs.declared.losses.Losses.TheInside.{Inside as LossesInside}
-use Rattle.ra_stamp.specs.Message.{from_of}
+use Rattle.ra_audit.specs.declared.auditor.node_progress.Progress.TheInside.{Inside}
+use Rattle.ra_audit.specs.declared.auditor.noted_losses.Losses.TheInside.{Inside as LossesInside}
+use Rattle.ra_stamp.specs.Message.{from_of, to_of}
 use Rattle.ra_stamp.specs.declared.message.Message.{Message}
+use Rattle.ra_stamp.specs.declared.message.Message.TheVariants.{Request, Reply}
 use Rattle.ra_stamp.specs.contracts.message.MessagePartialEq.TheImpl.{eq-value}
 use Rattle.std.specs.Map.{lookup}
 use Rattle.ra_stamp.specs.NodeId.{IsNodeNumber}
@@ -14,9 +15,9 @@ use Rattle.ra_world.specs.Run.{IsRun, happened_at}
 use Rattle.ra_world.specs.Fitting.{sent_in}
 use Rattle.ra_frame.specs.declared.frame.Frame.{Frame}
 use Rattle.ra_audit.specs.declared.audit_error.AuditFault.{AuditFault}
-use Rattle.ra_history.specs.declared.event.BookKind.{BookKind}
-use Rattle.ra_history.specs.declared.event.BookKind.TheVariants.{Got}
-use Rattle.ra_history.specs.declared.event.BookEvent.{BookEvent}
+use Rattle.ra_history.specs.declared.book.event.BookKind.{BookKind}
+use Rattle.ra_history.specs.declared.book.event.BookKind.TheVariants.{Got}
+use Rattle.ra_history.specs.declared.book.event.BookEvent.{BookEvent}
 use Rattle.ra_history.specs.History.{clock_of}
 use Rattle.ra_history.specs.Settled.{received_among}
 use Rattle.ra_audit.specs.Audit.{ProgressState, AreNextAt, IsReached, NoneIsReached, NoneWaits, WasSentIn, taken_of}
@@ -99,19 +100,46 @@ pub record AreLookedAt (nodes : List ProgressState) (left : ℕ) (losing : List 
 -- ---- Frames under way
 
 -- The clocks of the events that sent the messages under way: those that are noted, each with its message; and the messages that
--- are not noted yet, which one event sent at this clock.
+-- are not noted yet, which one event sent at this clock. A message between two of this many nodes is noted in its slot, or among
+-- the others.
 pub record FlightState : Type 0 where
-  pub entries : List (Message × ℕ)
+  pub nodes : ℕ
+  pub slots : List (Option Frame)
+  pub others : List (Message × ℕ)
   pub clock : ℕ
   pub last : List Message
 
--- the clock that is noted for the message
-abbrev pub noted_clock : FlightState → Message → Option ℕ
-noted_clock flights message = lookup (eq-value.it message) flights.entries
+-- which of the two slots of its sender and receiver the message takes
+abbrev pub kind_of : Message → ℕ
+kind_of (Request from to name mode seq) = 0
+kind_of (Reply from to name seq) = 1
+
+-- the slot of the message
+abbrev pub slot_of : ℕ → Message → ℕ
+slot_of nodes message = 2 * ((from_of message - 1) * nodes + (to_of message - 1)) + kind_of message
+
+-- the slot of the message has it, with this clock
+abbrev pub IsInSlot : ℕ → List (Option Frame) → Message → ℕ → Type 0
+IsInSlot nodes slots message clock = slice_index_or slots (slot_of nodes message) None ≡ Some (record { clock = clock; message = message })
+
+-- the clock that is noted for the message among the others
+abbrev pub clock_among : List (Message × ℕ) → Message → Option ℕ
+clock_among others message = lookup (eq-value.it message) others
+
+-- no message is noted twice
+abbrev pub AreApart : ℕ → List (Option Frame) → List (Message × ℕ) → Type 0
+AreApart nodes slots others = (message : Message) (clock other : ℕ) → IsInSlot nodes slots message clock → clock_among others message ≡ Some other → ⊥
+
+-- this clock is noted for the message
+abbrev pub IsNotedIn : ℕ → List (Option Frame) → List (Message × ℕ) → Message → ℕ → Type 0
+IsNotedIn nodes slots others message clock = IsInSlot nodes slots message clock ⊎ (clock_among others message ≡ Some clock)
+
+abbrev pub IsNoted : FlightState → Message → ℕ → Type 0
+IsNoted flights = IsNotedIn flights.nodes flights.slots flights.others
 
 -- the message is under way, and an event with this clock sent it
 abbrev pub HasClock : FlightState → Message → ℕ → Type 0
-HasClock flights message clock = (noted_clock flights message ≡ Some clock) ⊎ (Contains flights.last message × (clock ≡ flights.clock))
+HasClock flights message clock = IsNoted flights message clock ⊎ (Contains flights.last message × (clock ≡ flights.clock))
 
 -- the message is under way
 abbrev pub IsFlying : FlightState → Message → Type 0
@@ -119,7 +147,8 @@ IsFlying flights message = (clock : ℕ) × HasClock flights message clock
 
 -- nothing is under way
 pub record NoneFlies (flights : FlightState) : Type 0 where
-  pub entries : flights.entries ≡ []
+  pub slots : (slot : ℕ) → slice_index_or flights.slots slot None ≡ None
+  pub others : flights.others ≡ []
   pub last : flights.last ≡ []
 
 -- the same messages are under way, each with a clock that it had
@@ -129,24 +158,25 @@ pub record FliesOn (old new : FlightState) : Type 0 where
 
 -- each of these frames is noted, with its clock
 abbrev pub AreNoted : FlightState → List Frame → Type 0
-AreNoted flights frames = All (λ frame. noted_clock flights frame.message ≡ Some frame.clock) frames
+AreNoted flights frames = All (λ frame. IsNoted flights frame.message frame.clock) frames
 
 -- these messages are noted no longer, the others are as before, and an event with this clock sent these messages
 pub record FliesAfter (old : FlightState) (taken : List Message) (clock : ℕ) (sends : List Message) (new : FlightState) : Type 0 where
-  pub only : (message : Message) (clock : ℕ) → noted_clock new message ≡ Some clock
-      → (noted_clock old message ≡ Some clock) × (Contains taken message → ⊥)
-  pub others : (message : Message) → (Contains taken message → ⊥) → noted_clock new message ≡ noted_clock old message
+  pub only : (message : Message) (clock : ℕ) → IsNoted new message clock
+      → IsNoted old message clock × (Contains taken message → ⊥)
+  pub others : (message : Message) (clock : ℕ) → (Contains taken message → ⊥) → IsNoted old message clock
+      → IsNoted new message clock
   pub clock_is : new.clock ≡ clock
   pub last_is : new.last ≡ sends
 
 -- the message has a clock by this
-abbrev pub IsIn : (Message → Option ℕ) → Message → Type 0
-IsIn noted message = (clock : ℕ) × (noted message ≡ Some clock)
+abbrev pub IsIn : (Message → ℕ → Type 0) → Message → Type 0
+IsIn noted message = (clock : ℕ) × noted message clock
 
 -- some of these messages have this clock now, and what had a clock has one
-pub record NotesSome (old : Message → Option ℕ) (messages : List Message) (clock : ℕ) (new : Message → Option ℕ) : Type 0 where
-  pub had : (message : Message) (has : ℕ) → new message ≡ Some has
-      → (old message ≡ Some has) ⊎ (Contains messages message × (has ≡ clock))
+pub record NotesSome (old : Message → ℕ → Type 0) (messages : List Message) (clock : ℕ) (new : Message → ℕ → Type 0) : Type 0 where
+  pub had : (message : Message) (has : ℕ) → new message has
+      → old message has ⊎ (Contains messages message × (has ≡ clock))
   pub all : (message : Message) → IsIn old message → IsIn new message
 
 -- ---- What is known of the run

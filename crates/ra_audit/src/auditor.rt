@@ -1,3 +1,13 @@
+pub mod audit_round;
+pub mod closing;
+pub mod flights;
+pub mod never_sent;
+pub mod node_progress;
+pub mod noted_losses;
+pub mod put_events;
+pub mod put_losses;
+pub mod unsettled;
+
 ghost use Rattle.std.specs.Prelude.{◌≡◌, ◌≢◌, ◌↔◌, ◌∷◌, ◌++◌, [], ℕ, List, Some, None, All, length, map, sum_by, IsErrOf, IfOk, IfSome, IsNone, IsTrue, OnOk, OnErr, MatchOption};
 ghost use Rattle.std.specs.List.{range_with_len};
 ghost use Rattle.ra_stamp.specs.NodeId.{IsNodeNumber};
@@ -11,13 +21,13 @@ ghost use Rattle.ra_frame.specs.declared.frame.Frame.{Frame};
 ghost use Rattle.ra_audit.specs.Audit.{Takes, AreAllIn, IsBehind, TakesHanded, NoneWaits, IsNeverSent, IsAhead, MayBePut, IsUnsent, IsLeastLeft, clocks_taken, fresh_progress};
 
 use crate::audit_laws::runs_meet_the_theorem;
-use crate::closing::check_all;
-use crate::flights::Flights;
-use crate::losing::put_events_and_losses;
-use crate::losses::Losses;
-use crate::never_sent::{clocks_of, first_unsent};
-use crate::progress::Progress;
-use crate::unsettled::{first_unsettled, waiting_at};
+use crate::auditor::closing::check_all;
+use crate::auditor::flights::Flights;
+use crate::auditor::never_sent::{clocks_of, first_unsent};
+use crate::auditor::node_progress::Progress;
+use crate::auditor::noted_losses::Losses;
+use crate::auditor::put_losses::put_events_and_losses;
+use crate::auditor::unsettled::{first_unsettled, waiting_at};
 use crate::{AuditError, AuditFault, BehindError, MarkObserver};
 use ra_cluster::{Book, BookEvent, Site, TakeError};
 use ra_frame::Frame;
@@ -66,14 +76,14 @@ impl Auditor {
     ghost use Rattle.ra_audit.specs.Audit.{IsAudited, HasLost, AllWereSent, NoneIsReady, NoneIsReached, IsMisfit, IsNotLost, Advances, PutsLosses, RunTheorem};
 
     /// Makes the auditor of a cluster of this many nodes, in which nothing has happened yet. The highest number of each
-    /// resource begins at `start`, 0 to 2^64-1. The cost is linear in the number of nodes.
+    /// resource begins at `start`, 0 to 2^64-1. The cost is linear in the number of pairs of nodes.
     ///
     /// # Errors
     ///
     /// The first that holds:
     ///
     /// 1. `BadCount`: the number of nodes is not 1 to 64.
-    /// 2. `Memory`: there is no room for the nodes.
+    /// 2. `Memory`: there is no room for the nodes and their pairs.
     pub fn new(alloc: Global, nodes: u16, start: u64) -> Result<Auditor, NewError>
         ensures world { IfOk result (λ auditor.
             auditor.world ≡ record { count = nodes; start = start; moves = [] }) }
@@ -86,7 +96,7 @@ impl Auditor {
     {
         let world = MarklessWorld::new(alloc, nodes, start)?;
         let progress = none_taken(alloc, nodes)?;
-        let flights = Flights::new(alloc);
+        let flights = Flights::new(alloc, nodes)?;
         let losses = Losses::new(alloc);
         Ok(Auditor {
             world,

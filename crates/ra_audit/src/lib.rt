@@ -16,17 +16,8 @@
 
 mod audit_error;
 mod audit_laws;
-mod auditing;
 mod auditor;
-mod closing;
-mod flights;
-mod losing;
-mod losses;
 mod mark_observer;
-mod never_sent;
-mod progress;
-mod round;
-mod unsettled;
 
 pub use audit_error::{AuditError, AuditFault, BehindError, FinishError, RoundError};
 pub use auditor::Auditor;

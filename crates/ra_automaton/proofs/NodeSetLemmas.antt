@@ -219,18 +219,26 @@ map_of-zero numbers =
     ∙ (ap (λ b. cond b (Some (get_or numbers (q - 1) 0)) None) (ap (λ (s : finset.FinSet nat_cmp). finset.contains s q) set_of-zero ∙ finset.contains-empty nat_cmp q)
     ∙ sym (finmap.get-empty nat_cmp q)))
 
--- if nobody is deferred, the numbers mean nothing
-pub map_of-none : (word : ℕ) (numbers numbers' : List ℕ) → map_of word numbers ≡ finmap.empty → map_of word numbers' ≡ finmap.empty
-map_of-none word numbers numbers' none =
-    finmap.same_map nat_cmp_total nat_cmp-IsAntisymmetric _ _ (λ q.
-    get-map_of word numbers' q
-    ∙ elim (finset.contains (set_of word) q) as (λ b. cond b (Some (get_or numbers (q - 1) 0)) None ≡ finmap.get (finmap.empty {R = nat_cmp}) q → cond b (Some (get_or numbers' (q - 1) 0)) None ≡ finmap.get (finmap.empty {R = nat_cmp}) q) [
-      | true ↦ λ e. absurd (some_is_not_none _ (e ∙ finmap.get-empty nat_cmp q))
-      | false ↦ λ e. e
-    ] (sym (get-map_of word numbers q) ∙ ap (λ (m : finmap.FinMap nat_cmp ℕ). finmap.get m q) none))
+-- a node that was put in has a place, if each other one has
+pub insert_within : (word word' node n : ℕ) → set_of word' ≡ finset.insert (set_of word) node → node ≤ n
+    → ((q : ℕ) → finset.contains (set_of word) q ≡ true → q ≤ n) → (q : ℕ) → finset.contains (set_of word') q ≡ true → q ≤ n
+insert_within word word' node n put low within q there =
+    elim (cases_same q node) [
+      | inl same ↦ omega (arith, same, low)
+      | inr apart ↦
+          within q
+          (sym (ap (λ b. b || finset.contains (set_of word) q) (untied q node apart))
+          ∙ (sym (finset.contains-insert nat_cmp_total (set_of word) node q)
+          ∙ (sym (ap (λ (s : finset.FinSet nat_cmp). finset.contains s q) put) ∙ there)))
+    ]
+
+-- nobody has a place
+pub none_within : (q : ℕ) → finset.contains (set_of 0) q ≡ true → ⊥
+none_within q there =
+    false_true (sym (ap (λ (s : finset.FinSet nat_cmp). finset.contains s q) set_of-zero ∙ finset.contains-empty nat_cmp q) ∙ there)
   where
-    some_is_not_none : (number : ℕ) → ◌≡◌ {A = Option ℕ} (Some number) None → ⊥
-    some_is_not_none number e = cc
+    false_true : false ≡ true → ⊥
+    false_true e = cc
 
 -- to write a node's number and put the node in is to give it the number
 pub map_of-insert_number : (word word' : ℕ) (numbers : List ℕ) (node number : ℕ) → 1 ≤ node → node ≤ length numbers → set_of word' ≡ finset.insert (set_of word) node

@@ -1,20 +1,15 @@
 -- What the refusals of each call tell, and the steps that messages lead to.
-use Rattle.std.proofs.Common.{◌≡◌, ◌≢◌, ◌↔◌, ◌⊎◌, ℕ, ◌<◌, Bool, false, List, [], Result, Ok, Err, MatchResult, IfErr, IsErrOf, refl, sym, ◌∙◌, subst, arith, inl, inr}
+use Rattle.std.proofs.Common.{◌≡◌, ◌≢◌, ◌↔◌, ◌⊎◌, ℕ, ◌<◌, Bool, false, List, [], Result, Ok, Err, MatchResult, IsErrOf, refl, sym, ◌∙◌, subst, arith, inl, inr}
 use Rattle.std.specs.Prelude.{IsTrue, IsOkUnless}
 use Rattle.std.proofs.lemmas.Bool.{true≢false}
 use Rattle.ra_stamp.specs.declared.mode.Mode.{Mode}
 use Rattle.ra_stamp.specs.declared.message.Message.{Message}
 use Rattle.ra_stamp.specs.declared.message.Message.TheVariants.{Request, Reply}
 use Rattle.ra_stamp.specs.Message.{from_of, to_of}
-use Rattle.ra_automaton.specs.declared.error.LeaveError.{LeaveError}
-use Rattle.ra_automaton.specs.declared.error.LeaveError.TheVariants as leaving
 use Rattle.ra_automaton.specs.declared.error.ReceiveError.{ReceiveError}
-use Rattle.ra_automaton.specs.declared.error.RequestError.{RequestError}
-use Rattle.ra_automaton.specs.declared.error.RequestError.TheVariants as requesting
-use Rattle.ra_automaton.specs.declared.phase.Phase.TheVariants.{Idle}
 use Rattle.ra_automaton.specs.declared.error.ReceiveError.TheVariants.{WrongNode, Stranger, Memory}
-use Rattle.ra_automaton.specs.State.{State, IsInside, IsOther, IsForNode}
-use Rattle.ra_automaton.specs.Steps.{greatest_number, OwnGoesFirst, Defers, RepliesAtOnce, TakesReply, ReceiveStep, LetsEnter}
+use Rattle.ra_automaton.specs.State.{State, IsOther, IsForNode}
+use Rattle.ra_automaton.specs.Steps.{OwnGoesFirst, Defers, RepliesAtOnce, TakesReply, ReceiveStep, LetsEnter}
 use Rattle.ra_automaton.specs.Memory.{IsRepliedAtOnce}
 
 same_error : {X E : Type 0} (e f : E) → IsErrOf {T = X} (Err e) f → e ≡ f
@@ -22,62 +17,6 @@ same_error e f h = cc
 
 ok_apart : {X E : Type 0} (x : X) (e : E) → Ok x ≡ Err e → ⊥
 ok_apart x e h = cc
-
--- ---- A request
-
--- what the end of a request tells
-pub record RequestTells {X : Type 0} (result : Result X RequestError) (s : State) : Type 0 where
-  pub not_idle : IsErrOf result requesting.NotIdle ↔ (s.phase ≢ Idle)
-  pub exhausted : IsErrOf result requesting.Exhausted ↔ ((s.phase ≡ Idle) × (s.highest ≡ greatest_number))
-
-not_idle_apart : requesting.NotIdle ≡ requesting.Memory → ⊥
-not_idle_apart e = cc
-
-exhausted_apart : requesting.Exhausted ≡ requesting.Memory → ⊥
-exhausted_apart e = cc
-
-not_idle_is_not_exhausted : requesting.NotIdle ≡ requesting.Exhausted → ⊥
-not_idle_is_not_exhausted e = cc
-
-none_left : (s : State) → s.highest < greatest_number → s.highest ≡ greatest_number → ⊥
-none_left s below is = omega (arith, below, is)
-
-module _ {X : Type 0} (s : State) where
-  pub not_idle_tells : s.phase ≢ Idle → RequestTells {X = X} (Err requesting.NotIdle) s
-  not_idle_tells busy =
-      record {
-        not_idle = (λ _. busy, λ _. refl);
-        exhausted = (λ e. absurd (not_idle_is_not_exhausted (same_error requesting.NotIdle requesting.Exhausted e)), λ h. absurd (busy h.0));
-      }
-
-  pub exhausted_tells : s.phase ≡ Idle → s.highest ≡ greatest_number → RequestTells {X = X} (Err requesting.Exhausted) s
-  exhausted_tells idle highest =
-      record {
-        not_idle = (λ e. absurd (not_idle_is_not_exhausted (sym (same_error requesting.Exhausted requesting.NotIdle e))), λ busy. absurd (busy idle));
-        exhausted = (λ _. (idle, highest), λ _. refl);
-      }
-
-  pub requested_tells : (result : Result X RequestError) → s.phase ≡ Idle → s.highest < greatest_number → IfErr result (λ fault. fault ≡ requesting.Memory) → RequestTells result s
-  requested_tells (Ok x) idle below memory =
-      record {
-        not_idle = (λ e. absurd (ok_apart x requesting.NotIdle e), λ busy. absurd (busy idle));
-        exhausted = (λ e. absurd (ok_apart x requesting.Exhausted e), λ h. absurd (none_left s below h.1));
-      }
-  requested_tells (Err fault) idle below memory =
-      record {
-        not_idle = (λ e. absurd (not_idle_apart (sym (same_error fault requesting.NotIdle e) ∙ memory)), λ busy. absurd (busy idle));
-        exhausted = (λ e. absurd (exhausted_apart (sym (same_error fault requesting.Exhausted e) ∙ memory)), λ h. absurd (none_left s below h.1));
-      }
-
--- ---- A leave
-
-not_held_apart : leaving.NotHeld ≡ leaving.Memory → ⊥
-not_held_apart e = cc
-
--- a node that is inside is refused only because memory ran out
-pub left_tells : {X : Type 0} (result : Result X LeaveError) (s : State) → IsInside s.phase → IfErr result (λ fault. fault ≡ leaving.Memory) → IsErrOf result leaving.NotHeld ↔ (IsInside s.phase → ⊥)
-left_tells (Ok x) s inside memory = (λ e. absurd (ok_apart x leaving.NotHeld e), λ outside. absurd (outside inside))
-left_tells (Err fault) s inside memory = (λ e. absurd (not_held_apart (sym (same_error fault leaving.NotHeld e) ∙ memory)), λ outside. absurd (outside inside))
 
 -- ---- A message
 
@@ -93,9 +32,6 @@ wrong_node_apart e = cc
 stranger_apart : Stranger ≡ Memory → ⊥
 stranger_apart e = cc
 
-wrong_node_is_no_stranger : WrongNode ≡ Stranger → ⊥
-wrong_node_is_no_stranger e = cc
-
 -- the sender of a message for a node is no stranger
 no_stranger : (me nodes : ℕ) (message : Message) → IsForNode me nodes message → (from_of message ≡ me) ⊎ (nodes < from_of message) → ⊥
 no_stranger me nodes message is either =
@@ -105,22 +41,6 @@ no_stranger me nodes message is either =
     ]
 
 module _ {X : Type 0} (me nodes : ℕ) (message : Message) where
-  pub wrong_node_tells : to_of message ≢ me → ReceiveTells {X = X} (Err WrongNode) me nodes message
-  wrong_node_tells wrong =
-      record {
-        wrong_node = (λ _. wrong, λ _. refl);
-        stranger = (λ e. absurd (wrong_node_is_no_stranger (same_error WrongNode Stranger e)), λ h. absurd (wrong h.0));
-        allowed = (λ e. absurd (wrong_node_apart e), λ is. absurd (wrong is.to));
-      }
-
-  pub stranger_tells : to_of message ≡ me → (from_of message ≡ me) ⊎ (nodes < from_of message) → ReceiveTells {X = X} (Err Stranger) me nodes message
-  stranger_tells here either =
-      record {
-        wrong_node = (λ e. absurd (wrong_node_is_no_stranger (sym (same_error Stranger WrongNode e))), λ wrong. absurd (wrong here));
-        stranger = (λ _. (here, either), λ _. refl);
-        allowed = (λ e. absurd (stranger_apart e), λ is. absurd (no_stranger me nodes message is either));
-      }
-
   pub received_tells : (result : Result X ReceiveError) (P : X → Type 0) (Same : Type 0) → IsForNode me nodes message → MatchResult result P (λ fault. (fault ≡ Memory) × Same) → ReceiveTells result me nodes message
   received_tells (Ok x) P Same is ended =
       record {

@@ -1,6 +1,7 @@
 -- How words of 64 bits represent the nodes that are awaited and those that are deferred, and how a list represents the
 -- numbers of the deferred ones. No public contract speaks of words.
-use Rattle.std.specs.Prelude.{ℕ, ◌-◌, Bool, List, filter, map, ◌==◌, slice_index}
+use Rattle.std.specs.Prelude.{ℕ, ◌-◌, Bool, List, filter, map, ◌==◌, slice_index, refl}
+use Rattle.std.specs.Coded.{Coded, code_by, coded×, coded_ℕ}
 use Rattle.std.specs.Int.{bit_at}
 use Rattle.std.specs.List.{range_with_len}
 use Rattle.std.specs.Ordering.{nat_cmp}
@@ -26,3 +27,22 @@ set_of word = set.from_list (nodes_of word)
 -- the nodes whose bits are set, each with its number: that of node i is at place i - 1 of the list
 abbrev pub map_of : ℕ → List ℕ → finmap.FinMap nat_cmp ℕ
 map_of word numbers = finmap.from_sorted (map (λ node. (node, slice_index numbers (node - 1))) (nodes_of word))
+
+-- the deferred nodes, each with the number of its request, and how many nodes there is room for
+pub record Deferred : Type 0 where
+  pub numbers : finmap.FinMap nat_cmp ℕ
+  pub room : ℕ
+
+-- nobody is deferred, and there is this much room
+abbrev pub nobody_of : ℕ → Deferred
+nobody_of room = record { numbers = finmap.empty; room = room }
+
+-- they are stored as their fields
+abbrev pub deferred_code : Coded Deferred
+deferred_code =
+    code_by
+    (finmap.FinMap nat_cmp ℕ × ℕ)
+    (coded× (finmap.code coded_ℕ coded_ℕ) coded_ℕ)
+    (λ d. (d.numbers, d.room))
+    (λ p. record { numbers = p.0; room = p.1 })
+    (λ _. refl)

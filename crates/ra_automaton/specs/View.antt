@@ -1,34 +1,31 @@
 -- The state that the fields of an automaton represent.
-use Rattle.std.specs.Prelude.{◌≡◌, ℕ, length}
+use Rattle.std.specs.Prelude.{◌≡◌, ℕ}
 use Rattle.ra_automaton.specs.declared.automaton.Automaton.TheInside.{Inside}
 use Rattle.ra_automaton.specs.declared.phase.Phase.{Phase}
 use Rattle.ra_automaton.specs.declared.phase.Phase.TheVariants as phase
 use Rattle.ra_automaton.specs.declared.phase.Phase.TheVariants.{Idle, Waiting}
 use Rattle.ra_automaton.specs.State.{State, IsConsistent}
-use Rattle.ra_automaton.specs.NodeSet.{set_of, map_of}
 
--- the state of these fields: the awaited and the deferred nodes are the bits of two words, and the numbers of the
--- deferred ones are in a list
+-- the state of these fields
 abbrev pub state_of : Inside → State
 state_of a =
     record {
-      me = a.me;
-      nodes = a.nodes;
+      me = a.member.node;
+      nodes = a.member.nodes;
       name = a.name;
       highest = a.highest;
       phase = a.phase;
-      awaited = set_of a.awaited;
-      deferred = map_of a.deferred a.numbers.items;
+      awaited = a.awaited;
+      deferred = a.deferrals.numbers;
     }
 
--- how many numbers there are: one for each node while the node waits or is inside, and none while it is idle
-abbrev pub numbers_in : Phase → ℕ → ℕ
-numbers_in Idle nodes = 0
-numbers_in (Waiting seq mode) nodes = nodes
-numbers_in (phase.Inside seq mode) nodes = nodes
+-- how many nodes there is room to defer: each node while the node waits or is inside, and none while it is idle
+abbrev pub room_in : Phase → ℕ → ℕ
+room_in Idle nodes = 0
+room_in (Waiting seq mode) nodes = nodes
+room_in (phase.Inside seq mode) nodes = nodes
 
--- what holds of the fields: there are that many numbers, and the state is consistent, so that only bits of existing
--- nodes are set
+-- what holds of the fields: there is that much room, and the state is consistent
 pub record IsKept (a : Inside) : Type 0 where
-  pub numbers : length a.numbers.items ≡ numbers_in a.phase a.nodes
+  pub room : a.deferrals.room ≡ room_in a.phase a.member.nodes
   pub consistent : IsConsistent (state_of a)

@@ -1,15 +1,16 @@
-ghost use Rattle.std.specs.Prelude.{◌≡◌, ◌≢◌, ◌+◌, ◌*◌, ◌<◌, ◌≤◌, ◌⊎◌, ◌↔◌, [], length, max, true, false};
+ghost use Rattle.std.specs.Prelude.{◌≡◌, ◌≢◌, ◌+◌, ◌*◌, ◌<◌, ◌≤◌, ◌⊎◌, ◌↔◌, [], max, true, false};
 ghost use Rattle.std.specs.Prelude.{IsTrue, IsErrOf, IfOk, OnOk, OnErr};
 
+use crate::address::check_address;
 use crate::cases::{
     Answer, Effect, PhaseKind, answer_when_idle, answer_when_inside, answer_when_waiting, compare,
     effect_of_reply,
 };
-use crate::node_set::{all_but, contains, is_only, remove};
-use crate::numbers::{insert_number, number_of, zeros};
-use crate::sends::{push_replies, push_requests};
+use crate::deferrals::Deferrals;
+use crate::node_set::NodeSet;
+use crate::sends::push_requests;
 use crate::{LeaveError, NewError, Phase, Reaction, ReceiveError, RequestError};
-use ra_stamp::{Memory, Message, Messages, Mode, Name, NodeId, Stamp};
+use ra_stamp::{Member, Memory, Message, Messages, Mode, Name, NodeId, Stamp};
 use std::alloc::Global;
 use std::marker::Model;
 use std::mem;
@@ -17,18 +18,13 @@ use std::mem;
 /// One resource at one node: a call for each event, and a reader for each part. Contracts see its state.
 #[derive(Drop)]
 pub struct Automaton {
-    me: NodeId,
-    nodes: u16,
+    member: Member,
     name: Name,
     highest: u64,
     phase: Phase,
-    /// The nodes that are awaited: bit i - 1 stands for node i.
-    awaited: u64,
-    /// The nodes that are deferred, likewise.
-    deferred: u64,
-    /// The number with which node i is deferred, at place i - 1. It means nothing if the node is not deferred. An idle
-    /// node defers nothing, so it has no such list: nearly all resources that a node has met are idle.
-    numbers: Vec<u64>,
+    /// The nodes whose REPLYs are awaited.
+    awaited: NodeSet,
+    deferrals: Deferrals,
 }
 
 impl Model for Automaton {
@@ -58,6 +54,7 @@ impl Automaton {
     ghost use Rattle.ra_automaton.specs.Steps.{Begins, Defers, RepliesAtOnce, TakesReply, LetsEnter};
     ghost use Rattle.ra_automaton.specs.Steps.{RequestStep, ReceiveStep, LeaveStep, LeaveAndRequestStep};
     ghost use Rattle.ra_automaton.specs.Memory.{IsRepliedAtOnce};
+    ghost use Rattle.ra_automaton.specs.NodeSet.{nobody_of};
 
     /// Makes the automaton of node `me` of `nodes` for a resource. The highest number that it has met is `start`, 0
     /// to 2^64-1. It does not allocate.
@@ -81,22 +78,25 @@ impl Automaton {
         ensures bad_node { IsErrOf result NewError.BadNode ↔ (IsNodeNumber nodes × (nodes < me)) }
         ensures no_memory { IsErrOf result NewError.Memory → ⊥ }
     {
-        if NodeId::new(nodes).is_none() {
-            return Err(NewError::BadCount);
-        }
-        if me.get() > nodes {
-            return Err(NewError::BadNode);
-        }
-        Ok(Automaton {
-            me,
-            nodes,
+        let member = Member::new(me, nodes)?;
+        Ok(Automaton::of(alloc, member, name, start))
+    }
+
+    /// Makes the automaton of a member for a resource, as `new` does. It does not allocate.
+    pub fn of(alloc: Global, member: Member, name: Name, start: u64) -> Automaton
+        ensures value { result ≡ opening member.node member.nodes name start }
+        ensures consistent { IsConsistent result }
+    {
+        // Each reader tells that it is a member.
+        let _node = member.node();
+        Automaton {
+            member,
             name,
             highest: start,
             phase: Phase::Idle,
-            awaited: 0,
-            deferred: 0,
-            numbers: Vec::new(alloc),
-        })
+            awaited: NodeSet::empty(),
+            deferrals: Deferrals::none(alloc),
+        }
     }
 
     /// Makes a request, which takes the next number. The cost is linear in the number of nodes.
@@ -124,10 +124,14 @@ impl Automaton {
             return Err(RequestError::Exhausted);
         }
         let seq = self.highest + 1;
-        let numbers = zeros(alloc, usize::from(self.nodes))?;
         let mut sends = Messages::new(alloc);
-        push_requests(&mut sends, self.me, self.nodes, self.name, mode, seq)?;
-        let entered = self.begin(mode, numbers);
+        if push_requests(&mut sends, self.member, self.name, mode, seq).is_err() {
+            return Err(RequestError::Memory);
+        }
+        let Ok(room) = Deferrals::with_room(alloc, self.member) else {
+            return Err(RequestError::Memory);
+        };
+        let entered = self.begin(mode, room);
         Ok(Reaction { sends, entered })
     }
 
@@ -157,14 +161,11 @@ impl Automaton {
         ensures memory_only_for_reply { IsErrOf result ReceiveError.Memory → IsRepliedAtOnce self.old message.now }
         ensures err { OnErr result (self.new ≡ self.old) }
     {
-        if message.to() != self.me {
-            return Err(ReceiveError::WrongNode);
+        check_address(self.member, message)?;
+        match self.receive_addressed(alloc, message) {
+            Ok(reaction) => Ok(reaction),
+            Err(Memory) => Err(ReceiveError::Memory),
         }
-        let sender = message.from();
-        if sender == self.me || sender.get() > self.nodes {
-            return Err(ReceiveError::Stranger);
-        }
-        Ok(self.receive_addressed(alloc, message)?)
     }
 
     /// Takes a message as `receive` does, if it is already known to be for this node, from another one, and about this
@@ -188,7 +189,7 @@ impl Automaton {
         ensures memory_only_for_reply { OnErr result (IsRepliedAtOnce self.old message.now) }
         ensures err { OnErr result (self.new ≡ self.old) }
     {
-        prove!(message.to() == self.me);
+        prove!(message.to() == self.member.node());
         match *message {
             Message::Request {
                 from,
@@ -244,7 +245,14 @@ impl Automaton {
         if !self.is_inside() {
             return Err(LeaveError::NotHeld);
         }
-        push_replies(&mut sends, self.me, self.name, self.deferred, &self.numbers)?;
+        let me = self.member.node();
+        if self
+            .deferrals
+            .push_replies(&mut sends, me, self.name)
+            .is_err()
+        {
+            return Err(LeaveError::Memory);
+        }
         self.end(alloc);
         Ok(Reaction {
             sends,
@@ -297,10 +305,19 @@ impl Automaton {
             return Err(LeaveError::NotHeld);
         }
         let next = self.highest + 1;
-        push_replies(&mut sends, self.me, self.name, self.deferred, &self.numbers)?;
-        push_requests(&mut sends, self.me, self.nodes, self.name, mode, next)?;
-        let numbers = self.end(alloc);
-        let entered = self.begin(mode, numbers);
+        let me = self.member.node();
+        if self
+            .deferrals
+            .push_replies(&mut sends, me, self.name)
+            .is_err()
+        {
+            return Err(LeaveError::Memory);
+        }
+        if push_requests(&mut sends, self.member, self.name, mode, next).is_err() {
+            return Err(LeaveError::Memory);
+        }
+        let room = self.end(alloc);
+        let entered = self.begin(mode, room);
         Ok(Reaction { sends, entered })
     }
 
@@ -309,7 +326,7 @@ impl Automaton {
         ensures value { result ≡ self.now.me }
         ensures consistent { IsConsistent self.now }
     {
-        self.me
+        self.member.node()
     }
 
     /// Returns what the node is doing with the resource. It does not allocate.
@@ -341,7 +358,7 @@ impl Automaton {
         ensures value { result ≡ set.contains self.now.awaited node }
         ensures consistent { IsConsistent self.now }
     {
-        contains(self.awaited, node)
+        self.awaited.contains(node)
     }
 
     /// Returns the number of the request of a node whose REPLY is deferred, or `None` if it is not. It does not
@@ -350,7 +367,7 @@ impl Automaton {
         ensures value { result ≡ finmap.get self.now.deferred node }
         ensures consistent { IsConsistent self.now }
     {
-        number_of(self.deferred, &self.numbers, node)
+        self.deferrals.get(node)
     }
 
     /// Returns whether a message is the last REPLY that the node awaits: received as a message for it about this resource, it lets
@@ -391,36 +408,37 @@ impl Automaton {
         matches!(self.phase, Phase::Inside { .. })
     }
 
-    /// Begins a request, once its messages are made, with a list for the numbers of the nodes that will be deferred.
-    /// Returns whether it is granted at once.
-    fn begin(&mut self, mode: Mode, numbers: Vec<u64>) -> bool
+    /// Begins a request, once its messages are made, with room for the nodes that will be deferred. Returns whether it is
+    /// granted at once.
+    fn begin(&mut self, mode: Mode, room: Deferrals) -> bool
         requires idle { self.old.phase ≡ Phase.Idle }
         requires number_left { self.old.highest < greatest_number }
-        requires numbers { length numbers.items ≡ self.old.nodes }
+        requires room { room ≡ nobody_of self.old.nodes }
         ensures { Begins self.old mode result self.new }
     {
         let seq = self.highest + 1;
         self.highest = seq;
-        self.numbers = numbers;
-        if self.nodes == 1 {
+        self.deferrals = room;
+        if self.member.nodes() == 1 {
             self.phase = Phase::Inside { seq, mode };
             return true;
         }
         self.phase = Phase::Waiting { seq, mode };
-        self.awaited = all_but(self.me, self.nodes);
+        self.awaited = NodeSet::others(self.member);
         false
     }
 
-    /// Ends a request that was granted, once the REPLYs are made. Returns the list for the numbers of deferred nodes, for
-    /// the next request. It does not allocate.
-    fn end(&mut self, alloc: Global) -> Vec<u64>
+    /// Ends a request that was granted, once the REPLYs are made. Returns the room for deferred nodes, for the next request.
+    /// It does not allocate.
+    fn end(&mut self, alloc: Global) -> Deferrals
         requires { IsInside self.old.phase }
         ensures ended { self.new ≡ record self.old { phase = Phase.Idle; deferred = finmap.empty } }
-        ensures numbers { length result.items ≡ self.old.nodes }
+        ensures room { result ≡ nobody_of self.old.nodes }
     {
         self.phase = Phase::Idle;
-        self.deferred = 0;
-        mem::replace(&mut self.numbers, Vec::new(alloc))
+        let mut room = mem::replace(&mut self.deferrals, Deferrals::none(alloc));
+        room.clear();
+        room
     }
 
     /// Returns what a REQUEST of another node leads to.
@@ -432,11 +450,13 @@ impl Automaton {
         match self.phase {
             Phase::Idle => answer_when_idle(wanted),
             Phase::Waiting { seq, mode } => {
-                let own = Stamp { seq, node: self.me };
+                let node = self.member.node();
+                let own = Stamp { seq, node };
                 answer_when_waiting(mode, wanted, compare(theirs, own))
             }
             Phase::Inside { seq, mode } => {
-                let own = Stamp { seq, node: self.me };
+                let node = self.member.node();
+                let own = Stamp { seq, node };
                 answer_when_inside(mode, wanted, compare(theirs, own))
             }
         }
@@ -464,7 +484,7 @@ impl Automaton {
         match self.answer(other, wanted, seq) {
             Answer::Reply => {
                 let reply = Message::Reply {
-                    from: self.me,
+                    from: self.member.node(),
                     to: other,
                     name: self.name,
                     seq,
@@ -495,11 +515,11 @@ impl Automaton {
               (finmap.get self.old.deferred other) seq);
         } }
     {
-        let later = match number_of(self.deferred, &self.numbers, other) {
+        let later = match self.deferrals.get(other) {
             None => seq,
             Some(before) => before.max(seq),
         };
-        self.deferred = insert_number(self.deferred, &mut self.numbers, other, later);
+        self.deferrals.insert(other, later);
         self.highest = self.highest.max(seq);
     }
 
@@ -511,8 +531,8 @@ impl Automaton {
             × (set.remove self.now.awaited other ≡ set.empty → ⊥) }
         ensures stray { result ≡ Effect.Stray → (mode : Mode) → Awaits self.now other number mode → ⊥ }
     {
-        let awaited = contains(self.awaited, other);
-        let others = !is_only(self.awaited, other);
+        let awaited = self.awaited.contains(other);
+        let others = !self.awaited.is_only(other);
         match self.phase {
             Phase::Idle => effect_of_reply(PhaseKind::Idle, false, awaited, others),
             Phase::Waiting { seq, .. } => effect_of_reply(
@@ -553,7 +573,7 @@ impl Automaton {
         requires not_last { set.remove self.old.awaited other ≡ set.empty → ⊥ }
         ensures { self.new ≡ record self.old { awaited = set.remove self.old.awaited other } }
     {
-        self.awaited = remove(self.awaited, other);
+        self.awaited.remove(other);
     }
 
     /// Takes the last REPLY that is awaited, and enters.
@@ -561,7 +581,7 @@ impl Automaton {
         requires { IsWaiting self.old.phase }
         ensures { self.new ≡ record self.old { phase = entered_phase self.old.phase; awaited = set.empty } }
     {
-        self.awaited = 0;
+        self.awaited = NodeSet::empty();
         if let Phase::Waiting { seq, mode } = self.phase {
             self.phase = Phase::Inside { seq, mode };
         }

@@ -1,6 +1,6 @@
 ghost use Rattle.std.specs.Prelude.{◌≡◌};
 
-use ra_stamp::Memory;
+use ra_stamp::MemberError;
 use thiserror::Error;
 
 /// Why no automaton was made, and no node that keeps some.
@@ -15,13 +15,17 @@ pub enum NewError {
     Memory,
 }
 
-impl From<Memory> for NewError {
-    ghost use Rattle.ra_automaton.specs.declared.error.NewError.TheVariants as variant;
+/// It says the same of a node that is no member.
+impl From<MemberError> for NewError {
+    ghost use Rattle.ra_automaton.specs.Members.{new_error_of};
 
-    ghost from_gives = { λ _ error. error ≡ variant.Memory };
+    ghost from_gives = { λ refused error. error ≡ new_error_of refused };
 
-    fn from(_refused: Memory) -> NewError {
-        NewError::Memory
+    fn from(refused: MemberError) -> NewError {
+        match refused {
+            MemberError::BadCount => NewError::BadCount,
+            MemberError::BadNode => NewError::BadNode,
+        }
     }
 }
 
@@ -37,16 +41,6 @@ pub enum RequestError {
     Memory,
 }
 
-impl From<Memory> for RequestError {
-    ghost use Rattle.ra_automaton.specs.declared.error.RequestError.TheVariants as variant;
-
-    ghost from_gives = { λ _ error. error ≡ variant.Memory };
-
-    fn from(_refused: Memory) -> RequestError {
-        RequestError::Memory
-    }
-}
-
 /// Why a message was not taken.
 #[derive(Clone, Copy, Debug, PartialEq, Eq, Error)]
 #[error("{:?}", self)]
@@ -59,16 +53,6 @@ pub enum ReceiveError {
     Memory,
 }
 
-impl From<Memory> for ReceiveError {
-    ghost use Rattle.ra_automaton.specs.declared.error.ReceiveError.TheVariants as variant;
-
-    ghost from_gives = { λ _ error. error ≡ variant.Memory };
-
-    fn from(_refused: Memory) -> ReceiveError {
-        ReceiveError::Memory
-    }
-}
-
 /// Why the node did not leave.
 #[derive(Clone, Copy, Debug, PartialEq, Eq, Error)]
 #[error("{:?}", self)]
@@ -77,14 +61,4 @@ pub enum LeaveError {
     NotHeld,
     /// Memory ran out.
     Memory,
-}
-
-impl From<Memory> for LeaveError {
-    ghost use Rattle.ra_automaton.specs.declared.error.LeaveError.TheVariants as variant;
-
-    ghost from_gives = { λ _ error. error ≡ variant.Memory };
-
-    fn from(_refused: Memory) -> LeaveError {
-        LeaveError::Memory
-    }
 }

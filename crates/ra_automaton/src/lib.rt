@@ -2,16 +2,18 @@
 //! goes in, and the messages that it sends come out; nothing is read or written.
 #![tactic(auto)]
 
+mod address;
 mod automaton;
 mod cases;
+mod deferrals;
 mod error;
 mod laws;
 mod node_set;
-mod numbers;
 mod phase;
 mod reaction;
 mod sends;
 
+pub use address::check_address;
 pub use automaton::Automaton;
 pub use error::{LeaveError, NewError, ReceiveError, RequestError};
 pub use laws::steps_keep_a_state_consistent;

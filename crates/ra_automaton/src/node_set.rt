@@ -1,68 +1,98 @@
-//! Sets of nodes as words: a node is in the set if its bit is set.
+//! Sets of nodes.
 ghost use Rattle.std.specs.Prelude.{◌≡◌, ◌-◌, ◌^◌, ◌<◌, ◌↔◌, IsTrue};
 ghost use Rattle.std.specs.FinSet as set;
-ghost use Rattle.ra_stamp.specs.NodeId.{IsNodeNumber};
 ghost use Rattle.ra_automaton.specs.NodeSet.{set_of};
 ghost use Rattle.ra_automaton.specs.Steps.{others_of};
 
-use ra_stamp::NodeId;
+use ra_stamp::{Member, NodeId};
+use std::marker::Model;
 
-/// Returns the place of a node, counted from 0.
-#[inline(always)]
-pub fn place_of(node: NodeId) -> u16
-    ensures value { result ≡ node - 1 }
-    ensures valid { IsNodeNumber node }
-{
-    node.get() - 1
+/// A set of nodes in one word. Contracts see it as the set of their numbers.
+#[derive(Drop)]
+pub struct NodeSet {
+    /// A node is in if its bit is set: bit i - 1 is that of node i.
+    bits: u64,
 }
 
-/// Returns the word with a node's bit alone.
-#[inline(always)]
-fn bit_of(node: NodeId) -> u64
-    ensures value { result ≡ 2 ^ (node - 1) }
-    ensures valid { IsNodeNumber node }
-{
-    1 << place_of(node)
+impl Model for NodeSet {
+    ghost use Rattle.std.specs.Coded.{coded_ℕ};
+    ghost use Rattle.std.specs.Ordering.{nat_cmp};
+    ghost use Rattle.std.specs.FinSet as set;
+    ghost use Rattle.ra_automaton.specs.NodeSet.{set_of};
+
+    ghost Value = { set.FinSet nat_cmp };
+
+    ghost coded = { set.code coded_ℕ };
+
+    ghost view = { λ s. set_of s.bits };
 }
 
-/// Returns whether a node is in.
+/// Returns whether the bit of a node is set.
 #[inline(always)]
-pub fn contains(word: u64, node: NodeId) -> bool
-    ensures { result ≡ set.contains (set_of word) node }
+pub fn has_bit(bits: u64, node: NodeId) -> bool
+    ensures { result ≡ set.contains (set_of bits) node }
 {
-    (word >> place_of(node)) & 1 == 1
+    (bits >> node.place()) & 1 == 1
 }
 
-/// Returns the word with a node put in.
+/// Returns the bits with that of a node set.
 #[inline(always)]
-pub fn insert(word: u64, node: NodeId) -> u64
-    ensures { set_of result ≡ set.insert (set_of word) node }
+pub fn with_bit(bits: u64, node: NodeId) -> u64
+    ensures { set_of result ≡ set.insert (set_of bits) node }
 {
-    word | bit_of(node)
+    bits | 1 << node.place()
 }
 
-/// Returns the word with a node taken out.
+/// Returns the bits with that of a node cleared.
 #[inline(always)]
-pub fn remove(word: u64, node: NodeId) -> u64
-    ensures { set_of result ≡ set.remove (set_of word) node }
+fn without_bit(bits: u64, node: NodeId) -> u64
+    ensures { set_of result ≡ set.remove (set_of bits) node }
 {
-    word & !bit_of(node)
+    bits & !(1 << node.place())
 }
 
-/// Returns whether no node but this one is in.
-#[inline(always)]
-pub fn is_only(word: u64, node: NodeId) -> bool
-    ensures { IsTrue result ↔ (set.remove (set_of word) node ≡ set.empty) }
-{
-    remove(word, node) == 0
-}
+impl NodeSet {
+    /// Makes the set of no nodes.
+    #[inline(always)]
+    pub fn empty() -> NodeSet
+        ensures { result ≡ set.empty }
+    {
+        NodeSet { bits: 0 }
+    }
 
-/// Returns the word of the nodes from 1 to `nodes` but one.
-#[inline(always)]
-pub fn all_but(me: NodeId, nodes: u16) -> u64
-    requires { IsNodeNumber nodes }
-    ensures { set_of result ≡ set.from_list (others_of me nodes) }
-{
-    // All bits are set at first, and none above the nodes is left: if there are 64 nodes, 1 could not be shifted up so far.
-    remove(u64::MAX >> (64 - nodes), me)
+    /// Makes the set of all nodes of a member's cluster but the member.
+    #[inline(always)]
+    pub fn others(member: Member) -> NodeSet
+        ensures { result ≡ set.from_list (others_of member.node member.nodes) }
+    {
+        // All bits are set at first, and none above the nodes is left: if there are 64 nodes, 1 could not be shifted up so far.
+        let all = u64::MAX >> (64 - member.nodes());
+        NodeSet {
+            bits: without_bit(all, member.node()),
+        }
+    }
+
+    /// Returns whether a node is in.
+    #[inline(always)]
+    pub fn contains(&self, node: NodeId) -> bool
+        ensures { result ≡ set.contains self.now node }
+    {
+        has_bit(self.bits, node)
+    }
+
+    /// Returns whether no node but this one is in.
+    #[inline(always)]
+    pub fn is_only(&self, node: NodeId) -> bool
+        ensures { IsTrue result ↔ (set.remove self.now node ≡ set.empty) }
+    {
+        without_bit(self.bits, node) == 0
+    }
+
+    /// Takes a node out.
+    #[inline(always)]
+    pub fn remove(&mut self, node: NodeId)
+        ensures { self.new ≡ set.remove self.old node }
+    {
+        self.bits = without_bit(self.bits, node);
+    }
 }

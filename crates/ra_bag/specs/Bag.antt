@@ -1,5 +1,5 @@
 -- The bag: the messages under way, in the order in which they were sent. It may contain equal messages.
-use Rattle.std.specs.Prelude.{◌≡◌, ◌≢◌, ◌<◌, ◌≤◌, ◌+◌, ℕ, List, ◌∷◌, ◌++◌, Option, Some, None, All, length, take, slice_get, slice_index_or}
+use Rattle.std.specs.Prelude.{◌≡◌, ◌≢◌, ◌<◌, ◌≤◌, ◌+◌, ◌*◌, ℕ, List, ◌∷◌, ◌++◌, Option, Some, None, All, length, take, slice_get, slice_index_or}
 use Rattle.std.specs.List.{filter_map, remove}
 use Rattle.ra_stamp.specs.declared.message.Message.{Message}
 
@@ -39,6 +39,6 @@ IsAt slots place slot =
 abbrev pub HasEmpty : List (Option Message) → ℕ → Type 0
 HasEmpty slots empty = length (messages_in slots) + empty ≡ length slots
 
--- this number of empty slots is at most the number of slots that contain a message
+-- this number of empty slots is at most three times the number of slots that contain a message
 abbrev pub FewEmpty : List (Option Message) → ℕ → Type 0
-FewEmpty slots empty = empty ≤ length (messages_in slots)
+FewEmpty slots empty = empty ≤ 3 * length (messages_in slots)

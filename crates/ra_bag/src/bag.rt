@@ -1,4 +1,4 @@
-ghost use Rattle.std.specs.Prelude.{◌≡◌, ◌≢◌, ◌+◌, ◌≤◌, ◌↔◌, [], ◌∷◌, ◌++◌, take, drop, suc, length, slice_get, Contains, IsNone, IsSome, IsOk, IfOk, IfSome, OnOk, OnErr, IsTrue, IsFalse, ℕ};
+ghost use Rattle.std.specs.Prelude.{◌≡◌, ◌≢◌, ◌+◌, ◌*◌, ◌≤◌, ◌↔◌, [], ◌∷◌, ◌++◌, take, drop, suc, length, slice_get, Contains, IsNone, IsSome, IsOk, IfOk, IfSome, OnOk, OnErr, IsTrue, IsFalse, ℕ};
 ghost use Rattle.std.specs.VecDeque.{deque_len, deque_capacity};
 ghost use Rattle.ra_stamp.specs.declared.message.Message.{Message};
 ghost use Rattle.ra_bag.specs.Bag.{TakesFirst, TakesOne, TakesAt, StandsIn, IsAt, messages_in, HasEmpty, FewEmpty};
@@ -24,8 +24,8 @@ use std::marker::Model;
 pub struct Bag {
     /// The messages, with an empty slot for each one that was taken from between others since the slots were closed up.
     slots: VecDeque<Option<Message>>,
-    /// How many slots are empty: at most as many as have a message, so that going through all slots is linear in the
-    /// messages.
+    /// How many slots are empty: at most three times as many as have a message, so that going through all slots is linear
+    /// in the messages.
     empty: u64,
     /// In which slots the messages are, to find them.
     places: Places,
@@ -324,7 +324,7 @@ fn first_of(
     slot_of(slots, message)
 }
 
-/// Takes the message in this slot out of the slots. They are closed up if more than half of them are empty.
+/// Takes the message in this slot out of the slots. They are closed up if too many of them are empty.
 #[inline(always)]
 fn remove(
     slots: &mut VecDeque<Option<Message>>,
@@ -348,12 +348,21 @@ fn remove(
     ensures capacity { deque_capacity slots.new ≡ deque_capacity slots.old }
 {
     remove_slot(slots, empty, places, filled, slot, message);
-    if *empty > slots.len() as u64 / 2 {
+    if *empty > most_empty(slots.len() as u64, places.are_known()) {
         close_up(slots);
         *empty = 0;
         places.forget();
         filled.learn_anew(slots);
     }
+}
+
+/// Returns how many of this many slots may be empty before they are closed up: half of them. If the slots of each message are
+/// known, it is three quarters, since closing up has them learned anew, each message at the cost of putting it.
+#[inline(always)]
+fn most_empty(slots: u64, known: bool) -> u64
+    ensures { 4 * result ≤ 3 * slots }
+{
+    if known { slots / 4 * 3 } else { slots / 2 }
 }
 
 /// Removes the slot of a message, or only empties it if the message at a place is found all the same.

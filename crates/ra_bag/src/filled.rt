@@ -11,7 +11,7 @@ use std::alloc::Global;
 use std::collections::VecDeque;
 
 /// If there are no more slots than this, they are searched one by one.
-const FEW: usize = 64;
+const MAX_LINEAR_SCAN: usize = 64;
 
 /// If there are no more slots than this, to move messages when one is taken from between them costs less than to keep
 /// bits.
@@ -55,7 +55,7 @@ impl Filled {
     pub fn want(&mut self, slots: usize)
         ensures { (of : List (Option Message)) → KeepsShown self.old of → KeepsShown self.new of }
     {
-        if slots > FEW && !self.is_kept() {
+        if slots > MAX_LINEAR_SCAN && !self.is_kept() {
             self.wanted = true;
         }
     }

@@ -13,7 +13,7 @@ use std::collections::VecDeque;
 use std::mem::replace;
 
 /// If there are no more slots than this, they are searched one by one.
-const FEW: usize = 64;
+const MAX_LINEAR_SCAN: usize = 64;
 
 /// The slots of the messages in a bag, to find the first slot that has a message without looking at all of them.
 /// Looking for a message takes no memory, so the slots are learned by the next call that may take it, after a message
@@ -72,7 +72,7 @@ impl Places {
         ensures { (of : List (Option Message)) → IsTold ⟦<Message as PartialEq>⟧.eq self.old of
             → IsTold ⟦<Message as PartialEq>⟧.eq self.new of }
     {
-        if slots > FEW {
+        if slots > MAX_LINEAR_SCAN {
             self.wanted = true;
         }
     }

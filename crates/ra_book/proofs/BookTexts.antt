@@ -5,13 +5,13 @@ use Rattle.std.proofs.lemmas.List.Elements.{All-nil, All-push}
 use Rattle.ra_history.specs.Book.{BookState}
 use Rattle.ra_book.specs.Book.{lines_text}
 use Rattle.ra_book.specs.Input.{HasNoFeed}
-use Rattle.ra_book.specs.declared.settle_error.SettleTextError.{SettleTextError}
-use Rattle.ra_book.specs.declared.settle_error.SettleTextError.TheVariants as fault
-use Rattle.ra_book.specs.declared.settle_error.TextCause.{TextCause}
-use Rattle.ra_book.specs.declared.settle_error.TextCause.TheVariants as cause
-use Rattle.ra_book.specs.declared.gathering.Gathered.{Gathered}
-use Rattle.ra_book.specs.declared.gathering.LineFault.{LineFault}
-use Rattle.ra_book.specs.declared.gathering.LineFault.TheVariants as line_fault
+use Rattle.ra_book.specs.declared.text_settling.settle_error.SettleTextError.{SettleTextError}
+use Rattle.ra_book.specs.declared.text_settling.settle_error.SettleTextError.TheVariants as fault
+use Rattle.ra_book.specs.declared.text_settling.settle_error.TextCause.{TextCause}
+use Rattle.ra_book.specs.declared.text_settling.settle_error.TextCause.TheVariants as cause
+use Rattle.ra_book.specs.declared.text_settling.gathering.Gathered.{Gathered}
+use Rattle.ra_book.specs.declared.text_settling.gathering.LineFault.{LineFault}
+use Rattle.ra_book.specs.declared.text_settling.gathering.LineFault.TheVariants as line_fault
 use Rattle.ra_book.specs.Texts.{Begins, IsRead}
 use Rattle.ra_book.specs.Gathering.{HasGathered, IsGathered, IsNoBeginning, TakesEvent, TakesFirst, TakesLine, books_of}
 use Rattle.ra_book.specs.Verdicts.{IsNoLine, IsUnsettled, IsWrong, IsWrongAt}

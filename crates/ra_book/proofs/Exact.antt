@@ -2,11 +2,11 @@
 use Rattle.std.proofs.Common.{◌≡◌, ◌⊎◌, ℕ, Bool, true, false, List, inl, inr, refl}
 use Rattle.std.specs.Prelude.{IfErr, IfOk, IsErrOf, IsOkUnless, MatchResult, OnOk, Result, Ok, Err}
 use Rattle.ra_history.specs.Book.{BookState}
-use Rattle.ra_history.specs.declared.settled.Settled.{Settled}
-use Rattle.ra_book.specs.declared.settle_error.SettleTextError.{SettleTextError}
-use Rattle.ra_book.specs.declared.settle_error.SettleTextError.TheVariants as fault
-use Rattle.ra_book.specs.declared.settle_error.TextCause.{TextCause}
-use Rattle.ra_book.specs.declared.settling.SettledText.{SettledText}
+use Rattle.ra_history.specs.declared.settle_books.settled.Settled.{Settled}
+use Rattle.ra_book.specs.declared.text_settling.settle_error.SettleTextError.{SettleTextError}
+use Rattle.ra_book.specs.declared.text_settling.settle_error.SettleTextError.TheVariants as fault
+use Rattle.ra_book.specs.declared.text_settling.settle_error.TextCause.{TextCause}
+use Rattle.ra_book.specs.declared.text_settling.SettledText.{SettledText}
 use Rattle.ra_book.specs.Verdicts.{FitBy, HasFittingBooks, IsRunBy, IsSettledText, IsUnsettled, IsWrong}
 
 -- books that settle fit

@@ -14,9 +14,9 @@ use Rattle.ra_trace.specs.Forms.{fields, behind, node_of, client_of, start_of, n
 use Rattle.ra_trace.specs.TraceText.{IsClientNumber}
 use Rattle.ra_trace.proofs.Cuts.{mapped, behind-append}
 use Rattle.ra_trace.proofs.Spelled.{Reads, reads_fields, reads_node, reads_client, reads_start, reads_name, reads_mode}
-use Rattle.ra_history.specs.declared.event.BookKind.{BookKind}
-use Rattle.ra_history.specs.declared.event.BookKind.TheVariants.{Asked, Gave}
-use Rattle.ra_book.specs.declared.first_line.First.{First}
+use Rattle.ra_history.specs.declared.book.event.BookKind.{BookKind}
+use Rattle.ra_history.specs.declared.book.event.BookKind.TheVariants.{Asked, Gave}
+use Rattle.ra_book.specs.declared.next_line.first_line.First.{First}
 use Rattle.ra_book.specs.BookText.{Form, HasForm, form_text, first_text, IsFirst, IsEvent}
 use Rattle.ra_book.specs.BookText.Form.{Ask, Release, Receive}
 use Rattle.ra_book.specs.Fields.{ask_of, release_of, first_of}

@@ -6,12 +6,12 @@ use Rattle.std.proofs.lemmas.List.{append-nil, flat_map_more, map_push}
 use Rattle.std.proofs.lemmas.List.Elements.{All-nil, All-append, All-map, All-push}
 use Rattle.std.proofs.lemmas.List.Quantifiers.{all_pairs_push}
 use Rattle.ra_frame.specs.declared.frame.Frame.{Frame}
-use Rattle.ra_history.specs.declared.event.BookEvent.{BookEvent}
-use Rattle.ra_history.specs.declared.event.BookKind.{BookKind}
+use Rattle.ra_history.specs.declared.book.event.BookEvent.{BookEvent}
+use Rattle.ra_history.specs.declared.book.event.BookKind.{BookKind}
 use Rattle.ra_history.specs.Book.{BookState, HasHistory, as_sent, opening_book, with_event}
 use Rattle.ra_book.specs.BookText.{IsEvent, IsFirst}
-use Rattle.ra_book.specs.declared.came.Came.{Came}
-use Rattle.ra_book.specs.declared.gathering.Gathered.{Gathered}
+use Rattle.ra_book.specs.declared.text_settling.came.Came.{Came}
+use Rattle.ra_book.specs.declared.text_settling.gathering.Gathered.{Gathered}
 use Rattle.ra_book.specs.Texts.{Said, Says, said_by, AreRight, IsBeside, IsRead, came_by, came_from, came_in}
 use Rattle.ra_book.specs.Texts.Said.{Opens, Happens}
 use Rattle.ra_book.specs.Gathering.{HasHappened, IsGathered, IsOpened, books_of}

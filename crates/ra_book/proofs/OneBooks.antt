@@ -3,15 +3,15 @@ use Rattle.std.proofs.Common.{◌≡◌, ◌≢◌, ℕ, List, [], ◌∷◌, �
 use Rattle.std.specs.Prelude.{All, AllPairs}
 use Rattle.std.specs.List.{flat_map}
 use Rattle.std.proofs.lemmas.List.Elements.{All-head, All-tail}
-use Rattle.ra_history.specs.declared.event.BookEvent.{BookEvent}
-use Rattle.ra_history.specs.declared.event.BookKind.{BookKind}
+use Rattle.ra_history.specs.declared.book.event.BookEvent.{BookEvent}
+use Rattle.ra_history.specs.declared.book.event.BookKind.{BookKind}
 use Rattle.ra_history.specs.Book.{BookState}
-use Rattle.ra_book.specs.declared.refusal.Refusal.{Refusal}
-use Rattle.ra_book.specs.declared.refusal.Refusal.TheVariants as refusal
+use Rattle.ra_book.specs.declared.answering.line_refusal.Refusal.{Refusal}
+use Rattle.ra_book.specs.declared.answering.line_refusal.Refusal.TheVariants as refusal
 use Rattle.ra_book.specs.BookText.{HasForm, IsEvent, IsFirst, IsUnread}
 use Rattle.ra_book.specs.BookText.Form.{Receive}
-use Rattle.ra_book.specs.declared.settle_error.TextCause.{TextCause}
-use Rattle.ra_book.specs.declared.settle_error.TextCause.TheVariants as cause
+use Rattle.ra_book.specs.declared.text_settling.settle_error.TextCause.{TextCause}
+use Rattle.ra_book.specs.declared.text_settling.settle_error.TextCause.TheVariants as cause
 use Rattle.ra_book.specs.Texts.{AreBeside, AreRight, CanTake, IsBeside, IsRead, Said, Says, said_by}
 use Rattle.ra_book.specs.Texts.Said.{Opens, Happens}
 use Rattle.ra_book.specs.Verdicts.{IsNoLine, IsOfAnother, IsRefused, IsWrongLine}

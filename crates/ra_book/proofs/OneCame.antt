@@ -11,12 +11,12 @@ use Rattle.std.proofs.lemmas.List.Kept.{AllPairs-cons}
 use Rattle.std.proofs.lemmas.List.Sorted.{All-permutation, IsPermutation-keeps, IsPermutation-sym}
 use Rattle.ra_stamp.specs.declared.message.Message.{Message}
 use Rattle.ra_frame.specs.declared.frame.Frame.{Frame}
-use Rattle.ra_history.specs.declared.event.BookEvent.{BookEvent}
-use Rattle.ra_history.specs.declared.event.BookKind.{BookKind}
-use Rattle.ra_history.specs.declared.event.BookKind.TheVariants.{Asked, Gave, Got}
+use Rattle.ra_history.specs.declared.book.event.BookEvent.{BookEvent}
+use Rattle.ra_history.specs.declared.book.event.BookKind.{BookKind}
+use Rattle.ra_history.specs.declared.book.event.BookKind.TheVariants.{Asked, Gave, Got}
 use Rattle.ra_history.specs.Book.{BookState}
 use Rattle.ra_history.specs.Settled.{HasTwice, HasUnsent, all_received, frames_in, received_among}
-use Rattle.ra_book.specs.declared.came.Came.{Came}
+use Rattle.ra_book.specs.declared.text_settling.came.Came.{Came}
 use Rattle.ra_book.specs.Texts.{Said, came_by, came_from, came_in, said_by}
 use Rattle.ra_book.specs.Texts.Said.{Opens, Happens}
 use Rattle.ra_book.specs.Verdicts.{IsFirstAgain, IsFirstUnsent, messages_of}

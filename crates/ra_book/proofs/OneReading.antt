@@ -3,9 +3,9 @@ use Rattle.std.proofs.Common.{◌≡◌, ◌≢◌, ◌⊎◌, ℕ, ◌+◌, Lis
 use Rattle.std.specs.Prelude.{All}
 use Rattle.std.specs.List.{AllZip}
 use Rattle.std.proofs.lemmas.List.Elements.{All-head, All-tail, All-contains, Contains-append_right}
-use Rattle.ra_history.specs.declared.event.BookKind.{BookKind}
-use Rattle.ra_history.specs.declared.event.BookKind.TheVariants.{Asked, Gave, Got}
-use Rattle.ra_book.specs.declared.refusal.Refusal.{Refusal}
+use Rattle.ra_history.specs.declared.book.event.BookKind.{BookKind}
+use Rattle.ra_history.specs.declared.book.event.BookKind.TheVariants.{Asked, Gave, Got}
+use Rattle.ra_book.specs.declared.answering.line_refusal.Refusal.{Refusal}
 use Rattle.ra_book.specs.Book.{lines_text}
 use Rattle.ra_book.specs.BookText.{Form, HasForm, IsEvent, IsFirst, IsUnread}
 use Rattle.ra_book.specs.BookText.Form.{Ask, Release, Receive}

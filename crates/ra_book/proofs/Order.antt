@@ -10,8 +10,8 @@ use Rattle.std.proofs.lemmas.List.Quantifiers.{Any-push}
 use Rattle.std.proofs.lemmas.List.Sorted.{All-permutation, IsPermutation-more, IsPermutation-refl, IsPermutation-sym, length_permutation}
 use Rattle.ra_history.specs.Book.{BookState, IsWhole}
 use Rattle.ra_history.specs.Settled.{start_of}
-use Rattle.ra_book.specs.declared.arranging.Unarranged.{Unarranged}
-use Rattle.ra_book.specs.declared.arranging.Unarranged.TheVariants.{Missing}
+use Rattle.ra_book.specs.declared.text_settling.arranging.Unarranged.{Unarranged}
+use Rattle.ra_book.specs.declared.text_settling.arranging.Unarranged.TheVariants.{Missing}
 use Rattle.ra_book.specs.Texts.{AreBeside, AreRight, AreWhole, IsBeside, IsRead}
 use Rattle.ra_book.specs.Gathering.{IsAllArranged, IsArranged, LacksNode, LacksSome}
 use Rattle.ra_book.specs.Verdicts.{IsMissing}

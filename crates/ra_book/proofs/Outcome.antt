@@ -3,12 +3,12 @@ use Rattle.std.proofs.Common.{ℕ, Bool, true, List, [], ◌∷◌, length, leng
 use Rattle.std.proofs.lemmas.Bool.{false≢true}
 use Rattle.std.specs.Prelude.{All, MatchResult}
 use Rattle.ra_history.specs.Book.{BookState}
-use Rattle.ra_book.specs.declared.came.Came.{Came}
-use Rattle.ra_book.specs.declared.settle_error.SettleTextError.{SettleTextError}
-use Rattle.ra_book.specs.declared.settle_error.SettleTextError.TheVariants as fault
-use Rattle.ra_book.specs.declared.settle_error.TextCause.TheVariants as cause
-use Rattle.ra_book.specs.declared.gathering.Gathered.{Gathered}
-use Rattle.ra_book.specs.declared.settling.SettledText.{SettledText}
+use Rattle.ra_book.specs.declared.text_settling.came.Came.{Came}
+use Rattle.ra_book.specs.declared.text_settling.settle_error.SettleTextError.{SettleTextError}
+use Rattle.ra_book.specs.declared.text_settling.settle_error.SettleTextError.TheVariants as fault
+use Rattle.ra_book.specs.declared.text_settling.settle_error.TextCause.TheVariants as cause
+use Rattle.ra_book.specs.declared.text_settling.gathering.Gathered.{Gathered}
+use Rattle.ra_book.specs.declared.text_settling.SettledText.{SettledText}
 use Rattle.ra_book.specs.Texts.{AreWhole, IsRead}
 use Rattle.ra_book.specs.Gathering.{HasGathered, IsAllArranged, IsGathered, IsMadeOf, IsUnfit, LacksSome, books_of}
 use Rattle.ra_book.specs.Verdicts.{IsFirstAgain, IsFirstUnsent, IsSettledBy, IsSettledText, IsUnsettled, IsWrong}

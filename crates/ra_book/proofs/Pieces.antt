@@ -5,11 +5,11 @@ use Rattle.std.proofs.lemmas.List.{append-nil}
 use Rattle.std.proofs.lemmas.List.Elements.{All-nil, All-append}
 use Rattle.std.specs.Io.KnownBytes.{Consumes}
 use Rattle.std.proofs.KnownBytes.{Consumes-nil, Consumes-trans}
-use Rattle.ra_book.specs.declared.line.Line.{Line}
-use Rattle.ra_book.specs.declared.piece.Piece.{Piece}
-use Rattle.ra_book.specs.declared.piece.Piece.TheVariants.{Part, Over, End}
-use Rattle.ra_book.specs.declared.piece.ReadFailed.{ReadFailed}
-use Rattle.ra_book.specs.declared.piece.Taken.{Taken}
+use Rattle.ra_book.specs.declared.next_line.kept_line.Line.{Line}
+use Rattle.ra_book.specs.declared.next_line.piece.Piece.{Piece}
+use Rattle.ra_book.specs.declared.next_line.piece.Piece.TheVariants.{Part, Over, End}
+use Rattle.ra_book.specs.declared.next_line.piece.ReadFailed.{ReadFailed}
+use Rattle.ra_book.specs.declared.next_line.piece.Taken.{Taken}
 use Rattle.ra_book.specs.Input.{HasNoFeed, IsKeptLine, IsPiece, Keeps, TakesShown, TakesPiece, TakesLine, TakesOpen, TakesMost}
 
 -- more bytes than there is room for

@@ -4,7 +4,7 @@ use Rattle.std.proofs.lemmas.List.{append-nil}
 use Rattle.std.specs.Result.{OnOk, OnErr, is_err}
 use Rattle.std.specs.Io.KnownBytes.{Appends, Keeps}
 use Rattle.std.proofs.KnownBytes.{Appends-trans, Appends-nil}
-use Rattle.ra_book.specs.declared.output.Output.{Output}
+use Rattle.ra_book.specs.declared.answering.waiting_output.Output.{Output}
 use Rattle.ra_book.specs.Output.{HasPut, Puts}
 
 -- two texts

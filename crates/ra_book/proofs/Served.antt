@@ -3,15 +3,15 @@ use Rattle.std.proofs.Common.{◌≡◌, ◌≢◌, ℕ, ◌+◌, ◌≤◌, ◌
 use Rattle.std.proofs.lemmas.List.{append-nil}
 use Rattle.std.proofs.lemmas.List.Elements.{All-nil, All-cons, All-push}
 use Rattle.std.specs.Io.KnownBytes.{Appends, Consumes, IsAtEnd}
-use Rattle.ra_book.specs.declared.output.Output.{Output}
+use Rattle.ra_book.specs.declared.answering.waiting_output.Output.{Output}
 use Rattle.ra_book.specs.Output.{HasPut}
 use Rattle.std.proofs.KnownBytes.{Consumes-nil, Consumes-trans}
 use Rattle.ra_book.specs.declared.error.BookFault.{BookFault}
 use Rattle.ra_book.specs.declared.error.BookFault.TheVariants.{Line, Read, Write}
-use Rattle.ra_book.specs.declared.refusal.Refusal.TheVariants as refusal
+use Rattle.ra_book.specs.declared.answering.line_refusal.Refusal.TheVariants as refusal
 use Rattle.ra_book.specs.Timed.{Timed}
 use Rattle.ra_book.specs.Answers.{Answers, AnswersAll, refused_line}
-use Rattle.ra_book.specs.declared.line.Line.{Line as KeptLine}
+use Rattle.ra_book.specs.declared.next_line.kept_line.Line.{Line as KeptLine}
 use Rattle.ra_book.specs.Input.{HasNoFeed, TakesOpen, TakesMost, HasEnded}
 use Rattle.ra_book.specs.NextLine.{ReadsLine}
 use Rattle.ra_book.specs.Book.{HasRead, IsAnswered, IsOwed, IsWritten, lines_text}

@@ -8,8 +8,8 @@ use Rattle.ra_world.specs.Traffic.{Move}
 use Rattle.ra_world.specs.World.{Reports}
 use Rattle.ra_history.specs.declared.error.SettleError.{SettleError}
 use Rattle.ra_history.specs.declared.error.SettleError.TheVariants.{NotSent, Twice, GrantMissing, GrantTwice, Memory}
-use Rattle.ra_history.specs.declared.sent.Sent.{Sent}
-use Rattle.ra_history.specs.declared.settled.Settled.{Settled}
+use Rattle.ra_history.specs.declared.book.sent.Sent.{Sent}
+use Rattle.ra_history.specs.declared.settle_books.settled.Settled.{Settled}
 use Rattle.ra_history.specs.Book.{BookState}
 use Rattle.ra_history.specs.Repeats.{IsSettledRunWithCopies}
 use Rattle.ra_history.specs.Settled.{BooksFit, HasTwice, HasUnsent, IsSettledOrder, IsSettledRun, Placed, all_lost, lost_among, settled_steps, start_of}

@@ -4,8 +4,8 @@ use Rattle.std.specs.Prelude.{IfOk}
 use Rattle.ra_frame.specs.declared.frame.Frame.{Frame}
 use Rattle.ra_frame.specs.FrameText.{IsFrameText}
 use Rattle.ra_history.specs.declared.error.BookError.{BookError}
-use Rattle.ra_history.specs.declared.event.BookKind.TheVariants.{Got}
-use Rattle.ra_history.specs.declared.event_effect.Posted.{Posted}
+use Rattle.ra_history.specs.declared.book.event.BookKind.TheVariants.{Got}
+use Rattle.ra_history.specs.declared.book.event_effect.Posted.{Posted}
 use Rattle.ra_history.specs.Book.{BookState, Adds, HasHistory}
 use Rattle.ra_book.specs.Gathering.{HasTaken}
 

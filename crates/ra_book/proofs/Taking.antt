@@ -9,10 +9,10 @@ use Rattle.ra_node.specs.Node.{NodeState, IsConsistentNode}
 use Rattle.ra_node.specs.Events.{Event, NodeEvent, IsForThisNode, name_of_event}
 use Rattle.ra_node.specs.Events.Event.{Receive}
 use Rattle.ra_history.specs.History.{node_event, clock_after}
-use Rattle.ra_history.specs.declared.event.BookKind.{BookKind}
-use Rattle.ra_history.specs.declared.event.BookKind.TheVariants.{Asked, Gave, Got}
-use Rattle.ra_book.specs.declared.refusal.Refusal.{Refusal}
-use Rattle.ra_book.specs.declared.refusal.Refusal.TheVariants as refusal
+use Rattle.ra_history.specs.declared.book.event.BookKind.{BookKind}
+use Rattle.ra_history.specs.declared.book.event.BookKind.TheVariants.{Asked, Gave, Got}
+use Rattle.ra_book.specs.declared.answering.line_refusal.Refusal.{Refusal}
+use Rattle.ra_book.specs.declared.answering.line_refusal.Refusal.TheVariants as refusal
 use Rattle.ra_node.specs.declared.outcome.Outcome.{Outcome}
 use Rattle.ra_book.specs.BookText.{IsEvent}
 use Rattle.ra_book.specs.Answers.{Reacts, Stays}

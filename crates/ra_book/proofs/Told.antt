@@ -13,15 +13,15 @@ use Rattle.ra_frame.specs.Faults.{first_fault}
 use Rattle.ra_world.specs.Lines.{mark_line}
 use Rattle.ra_node.specs.Node.{NodeState, opening_node}
 use Rattle.ra_node.specs.Events.{Event, NodeEvent, IsForThisNode}
-use Rattle.ra_history.specs.declared.event.BookEvent.{BookEvent}
-use Rattle.ra_history.specs.declared.event.BookKind.{BookKind}
-use Rattle.ra_history.specs.declared.event.BookKind.TheVariants.{Asked, Gave, Got}
-use Rattle.ra_history.specs.declared.sent.Sent.{Sent}
+use Rattle.ra_history.specs.declared.book.event.BookEvent.{BookEvent}
+use Rattle.ra_history.specs.declared.book.event.BookKind.{BookKind}
+use Rattle.ra_history.specs.declared.book.event.BookKind.TheVariants.{Asked, Gave, Got}
+use Rattle.ra_history.specs.declared.book.sent.Sent.{Sent}
 use Rattle.ra_automaton.specs.State.{IsForNode}
 use Rattle.ra_history.specs.History.{IsHistory, node_event, clock_after, clock_from, clock_of, frames_at}
 use Rattle.ra_history.specs.Book.{as_sent}
-use Rattle.ra_book.specs.declared.refusal.Refusal.{Refusal}
-use Rattle.ra_book.specs.declared.refusal.Refusal.TheVariants as refusal
+use Rattle.ra_book.specs.declared.answering.line_refusal.Refusal.{Refusal}
+use Rattle.ra_book.specs.declared.answering.line_refusal.Refusal.TheVariants as refusal
 use Rattle.ra_book.specs.BookText.{Form, HasForm, IsEvent, IsFrameOf, IsUnread}
 use Rattle.ra_book.specs.BookText.Form.{Ask, Release, Receive}
 use Rattle.ra_book.specs.Answers.{AreSends, Accepts, AnswersAll, send_line}

@@ -8,9 +8,9 @@ use Rattle.ra_frame.specs.declared.error.FrameError.{FrameError}
 use Rattle.ra_frame.specs.declared.error.FrameError.TheVariants as frame
 use Rattle.ra_frame.specs.FrameText.{IsWrittenText}
 use Rattle.ra_world.specs.Lines.{field, mark_line}
-use Rattle.ra_history.specs.declared.event.BookKind.{BookKind}
-use Rattle.ra_book.specs.declared.refusal.Refusal.{Refusal}
-use Rattle.ra_book.specs.declared.refusal.Refusal.TheVariants as refusal
+use Rattle.ra_history.specs.declared.book.event.BookKind.{BookKind}
+use Rattle.ra_book.specs.declared.answering.line_refusal.Refusal.{Refusal}
+use Rattle.ra_book.specs.declared.answering.line_refusal.Refusal.TheVariants as refusal
 use Rattle.ra_book.specs.BookText.{IsEvent, IsUnread}
 use Rattle.ra_book.specs.Timed.{Timed, Takes, Refuses}
 

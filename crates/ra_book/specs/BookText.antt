@@ -10,10 +10,10 @@ use Rattle.ra_frame.specs.FrameText.{IsFrameText}
 use Rattle.ra_frame.specs.Faults.{first_fault}
 use Rattle.ra_world.specs.Lines.{field, mode_word}
 use Rattle.ra_trace.specs.TraceText.{IsClientNumber}
-use Rattle.ra_history.specs.declared.event.BookKind.{BookKind}
-use Rattle.ra_history.specs.declared.event.BookKind.TheVariants.{Asked, Gave, Got}
-use Rattle.ra_book.specs.declared.refusal.Refusal.{Refusal}
-use Rattle.ra_book.specs.declared.refusal.Refusal.TheVariants.{Line, Hex, Frame as Faulty, Busy, Exhausted, NotHeld, WrongNode, Stranger, ClockFull, Memory}
+use Rattle.ra_history.specs.declared.book.event.BookKind.{BookKind}
+use Rattle.ra_history.specs.declared.book.event.BookKind.TheVariants.{Asked, Gave, Got}
+use Rattle.ra_book.specs.declared.answering.line_refusal.Refusal.{Refusal}
+use Rattle.ra_book.specs.declared.answering.line_refusal.Refusal.TheVariants.{Line, Hex, Frame as Faulty, Busy, Exhausted, NotHeld, WrongNode, Stranger, ClockFull, Memory}
 
 -- the first line: the number of the node, how many nodes there are, and the number with which each resource begins
 abbrev pub first_text : ℕ → ℕ → ℕ → List ℕ

@@ -8,17 +8,17 @@ use Rattle.ra_history.specs.declared.error.BookError.{BookError}
 use Rattle.ra_history.specs.declared.error.BookError.TheVariants as refused
 use Rattle.ra_history.specs.declared.error.SettleError.{SettleError}
 use Rattle.ra_history.specs.declared.error.SettleError.TheVariants.{Twice}
-use Rattle.ra_history.specs.declared.event.BookKind.{BookKind}
+use Rattle.ra_history.specs.declared.book.event.BookKind.{BookKind}
 use Rattle.ra_history.specs.Book.{BookState, HasHistory, opening_book, with_event}
 use Rattle.ra_history.specs.Settled.{HasUnsent}
 use Rattle.ra_book.specs.BookText.{IsEvent, IsFirst}
-use Rattle.ra_book.specs.declared.came.Came.{Came}
-use Rattle.ra_book.specs.declared.settle_error.SettleTextError.{SettleTextError}
-use Rattle.ra_book.specs.declared.settle_error.SettleTextError.TheVariants as fault
-use Rattle.ra_book.specs.declared.settle_error.TextCause.TheVariants as cause
-use Rattle.ra_book.specs.declared.gathering.Gathered.{Gathered}
-use Rattle.ra_book.specs.declared.gathering.LineFault.{LineFault}
-use Rattle.ra_book.specs.declared.gathering.LineFault.TheVariants as line_fault
+use Rattle.ra_book.specs.declared.text_settling.came.Came.{Came}
+use Rattle.ra_book.specs.declared.text_settling.settle_error.SettleTextError.{SettleTextError}
+use Rattle.ra_book.specs.declared.text_settling.settle_error.SettleTextError.TheVariants as fault
+use Rattle.ra_book.specs.declared.text_settling.settle_error.TextCause.TheVariants as cause
+use Rattle.ra_book.specs.declared.text_settling.gathering.Gathered.{Gathered}
+use Rattle.ra_book.specs.declared.text_settling.gathering.LineFault.{LineFault}
+use Rattle.ra_book.specs.declared.text_settling.gathering.LineFault.TheVariants as line_fault
 use Rattle.ra_book.specs.Texts.{AreRight, CanTake, IsBeside, IsText, came_by, came_in}
 use Rattle.ra_book.specs.Verdicts.{IsFirstAgain, IsFirstUnsent, IsWrongLine}
 

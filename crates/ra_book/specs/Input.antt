@@ -1,11 +1,11 @@
 -- What is read of the next line.
 use Rattle.std.specs.Prelude.{◌≡◌, ◌≢◌, ◌⊎◌, ℕ, ◌+◌, ◌<◌, ◌≤◌, ◌^◌, Bool, true, false, List, [], ◌∷◌, ◌++◌, All, Option, Result, Ok, Err, length, take}
 use Rattle.std.specs.Io.KnownBytes.{Consumes, IsAtEnd}
-use Rattle.ra_book.specs.declared.line.Line.{Line}
-use Rattle.ra_book.specs.declared.piece.Piece.{Piece}
-use Rattle.ra_book.specs.declared.piece.Piece.TheVariants.{Part, Over, End}
-use Rattle.ra_book.specs.declared.piece.ReadFailed.{ReadFailed}
-use Rattle.ra_book.specs.declared.piece.Taken.{Taken}
+use Rattle.ra_book.specs.declared.next_line.kept_line.Line.{Line}
+use Rattle.ra_book.specs.declared.next_line.piece.Piece.{Piece}
+use Rattle.ra_book.specs.declared.next_line.piece.Piece.TheVariants.{Part, Over, End}
+use Rattle.ra_book.specs.declared.next_line.piece.ReadFailed.{ReadFailed}
+use Rattle.ra_book.specs.declared.next_line.piece.Taken.{Taken}
 
 -- no line feed is among these bytes
 abbrev pub HasNoFeed : List ℕ → Type 0

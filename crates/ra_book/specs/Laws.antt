@@ -1,6 +1,6 @@
 -- What the law of books speaks of.
 use Rattle.std.specs.Prelude.{◌≡◌, ◌⊎◌, ℕ, List, [], ◌∷◌, ◌++◌}
-use Rattle.ra_history.specs.declared.event.BookKind.{BookKind}
+use Rattle.ra_history.specs.declared.book.event.BookKind.{BookKind}
 use Rattle.ra_book.specs.Timed.{Timed}
 use Rattle.ra_book.specs.BookText.{IsEvent}
 use Rattle.ra_book.specs.Answers.{Accepts}

@@ -3,7 +3,7 @@ use Rattle.std.specs.Prelude.{ℕ, true, false, List, Bool, Option, Result, Ok, 
 use Rattle.std.specs.Io.KnownBytes.{IsAtEnd}
 use Rattle.ra_book.specs.declared.error.BookFault.{BookFault}
 use Rattle.ra_book.specs.declared.error.BookFault.TheVariants.{Line as NoBook, Read, Write}
-use Rattle.ra_book.specs.declared.line.Line.{Line}
+use Rattle.ra_book.specs.declared.next_line.kept_line.Line.{Line}
 use Rattle.ra_book.specs.Input.{TakesLine, TakesOpen}
 
 abbrev pub ReadsLine : Option (List ℕ) → Option (List ℕ) → Line → Result Bool BookFault → Type 0

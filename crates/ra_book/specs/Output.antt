@@ -1,7 +1,7 @@
 -- What is written of answers, and what waits to be written.
 use Rattle.std.specs.Prelude.{◌≡◌, ℕ, false, List, ◌++◌, Option}
 use Rattle.std.specs.Io.KnownBytes.{Appends}
-use Rattle.ra_book.specs.declared.output.Output.{Output}
+use Rattle.ra_book.specs.declared.answering.waiting_output.Output.{Output}
 
 -- Since the writer was like this at first, this text was put out: the writer took a prefix of it, and the rest waits,
 -- unless the writer failed.

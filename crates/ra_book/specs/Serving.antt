@@ -3,7 +3,7 @@ use Rattle.std.specs.Prelude.{◌≡◌, ℕ, List, [], ◌∷◌, Option, Resul
 use Rattle.std.specs.Io.KnownBytes.{IsAtEnd}
 use Rattle.ra_book.specs.declared.error.BookFault.{BookFault}
 use Rattle.ra_book.specs.declared.error.BookFault.TheVariants.{Line, Read, Write}
-use Rattle.ra_book.specs.declared.refusal.Refusal.TheVariants as refusal
+use Rattle.ra_book.specs.declared.answering.line_refusal.Refusal.TheVariants as refusal
 use Rattle.ra_book.specs.BookText.{IsFirst}
 use Rattle.ra_book.specs.Timed.{Timed, opening}
 use Rattle.ra_book.specs.Answers.{AnswersAll, refused_line}

@@ -7,14 +7,14 @@ use Rattle.ra_automaton.specs.State.{IsForNode}
 use Rattle.ra_node.specs.Node.{resource_at}
 use Rattle.ra_node.specs.Resource.{Holds}
 use Rattle.ra_node.specs.Turns.{MayAsk}
-use Rattle.ra_history.specs.declared.event.BookKind.{BookKind}
-use Rattle.ra_history.specs.declared.event.BookKind.TheVariants.{Asked, Gave, Got}
+use Rattle.ra_history.specs.declared.book.event.BookKind.{BookKind}
+use Rattle.ra_history.specs.declared.book.event.BookKind.TheVariants.{Asked, Gave, Got}
 use Rattle.ra_history.specs.Book.{BookState, HasClock, HasHistory, IsWhole, Runs}
 use Rattle.ra_history.specs.Settled.{IsCluster, frames_in}
 use Rattle.ra_book.specs.Book.{lines_text}
 use Rattle.ra_book.specs.BookText.{IsEvent, IsFirst}
 use Rattle.ra_book.specs.Input.{HasNoFeed}
-use Rattle.ra_book.specs.declared.came.Came.{Came}
+use Rattle.ra_book.specs.declared.text_settling.came.Came.{Came}
 
 -- ---- Lines
 

@@ -5,21 +5,21 @@ use Rattle.ra_stamp.specs.declared.message.Message.{Message}
 use Rattle.ra_world.specs.MainTheorem.{MainTheorem}
 use Rattle.ra_world.specs.Traffic.{Move}
 use Rattle.ra_world.specs.World.{Reports}
-use Rattle.ra_history.specs.declared.event.BookKind.{BookKind}
+use Rattle.ra_history.specs.declared.book.event.BookKind.{BookKind}
 use Rattle.ra_history.specs.Book.{BookState}
 use Rattle.ra_history.specs.Repeats.{IsSettledRunWithCopies}
-use Rattle.ra_history.specs.declared.settled.Settled.{Settled}
+use Rattle.ra_history.specs.declared.settle_books.settled.Settled.{Settled}
 use Rattle.ra_history.specs.Settled.{BooksFit, HasUnsent, IsSettledOrder, IsSettledRun, Placed, WasSent, settled_steps, start_of}
 use Rattle.ra_book.specs.BookText.{Form, HasForm, IsEvent, IsFirst, IsUnread}
 use Rattle.ra_book.specs.Input.{HasNoFeed}
-use Rattle.ra_book.specs.declared.refusal.Refusal.{Refusal}
-use Rattle.ra_book.specs.declared.refusal.Refusal.TheVariants as refusal
-use Rattle.ra_book.specs.declared.came.Came.{Came}
-use Rattle.ra_book.specs.declared.settle_error.SettleTextError.{SettleTextError}
-use Rattle.ra_book.specs.declared.settle_error.SettleTextError.TheVariants.{Invalid, Memory}
-use Rattle.ra_book.specs.declared.settle_error.TextCause.{TextCause}
-use Rattle.ra_book.specs.declared.settle_error.TextCause.TheVariants as cause
-use Rattle.ra_book.specs.declared.settling.SettledText.{SettledText}
+use Rattle.ra_book.specs.declared.answering.line_refusal.Refusal.{Refusal}
+use Rattle.ra_book.specs.declared.answering.line_refusal.Refusal.TheVariants as refusal
+use Rattle.ra_book.specs.declared.text_settling.came.Came.{Came}
+use Rattle.ra_book.specs.declared.text_settling.settle_error.SettleTextError.{SettleTextError}
+use Rattle.ra_book.specs.declared.text_settling.settle_error.SettleTextError.TheVariants.{Invalid, Memory}
+use Rattle.ra_book.specs.declared.text_settling.settle_error.TextCause.{TextCause}
+use Rattle.ra_book.specs.declared.text_settling.settle_error.TextCause.TheVariants as cause
+use Rattle.ra_book.specs.declared.text_settling.SettledText.{SettledText}
 use Rattle.ra_book.specs.Texts.{AreRight, AreWhole, Begins, CanTake, IsBeside, IsText, came_in}
 
 -- ---- A wrong line, after lines that are right

@@ -5,9 +5,9 @@ use Rattle.std.specs.List.{AllZip}
 use Rattle.hex.specs.Hex.{encode_lower}
 use Rattle.ra_frame.specs.Fits.{Fits}
 use Rattle.ra_frame.specs.FrameText.{IsWrittenText}
-use Rattle.ra_history.specs.declared.event.BookEvent.{BookEvent}
-use Rattle.ra_history.specs.declared.event.BookKind.{BookKind}
-use Rattle.ra_history.specs.declared.event.BookKind.TheVariants.{Asked, Gave, Got}
+use Rattle.ra_history.specs.declared.book.event.BookEvent.{BookEvent}
+use Rattle.ra_history.specs.declared.book.event.BookKind.{BookKind}
+use Rattle.ra_history.specs.declared.book.event.BookKind.TheVariants.{Asked, Gave, Got}
 use Rattle.ra_history.specs.Book.{BookState}
 use Rattle.ra_book.specs.BookText.{IsEvent, IsFirst, form_text}
 use Rattle.ra_book.specs.BookText.Form.{Ask, Release, Receive}

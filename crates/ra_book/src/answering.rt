@@ -1,69 +1,218 @@
-//! The answer to a line of a book after the first.
-ghost use Rattle.std.specs.Prelude.{◌≡◌, ℕ, List, IfOk, MatchResult};
-ghost use Rattle.ra_book.specs.Answers.{Answers, Reacts, Stays};
-ghost use Rattle.ra_book.specs.BookText.{IsEvent, IsUnread};
-ghost use Rattle.ra_book.specs.Input.{IsKeptLine};
+//! A book that is read and answered.
+pub mod answer_line;
+pub mod answer_texts;
+pub mod line_refusal;
+pub mod node_event;
+pub mod timed_node;
+pub mod waiting_output;
+
+ghost use Rattle.std.specs.Prelude.{◌≡◌, ◌↔◌, [], true, false, ℕ, List, MatchOption, IsErrOf, OnOk};
+ghost use Rattle.ra_book.specs.Book.{IsOwed, IsWritten};
+ghost use Rattle.ra_book.specs.BookText.{IsFirst};
+ghost use Rattle.ra_book.specs.Input.{HasEnded, IsKeptLine};
 ghost use Rattle.ra_book.specs.Output.{Puts};
-ghost use Rattle.ra_book.specs.Timed.{CanCome, FitAt};
+ghost use Rattle.ra_book.specs.Serving.{IsOpenedBy, OpensBy, Opens, Serves};
+ghost use Rattle.ra_book.specs.Answers.{refused_line};
+ghost use Rattle.ra_book.specs.declared.error.BookFault.{BookFault};
+ghost use Rattle.ra_book.specs.declared.answering.line_refusal.Refusal.{Refusal};
 
-use crate::event_line::event_of;
-use crate::line::Line;
-use crate::output::{Output, put};
-use crate::refusal::refused_line;
-use crate::texts::put_outcome;
-use crate::{Refusal, TimedNode};
-use ra_history::BookKind;
-use ra_node::Outcome;
+use crate::answering::answer_line::answer_line;
+use crate::answering::line_refusal::refused_line;
+use crate::answering::waiting_output::{Output, flush, put};
+use crate::next_line::first_line::opened;
+use crate::next_line::kept_line::Line;
+use crate::next_line::{Input, next_line};
+use crate::{BookFault, Refusal, TimedNode};
 use std::alloc::Global;
-use std::io::Write;
+use std::io::{BufRead, Write};
 
-/// Returns the event that a line is. It does not allocate.
-///
-/// # Errors
-///
-/// Those of `event_of`, and `Line` for a line that is too long.
-fn event_in(line: &Line) -> Result<BookKind, Refusal>
-    ensures read { (text : List ℕ) → IsKeptLine text line.now.bytes.items line.now.is_long
-        → MatchResult result (IsEvent text) (IsUnread text) }
-    ensures can_come { IfOk result CanCome }
+/// Makes the node of a book that begins with this line, or returns `None` if it is no first line.
+fn opened_by(alloc: Global, line: &Line) -> Option<TimedNode>
+    ensures { (text : List ℕ) → IsKeptLine text line.now.bytes.items line.now.is_long
+        → MatchOption result ((node nodes start : ℕ) → IsFirst text node nodes start → ⊥) (IsOpenedBy text) }
 {
     if line.is_long {
-        return Err(Refusal::Line);
+        return None;
     }
-    event_of(line.bytes.as_slice())
+    opened(alloc, line.bytes.as_slice())
 }
 
-/// Hands a line to a node, and returns what the node sends and marks.
+/// Puts out that a first line is not that of a book.
+fn put_no_book<W: Write>(writer: &mut W, out: &mut Output)
+    ensures { Puts (W.contents writer.old) (W.contents writer.new) out.old out.new (refused_line Refusal.Line) }
+{
+    put(writer, out, refused_line(Refusal::Line).as_bytes());
+}
+
+/// Makes the node of a book that begins with this line, and puts out the answer.
 ///
 /// # Errors
 ///
-/// Those of `event_of` and of [`TimedNode::take`]. The node is as before.
-fn react(alloc: Global, node: &mut TimedNode, line: &Line) -> Result<Outcome, Refusal>
-    ensures reacts { (text : List ℕ) → IsKeptLine text line.now.bytes.items line.now.is_long
-        → MatchResult result (λ outcome. Reacts node.old text outcome.sends.items outcome.marks.items node.new)
-        (Stays node.old text node.new) }
-    ensures fits { IfOk result (λ outcome. FitAt node.new.clock outcome.sends.items) }
-{
-    match event_in(line) {
-        Ok(kind) => node.take(alloc, &kind),
-        Err(why) => Err(why),
-    }
-}
-
-/// Hands a line to a node, and puts out the answer.
-pub fn answer_line<W: Write>(
+/// `Line`: it is no first line. This was put out.
+fn open_by<W: Write>(
     alloc: Global,
-    node: &mut TimedNode,
     line: &Line,
     writer: &mut W,
     out: &mut Output,
-)
-    ensures { (read : List ℕ) → IsKeptLine read line.now.bytes.items line.now.is_long
-        → (text : List ℕ) × Answers node.old read text node.new
+) -> Result<TimedNode, BookFault>
+    ensures opens { (read : List ℕ) → IsKeptLine read line.now.bytes.items line.now.is_long
+        → (text : List ℕ) × OpensBy read text result
         × Puts (W.contents writer.old) (W.contents writer.new) out.old out.new text }
+    ensures no_fault { (IsErrOf result BookFault.Read → ⊥) × (IsErrOf result BookFault.Write → ⊥) }
 {
-    match react(alloc, node, line) {
-        Ok(outcome) => put_outcome(writer, out, node.clock(), &outcome),
-        Err(why) => put(writer, out, refused_line(why).as_bytes()),
+    match opened_by(alloc, line) {
+        Some(node) => {
+            put(writer, out, b"ok\n");
+            Ok(node)
+        }
+        None => {
+            put_no_book(writer, out);
+            Err(BookFault::Line)
+        }
     }
+}
+
+/// Reads the first line, makes its node, and puts out the answer.
+///
+/// # Errors
+///
+/// `Line`: it is not that of a book, or the input ends before it. This was put out. `Read`: the reader failed. `Write`: the
+/// writer failed.
+fn take_first<B: BufRead, W: Write>(
+    alloc: Global,
+    reader: &mut B,
+    input: &mut Input,
+    writer: &mut W,
+    out: &mut Output,
+) -> Result<TimedNode, BookFault>
+    requires { input.old.reading.failed ≡ false }
+    ensures opens { (text : List ℕ) × Opens (B.remaining reader.old) (B.remaining reader.new) text result
+        × Puts (W.contents writer.old) (W.contents writer.new) out.old out.new text }
+    ensures unfailed { OnOk result (input.new.reading.failed ≡ false) }
+    ensures reader { IsErrOf result BookFault.Read → HasEnded (B.remaining reader.old) (B.remaining reader.new) input.new.reading.failed }
+    ensures writer { IsErrOf result BookFault.Write → out.new.failed ≡ true }
+{
+    let is_there = match next_line(reader, input, writer, out) {
+        Ok(is_there) => is_there,
+        Err(fault) => return Err(fault),
+    };
+    if is_there {
+        open_by(alloc, &input.line, writer, out)
+    } else {
+        put_no_book(writer, out);
+        Err(BookFault::Line)
+    }
+}
+
+/// Reads the lines after the first, and puts out their answers.
+///
+/// # Errors
+///
+/// `Read`: the reader failed. `Write`: the writer failed.
+fn take_events<B: BufRead, W: Write>(
+    alloc: Global,
+    node: &mut TimedNode,
+    reader: &mut B,
+    input: &mut Input,
+    writer: &mut W,
+    out: &mut Output,
+) -> Result<(), BookFault>
+    requires { input.old.reading.failed ≡ false }
+    ensures serves { (text : List ℕ) × Serves (B.remaining reader.old) (B.remaining reader.new) node.old text node.new result
+        × Puts (W.contents writer.old) (W.contents writer.new) out.old out.new text }
+    ensures reader { IsErrOf result BookFault.Read → HasEnded (B.remaining reader.old) (B.remaining reader.new) input.new.reading.failed }
+    ensures writer { IsErrOf result BookFault.Write → out.new.failed ≡ true }
+{
+    for _line in 0..u64::MAX {
+        let is_there = match next_line(reader, input, writer, out) {
+            Ok(is_there) => is_there,
+            Err(fault) => return Err(fault),
+        };
+        if !is_there {
+            return Ok(());
+        }
+        answer_line(alloc, node, &input.line, writer, out);
+    }
+    Err(BookFault::Read)
+}
+
+/// Reads the lines of a book, and puts out their answers.
+///
+/// # Errors
+///
+/// Those of `answer_book`.
+fn take_book<B: BufRead, W: Write>(
+    alloc: Global,
+    reader: &mut B,
+    input: &mut Input,
+    writer: &mut W,
+    out: &mut Output,
+) -> Result<(), BookFault>
+    requires { input.old.reading.failed ≡ false }
+    ensures owed { (text : List ℕ) × IsOwed (B.remaining reader.old) (B.remaining reader.new) text result
+        × Puts (W.contents writer.old) (W.contents writer.new) out.old out.new text }
+    ensures reader { IsErrOf result BookFault.Read → HasEnded (B.remaining reader.old) (B.remaining reader.new) input.new.reading.failed }
+    ensures writer { IsErrOf result BookFault.Write → out.new.failed ≡ true }
+{
+    match take_first(alloc, reader, input, writer, out) {
+        Ok(mut node) => take_events(alloc, &mut node, reader, input, writer, out),
+        Err(fault) => Err(fault),
+    }
+}
+
+/// Reads the lines of a book, and writes their answers.
+///
+/// # Errors
+///
+/// Those of `answer_book`.
+fn answer_from<B: BufRead, W: Write>(
+    alloc: Global,
+    reader: &mut B,
+    input: &mut Input,
+    writer: &mut W,
+    out: &mut Output,
+) -> Result<(), BookFault>
+    requires unfailed { input.old.reading.failed ≡ false }
+    requires waiting { out.old.waiting.items ≡ [] }
+    ensures answered { (text : List ℕ) × IsOwed (B.remaining reader.old) (B.remaining reader.new) text result
+        × IsWritten (W.contents writer.old) (W.contents writer.new) text result }
+    // Only after a fault of the reader is `Read` answered, and exactly after one of the writer `Write`.
+    ensures reader { IsErrOf result BookFault.Read → HasEnded (B.remaining reader.old) (B.remaining reader.new) input.new.reading.failed }
+    ensures writer { IsErrOf result BookFault.Write ↔ (out.new.failed ≡ true) }
+{
+    let taken = take_book(alloc, reader, input, writer, out);
+    flush(writer, out);
+    if out.has_failed() {
+        Err(BookFault::Write)
+    } else {
+        taken
+    }
+}
+
+/// Reads a book, hands each event to its node, and writes the answer to each line. The answer is `ok` to the first line. To an
+/// event it is a line `send TO HEX` for each frame, the lines of its marks, and `ok`. Or it is `refused` and a word, after which
+/// the node is as before. What is answered is written and passed on before more input is waited for; while the reader shows more,
+/// it need not be. A last line without a line feed is not answered.
+///
+/// It keeps the node and its clock, at most 256 bytes of a line, and up to 16,384 bytes of answers. A line that is refused for lack of
+/// memory can come again. It reads at most 2^64 - 1 lines, and as many pieces of each.
+///
+/// # Errors
+///
+/// The first that comes:
+///
+/// 1. `Line`: the first line is not that of a book, or the input ends before it does. The answer is `refused Line`.
+/// 2. `Read`: the reader failed. It is not tried again, and all answers were written.
+/// 3. `Write`: the writer failed, and a prefix of the answers was written. Nothing is written after that.
+pub fn answer_book<B: BufRead, W: Write>(
+    alloc: Global,
+    reader: &mut B,
+    writer: &mut W,
+) -> Result<(), BookFault>
+    ensures { (text : List ℕ) × IsOwed (B.remaining reader.old) (B.remaining reader.new) text result
+        × IsWritten (W.contents writer.old) (W.contents writer.new) text result }
+{
+    let mut input = Input::new();
+    let mut out = Output::new();
+    answer_from(alloc, reader, &mut input, writer, &mut out)
 }

@@ -1,12 +1,12 @@
 //! What is true of books, for hosts. Each function does nothing, and its contract is the law.
 ghost use Rattle.std.specs.Prelude.{◌≡◌, ℕ, List, map};
-ghost use Rattle.ra_history.specs.declared.event.BookKind.{BookKind};
-ghost use Rattle.ra_history.specs.declared.event.BookEvent.{BookEvent};
-ghost use Rattle.ra_history.specs.declared.sent.Sent.{Sent};
+ghost use Rattle.ra_history.specs.declared.book.event.BookKind.{BookKind};
+ghost use Rattle.ra_history.specs.declared.book.event.BookEvent.{BookEvent};
+ghost use Rattle.ra_history.specs.declared.book.sent.Sent.{Sent};
 ghost use Rattle.ra_history.specs.History.{IsHistory, clock_of};
 ghost use Rattle.ra_book.specs.Answers.{AnswersAll};
 ghost use Rattle.ra_book.specs.BookText.{Form, HasForm, IsEvent, IsFirst, IsUnread};
-ghost use Rattle.ra_book.specs.declared.refusal.Refusal.{Refusal};
+ghost use Rattle.ra_book.specs.declared.answering.line_refusal.Refusal.{Refusal};
 ghost use Rattle.ra_book.specs.Laws.{AcceptsAll, IsPart, AreEvents};
 ghost use Rattle.ra_book.specs.Timed.{Timed, opening};
 

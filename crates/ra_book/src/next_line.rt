@@ -1,4 +1,10 @@
 //! The next line of the input.
+pub mod book_fields;
+pub mod event_line;
+pub mod first_line;
+pub mod kept_line;
+pub mod piece;
+
 ghost use Rattle.std.specs.Prelude.{◌≡◌, true, false, [], IsErrOf, OnOk};
 ghost use Rattle.ra_book.specs.Output.{Puts};
 ghost use Rattle.ra_book.specs.declared.error.BookFault.{BookFault};
@@ -6,9 +12,9 @@ ghost use Rattle.ra_book.specs.Input.{HasEnded};
 ghost use Rattle.ra_book.specs.NextLine.{ReadsLine};
 
 use crate::BookFault;
-use crate::line::Line;
-use crate::output::{Output, flush};
-use crate::piece::{Piece, Reading, take_piece};
+use crate::answering::waiting_output::{Output, flush};
+use crate::next_line::kept_line::Line;
+use crate::next_line::piece::{Piece, Reading, take_piece};
 use std::io::{BufRead, Write};
 
 /// The line that is read, and what is known of the reader.

@@ -3,7 +3,7 @@ ghost use Rattle.std.specs.Prelude.{◌≡◌, ◌∷◌, ◌++◌, ℕ, Bool, L
 ghost use Rattle.ra_history.specs.Book.{BookState};
 ghost use Rattle.ra_book.specs.Texts.{AreRight, IsText, Said, Says};
 ghost use Rattle.ra_book.specs.Verdicts.{HasFittingBooks, IsWrong, IsWrongLine};
-ghost use Rattle.ra_book.specs.declared.settle_error.TextCause.{TextCause};
+ghost use Rattle.ra_book.specs.declared.text_settling.settle_error.TextCause.{TextCause};
 
 use crate::lines_are_read_in_one_way;
 use ra_history::histories_are_determined;

@@ -4,11 +4,11 @@ use Rattle.std.specs.Prelude.{IfSome, IsErrOf}
 use Rattle.std.specs.Io.KnownBytes.{Consumes, Appends}
 use Rattle.ra_schedule.specs.Script.{ScriptState}
 use Rattle.ra_script.specs.ScriptText.{script_of}
-use Rattle.ra_cluster.specs.declared.cluster_run.ClusterError.{ClusterError}
-use Rattle.ra_cluster.specs.declared.cluster_run.ClusterError.TheVariants as cluster
+use Rattle.ra_cluster.specs.declared.cluster.cluster_run.ClusterError.{ClusterError}
+use Rattle.ra_cluster.specs.declared.cluster.cluster_run.ClusterError.TheVariants as cluster
 use Rattle.ra_cluster.specs.LockOrder.{IsOutOfOrder, IsUnreleased}
 use Rattle.ra_cli.specs.ClusterRun.{IsClusterRun, RunsCluster, RefusesRun, MayRun, SaysScript, of_cluster}
-use Rattle.ra_cli.specs.declared.cluster_output.ClusterOutput.{ClusterOutput}
+use Rattle.ra_task.specs.declared.cluster_output.ClusterOutput.{ClusterOutput}
 
 -- a fact on the known bytes leads to another one
 pub of_known : (old : Option (List ℕ)) (P Q : List ℕ → Type 0) → ((input : List ℕ) → P input → Q input) → IfSome old P → IfSome old Q

@@ -9,7 +9,6 @@ mod ClusterRuns
 mod BookTexts
 mod Surveys
 mod NodeRuns
-mod Options
 mod Statuses
 mod SettleWords
 mod SettleRuns
@@ -17,4 +16,4 @@ mod Helping
 mod PictureLemmas
 mod TaskLemmas
 mod Orderly
-mod Faithful
+mod Helped

@@ -3,11 +3,12 @@ use Rattle.std.proofs.Common.{◌≡◌, ℕ, List, length, slice_get, Option, S
 use Rattle.std.proofs.lemmas.Option.{same_Some}
 use Rattle.std.specs.Io.KnownBytes.{Appends}
 use Rattle.ra_book.specs.declared.error.BookFault.TheVariants as book
-use Rattle.ra_cli.specs.NodeRun.{AreNodeWords, ServesNode}
+use Rattle.ra_cli.specs.NodeRun.{ServesNode}
+use Rattle.ra_task.specs.Words.{AreNodeWords}
 use Rattle.ra_cli.specs.Refusals.{IsOfReader, IsOfWriter}
 use Rattle.ra_cli.specs.Statuses.{IsRefused}
 use Rattle.ra_cli.specs.declared.error.AnswerError.TheVariants.{Line}
-use Rattle.ra_cli.specs.declared.refusal.Refusal.TheVariants.{Answer}
+use Rattle.ra_cli.specs.declared.refusal_lines.Refusal.TheVariants.{Answer}
 use Rattle.ra_cli.proofs.Statuses.{of_answer}
 
 no_reader : IsOfReader (Answer Line) → ⊥

@@ -5,10 +5,10 @@ use Rattle.std.specs.Prelude.{IfSome, IsTrue, codes}
 use Rattle.std.specs.Io.KnownBytes.{Appends}
 use Rattle.ra_schedule.specs.declared.choice.Policy.{Policy}
 use Rattle.ra_schedule.specs.declared.error.DriveError.{DriveError}
-use Rattle.ra_schedule.specs.declared.finding.Ending.{Ending}
-use Rattle.ra_schedule.specs.declared.finding.Ending.TheVariants as endings
-use Rattle.ra_schedule.specs.declared.outcomes.SeedOutcome.{SeedOutcome}
-use Rattle.ra_schedule.specs.declared.outcomes.Survey.{Survey}
+use Rattle.ra_schedule.specs.declared.surveys.first_seed.Ending.{Ending}
+use Rattle.ra_schedule.specs.declared.surveys.first_seed.Ending.TheVariants as endings
+use Rattle.ra_schedule.specs.declared.surveys.seed_outcomes.SeedOutcome.{SeedOutcome}
+use Rattle.ra_schedule.specs.declared.surveys.seed_outcomes.Survey.{Survey}
 use Rattle.ra_schedule.specs.Faults.{FaultRates}
 use Rattle.ra_schedule.specs.LockOrder.{IsOutOfOrder, IsUnreleased}
 use Rattle.ra_schedule.specs.Performing.{ChoosesItself, LosesNothing, most_turns}
@@ -20,24 +20,23 @@ use Rattle.ra_script.specs.declared.error.ChoicesError.{ChoicesError}
 use Rattle.ra_script.specs.declared.error.ChoicesError.TheVariants.{Choice, Memory}
 use Rattle.ra_script.specs.declared.error.PerformError.TheVariants.{Drive}
 use Rattle.ra_script.specs.declared.error.PerformError.TheVariants as perform
-use Rattle.ra_script.specs.declared.format.Format.{Format}
+use Rattle.ra_script.specs.declared.performing.output_kind.OutputKind.{OutputKind}
 use Rattle.ra_script.specs.ChoicesText.{choices_of}
 use Rattle.ra_script.specs.declared.error.ScriptError.{ScriptError}
 use Rattle.ra_script.specs.Finding.{NoneEndsSo}
 use Rattle.ra_script.specs.Performed.{RefusesAs, IsPerformedAs, IsOrderly, Unwritten}
 use Rattle.ra_script.specs.ScriptText.{script_of}
-use Rattle.ra_cli.specs.declared.cluster_output.ClusterOutput.{ClusterOutput}
-use Rattle.ra_cli.specs.declared.command_line.PolicyName.{PolicyName}
-use Rattle.ra_cli.specs.declared.command_line.PolicyName.TheVariants.{Oldest, Newest, Seeded, Faulty, Listed}
-use Rattle.ra_cli.specs.declared.command_line.Task.{Task}
-use Rattle.ra_cli.specs.declared.command_line.Task.TheVariants as task
-use Rattle.ra_cli.specs.declared.search.Search.{Search}
-use Rattle.ra_cli.specs.declared.refusal.Refusal.{Refusal}
-use Rattle.ra_cli.specs.declared.refusal.Refusal.TheVariants as refusal
-use Rattle.ra_cli.specs.Finishing.{HasNoChoices, IsFaithful, RunsFaithfully}
-use Rattle.ra_cli.specs.Performs.{IsNamed}
+use Rattle.ra_task.specs.declared.command_line.PolicyName.{PolicyName}
+use Rattle.ra_task.specs.declared.command_line.PolicyName.TheVariants.{Oldest, Newest, Seeded, Faulty, Listed}
+use Rattle.ra_task.specs.declared.command_line.Task.{Task}
+use Rattle.ra_task.specs.declared.command_line.Task.TheVariants as task
+use Rattle.ra_task.specs.declared.command_line.search.Search.{Search}
+use Rattle.ra_cli.specs.declared.refusal_lines.Refusal.{Refusal}
+use Rattle.ra_cli.specs.declared.refusal_lines.Refusal.TheVariants as refusal
+use Rattle.ra_task.specs.Finishing.{HasNoChoices, IsFaithful, RunsFaithfully}
+use Rattle.ra_task.specs.Named.{IsNamed}
 use Rattle.ra_cli.specs.Refusals.{IsOfReader, IsOfWriter, choices_word, perform_word, refused_line, run_word, word_of}
-use Rattle.ra_cli.specs.Surveyed.{FoundHasNoWords, IsTold, RefusesSurvey, none_is_good}
+use Rattle.ra_cli.specs.Surveyed.{FoundHasNoWords, IsTold, RefusesSurvey, none_found_is_success}
 use Rattle.ra_cli.specs.Tasks.{IsCauseFor, IsLeftBy, IsRefusedBy}
 use Rattle.ra_cli.specs.declared.error.RunScriptError.{RunScriptError}
 use Rattle.ra_cli.specs.declared.error.RunScriptError.TheVariants as run
@@ -45,9 +44,9 @@ use Rattle.ra_cli.specs.declared.error.RunScriptError.TheVariants as run
 -- the laws of the crates below, as far as this rests on them
 pub record FinishingLaws : Type 0 where
   pub scripts : (input : List ℕ) (script : ScriptState) → script_of input ≡ Ok script → IsScript script
-  pub never_refused : (format : Format) (policy : Policy) (input : List ℕ) (cause : DriveError)
+  pub never_refused : (format : OutputKind) (policy : Policy) (input : List ℕ) (cause : DriveError)
       → RepeatsNothing policy → ChoosesItself policy → RefusesAs format policy input (Drive cause) → ⊥
-  pub worded : (format : Format) (policy : Policy) (input : List ℕ) → RepeatsNothing policy → Unwritten format policy input → ⊥
+  pub worded : (format : OutputKind) (policy : Policy) (input : List ℕ) → RepeatsNothing policy → Unwritten format policy input → ⊥
   pub most : (script : ScriptState) → IsScript script → most_turns script ≤ 8323072
   pub outcomes : (script : ScriptState) (faults : Option FaultRates) (limit seed : ℕ) (outcome : SeedOutcome)
       → IsScript script → (IsOutOfOrder script → ⊥) → (IsUnreleased script → ⊥)
@@ -79,7 +78,7 @@ by_chance (Some rates) seed lost repeated = record { itself = tt; unlost = lost;
 ok_same : {x y : ScriptState} → ◌≡◌ {A = Result ScriptState ScriptError} (Ok x) (Ok y) → x ≡ y
 ok_same e = cc
 
-ends_finished : (format : Format) (policy : Policy) (input output : List ℕ) (finished : Bool) → IsPerformedAs format policy input output finished
+ends_finished : (format : OutputKind) (policy : Policy) (input output : List ℕ) (finished : Bool) → IsPerformedAs format policy input output finished
     → LosesNothing policy → ChoosesItself policy → IsOrderly input → IsTrue finished
 ends_finished format policy input output finished performed unlost itself orderly =
     let same : orderly.script ≡ performed.script = ok_same (sym orderly.script_is ∙ performed.script_is) in
@@ -99,7 +98,7 @@ module _ (laws : FinishingLaws) (faults : Option FaultRates) (first last : ℕ) 
   released : (script : ScriptState) → script_of input ≡ Ok script → IsUnreleased script → ⊥
   released script is = subst (λ (s : ScriptState). IsUnreleased s → ⊥) (ok_same (sym orderly.script_is ∙ is)) orderly.released
 
-  none_ends : (ending : Ending) (finished : Bool) → NoneEndsSo faults ending first last input → finished ≡ none_is_good ending → finished ≡ true
+  none_ends : (ending : Ending) (finished : Bool) → NoneEndsSo faults ending first last input → finished ≡ none_found_is_success ending → finished ≡ true
   none_ends endings.Finished finished none is =
       let (outcome, came, missed) = none.none first (omega arith) (omega (arith, some)) in
       let chosen = by_chance faults first lost repeated in
@@ -204,10 +203,6 @@ pub never_three : ((asked : Task) (input : List ℕ) (new before after : Option 
 never_three law asked None new before after status left = tt
 never_three law asked (Some input) new before after status left = λ orderly faithful is. law asked input new before after orderly faithful (left is)
 
-pub less_than_three : (asked : Task) (known : Option (List ℕ)) (status : ℕ) → status ≤ 2 → IfSome known (λ input. IsOrderly input → RunsFaithfully asked → status ≢ 3)
-less_than_three asked None status low = tt
-less_than_three asked (Some input) status low = λ orderly faithful is. omega (arith, low, is)
-
 -- and status 2 comes only with the line for want of memory
 pub only_memory : ((asked : Task) (input : List ℕ) (why : Refusal) → IsOrderly input → RunsFaithfully asked → HasNoChoices asked
     → (IsOfReader why → ⊥) → (IsOfWriter why → ⊥) → IsCauseFor asked input why → word_of why ≡ codes "Memory")
@@ -217,9 +212,3 @@ only_memory law asked None before after status refused = tt
 only_memory law asked (Some input) before after status refused = λ orderly faithful plain is.
     let (why, reader, writer, out, cause) = refused is in
     subst (λ (word : List ℕ). Appends before after (refused_line word)) (law asked input why orderly faithful plain reader writer cause) out
-
--- a cluster of threads is no such task
-pub not_by_threads : (asked : Task) (printed : ClusterOutput) (known before after : Option (List ℕ)) (status : ℕ) → asked ≡ task.Cluster printed
-    → IfSome known (λ input. IsOrderly input → RunsFaithfully asked → HasNoChoices asked → status ≡ 2 → Appends before after (refused_line (codes "Memory")))
-not_by_threads asked printed None before after status is = tt
-not_by_threads asked printed (Some input) before after status is = λ orderly faithful plain two. absurd (subst RunsFaithfully is faithful)

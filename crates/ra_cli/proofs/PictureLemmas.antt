@@ -9,9 +9,9 @@ use Rattle.ra_draw.specs.declared.part.Part.{Part}
 use Rattle.ra_draw.specs.Drawing.{IsInput, IsOfPart, IsPicture, IsUnfit}
 use Rattle.ra_cli.specs.Pictures.{Attempts, IsOfKind, SaysWhyNot, Shows}
 use Rattle.ra_cli.specs.Statuses.{IsPrinted, BreaksOff}
-use Rattle.ra_cli.specs.Words.{ReadsBy}
-use Rattle.ra_cli.specs.declared.drawing.Denial.{Denial}
-use Rattle.ra_cli.specs.declared.input_kind.InputKind.{InputKind}
+use Rattle.ra_task.specs.Words.{ReadsBy}
+use Rattle.ra_cli.specs.declared.commands.draw_command.Denial.{Denial}
+use Rattle.ra_task.specs.declared.command_line.input_kind.InputKind.{InputKind}
 
 pub same_input : (input taken : List ℕ) (new : Option (List ℕ)) → IsInput (Some input) new taken → input ≡ taken
 same_input input taken None h = absurd h.reads.taken

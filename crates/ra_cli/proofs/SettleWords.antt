@@ -1,11 +1,11 @@
 -- The words that ask to settle books.
-use Rattle.std.proofs.Common.{◌≡◌, ℕ, ◌+◌, Bool, true, false, List, [], ◌∷◌, length, slice_get, MatchOption, None, Option, Some, codes, ap, sym, refl, ◌∙◌, inl, inr, arith}
+use Rattle.std.proofs.Common.{◌≡◌, ℕ, ◌+◌, Bool, true, false, List, [], ◌∷◌, length, slice_get, Some, codes, ap, sym, refl, ◌∙◌, inl, inr, arith}
 use Rattle.std.proofs.lemmas.Option.{same_Some}
-use Rattle.ra_cli.specs.declared.settle_task.SettleOutput.{SettleOutput}
-use Rattle.ra_cli.specs.declared.settle_task.SettleOutput.TheVariants.{Lines, Trace}
-use Rattle.ra_cli.specs.declared.settle_task.SettleTask.{SettleTask}
-use Rattle.ra_cli.specs.NodeRun.{AreNodeWords}
-use Rattle.ra_cli.specs.SettleRun.{AreOptionsOf, AreSettleWords, AsksToSettle}
+use Rattle.ra_task.specs.declared.settle_words.SettleOutput.{SettleOutput}
+use Rattle.ra_task.specs.declared.settle_words.SettleOutput.TheVariants.{Lines, Trace}
+use Rattle.ra_task.specs.declared.settle_words.SettleTask.{SettleTask}
+use Rattle.ra_task.specs.Words.{AreNodeWords}
+use Rattle.ra_task.specs.SettleWords.{AreOptionsOf, AreSettleWords, AsksToSettle}
 
 -- ---- How many bytes the options have
 
@@ -49,12 +49,6 @@ one_task true false Trace Trace same = absurd (omega (arith, same))
 
 tail_of : {X : Type 0} {x y : X} {xs ys : List X} → x ∷ xs ≡ y ∷ ys → xs ≡ ys
 tail_of e = cc
-
--- words that are found to ask for nothing do not ask
-pub none_asked : (words : List (List ℕ)) (found : Option SettleTask) → MatchOption found (AreSettleWords words → ⊥) (AsksToSettle words)
-    → ((asked : SettleTask) → found ≡ Some asked → ⊥) → AreSettleWords words → ⊥
-none_asked words None never other are = never are
-none_asked words (Some asked) asks other are = other asked refl
 
 -- ---- They are those of no other command
 

@@ -4,7 +4,7 @@ use Rattle.std.specs.Prelude.{IfSome}
 use Rattle.std.specs.Io.KnownBytes.{Appends}
 use Rattle.ra_schedule.specs.declared.choice.Policy.{Policy}
 use Rattle.ra_schedule.specs.Faults.{FaultRates}
-use Rattle.ra_script.specs.declared.format.Format.{Format}
+use Rattle.ra_script.specs.declared.performing.output_kind.OutputKind.{OutputKind}
 use Rattle.ra_script.specs.Performed.{IsPerformedAs}
 use Rattle.ra_script.specs.declared.error.ChoicesError.{ChoicesError}
 use Rattle.ra_script.specs.declared.error.PerformError.{PerformError}
@@ -12,26 +12,26 @@ use Rattle.ra_script.specs.declared.error.PerformError.TheVariants as perform
 use Rattle.ra_draw.specs.declared.error.DrawError.{DrawError}
 use Rattle.ra_draw.specs.declared.error.DrawError.TheVariants as draw
 use Rattle.ra_trace.specs.declared.error.TraceError.{TraceError}
-use Rattle.ra_trace.specs.declared.verdict.Verdict.{Verdict}
+use Rattle.ra_trace.specs.declared.checker.verdict.Verdict.{Verdict}
 use Rattle.ra_trace.specs.Verdict.{IsVerdict}
-use Rattle.ra_trace.specs.declared.marks_verdict.MarksVerdict.{MarksVerdict}
+use Rattle.ra_trace.specs.declared.mark_log.marks_verdict.MarksVerdict.{MarksVerdict}
 use Rattle.ra_trace.specs.Marks.{IsMarksVerdict}
-use Rattle.ra_cli.specs.declared.command_line.CommandFault.{CommandFault}
+use Rattle.ra_task.specs.declared.command_line.CommandFault.{CommandFault}
 use Rattle.ra_cli.specs.declared.error.AnswerError.{AnswerError}
 use Rattle.ra_cli.specs.declared.error.AnswerError.TheVariants as answer
-use Rattle.ra_cli.specs.declared.cluster_output.ClusterOutput.{ClusterOutput}
+use Rattle.ra_task.specs.declared.cluster_output.ClusterOutput.{ClusterOutput}
 use Rattle.ra_cli.specs.declared.error.RunScriptError.{RunScriptError}
 use Rattle.ra_cli.specs.declared.error.RunScriptError.TheVariants as run
-use Rattle.ra_cli.specs.declared.search.Search.{Search}
-use Rattle.ra_cli.specs.declared.refusal.Refusal.{Refusal}
-use Rattle.ra_cli.specs.declared.refusal.Refusal.TheVariants.{Command, Answer, Choices, Perform, Check, Draw, Cluster}
+use Rattle.ra_task.specs.declared.command_line.search.Search.{Search}
+use Rattle.ra_cli.specs.declared.refusal_lines.Refusal.{Refusal}
+use Rattle.ra_cli.specs.declared.refusal_lines.Refusal.TheVariants.{Command, Answer, Choices, Perform, Check, Draw, Cluster}
 use Rattle.ra_cli.specs.Answer.{IsAnswered}
 use Rattle.ra_cli.specs.Checks.{verdict_text, marks_verdict_text}
 use Rattle.ra_cli.specs.ClusterRun.{IsClusterRun}
 use Rattle.ra_cli.specs.Refusals.{IsOfReader, IsOfWriter, refused_line, word_of}
 use Rattle.ra_cli.specs.Statuses.{IsRefused, IsSaid, IsBroken, IsPrinted, BreaksOff}
 use Rattle.ra_cli.specs.Surveyed.{IsTold}
-use Rattle.ra_cli.specs.Words.{GivesNode, HasMarksWord, PrintsBy}
+use Rattle.ra_task.specs.Words.{GivesNode, HasMarksWord, PrintsBy}
 use Rattle.ra_cli.proofs.ClusterRuns.{of_known}
 use Rattle.ra_cli.proofs.Helping.{for_each}
 
@@ -167,7 +167,7 @@ of_answered words node nodes old before after gives =
     (λ input. BreaksOff words input before after)
     (λ input (prefix, rest, answered, left, some). (prefix, rest, inr (inl (node, nodes, gives, answered)), left, some))
 
-pub of_performed : (words : List (List ℕ)) (policy : Policy) (format : Format) (old before after : Option (List ℕ))
+pub of_performed : (words : List (List ℕ)) (policy : Policy) (format : OutputKind) (old before after : Option (List ℕ))
     → IfSome old (λ input. (prefix rest : List ℕ) × (finished : Bool) × IsPerformedAs format policy input (prefix ++ rest) finished × (rest ≢ [])
     × Appends before after prefix)
     → IfSome old (λ input. BreaksOff words input before after)

@@ -2,7 +2,7 @@
 use Rattle.std.proofs.Common.{◌≡◌, ◌↔◌, ◌≢◌, ℕ, Bool, List, Option, Ok, IsTrue, refl}
 use Rattle.std.specs.Prelude.{IfSome}
 use Rattle.std.specs.Io.KnownBytes.{Consumes, Appends}
-use Rattle.ra_schedule.specs.declared.outcomes.Survey.{Survey}
+use Rattle.ra_schedule.specs.declared.surveys.seed_outcomes.Survey.{Survey}
 use Rattle.ra_schedule.specs.Faults.{FaultRates}
 use Rattle.ra_schedule.specs.Script.{ScriptState}
 use Rattle.ra_schedule.specs.Survey.{IsSurvey}
@@ -10,10 +10,10 @@ use Rattle.ra_script.specs.declared.error.ChoicesError.{ChoicesError}
 use Rattle.ra_script.specs.declared.error.ChoicesError.TheVariants as choices
 use Rattle.ra_script.specs.Performed.{turn_limit}
 use Rattle.ra_script.specs.ScriptText.{script_of}
-use Rattle.ra_cluster.specs.declared.cluster_run.ClusterError.{ClusterError}
+use Rattle.ra_cluster.specs.declared.cluster.cluster_run.ClusterError.{ClusterError}
 use Rattle.ra_cli.specs.declared.error.RunScriptError.{RunScriptError}
 use Rattle.ra_cli.specs.declared.error.RunScriptError.TheVariants as fault
-use Rattle.ra_cli.specs.declared.search.Search.{Search}
+use Rattle.ra_task.specs.declared.command_line.search.Search.{Search}
 use Rattle.ra_cli.specs.ClusterRun.{RefusesRun, of_choices}
 use Rattle.ra_cli.specs.Surveyed.{AllFinished, FoundHasNoWords, IsSurveyed, IsTold, RefusesSurvey, SurveysBy, survey_text}
 use Rattle.ra_cli.proofs.ClusterRuns.{of_known}

@@ -1,32 +1,32 @@
 -- What is known of a task that was done, as the statuses tell it of the words.
-use Rattle.std.proofs.Common.{◌≡◌, ℕ, List, Option, Some, None, map, String, Global, string_bytes, refl, subst, inl, inr}
+use Rattle.std.proofs.Common.{◌≡◌, ℕ, List, Option, Some, None, refl, subst, inl, inr}
 use Rattle.std.specs.Prelude.{◌⊎◌, IfSome, Any}
 use Rattle.std.specs.Io.KnownBytes.{Appends}
 use Rattle.ra_script.specs.ChoicesText.{choices_of}
 use Rattle.ra_script.specs.declared.error.ChoicesError.{ChoicesError}
 use Rattle.ra_script.specs.declared.error.ChoicesError.TheVariants.{Choice, Memory}
 use Rattle.ra_script.specs.declared.error.PerformError.{PerformError}
-use Rattle.ra_script.specs.declared.format.Format.{Format}
+use Rattle.ra_script.specs.declared.performing.output_kind.OutputKind.{OutputKind}
 use Rattle.ra_script.specs.Performed.{RefusesAs}
 use Rattle.ra_schedule.specs.declared.choice.Policy.{Policy}
 use Rattle.ra_draw.specs.declared.error.DrawError.{DrawError}
 use Rattle.ra_draw.specs.declared.part.Part.{Part}
 use Rattle.ra_draw.specs.Drawing.{IsInput, IsOfPart, IsUnfit}
 use Rattle.ra_cli.specs.ClusterRun.{RunsBy}
-use Rattle.ra_cli.specs.Performs.{IsNamed}
+use Rattle.ra_task.specs.Named.{IsNamed}
 use Rattle.ra_cli.specs.Pictures.{IsOfKind}
 use Rattle.ra_cli.specs.Refusals.{IsOfReader, IsOfWriter, refused_line, word_of}
 use Rattle.ra_cli.specs.Statuses.{IsDone, IsRefused, IsUnfinished}
 use Rattle.ra_cli.specs.Tasks.{IsDoneBy, IsLeftBy, IsRefusedFor, RefusesNamed, RefusesPart, Suits}
-use Rattle.ra_cli.specs.Words.{ChecksBy, GivesNode, IsHelpWord, OnAnswer, OnHelp}
-use Rattle.ra_cli.specs.declared.command_line.PolicyName.{PolicyName}
-use Rattle.ra_cli.specs.declared.command_line.Task.{Task}
-use Rattle.ra_cli.specs.declared.command_line.Task.TheVariants as task
-use Rattle.ra_cli.specs.declared.input_kind.InputKind.{InputKind}
-use Rattle.ra_cli.specs.declared.refusal.Refusal.{Refusal}
-use Rattle.ra_cli.specs.declared.refusal.Refusal.TheVariants.{Choices, Draw, Perform}
+use Rattle.ra_task.specs.Words.{ChecksBy, GivesNode, IsHelpWord, OnAnswer, OnHelp}
+use Rattle.ra_task.specs.declared.command_line.PolicyName.{PolicyName}
+use Rattle.ra_task.specs.declared.command_line.Task.{Task}
+use Rattle.ra_task.specs.declared.command_line.Task.TheVariants as task
+use Rattle.ra_task.specs.declared.command_line.input_kind.InputKind.{InputKind}
+use Rattle.ra_cli.specs.declared.refusal_lines.Refusal.{Refusal}
+use Rattle.ra_cli.specs.declared.refusal_lines.Refusal.TheVariants.{Choices, Draw, Perform}
 use Rattle.ra_cli.proofs.ClusterRuns.{of_known}
-use Rattle.ra_cli.proofs.Helping.{asks_for_help, for_each}
+use Rattle.ra_cli.proofs.Helping.{for_each}
 use Rattle.ra_cli.proofs.PictureLemmas.{of_input}
 
 -- ---- Refusals
@@ -57,14 +57,14 @@ choices_cause choices fault (inl (is, none)) choice = none
 choices_cause choices fault (inr memory) choice = absurd cc
 
 -- the choices are no list of choices, or memory ran out
-pub of_choices : (name : PolicyName) (choices : List ℕ) (format : Format) (old : Option (List ℕ)) (fault : ChoicesError)
+pub of_choices : (name : PolicyName) (choices : List ℕ) (format : OutputKind) (old : Option (List ℕ)) (fault : ChoicesError)
     → ((fault ≡ Choice) × (choices_of choices ≡ None)) ⊎ (fault ≡ Memory)
     → IfSome old (λ input. RefusesNamed name choices format input (Choices fault))
 of_choices name choices format old fault why =
     for_each old (λ input. RefusesNamed name choices format input (Choices fault)) (λ input. inl (fault, refl, choices_cause choices fault why))
 
 -- the run under the policy is refused
-pub of_named : (name : PolicyName) (choices : List ℕ) (format : Format) (old : Option (List ℕ)) (policy : Policy) (fault : PerformError)
+pub of_named : (name : PolicyName) (choices : List ℕ) (format : OutputKind) (old : Option (List ℕ)) (policy : Policy) (fault : PerformError)
     → IsNamed name choices policy → IfSome old (λ input. RefusesAs format policy input fault)
     → IfSome old (λ input. RefusesNamed name choices format input (Perform fault))
 of_named name choices format old policy fault named =
@@ -86,8 +86,8 @@ of_part kind part (Some input) new fault h = (fault, refl, unfit)
 -- ---- Words
 
 -- what is known of a task that was parsed suits the words
-pub suits : (words : List (String Global)) (asked : Task) → OnHelp asked (Any (λ word. IsHelpWord (string_bytes word)) words)
-    → OnAnswer asked (GivesNode (map string_bytes words)) → ChecksBy (map string_bytes words) asked → Suits (map string_bytes words) asked
+pub suits : (words : List (List ℕ)) (asked : Task) → OnHelp asked (Any IsHelpWord words)
+    → OnAnswer asked (GivesNode words) → ChecksBy words asked → Suits words asked
 suits words (task.Answer node nodes) help numbers marks = (numbers, marks, tt)
 suits words (task.Sim policy choices format) help numbers marks = (tt, tt, tt)
 suits words (task.Survey faults find first last) help numbers marks = (tt, tt, tt)
@@ -95,14 +95,14 @@ suits words task.Check help numbers marks = (tt, marks, tt)
 suits words task.CheckMarks help numbers marks = (tt, marks, tt)
 suits words (task.Draw kind part) help numbers marks = (tt, marks, tt)
 suits words (task.Cluster printed) help numbers marks = (tt, marks, tt)
-suits words (task.Help text) help numbers marks = (tt, tt, asks_for_help words help)
+suits words (task.Help text) help numbers marks = (tt, tt, help)
 
 -- status 0
-pub done : (words : List (String Global)) (asked : Task) (old new before after : Option (List ℕ)) (Untouched : Type 0)
-    → OnHelp asked (Any (λ word. IsHelpWord (string_bytes word)) words) → Suits (map string_bytes words) asked
+pub done : (words : List (List ℕ)) (asked : Task) (old new before after : Option (List ℕ)) (Untouched : Type 0)
+    → OnHelp asked (Any IsHelpWord words) → Suits words asked
     → IsDoneBy asked old new before after Untouched
-    → (Untouched × Any IsHelpWord (map string_bytes words))
-    ⊎ IsDone (map string_bytes words) old new before after ⊎ RunsBy (map string_bytes words) old new before after
+    → (Untouched × Any IsHelpWord words)
+    ⊎ IsDone words old new before after ⊎ RunsBy words old new before after
 done words (task.Answer node nodes) old new before after Untouched help fits h = inr (inl (inl (node, nodes, fits.0, h)))
 done words (task.Sim policy choices format) old new before after Untouched help fits (chosen, named, h) = inr (inl (inr (inl (chosen, format, h))))
 done words (task.Survey faults find first last) old new before after Untouched help fits h =
@@ -112,7 +112,7 @@ done words task.CheckMarks old new before after Untouched help fits h = inr (inl
 done words (task.Draw kind part) old new before after Untouched help fits (input, read, (valid, few, picture, is, appends)) =
     inr (inl (inr (inr (inr (inl (kind, input, picture, fits.1, read, valid, is, appends))))))
 done words (task.Cluster printed) old new before after Untouched help fits h = inr (inr (printed, fits.1, h))
-done words (task.Help text) old new before after Untouched help fits h = inl (h.0, asks_for_help words help)
+done words (task.Help text) old new before after Untouched help fits h = inl (h.0, help)
 
 -- status 3
 pub left : (words : List (List ℕ)) (asked : Task) (old new before after : Option (List ℕ)) → Suits words asked

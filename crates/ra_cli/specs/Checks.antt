@@ -2,17 +2,17 @@
 use Rattle.std.specs.Prelude.{◌≡◌, ◌⊎◌, ℕ, List, ◌++◌, Bool, true, false, Option, IfSome, codes, decimal}
 use Rattle.std.specs.Io.KnownBytes.{Consumes, Appends}
 use Rattle.ra_world.specs.Lines.{field, total_line}
-use Rattle.ra_trace.specs.declared.verdict.Cause.{Cause}
-use Rattle.ra_trace.specs.declared.verdict.Cause.TheVariants.{Line, Refused, NotUnderWay, Marks, Table}
-use Rattle.ra_trace.specs.declared.verdict.Verdict.{Verdict}
-use Rattle.ra_trace.specs.declared.verdict.Verdict.TheVariants.{Valid, Invalid}
+use Rattle.ra_trace.specs.declared.checker.verdict.Cause.{Cause}
+use Rattle.ra_trace.specs.declared.checker.verdict.Cause.TheVariants.{Line, Refused, NotUnderWay, Marks, Table}
+use Rattle.ra_trace.specs.declared.checker.verdict.Verdict.{Verdict}
+use Rattle.ra_trace.specs.declared.checker.verdict.Verdict.TheVariants.{Valid, Invalid}
 use Rattle.ra_trace.specs.Verdict.{IsVerdict}
-use Rattle.ra_trace.specs.declared.marks_verdict.MarkCause.{MarkCause}
-use Rattle.ra_trace.specs.declared.marks_verdict.MarkCause.TheVariants as mark
-use Rattle.ra_trace.specs.declared.marks_verdict.MarksVerdict.{MarksVerdict}
-use Rattle.ra_trace.specs.declared.marks_verdict.MarksVerdict.TheVariants as marks
+use Rattle.ra_trace.specs.declared.mark_log.marks_verdict.MarkCause.{MarkCause}
+use Rattle.ra_trace.specs.declared.mark_log.marks_verdict.MarkCause.TheVariants as mark
+use Rattle.ra_trace.specs.declared.mark_log.marks_verdict.MarksVerdict.{MarksVerdict}
+use Rattle.ra_trace.specs.declared.mark_log.marks_verdict.MarksVerdict.TheVariants as marks
 use Rattle.ra_trace.specs.Marks.{IsMarksVerdict}
-use Rattle.ra_cli.specs.Words.{HasMarksWord}
+use Rattle.ra_task.specs.Words.{HasMarksWord}
 
 -- the word for the cause of an invalid trace
 abbrev pub cause_word : Cause → List ℕ

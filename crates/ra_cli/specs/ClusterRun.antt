@@ -4,7 +4,7 @@ use Rattle.std.specs.List.{AllZip}
 use Rattle.std.specs.Io.KnownBytes.{Consumes, Appends}
 use Rattle.ra_world.specs.declared.error.ReadFault.{ReadFault}
 use Rattle.ra_world.specs.declared.error.ReadFault.TheVariants as read
-use Rattle.ra_world.specs.declared.report.Report.{Report}
+use Rattle.ra_world.specs.declared.text.report.Report.{Report}
 use Rattle.ra_world.specs.Lines.{report_text}
 use Rattle.ra_world.specs.Traffic.{Move}
 use Rattle.ra_schedule.specs.Script.{ScriptState}
@@ -14,17 +14,17 @@ use Rattle.ra_script.specs.declared.error.ChoicesError.TheVariants as choices
 use Rattle.ra_script.specs.declared.error.ScriptError.{ScriptError}
 use Rattle.ra_script.specs.declared.error.ScriptError.TheVariants as text
 use Rattle.ra_script.specs.ScriptText.{script_of}
-use Rattle.ra_cluster.specs.declared.cluster_run.ClusterError.{ClusterError}
-use Rattle.ra_cluster.specs.declared.cluster_run.ClusterError.TheVariants as cluster
+use Rattle.ra_cluster.specs.declared.cluster.cluster_run.ClusterError.{ClusterError}
+use Rattle.ra_cluster.specs.declared.cluster.cluster_run.ClusterError.TheVariants as cluster
 use Rattle.ra_cluster.specs.LockOrder.{IsOutOfOrder, IsUnreleased}
 use Rattle.ra_cluster.specs.Outcome.{IsRecord}
-use Rattle.ra_history.specs.declared.settled.Settled.{Settled}
+use Rattle.ra_history.specs.declared.settle_books.settled.Settled.{Settled}
 use Rattle.ra_history.specs.Book.{BookState}
 use Rattle.ra_book.specs.Book.{lines_text}
 use Rattle.ra_book.specs.Written.{IsWrittenBook}
-use Rattle.ra_cli.specs.Words.{PrintsBy}
-use Rattle.ra_cli.specs.declared.cluster_output.ClusterOutput.{ClusterOutput}
-use Rattle.ra_cli.specs.declared.cluster_output.ClusterOutput.TheVariants.{Lines, Trace, Books}
+use Rattle.ra_task.specs.Words.{PrintsBy}
+use Rattle.ra_task.specs.declared.cluster_output.ClusterOutput.{ClusterOutput}
+use Rattle.ra_task.specs.declared.cluster_output.ClusterOutput.TheVariants.{Lines, Trace, Books}
 use Rattle.ra_cli.specs.declared.error.RunScriptError.{RunScriptError}
 use Rattle.ra_cli.specs.declared.error.RunScriptError.TheVariants as fault
 

@@ -1,7 +1,6 @@
 pub mod Line
 pub mod Answer
 pub mod AnswerCall
-pub mod Words
 pub mod Refusals
 pub mod Performs
 pub mod Checks
@@ -12,4 +11,3 @@ pub mod NodeRun
 pub mod SettleRun
 pub mod Statuses
 pub mod Tasks
-pub mod Finishing

@@ -1,10 +1,10 @@
 -- What `ra draw` does.
 use Rattle.std.specs.Prelude.{◌≡◌, ◌≢◌, ◌⊎◌, ℕ, List, [], ◌++◌, Option, Some, None, Result, IfOk, IfErr, IsErrOf, string_bytes}
 use Rattle.std.specs.Io.KnownBytes.{Appends}
-use Rattle.ra_trace.specs.declared.marks_verdict.MarkCause.{MarkCause}
-use Rattle.ra_trace.specs.declared.marks_verdict.MarksVerdict.TheVariants as log
-use Rattle.ra_trace.specs.declared.verdict.Cause.{Cause}
-use Rattle.ra_trace.specs.declared.verdict.Verdict.TheVariants.{Valid, Invalid}
+use Rattle.ra_trace.specs.declared.mark_log.marks_verdict.MarkCause.{MarkCause}
+use Rattle.ra_trace.specs.declared.mark_log.marks_verdict.MarksVerdict.TheVariants as log
+use Rattle.ra_trace.specs.declared.checker.verdict.Cause.{Cause}
+use Rattle.ra_trace.specs.declared.checker.verdict.Verdict.TheVariants.{Valid, Invalid}
 use Rattle.ra_trace.specs.Marks.{IsMarksVerdict}
 use Rattle.ra_trace.specs.Verdict.{IsVerdict}
 use Rattle.ra_draw.specs.declared.error.DrawError.{DrawError}
@@ -12,10 +12,10 @@ use Rattle.ra_draw.specs.declared.error.DrawError.TheVariants.{Write}
 use Rattle.ra_draw.specs.declared.part.Part.{Part}
 use Rattle.ra_draw.specs.Drawing.{IsDrawable, IsInput, IsOfPart, IsPicture, IsUnfit}
 use Rattle.ra_cli.specs.Checks.{verdict_text, marks_verdict_text}
-use Rattle.ra_cli.specs.Words.{ReadsBy}
-use Rattle.ra_cli.specs.declared.drawing.Denial.{Denial}
-use Rattle.ra_cli.specs.declared.input_kind.InputKind.{InputKind}
-use Rattle.ra_cli.specs.declared.input_kind.InputKind.TheVariants.{Trace, Marks}
+use Rattle.ra_task.specs.Words.{ReadsBy}
+use Rattle.ra_cli.specs.declared.commands.draw_command.Denial.{Denial}
+use Rattle.ra_task.specs.declared.command_line.input_kind.InputKind.{InputKind}
+use Rattle.ra_task.specs.declared.command_line.input_kind.InputKind.TheVariants.{Trace, Marks}
 
 -- the input is of this kind: the trace of a run, or the log of a run of the lock table
 abbrev pub IsOfKind : InputKind → (input : List ℕ) → Type 0

@@ -6,10 +6,10 @@ use Rattle.ra_script.specs.declared.error.ScriptError.{ScriptError}
 use Rattle.ra_script.specs.declared.error.ScriptError.TheVariants as script
 use Rattle.ra_schedule.specs.declared.error.DriveError.{DriveError}
 use Rattle.ra_schedule.specs.declared.error.DriveError.TheVariants as drive
-use Rattle.ra_cluster.specs.declared.cluster_run.ClusterError.{ClusterError}
-use Rattle.ra_cluster.specs.declared.cluster_run.ClusterError.TheVariants as cluster
-use Rattle.ra_cli.specs.declared.command_line.CommandFault.{CommandFault}
-use Rattle.ra_cli.specs.declared.command_line.CommandFault.TheVariants as command
+use Rattle.ra_cluster.specs.declared.cluster.cluster_run.ClusterError.{ClusterError}
+use Rattle.ra_cluster.specs.declared.cluster.cluster_run.ClusterError.TheVariants as cluster
+use Rattle.ra_task.specs.declared.command_line.CommandFault.{CommandFault}
+use Rattle.ra_task.specs.declared.command_line.CommandFault.TheVariants as command
 use Rattle.ra_cli.specs.declared.error.AnswerError.{AnswerError}
 use Rattle.ra_cli.specs.declared.error.AnswerError.TheVariants as answer
 use Rattle.ra_script.specs.declared.error.ChoicesError.{ChoicesError}
@@ -22,8 +22,8 @@ use Rattle.ra_draw.specs.declared.error.DrawError.{DrawError}
 use Rattle.ra_draw.specs.declared.error.DrawError.TheVariants as draw
 use Rattle.ra_cli.specs.declared.error.RunScriptError.{RunScriptError}
 use Rattle.ra_cli.specs.declared.error.RunScriptError.TheVariants as run
-use Rattle.ra_cli.specs.declared.refusal.Refusal.{Refusal}
-use Rattle.ra_cli.specs.declared.refusal.Refusal.TheVariants.{Command, Answer, Choices, Perform, Check, Draw, Cluster}
+use Rattle.ra_cli.specs.declared.refusal_lines.Refusal.{Refusal}
+use Rattle.ra_cli.specs.declared.refusal_lines.Refusal.TheVariants.{Command, Answer, Choices, Perform, Check, Draw, Cluster}
 
 -- the word for what is wrong with a frame
 abbrev pub frame_word : FrameError → List ℕ

@@ -1,42 +1,19 @@
 -- What `ra settle` reads and prints, and its exit status.
-use Rattle.std.specs.Prelude.{◌≡◌, ◌≢◌, ◌⊎◌, ℕ, ◌<◌, ◌≤◌, ◌^◌, Bool, false, true, List, [], ◌∷◌, ◌++◌, Option, codes, decimal, length, map}
+use Rattle.std.specs.Prelude.{◌≡◌, ◌≢◌, ◌⊎◌, ℕ, ◌<◌, ◌≤◌, ◌^◌, List, [], ◌++◌, Option, codes, decimal, length, map}
 use Rattle.std.specs.Io.KnownBytes.{Appends, Consumes, IsAtEnd}
 use Rattle.ra_world.specs.Lines.{field, report_text}
 use Rattle.ra_world.specs.Traffic.{Move}
 use Rattle.ra_trace.specs.TraceText.{IsTrace}
-use Rattle.ra_book.specs.declared.settle_error.TextCause.{TextCause}
-use Rattle.ra_book.specs.declared.settle_error.TextCause.TheVariants as cause
-use Rattle.ra_book.specs.declared.settling.SettledText.{SettledText}
+use Rattle.ra_book.specs.declared.text_settling.settle_error.TextCause.{TextCause}
+use Rattle.ra_book.specs.declared.text_settling.settle_error.TextCause.TheVariants as cause
+use Rattle.ra_book.specs.declared.text_settling.SettledText.{SettledText}
 use Rattle.ra_book.specs.Verdicts.{IsSettledText, IsWrong}
 use Rattle.ra_trace.specs.declared.error.TraceError.{TraceError}
 use Rattle.ra_trace.specs.declared.error.TraceError.TheVariants as trace_fault
-use Rattle.ra_cli.specs.declared.settle_task.SettleOutput.{SettleOutput}
-use Rattle.ra_cli.specs.declared.settle_task.SettleOutput.TheVariants.{Lines, Trace}
-use Rattle.ra_cli.specs.declared.settle_task.SettleTask.{SettleTask}
+use Rattle.ra_task.specs.declared.settle_words.SettleOutput.{SettleOutput}
+use Rattle.ra_task.specs.declared.settle_words.SettleOutput.TheVariants.{Lines, Trace}
+use Rattle.ra_task.specs.declared.settle_words.SettleTask.{SettleTask}
 use Rattle.ra_cli.specs.Refusals.{refused_line, trace_word}
-
--- these are the options of `settle`, in either order, by which messages may come again or not, and this is printed
-abbrev pub AreOptionsOf : (repeats : Bool) → (printed : SettleOutput) → (options : List (List ℕ)) → Type 0
-AreOptionsOf false Lines options = options ≡ []
-AreOptionsOf false Trace options = options ≡ codes "--trace" ∷ []
-AreOptionsOf true Lines options = options ≡ codes "--repeats" ∷ []
-AreOptionsOf true Trace options =
-    (options ≡ codes "--repeats" ∷ codes "--trace" ∷ []) ⊎ (options ≡ codes "--trace" ∷ codes "--repeats" ∷ [])
-
-abbrev pub AreOptionsFor : (options : List (List ℕ)) → SettleTask → Type 0
-AreOptionsFor options asked = AreOptionsOf asked.repeats asked.printed options
-
--- these are not options of `settle`: no task is asked for by them
-abbrev pub AreNoOptions : (options : List (List ℕ)) → Type 0
-AreNoOptions options = (asked : SettleTask) → AreOptionsFor options asked → ⊥
-
--- the words are the program's name, `settle`, and options that ask for this
-abbrev pub AsksToSettle : (words : List (List ℕ)) → SettleTask → Type 0
-AsksToSettle words asked = (name : List ℕ) × (options : List (List ℕ)) × (words ≡ name ∷ codes "settle" ∷ options)
-    × AreOptionsFor options asked
-
-abbrev pub AreSettleWords : (words : List (List ℕ)) → Type 0
-AreSettleWords words = (asked : SettleTask) × AsksToSettle words asked
 
 -- what is printed of the settled run: the lines of its report, or its trace
 abbrev pub Prints : SettleOutput → SettledText → List ℕ → Type 0

@@ -3,19 +3,21 @@ use Rattle.std.specs.Prelude.{◌≡◌, ◌≢◌, ℕ, ◌≤◌, ◌⊎◌, L
 use Rattle.std.specs.Io.KnownBytes.{Consumes, Appends}
 use Rattle.ra_schedule.specs.declared.choice.Policy.{Policy}
 use Rattle.ra_schedule.specs.Faults.{FaultRates}
-use Rattle.ra_script.specs.declared.format.Format.{Format}
+use Rattle.ra_script.specs.declared.performing.output_kind.OutputKind.{OutputKind}
 use Rattle.ra_script.specs.Performed.{IsOrderly, IsPerformedAs}
-use Rattle.ra_cli.specs.declared.cluster_output.ClusterOutput.{ClusterOutput}
-use Rattle.ra_cli.specs.declared.settle_task.SettleTask.{SettleTask}
-use Rattle.ra_cli.specs.declared.refusal.Refusal.{Refusal}
-use Rattle.ra_cli.specs.declared.search.Search.{Search}
+use Rattle.ra_task.specs.declared.cluster_output.ClusterOutput.{ClusterOutput}
+use Rattle.ra_task.specs.declared.settle_words.SettleTask.{SettleTask}
+use Rattle.ra_cli.specs.declared.refusal_lines.Refusal.{Refusal}
+use Rattle.ra_task.specs.declared.command_line.search.Search.{Search}
 use Rattle.ra_cli.specs.Answer.{IsAnswered}
-use Rattle.ra_cli.specs.Words.{AreSimWords, IsHelpWord, GivesNoChoices, GivesNode, PrintsBy, SimsFaithfully}
+use Rattle.ra_task.specs.Words.{AreSimWords, IsHelpWord, GivesNoChoices, GivesNode, PrintsBy, SimsFaithfully}
 use Rattle.ra_cli.specs.Performs.{Performs}
 use Rattle.ra_cli.specs.Checks.{Judges, IsJudged}
 use Rattle.ra_cli.specs.ClusterRun.{IsClusterRun, RunsBy}
-use Rattle.ra_cli.specs.NodeRun.{AreNodeWords, ServesNode}
-use Rattle.ra_cli.specs.SettleRun.{AreSettleWords, AsksToSettle, ServesSettle}
+use Rattle.ra_cli.specs.NodeRun.{ServesNode}
+use Rattle.ra_task.specs.Words.{AreNodeWords}
+use Rattle.ra_cli.specs.SettleRun.{ServesSettle}
+use Rattle.ra_task.specs.SettleWords.{AreSettleWords, AsksToSettle}
 use Rattle.ra_cli.specs.Pictures.{IsDenied, IsDrawing, IsDrawn}
 use Rattle.ra_cli.specs.Surveyed.{IsTold, Surveys}
 use Rattle.ra_cli.specs.Refusals.{IsOfReader, IsOfWriter, refused_line, word_of}
@@ -56,7 +58,7 @@ abbrev pub IsPrinted : (words : List (List ℕ)) → (input text : List ℕ) →
 IsPrinted words input text =
     ((refusal : Refusal) × (text ≡ refused_line (word_of refusal)))
     ⊎ ((node nodes : ℕ) × GivesNode words node nodes × IsAnswered node nodes input text)
-    ⊎ ((policy : Policy) × (format : Format) × (finished : Bool) × IsPerformedAs format policy input text finished)
+    ⊎ ((policy : Policy) × (format : OutputKind) × (finished : Bool) × IsPerformedAs format policy input text finished)
     ⊎ IsJudged words input text
     ⊎ ((printed : ClusterOutput) × PrintsBy words printed × IsClusterRun printed input text)
     ⊎ Any IsHelpWord words

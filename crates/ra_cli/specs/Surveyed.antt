@@ -2,11 +2,11 @@
 use Rattle.std.specs.Prelude.{◌≡◌, ◌≢◌, ◌↔◌, ◌⊎◌, ℕ, List, [], ◌++◌, Bool, true, false, IsTrue, Option, Some, None, IfSome, Ok, Err, codes, decimal}
 use Rattle.std.specs.Io.KnownBytes.{Consumes, Appends}
 use Rattle.ra_world.specs.Lines.{field}
-use Rattle.ra_schedule.specs.declared.outcomes.Spread.{Spread}
-use Rattle.ra_schedule.specs.declared.outcomes.Survey.{Survey}
-use Rattle.ra_schedule.specs.declared.outcomes.Tally.{Tally}
-use Rattle.ra_schedule.specs.declared.finding.Ending.{Ending}
-use Rattle.ra_schedule.specs.declared.finding.Ending.TheVariants.{Finished, Stuck}
+use Rattle.ra_schedule.specs.declared.surveys.seed_outcomes.Spread.{Spread}
+use Rattle.ra_schedule.specs.declared.surveys.seed_outcomes.Survey.{Survey}
+use Rattle.ra_schedule.specs.declared.surveys.seed_outcomes.Tally.{Tally}
+use Rattle.ra_schedule.specs.declared.surveys.first_seed.Ending.{Ending}
+use Rattle.ra_schedule.specs.declared.surveys.first_seed.Ending.TheVariants.{Finished, Stuck}
 use Rattle.ra_schedule.specs.Faults.{FaultRates}
 use Rattle.ra_schedule.specs.Script.{ScriptState}
 use Rattle.ra_schedule.specs.Survey.{IsSurvey}
@@ -15,7 +15,7 @@ use Rattle.ra_script.specs.Performed.{turn_limit}
 use Rattle.ra_script.specs.ScriptText.{script_of}
 use Rattle.ra_cli.specs.declared.error.RunScriptError.{RunScriptError}
 use Rattle.ra_cli.specs.declared.error.RunScriptError.TheVariants as fault
-use Rattle.ra_cli.specs.declared.search.Search.{Search}
+use Rattle.ra_task.specs.declared.command_line.search.Search.{Search}
 
 -- the line of an end: how many seeds came to it, and the first of them; no line if no seed did
 abbrev pub tally_line : List ℕ → Option Tally → List ℕ
@@ -53,9 +53,9 @@ pub record IsSurveyed (faults : Option FaultRates) (first last : ℕ) (input out
 -- ---- What is looked for
 
 -- whether it is a success that no run came to the end that was looked for: only if that end is to be stuck
-abbrev pub none_is_good : Ending → Bool
-none_is_good Finished = false
-none_is_good Stuck = true
+abbrev pub none_found_is_success : Ending → Bool
+none_found_is_success Finished = false
+none_found_is_success Stuck = true
 
 -- The output says, in the format of the search, what came of the input's script by the first of these seeds that brings
 -- it to the end that is looked for, and `finished` says whether that run finished. Or no seed does, and the output is the
@@ -63,7 +63,7 @@ none_is_good Stuck = true
 abbrev pub IsFound : Option FaultRates → Search → (first last : ℕ) → (input output : List ℕ) → (finished : Bool) → Type 0
 IsFound faults search first last input output finished =
     IsFirstRun search.format faults search.ending first last input output finished
-    ⊎ (NoneEndsSo faults search.ending first last input × (output ≡ codes "none\n") × (finished ≡ none_is_good search.ending))
+    ⊎ (NoneEndsSo faults search.ending first last input × (output ≡ codes "none\n") × (finished ≡ none_found_is_success search.ending))
 
 -- the output says what came of the seeds: it counts them or, if an end is looked for, it tells of the first run that came
 -- to that end

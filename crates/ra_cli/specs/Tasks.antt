@@ -1,13 +1,13 @@
 -- What it means that a task is done as it is: an answer for these nodes, a run by this policy in this format, a survey
 -- of these seeds with these faults, a verdict on a trace or on a mark log, a picture of this part.
-use Rattle.std.specs.Prelude.{◌≡◌, ◌⊎◌, ℕ, List, Bool, true, false, Option, None, IfSome, Any, string_bytes}
+use Rattle.std.specs.Prelude.{◌≡◌, ◌≤◌, ◌⊎◌, ℕ, List, Bool, true, false, Option, None, IfSome, Any, string_bytes}
 use Rattle.std.specs.Io.KnownBytes.{Consumes, Appends}
 use Rattle.ra_schedule.specs.declared.choice.Policy.{Policy}
 use Rattle.ra_script.specs.ChoicesText.{choices_of}
 use Rattle.ra_script.specs.declared.error.ChoicesError.{ChoicesError}
 use Rattle.ra_script.specs.declared.error.ChoicesError.TheVariants.{Choice}
 use Rattle.ra_script.specs.declared.error.PerformError.{PerformError}
-use Rattle.ra_script.specs.declared.format.Format.{Format}
+use Rattle.ra_script.specs.declared.performing.output_kind.OutputKind.{OutputKind}
 use Rattle.ra_script.specs.Performed.{RefusesAs}
 use Rattle.ra_trace.specs.declared.error.TraceError.{TraceError}
 use Rattle.ra_draw.specs.declared.error.DrawError.{DrawError}
@@ -16,19 +16,21 @@ use Rattle.ra_draw.specs.Drawing.{IsInput, IsOfPart, IsUnfit}
 use Rattle.ra_cli.specs.Answer.{IsAnswered, Refuses}
 use Rattle.ra_cli.specs.Checks.{Checks, ChecksMarks}
 use Rattle.ra_cli.specs.ClusterRun.{RunsCluster, RefusesRun}
-use Rattle.ra_cli.specs.Performs.{IsNamed, PerformsBy}
+use Rattle.ra_cli.specs.Performs.{PerformsBy}
+use Rattle.ra_task.specs.Named.{IsNamed}
 use Rattle.ra_cli.specs.Pictures.{IsNotDrawn, IsOfKind, Shows}
 use Rattle.ra_cli.specs.Refusals.{IsOfReader, IsOfWriter, refused_line, word_of}
+use Rattle.ra_cli.specs.Statuses.{IsBroken}
 use Rattle.ra_cli.specs.Surveyed.{SurveysBy, RefusesSurvey}
-use Rattle.ra_cli.specs.Words.{OnAnswer, OnHelp, ChecksBy, GivesNode, IsHelpWord}
-use Rattle.ra_cli.specs.declared.command_line.PolicyName.{PolicyName}
-use Rattle.ra_cli.specs.declared.command_line.Task.{Task}
-use Rattle.ra_cli.specs.declared.command_line.Task.TheVariants as task
+use Rattle.ra_task.specs.Words.{OnAnswer, OnHelp, ChecksBy, GivesNode, IsHelpWord}
+use Rattle.ra_task.specs.declared.command_line.PolicyName.{PolicyName}
+use Rattle.ra_task.specs.declared.command_line.Task.{Task}
+use Rattle.ra_task.specs.declared.command_line.Task.TheVariants as task
 use Rattle.ra_cli.specs.declared.error.AnswerError.{AnswerError}
 use Rattle.ra_cli.specs.declared.error.RunScriptError.{RunScriptError}
-use Rattle.ra_cli.specs.declared.input_kind.InputKind.{InputKind}
-use Rattle.ra_cli.specs.declared.refusal.Refusal.{Refusal}
-use Rattle.ra_cli.specs.declared.refusal.Refusal.TheVariants as refusal
+use Rattle.ra_task.specs.declared.command_line.input_kind.InputKind.{InputKind}
+use Rattle.ra_cli.specs.declared.refusal_lines.Refusal.{Refusal}
+use Rattle.ra_cli.specs.declared.refusal_lines.Refusal.TheVariants as refusal
 
 -- ---- What is read and written
 
@@ -40,7 +42,7 @@ AnswersAs node nodes old new before after = IfSome old (λ input. (output : List
 
 -- the input was performed under the policy of this name, with these choices if it is `listed`, and written in this
 -- format
-abbrev pub PerformsNamed : PolicyName → (choices : List ℕ) → Format → (old new before after : Option (List ℕ)) → Bool → Type 0
+abbrev pub PerformsNamed : PolicyName → (choices : List ℕ) → OutputKind → (old new before after : Option (List ℕ)) → Bool → Type 0
 PerformsNamed name choices format old new before after finished =
     (policy : Policy) × IsNamed name choices policy × PerformsBy policy format old new before after finished
 
@@ -79,7 +81,7 @@ IsLeftBy (task.Help text) old new before after = ⊥
 -- ---- Refusals
 
 -- why a run under a policy is refused: the choices are not a list of choices, or the run under it is refused
-abbrev pub RefusesNamed : PolicyName → (choices : List ℕ) → Format → (input : List ℕ) → Refusal → Type 0
+abbrev pub RefusesNamed : PolicyName → (choices : List ℕ) → OutputKind → (input : List ℕ) → Refusal → Type 0
 RefusesNamed name choices format input why =
     ((fault : ChoicesError) × (why ≡ refusal.Choices fault) × (fault ≡ Choice → choices_of choices ≡ None))
     ⊎ ((fault : PerformError) × (why ≡ refusal.Perform fault) × (policy : Policy) × IsNamed name choices policy
@@ -121,3 +123,14 @@ IsRefusedBy asked old before after = IsRefusedFor (λ why. IfSome old (λ input.
 -- is `--books`, and of help only if a word asks for it
 abbrev pub Suits : (words : List (List ℕ)) → Task → Type 0
 Suits words asked = OnAnswer asked (GivesNode words) × ChecksBy words asked × OnHelp asked (Any IsHelpWord words)
+
+-- ---- What came of it
+
+-- What came of a task that ended with this status. `old` and `new` are what is left in the reader before and after it, and
+-- `before` and `after` what the writer contains, if they tell. `Untouched` says that nothing was read.
+pub record Does (asked : Task) (old new before after : Option (List ℕ)) (Untouched : Type 0) (status : ℕ) : Type 0 where
+  pub range : status ≤ 3
+  pub done : status ≡ 0 → IsDoneBy asked old new before after Untouched
+  pub unfinished : status ≡ 3 → IsLeftBy asked old new before after
+  pub refused : status ≡ 2 → IsRefusedBy asked old before after
+  pub broken : (words : List (List ℕ)) → Suits words asked → status ≡ 1 → IsBroken words old before after

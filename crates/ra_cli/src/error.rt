@@ -154,15 +154,6 @@ impl From<ClusterError> for RunScriptError {
     }
 }
 
-impl From<Memory> for RunScriptError {
-    ghost from_gives = { λ _ e. e ≡ run.Memory };
-
-    /// Says that memory ran out.
-    fn from(_refused: Memory) -> RunScriptError {
-        RunScriptError::Memory
-    }
-}
-
 impl From<WriteFault> for RunScriptError {
     ghost from_gives = { λ _ e. e ≡ run.Write };
 

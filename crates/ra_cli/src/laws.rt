@@ -3,9 +3,9 @@ ghost use Rattle.std.specs.Prelude.{◌≡◌, ℕ, List, Option, Some, codes};
 ghost use Rattle.ra_schedule.specs.declared.error.DriveError.{DriveError};
 ghost use Rattle.ra_script.specs.declared.error.PerformError.{PerformError};
 ghost use Rattle.ra_script.specs.Performed.{IsOrderly};
-ghost use Rattle.ra_cli.specs.declared.command_line.Task.{Task};
-ghost use Rattle.ra_cli.specs.declared.refusal.Refusal.{Refusal};
-ghost use Rattle.ra_cli.specs.Finishing.{HasNoChoices, RunsFaithfully};
+ghost use Rattle.ra_task.specs.declared.command_line.Task.{Task};
+ghost use Rattle.ra_cli.specs.declared.refusal_lines.Refusal.{Refusal};
+ghost use Rattle.ra_task.specs.Finishing.{HasNoChoices, RunsFaithfully};
 ghost use Rattle.ra_cli.specs.Refusals.{IsOfReader, IsOfWriter, word_of};
 ghost use Rattle.ra_cli.specs.Tasks.{IsCauseFor, IsLeftBy};
 

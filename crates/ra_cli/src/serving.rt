@@ -1,50 +1,42 @@
-ghost use Rattle.std.specs.Prelude.{true, false, [], ◌++◌, None, ◌≢◌, ◌↔◌, IsErr, IsTrue, IfOk, IfErr, Option, ◌≡◌, ◌≤◌, ◌⊎◌, List, ℕ, map, IfSome, codes, string_bytes};
+ghost use Rattle.std.specs.Prelude.{true, false, [], ◌++◌, None, ◌≢◌, ◌↔◌, IsTrue, Option, ◌≡◌, ◌≤◌, ◌⊎◌, List, ℕ, map, IfSome, string_bytes};
 ghost use Rattle.std.specs.Io.KnownBytes.{Appends};
-ghost use Rattle.ra_cli.specs.Words.{ReadsBy, GivesNode, HasMarksWord, PrintsBy};
+ghost use Rattle.ra_task.specs.Words.{ReadsBy, GivesNode, HasMarksWord, PrintsBy};
 ghost use Rattle.ra_cli.specs.Answer.{Refuses};
-ghost use Rattle.ra_cli.specs.Performs.{IsNamed};
 ghost use Rattle.ra_cli.specs.Checks.{Checks, ChecksMarks, is_run, is_valid};
 ghost use Rattle.ra_trace.specs.declared.error.TraceError.{TraceError};
-ghost use Rattle.ra_trace.specs.declared.verdict.Verdict.{Verdict};
+ghost use Rattle.ra_trace.specs.declared.checker.verdict.Verdict.{Verdict};
 ghost use Rattle.ra_draw.specs.declared.error.DrawError.{DrawError};
 ghost use Rattle.ra_cli.specs.ClusterRun.{RefusesRun, RunsCluster};
 ghost use Rattle.ra_cli.specs.Pictures.{IsNotDrawn};
 ghost use Rattle.ra_cli.specs.Statuses.{IsBroken, IsPrinted, IsSaid, Serves};
 ghost use Rattle.ra_cli.specs.Surveyed.{RefusesSurvey, SurveysBy};
-ghost use Rattle.ra_cli.specs.Tasks.{AnswersAs, DrawsPart, IsDoneBy, IsLeftBy, IsRefusedBy, IsRefusedFor, PerformsNamed, RefusesNamed, RefusesPart, Suits};
-ghost use Rattle.ra_cli.specs.Finishing.{HasNoChoices, RunsFaithfully};
+ghost use Rattle.ra_cli.specs.Tasks.{AnswersAs, Does, DrawsPart, IsRefusedFor, PerformsNamed, RefusesNamed, RefusesPart};
+ghost use Rattle.ra_task.specs.Asked.{Asks};
 ghost use Rattle.ra_script.specs.ChoicesText.{choices_of};
-ghost use Rattle.ra_script.specs.Performed.{IsOrderly};
-ghost use Rattle.ra_schedule.specs.declared.choice.Policy.{Policy};
-ghost use Rattle.ra_cli.specs.declared.command_line.Task.{Task};
 ghost use Rattle.ra_cli.specs.declared.error.AnswerError.{AnswerError};
 ghost use Rattle.ra_cli.specs.declared.error.RunScriptError.{RunScriptError};
-ghost use Rattle.ra_cli.specs.declared.refusal.Refusal.{Refusal};
+ghost use Rattle.ra_cli.specs.declared.refusal_lines.Refusal.{Refusal};
 ghost use Rattle.ra_cli.specs.Refusals.{IsOfReader, IsOfWriter, command_word, refused_line, word_of};
 
-use crate::cluster_output::ClusterOutput;
-use crate::command_line::{PolicyName, Task, parse};
-use crate::drawing::{Denial, draw_input};
+use crate::command_outcome::{Outcome, Remark, UNFINISHED, marks_remark_of, remark_of};
+use crate::commands::cluster_command::run_script;
+use crate::commands::draw_command::{Denial, draw_input};
+use crate::commands::marks_verdict_lines::marks_verdict_text;
+use crate::commands::node_task::be_a_node;
+use crate::commands::settle_task::settle_books;
+use crate::commands::survey_command::survey_script;
+use crate::commands::verdict_lines::verdict_text;
 use crate::error::RunScriptError;
-use crate::input_kind::InputKind;
 use crate::laws::orderly_scripts_are_finished;
-use crate::marks_verdict::marks_verdict_text;
-use crate::node_task::{are_node_words, be_a_node};
-use crate::notes::{write_notes, write_output_note, write_words_note};
-use crate::outcome::{Outcome, Remark, UNFINISHED, marks_remark_of, remark_of};
-use crate::refusal::{Refusal, line_of};
-use crate::running::run_script;
-use crate::search::Search;
-use crate::seed_progress::SeedProgress;
-use crate::seen::SeenReader;
-use crate::seen_writer::SeenWriter;
-use crate::settle_task::{settle_books, settle_words};
-use crate::surveying::survey_script;
-use crate::verdict::verdict_text;
-use crate::{AnswerError, CommandFault, answer};
+use crate::refusal_lines::{Refusal, line_of};
+use crate::{AnswerError, answer};
 use ra_draw::{DrawError, Part};
-use ra_schedule::{Ending, Faults, Observer, Policy};
-use ra_script::{ChoicesError, Format, PerformError, perform_as, read_choices};
+use ra_schedule::{Ending, Faults, Observer};
+use ra_script::{OutputKind, PerformError, perform_as};
+use ra_task::{
+    ClusterOutput, Command, CommandFault, InputKind, PolicyName, Search, Task, command_of,
+    policy_of,
+};
 use ra_trace::{MarksVerdict, TraceError, Verdict, check_buffered_with_due, check_marks_buffered};
 use ra_world::write_out;
 use std::alloc::Global;
@@ -137,23 +129,6 @@ pub fn refuse_words<W: Write>(writer: &mut W, fault: CommandFault) -> u8
     }
 }
 
-/// Does as [`refuse_words`], and then writes a line for a person to `notes`. It writes another if `writer` failed, unless that
-/// is a pipe that is no longer read. That `notes` fails changes nothing else.
-pub fn refuse_words_with_note<W: Write, N: Write>(
-    writer: &mut SeenWriter<W>,
-    fault: CommandFault,
-    notes: &mut N,
-) -> u8
-    ensures { ((result ≡ 2) × Appends (W.contents writer.old.inner) (W.contents writer.new.inner) (refused_line (command_word fault)))
-        ⊎ ((result ≡ 1) × (prefix : List ℕ) × (rest : List ℕ) × (refused_line (command_word fault) ≡ prefix ++ rest) × (rest ≢ [])
-        × Appends (W.contents writer.old.inner) (W.contents writer.new.inner) prefix) }
-{
-    let status = refuse_words(writer, fault);
-    write_words_note(fault, notes);
-    write_output_note(writer.fault(), notes);
-    status
-}
-
 /// Answers the reader's frame for this node of this many.
 fn respond<R: Read, W: Write>(
     alloc: Global,
@@ -177,34 +152,12 @@ fn respond<R: Read, W: Write>(
     }
 }
 
-/// Returns the policy of a name. The choices are read whatever the name, so that a user is told of a wrong word.
-///
-/// # Errors
-///
-/// 1. `Choice`: they are no list of choices.
-/// 2. `Memory`, which may come before it.
-pub fn policy_of(alloc: Global, name: PolicyName, choices: &str) -> Result<Policy, ChoicesError>
-    ensures ok { IfOk result (IsNamed name choices.now) }
-    ensures choices { choices_of choices.now ≡ None → IsErr result }
-    ensures err { IfErr result (λ fault. ((fault ≡ ChoicesError.Choice) × (choices_of choices.now ≡ None))
-        ⊎ (fault ≡ ChoicesError.Memory)) }
-{
-    let choices = read_choices(alloc, choices)?;
-    Ok(match name {
-        PolicyName::Oldest => Policy::Oldest,
-        PolicyName::Newest => Policy::Newest,
-        PolicyName::Seeded(seed) => Policy::Seeded(seed),
-        PolicyName::Faulty { seed, faults } => Policy::Faulty { seed, faults },
-        PolicyName::Listed => Policy::Listed(choices),
-    })
-}
-
 /// Reads the choices, and drives a cluster through the reader's script under the policy of this name.
 fn simulate<R: Read, W: Write>(
     alloc: Global,
     name: PolicyName,
     choices: &str,
-    format: Format,
+    format: OutputKind,
     reader: &mut R,
     writer: &mut W,
 ) -> Outcome
@@ -348,7 +301,7 @@ fn judge_marks<R: BufRead, W: Write>(alloc: Global, reader: &mut R, writer: &mut
 }
 
 /// Prints why an input is not drawn.
-fn deny<W: Write>(denial: Denial, writer: &mut W) -> Outcome
+fn print_invalid<W: Write>(denial: Denial, writer: &mut W) -> Outcome
     ensures status { (result.status ≡ 1) ⊎ (result.status ≡ 3) }
     ensures denied { result.status ≡ 3
         → Appends (W.contents writer.old) (W.contents writer.new) (string_bytes denial.line) }
@@ -362,7 +315,7 @@ fn deny<W: Write>(denial: Denial, writer: &mut W) -> Outcome
 }
 
 /// Draws a part of the reader's input, or writes the line that says why it is not of this kind. Then the whole input is in `text`.
-fn paint<R: Read, W: Write>(
+fn draw_trace<R: Read, W: Write>(
     alloc: Global,
     kind: InputKind,
     part: Part,
@@ -384,58 +337,9 @@ fn paint<R: Read, W: Write>(
 {
     match draw_input(alloc, kind, part, reader, writer, text) {
         Ok(None) => Outcome::new(DONE, None),
-        Ok(Some(denial)) => deny(denial, writer),
+        Ok(Some(denial)) => print_invalid(denial, writer),
         Err(fault) => refuse(writer, Refusal::Draw(fault)),
     }
-}
-
-/// Does a task that needs no threads, and returns what came of it. It waits for nothing but the reader and the writer. An input
-/// that was to be drawn and is not of its kind is left in `text`.
-///
-/// # Errors
-///
-/// What is to be printed of the run, for the command `cluster`, which needs threads. Nothing is done for it.
-fn do_alone<R: BufRead, W: Write, O: Observer>(
-    alloc: Global,
-    task: Task<'_>,
-    reader: &mut R,
-    writer: &mut W,
-    text: &mut Vec<u8>,
-    observer: &mut O,
-) -> Result<Outcome, ClusterOutput>
-    ensures range { IfOk result (λ outcome. outcome.status ≤ 3) }
-    ensures done { IfOk result (λ outcome. outcome.status ≡ 0
-        → IsDoneBy task.entry (R.remaining reader.old) (R.remaining reader.new)
-        (W.contents writer.old) (W.contents writer.new) (reader.new ≡ reader.old)) }
-    ensures unfinished { IfOk result (λ outcome. outcome.status ≡ 3
-        → IsLeftBy task.entry (R.remaining reader.old) (R.remaining reader.new) (W.contents writer.old) (W.contents writer.new)) }
-    ensures refused { IfOk result (λ outcome. outcome.status ≡ 2
-        → IsRefusedBy task.entry (R.remaining reader.old) (W.contents writer.old) (W.contents writer.new)) }
-    ensures broken { IfOk result (λ outcome. (words : List (List ℕ)) → Suits words task.entry → outcome.status ≡ 1
-        → IsBroken words (R.remaining reader.old) (W.contents writer.old) (W.contents writer.new)) }
-    ensures threads { IfErr result (λ printed.
-        (task.entry ≡ Task.Cluster printed) × (reader.new ≡ reader.old) × (writer.new ≡ writer.old)) }
-{
-    let outcome = match task {
-        Task::Answer { node, nodes } => respond(alloc, node, nodes, reader, writer),
-        Task::Sim {
-            policy,
-            choices,
-            format,
-        } => simulate(alloc, policy, choices, format, reader, writer),
-        Task::Survey {
-            faults,
-            find,
-            first,
-            last,
-        } => survey_seeds(alloc, faults, find, first, last, reader, writer, observer),
-        Task::Check => judge(alloc, reader, writer),
-        Task::CheckMarks => judge_marks(alloc, reader, writer),
-        Task::Draw { kind, part } => paint(alloc, kind, part, reader, writer, text),
-        Task::Cluster(printed) => return Err(printed),
-        Task::Help(text) => Outcome::new(written(writer, text.as_bytes(), DONE), None),
-    };
-    Ok(outcome)
 }
 
 /// Runs the script of the reader by threads, and writes what is to be printed of the run.
@@ -465,56 +369,56 @@ fn run_by_threads<T: Threads + Wait + Sync, R: Read, W: Write>(
 fn do_task<T: Threads + Wait + Sync, R: BufRead, W: Write, O: Observer>(
     rt: &T,
     alloc: Global,
-    task: Task<'_>,
+    task: &Task<'_>,
     reader: &mut R,
     writer: &mut W,
     text: &mut Vec<u8>,
     observer: &mut O,
 ) -> Outcome
-    ensures range { result.status ≤ 3 }
-    ensures done { result.status ≡ 0 → IsDoneBy task.entry (R.remaining reader.old) (R.remaining reader.new)
-        (W.contents writer.old) (W.contents writer.new) (reader.new ≡ reader.old) }
-    ensures unfinished { result.status ≡ 3
-        → IsLeftBy task.entry (R.remaining reader.old) (R.remaining reader.new) (W.contents writer.old) (W.contents writer.new) }
-    // A script whose clients take names in order and give them all back is not left unfinished by a faithful task.
-    ensures finished { IfSome (R.remaining reader.old) (λ input. IsOrderly input → RunsFaithfully task.entry → result.status ≢ 3) }
-    ensures only_memory { IfSome (R.remaining reader.old) (λ input. IsOrderly input → RunsFaithfully task.entry
-        → HasNoChoices task.entry → result.status ≡ 2
-        → Appends (W.contents writer.old) (W.contents writer.new) (refused_line (codes "Memory"))) }
-    ensures refused { result.status ≡ 2
-        → IsRefusedBy task.entry (R.remaining reader.old) (W.contents writer.old) (W.contents writer.new) }
-    ensures broken { (words : List (List ℕ)) → Suits words task.entry → result.status ≡ 1
-        → IsBroken words (R.remaining reader.old) (W.contents writer.old) (W.contents writer.new) }
+    ensures { Does task.now (R.remaining reader.old) (R.remaining reader.new)
+        (W.contents writer.old) (W.contents writer.new) (reader.new ≡ reader.old) result.status }
 {
-    orderly_scripts_are_finished();
-    match do_alone(alloc, task, reader, writer, text, observer) {
-        Ok(outcome) => outcome,
-        Err(printed) => run_by_threads(rt, alloc, printed, reader, writer),
+    match *task {
+        Task::Answer { node, nodes } => respond(alloc, node, nodes, reader, writer),
+        Task::Sim {
+            policy,
+            choices,
+            format,
+        } => simulate(alloc, policy, choices, format, reader, writer),
+        Task::Survey {
+            faults,
+            find,
+            first,
+            last,
+        } => survey_seeds(alloc, faults, find, first, last, reader, writer, observer),
+        Task::Check => judge(alloc, reader, writer),
+        Task::CheckMarks => judge_marks(alloc, reader, writer),
+        Task::Draw { kind, part } => draw_trace(alloc, kind, part, reader, writer, text),
+        Task::Cluster(printed) => run_by_threads(rt, alloc, printed, reader, writer),
+        Task::Help(ref help) => Outcome::new(written(writer, help.as_bytes(), DONE), None),
     }
 }
 
-/// Does what the words ask for, and returns what came of it. An input that was to be drawn and is not of its kind is left in `text`.
-fn outcome_of<T: Threads + Wait + Sync, R: BufRead, W: Write, O: Observer>(
+/// Does what words ask for, and returns what came of it. The observer is told of each seed. A text that was to be drawn and is not of
+/// its kind, or of books to settle, is left in `text`.
+pub fn do_command<T: Threads + Wait + Sync, R: BufRead, W: Write, O: Observer>(
     rt: &T,
     alloc: Global,
-    words: &[String],
+    asked: &Command<'_>,
     reader: &mut R,
     writer: &mut W,
     text: &mut Vec<u8>,
     observer: &mut O,
 ) -> Outcome
-    ensures { Serves (map string_bytes words.now) (R.remaining reader.old) (R.remaining reader.new)
+    ensures { (words : List (List ℕ)) → Asks words asked.now → Serves words (R.remaining reader.old) (R.remaining reader.new)
         (W.contents writer.old) (W.contents writer.new) (reader.new ≡ reader.old) result.status }
 {
-    if are_node_words(words) {
-        return be_a_node(alloc, reader, writer);
-    }
-    if let Some(asked) = settle_words(words) {
-        return settle_books(alloc, asked, reader, writer);
-    }
-    match parse(alloc, words) {
-        Ok(task) => do_task(rt, alloc, task, reader, writer, text, observer),
-        Err(fault) => refuse(writer, Refusal::Command(fault)),
+    orderly_scripts_are_finished();
+    match *asked {
+        Command::Node => be_a_node(alloc, reader, writer),
+        Command::Settle(books) => settle_books(alloc, books, reader, writer, text),
+        Command::Task(ref task) => do_task(rt, alloc, task, reader, writer, text, observer),
+        Command::Unknown(fault) => refuse(writer, Refusal::Command(fault)),
     }
 }
 
@@ -539,41 +443,7 @@ pub fn serve<T: Threads + Wait + Sync, R: BufRead, W: Write>(
     ensures { Serves (map string_bytes words.now) (R.remaining reader.old) (R.remaining reader.new)
         (W.contents writer.old) (W.contents writer.new) (reader.new ≡ reader.old) result }
 {
+    let asked = command_of(alloc, words);
     let mut text = Vec::new(alloc);
-    outcome_of(rt, alloc, words, reader, writer, &mut text, &mut ()).status
-}
-
-/// Does as [`serve`], and then writes lines for a person to `notes`:
-///
-/// - If something was refused, a text is no trace, a log is no mark log, books do not settle, or a run ended with something left
-///   to do, a line says what is wrong, where in what was read, and what would be right. Of a run that was shrunk, it is about the
-///   shorter one, and another line says by how much.
-/// - If a text is a trace or a mark log, a line says what is left at its end, if anything is, or that a log has no mark.
-/// - There is a line for each option that has no effect, if the policy `listed` has no choices, if a finished run leaves names
-///   locked, and for the seed of a run that was found.
-/// - There is a line if `writer` failed, unless that is a pipe that is no longer read.
-///
-/// While many seeds take long, it writes there how far it is. Each line begins with `ra: `. Nothing of it goes to `writer`, and
-/// it is left out if memory or `notes` fails, which changes nothing else. To find the place in a script it is read once more. To
-/// find which client waits for which it is run once more, and shrunk once more if it was. For the mark that is due, a trace that was to be drawn is checked once
-/// more.
-pub fn serve_with_notes<T: Threads + Wait + Sync, R: BufRead, W: Write, N: Write>(
-    rt: &T,
-    alloc: Global,
-    words: &[String],
-    reader: &mut SeenReader<R>,
-    writer: &mut SeenWriter<W>,
-    notes: &mut N,
-) -> u8
-    // What is promised of the status, the reader and the writer is the same, whatever becomes of the note.
-    ensures { Serves (map string_bytes words.now) (R.remaining reader.old.inner) (R.remaining reader.new.inner)
-        (W.contents writer.old.inner) (W.contents writer.new.inner) (reader.new ≡ reader.old) result }
-{
-    let mut progress = SeedProgress::new(alloc, notes);
-    let mut text = Vec::new(alloc);
-    let outcome = outcome_of(rt, alloc, words, reader, writer, &mut text, &mut progress);
-    let last = progress.last();
-    write_notes(alloc, words, reader.seen(), &text, &outcome, last, notes);
-    write_output_note(writer.fault(), notes);
-    outcome.status
+    do_command(rt, alloc, &asked, reader, writer, &mut text, &mut ()).status
 }

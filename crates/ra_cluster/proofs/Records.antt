@@ -6,16 +6,16 @@ use Rattle.std.proofs.lemmas.List.{length-append}
 use Rattle.std.proofs.lemmas.List.Elements.{All-cons, All-nil}
 use Rattle.std.proofs.lemmas.List.Sorted.{length_permutation}
 use Rattle.ra_schedule.specs.Script.{ScriptState}
-use Rattle.ra_history.specs.declared.grant.Grant.{Grant}
-use Rattle.ra_history.specs.declared.sent.Sent.{Sent}
-use Rattle.ra_history.specs.declared.settled.Settled.{Settled}
-use Rattle.ra_history.specs.declared.stop.Stop.{Stop}
+use Rattle.ra_history.specs.declared.book.grant.Grant.{Grant}
+use Rattle.ra_history.specs.declared.book.sent.Sent.{Sent}
+use Rattle.ra_history.specs.declared.settle_books.settled.Settled.{Settled}
+use Rattle.ra_history.specs.declared.book.stop.Stop.{Stop}
 use Rattle.ra_history.specs.Book.{BookState, HasHistory}
 use Rattle.ra_history.specs.Plan.{MeetsPlan, IsQuietEnd}
 use Rattle.ra_history.specs.Settled.{all_lost, lost_among}
-use Rattle.ra_cluster.specs.declared.cluster_run.ClusterError.{ClusterError}
-use Rattle.ra_cluster.specs.declared.cluster_run.ClusterError.TheVariants.{Fault}
-use Rattle.ra_cluster.specs.declared.cluster_run.Recorded.{Recorded}
+use Rattle.ra_cluster.specs.declared.cluster.cluster_run.ClusterError.{ClusterError}
+use Rattle.ra_cluster.specs.declared.cluster.cluster_run.ClusterError.TheVariants.{Fault}
+use Rattle.ra_cluster.specs.declared.cluster.cluster_run.Recorded.{Recorded}
 use Rattle.ra_cluster.specs.Outcome.{first_fault, fault_or, IsOutcome, IsOfThreads, IsRecord}
 use Rattle.ra_cluster.proofs.Endings.{done_by}
 

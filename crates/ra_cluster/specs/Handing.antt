@@ -1,7 +1,7 @@
 -- What a site hands over: the events of its node since the ones before, and the frames that were lost since then.
 use Rattle.std.specs.Prelude.{◌≡◌, ◌⊎◌, ℕ, List, []}
 use Rattle.ra_frame.specs.declared.frame.Frame.{Frame}
-use Rattle.ra_history.specs.declared.event.BookEvent.{BookEvent}
+use Rattle.ra_history.specs.declared.book.event.BookEvent.{BookEvent}
 use Rattle.ra_history.specs.History.{clock_of}
 use Rattle.ra_history.specs.Book.{BookState, HasHistory}
 use Rattle.ra_cluster.specs.Losses.{lost_frames}

@@ -1,16 +1,16 @@
 -- What comes of a script that threads ran.
 use Rattle.std.specs.Prelude.{◌≡◌, ◌≢◌, ◌*◌, ◌-◌, false, List, [], ◌∷◌, All, AllPairs, map, length, Option, Some, None}
 use Rattle.ra_schedule.specs.Script.{ScriptState}
-use Rattle.ra_world.specs.declared.report.Report.{Report}
+use Rattle.ra_world.specs.declared.text.report.Report.{Report}
 use Rattle.ra_world.specs.Traffic.{Move}
 use Rattle.ra_world.specs.Run.{IsRun}
 use Rattle.ra_world.specs.World.{Reports}
 use Rattle.ra_world.specs.MainTheorem.{MainTheorem}
-use Rattle.ra_cluster.specs.declared.cluster_run.ClusterError.{ClusterError}
-use Rattle.ra_cluster.specs.declared.cluster_run.ClusterError.TheVariants.{OutOfOrder, Unreleased, Fault, Settle, PlanUnmet, Lost, UnderWay, Memory}
-use Rattle.ra_history.specs.declared.grant.Grant.{Grant}
-use Rattle.ra_history.specs.declared.settled.Settled.{Settled}
-use Rattle.ra_history.specs.declared.stop.Stop.{Stop}
+use Rattle.ra_cluster.specs.declared.cluster.cluster_run.ClusterError.{ClusterError}
+use Rattle.ra_cluster.specs.declared.cluster.cluster_run.ClusterError.TheVariants.{OutOfOrder, Unreleased, Fault, Settle, PlanUnmet, Lost, UnderWay, Memory}
+use Rattle.ra_history.specs.declared.book.grant.Grant.{Grant}
+use Rattle.ra_history.specs.declared.settle_books.settled.Settled.{Settled}
+use Rattle.ra_history.specs.declared.book.stop.Stop.{Stop}
 use Rattle.ra_history.specs.Book.{BookState, HasHistory}
 use Rattle.ra_history.specs.Plan.{MeetsPlan, IsQuietEnd, locks_of}
 use Rattle.ra_history.specs.Settled.{IsCluster, IsSettledOrder, IsSettledRun, Placed, IsGranted, BooksFit, settled_steps}

@@ -4,8 +4,8 @@ use Rattle.ra_history.specs.declared.error.BookError.{BookError}
 use Rattle.ra_history.specs.declared.error.BookError.TheVariants as book
 use Rattle.ra_cluster.specs.declared.site.SiteError.{SiteError}
 use Rattle.ra_cluster.specs.declared.site.SiteError.TheVariants.{Refused, Stopped}
-use Rattle.ra_history.specs.declared.stop.Stop.{Stop}
-use Rattle.ra_history.specs.declared.stop.Stop.TheVariants as stop
+use Rattle.ra_history.specs.declared.book.stop.Stop.{Stop}
+use Rattle.ra_history.specs.declared.book.stop.Stop.TheVariants as stop
 
 -- The cause for which all nodes are stopped after a book's refusal, or None if the book has a fault already. A refusal
 -- that no thread of a cluster should meet is Refused.

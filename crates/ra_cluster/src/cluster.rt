@@ -1,4 +1,12 @@
 //! A whole cluster in one value.
+pub mod all_sites;
+pub mod book_room;
+pub mod cluster_run;
+pub mod gate;
+pub mod lock_order;
+pub mod script_threads;
+pub mod settled_script;
+
 ghost use Rattle.std.specs.Prelude.{◌≡◌, ◌↔◌, ◌<◌, ◌≤◌, true, false, IfOk, IfSome, IsNone, IsErrOf, IsOkUnless, All, vec_len};
 ghost use Rattle.ra_stamp.specs.NodeId.{IsNodeNumber};
 ghost use Rattle.ra_history.specs.Book.{HasHistory};
@@ -6,8 +14,8 @@ ghost use Rattle.ra_cluster.specs.ClientGrant.{IsGrantOf};
 ghost use Rattle.ra_history.specs.Settled.{IsCluster, start_of};
 ghost use Rattle.ra_cluster.specs.Sites.{AreSitesWith};
 
-use crate::book_room::BookRoom;
-use crate::sites::{make_sites, stop_all};
+use crate::cluster::all_sites::{make_sites, stop_all};
+use crate::cluster::book_room::BookRoom;
 use crate::{Book, Gate, Grant, Inbox, NewPostError, Post, Site, SiteError, Stop};
 use ra_stamp::{Mode, Name, NodeId};
 use std::alloc::Global;

@@ -19,36 +19,22 @@
 //! caller that makes the cluster.
 #![tactic(auto)]
 
-mod book_room;
-mod call;
 mod cluster;
-mod cluster_run;
-mod desk;
-mod gate;
-mod lock_order;
-mod losses;
-mod outcome;
 mod post;
-mod sending;
 mod site;
-mod sites;
-mod stop_causes;
-mod take_error;
-mod threads;
-mod ticket;
 
+pub use cluster::all_sites::is_site_of;
+pub use cluster::cluster_run::{ClusterError, Recorded, record_cluster, run_cluster};
+pub use cluster::gate::{Gate, OpenGate};
+pub use cluster::script_threads::{ScriptRun, run_threads};
+pub use cluster::settled_script::settle_script;
 pub use cluster::{CallError, Cluster, Held};
-pub use cluster_run::{ClusterError, Recorded, record_cluster, run_cluster};
-pub use desk::Handed;
-pub use gate::{Gate, OpenGate};
-pub use outcome::settle_script;
 pub use post::{Inbox, NewPostError, Post, SendError};
 pub use ra_history::{
     Book, BookError, BookEvent, BookKind, Events, Frames, Grant, MarkLostError, NewError, Posted,
     Sent, SettleError, Settled, Stop, clients_of_settled_books_never_deadlock, clock_after,
     histories_are_determined, histories_go_on, is_cluster, settle,
 };
+pub use site::desk::Handed;
+pub use site::take_error::TakeError;
 pub use site::{Site, SiteError};
-pub use sites::is_site_of;
-pub use take_error::TakeError;
-pub use threads::{ScriptRun, run_threads};

@@ -1,11 +1,11 @@
-ghost use Rattle.std.specs.Prelude.{◌≡◌, ◌↔◌, ◌≤◌, ◌<◌, ◌+◌, All, length, vec_len, IfOk, IfSome, IsErrOf, IsOkUnless, MatchResult};
+ghost use Rattle.std.specs.Prelude.{◌≡◌, ◌↔◌, ◌≤◌, ◌<◌, ◌+◌, All, length, vec_len, IfOk, IfSome, OnOk, IsErrOf, IsOkUnless};
 ghost use Rattle.ra_stamp.specs.NodeId.{IsNodeNumber};
 ghost use Rattle.ra_frame.specs.Fits.{Fits};
 
 use crossbeam_channel::{Receiver, Sender, unbounded};
 use ra_frame::{Frame, encode};
 use ra_stamp::{Memory, NodeId};
-use std::alloc::{AllocError, AllocFailed, Global};
+use std::alloc::Global;
 use std::sync::{RwLock, Wait};
 use std::thread;
 use thiserror::Error;
@@ -18,26 +18,6 @@ pub enum NewPostError {
     BadCount,
     /// Memory ran out.
     Memory,
-}
-
-impl From<AllocError> for NewPostError {
-    ghost use Rattle.ra_cluster.specs.declared.post.NewPostError.TheVariants.{Memory};
-
-    ghost from_gives = { λ _ fault. fault ≡ Memory };
-
-    fn from(_refused: AllocError) -> NewPostError {
-        NewPostError::Memory
-    }
-}
-
-impl<T: Drop> From<AllocFailed<T>> for NewPostError {
-    ghost use Rattle.ra_cluster.specs.declared.post.NewPostError.TheVariants.{Memory};
-
-    ghost from_gives = { λ _ fault. fault ≡ Memory };
-
-    fn from(_refused: AllocFailed<T>) -> NewPostError {
-        NewPostError::Memory
-    }
 }
 
 /// Why a frame was not sent.
@@ -91,7 +71,9 @@ impl Post {
         let mut senders = Vec::new(alloc);
         let mut inboxes = Vec::new(alloc);
         for _node in 0..nodes {
-            open_inbox(alloc, &mut senders, &mut inboxes)?;
+            if open_inbox(alloc, &mut senders, &mut inboxes).is_err() {
+                return Err(NewPostError::Memory);
+            }
         }
         let senders = RwLock::new(Some(senders));
         Ok((Post { senders }, inboxes))
@@ -207,8 +189,8 @@ fn open_inbox(
     alloc: Global,
     senders: &mut Vec<FrameSender>,
     inboxes: &mut Vec<Inbox>,
-) -> Result<(), NewPostError>
-    ensures { MatchResult result (λ _. vec_len inboxes.new ≡ vec_len inboxes.old + 1) (λ e. e ≡ NewPostError.Memory) }
+) -> Result<(), Memory>
+    ensures { OnOk result (vec_len inboxes.new ≡ vec_len inboxes.old + 1) }
 {
     let (sender, frames) = unbounded(alloc)?;
     senders.push(sender)?;

@@ -1,12 +1,20 @@
-ghost use Rattle.std.specs.Prelude.{◌≡◌, ◌↔◌, ◌⊎◌, ◌≤◌, ◌<◌, [], ℕ, All, length, IfOk, IfSome, IsErrOf, IsOkUnless, IsTrue};
+pub mod closed_book;
+pub mod desk;
+pub mod refused_frames;
+pub mod sending;
+pub mod stop_causes;
+pub mod take_error;
+pub mod ticket;
+
+ghost use Rattle.std.specs.Prelude.{◌≡◌, ◌↔◌, ◌⊎◌, ◌≤◌, ◌<◌, [], All, IfOk, IsErrOf, IsTrue};
 ghost use Rattle.ra_stamp.specs.NodeId.{IsNodeNumber};
 ghost use Rattle.ra_frame.specs.Fits.{Fits};
 
-use crate::call::Call;
-use crate::desk::{Desk, Halt, Handed, Stepped};
-use crate::sending::Sending;
-use crate::sites::{stop_after, stop_all};
-use crate::ticket::Ticket;
+use crate::cluster::all_sites::{stop_after, stop_all};
+use crate::site::closed_book::{is_whole_of, stopped_book};
+use crate::site::desk::{Desk, Halt, Handed, Stepped};
+use crate::site::sending::Sending;
+use crate::site::ticket::{SharedTicket, Ticket};
 use crate::{Book, BookError, Gate, Grant, Inbox, NewError, Post, Sent, Stop, TakeError};
 use ra_frame::Frame;
 use ra_stamp::{Entry, Memory, Mode, Name, NodeId};
@@ -81,35 +89,32 @@ impl Site {
         ensures bad_node { IsErrOf result NewError.BadNode ↔ (IsNodeNumber nodes × (nodes < me)) }
         ensures no_memory { IsErrOf result NewError.Memory → ⊥ }
     {
+        Site::make(alloc, me, nodes, start, false)
+    }
+
+    /// Makes the site of a node, audited or not, as `new` does.
+    ///
+    /// # Errors
+    ///
+    /// Those of `new`.
+    pub(crate) fn make(
+        alloc: Global,
+        me: NodeId,
+        nodes: u16,
+        start: u64,
+        audited: bool,
+    ) -> Result<Site, NewError>
+        ensures ok { IfOk result (λ site. site ≡ me) }
+        ensures bad_count { IsErrOf result NewError.BadCount ↔ (IsNodeNumber nodes → ⊥) }
+        ensures bad_node { IsErrOf result NewError.BadNode ↔ (IsNodeNumber nodes × (nodes < me)) }
+        ensures no_memory { IsErrOf result NewError.Memory → ⊥ }
+    {
         let book = Book::new(alloc, me, nodes, start)?;
         Ok(Site {
             node: me,
             alloc,
             desk: Mutex::new(Desk::new(alloc, book)),
-            sending: Sending::new(false),
-        })
-    }
-
-    /// Makes the site of a node of an audited cluster, as `new` does.
-    ///
-    /// # Errors
-    ///
-    /// Those of `new`.
-    pub(crate) fn new_audited(
-        alloc: Global,
-        me: NodeId,
-        nodes: u16,
-        start: u64,
-    ) -> Result<Site, NewError>
-        ensures { IfOk result (λ site. site ≡ me) }
-    {
-        let book = Book::new(alloc, me, nodes, start)?;
-        let (node, desk) = (me, Desk::new(alloc, book));
-        Ok(Site {
-            node,
-            alloc,
-            desk: Mutex::new(desk),
-            sending: Sending::new(true),
+            sending: Sending::new(audited),
         })
     }
 
@@ -152,26 +157,14 @@ impl Site {
         ensures mode { IfOk result (λ grant. grant.entry.mode ≡ mode) }
     {
         let Ok((mine, theirs)) = Ticket::pair(alloc) else {
-            let ticket = None;
-            let call = Call::Ask {
-                client,
-                name,
-                mode,
-                ticket,
-            };
-            return match self.step(rt, alloc, call, post, sites, gate) {
+            // Each other refusal comes before `Memory`.
+            return match self.ask(rt, alloc, client, name, mode, None, post, sites, gate) {
                 Ok(()) => Err(SiteError::Refused(BookError::Memory)),
                 Err(refused) => Err(refused),
             };
         };
-        let ticket = Some(theirs);
-        let call = Call::Ask {
-            client,
-            name,
-            mode,
-            ticket,
-        };
-        self.step(rt, alloc, call, post, sites, gate)?;
+        let theirs = Some(theirs);
+        self.ask(rt, alloc, client, name, mode, theirs, post, sites, gate)?;
         self.wait_for_grant(rt, &mine, client, name, mode)
     }
 
@@ -196,8 +189,15 @@ impl Site {
     ) -> Result<(), SiteError>
         requires { AreSitesWith self.now sites.now }
     {
-        let call = Call::Leave { client, name };
-        self.step(rt, alloc, call, post, sites, gate)
+        let made = {
+            let _share = self.sending.share(rt);
+            let left = self
+                .desk
+                .lock(rt)
+                .leave(alloc, self.node, gate, client, name);
+            self.finish(rt, alloc, left, post)
+        };
+        self.answer(rt, made, sites)
     }
 
     /// Hands the book each frame that comes into the inbox, until the post is closed and the inbox empty, or the book or the
@@ -359,40 +359,11 @@ impl Site {
     {
         let me = self.node;
         let book = self.close();
-        if Site::is_whole_of(&book, me, nodes, start) {
+        if is_whole_of(&book, me, nodes, start) {
             return book;
         }
-        Site::stopped_book(
-            alloc,
-            me,
-            nodes,
-            start,
-            book.fault().unwrap_or(Stop::Refused),
-        )
-    }
-
-    /// Returns whether a book is whole, and that of this node, of this many nodes, from this start.
-    fn is_whole_of(book: &Book, me: NodeId, nodes: u16, start: u64) -> bool
-        ensures { IsTrue result → (book.now.me ≡ me) × (book.now.nodes ≡ nodes) × (book.now.start ≡ start) × IsWhole book.now }
-    {
-        book.me() == me && book.nodes() == nodes && book.start() == start && book.is_whole()
-    }
-
-    /// Makes an empty book of a node, which is stopped for this cause.
-    fn stopped_book(alloc: Global, me: NodeId, nodes: u16, start: u64, cause: Stop) -> Book
-        requires count { IsNodeNumber nodes }
-        requires member { me ≤ nodes }
-        ensures me { result.me ≡ me }
-        ensures nodes { result.nodes ≡ nodes }
-        ensures start { result.start ≡ start }
-        ensures whole { IsWhole result }
-        ensures history { HasHistory result }
-    {
-        let Ok(mut empty) = Book::new(alloc, me, nodes, start) else {
-            unreachable!()
-        };
-        empty.fail(cause);
-        empty
+        let cause = book.fault().unwrap_or(Stop::Refused);
+        stopped_book(alloc, me, nodes, start, cause)
     }
 
     /// Does what `hand_over` does, and returns the frames that left the book, too.
@@ -418,49 +389,33 @@ impl Site {
         self.desk.lock(rt).hand_over(alloc, self.node, after)
     }
 
-    /// Makes one call of the book, and sends the frames of its event. If one was lost, each site is stopped.
+    /// Asks for a name for a client, and sends the frames of the ask. The thread of the client is told by this ticket, which is there
+    /// unless memory ran out, what comes of it.
     ///
     /// # Errors
     ///
-    /// 1. `Refused`: the book refused it.
-    /// 2. `Stopped`: the gate answered `false`, and the call was not made.
-    fn step<R: Wait, G: Gate>(
+    /// Those of `lock`, except for the last one.
+    fn ask<R: Wait, G: Gate>(
         &self,
         rt: &R,
         alloc: Global,
-        call: Call,
+        client: u32,
+        name: Name,
+        mode: Mode,
+        ticket: Option<SharedTicket>,
         post: &Post,
         sites: &[Site],
         gate: &G,
     ) -> Result<(), SiteError> {
-        match self.call_and_send(rt, alloc, call, post, gate) {
-            Ok(are_sent) => {
-                if !are_sent {
-                    stop_all(rt, sites, Stop::Send);
-                }
-                Ok(())
-            }
-            Err(halt) => Err(self.halt(rt, halt, sites)),
-        }
-    }
-
-    /// Makes one call of the book, and sends the frames of its event, with no round of an audit in between. Returns whether all
-    /// were sent.
-    ///
-    /// # Errors
-    ///
-    /// Why the call was not made.
-    fn call_and_send<R: Wait, G: Gate>(
-        &self,
-        rt: &R,
-        alloc: Global,
-        call: Call,
-        post: &Post,
-        gate: &G,
-    ) -> Result<bool, Halt> {
-        let _share = self.sending.share(rt);
-        let stepped = self.call_desk(rt, alloc, call, gate)?;
-        Ok(self.finish(rt, alloc, &stepped, post))
+        let made = {
+            let _share = self.sending.share(rt);
+            let asked = self
+                .desk
+                .lock(rt)
+                .ask(alloc, self.node, gate, client, name, mode, ticket);
+            self.finish(rt, alloc, asked, post)
+        };
+        self.answer(rt, made, sites)
     }
 
     /// Hands the book frames, and sends those of their events, with no round of an audit in between. Puts what came of each into
@@ -475,61 +430,69 @@ impl Site {
         gate: &G,
     ) -> (bool, Result<(), Halt>) {
         let _share = self.sending.share(rt);
-        let received = self.receive_all(rt, alloc, taken, stepped, gate);
+        let received = self
+            .desk
+            .lock(rt)
+            .receive_all(alloc, self.node, gate, taken, stepped);
         let mut are_sent = true;
         for step in stepped.as_slice() {
-            if !self.finish(rt, alloc, step, post) {
+            if !self.tell_and_send(rt, alloc, step, post) {
                 are_sent = false;
             }
         }
         (are_sent, received)
     }
 
-    /// Asks the gate and makes one call of the book, all under the lock.
+    /// Finishes a call of the book, if it was made. Returns whether all of its frames were sent.
     ///
     /// # Errors
     ///
     /// Why the call was not made.
-    fn call_desk<R: Wait, G: Gate>(
+    fn finish<R: Wait>(
         &self,
         rt: &R,
         alloc: Global,
-        call: Call,
-        gate: &G,
-    ) -> Result<Stepped, Halt> {
-        let mut desk = self.desk.lock(rt);
-        if !gate.step(self.node) {
-            return Err(Halt::Gate);
-        }
-        match call.make(alloc, &mut desk) {
-            Ok(stepped) => Ok(stepped),
-            Err(refused) => Err(Halt::Refused(refused)),
-        }
-    }
-
-    /// Hands the book frames, and asks the gate before each, all under the lock. Puts what came of each into the list.
-    ///
-    /// # Errors
-    ///
-    /// Why one of them was not received. Those before it were.
-    fn receive_all<R: Wait, G: Gate>(
-        &self,
-        rt: &R,
-        alloc: Global,
-        taken: &[Vec<u8>],
-        stepped: &mut Vec<Stepped>,
-        gate: &G,
-    ) -> Result<(), Halt> {
-        let mut desk = self.desk.lock(rt);
-        desk.receive_all(alloc, self.node, taken, stepped, gate)
+        made: Result<Stepped, Halt>,
+        post: &Post,
+    ) -> Result<bool, Halt> {
+        let stepped = made?;
+        Ok(self.tell_and_send(rt, alloc, &stepped, post))
     }
 
     /// Tells the client that an event let in, and sends the event's frames. Returns whether all were sent.
-    fn finish<R: Wait>(&self, rt: &R, alloc: Global, stepped: &Stepped, post: &Post) -> bool {
+    fn tell_and_send<R: Wait>(
+        &self,
+        rt: &R,
+        alloc: Global,
+        stepped: &Stepped,
+        post: &Post,
+    ) -> bool {
         if let Some((ticket, grant)) = &stepped.told {
             ticket.tell(rt, Ok(*grant));
         }
         self.send(rt, alloc, stepped.frames.as_slice(), post)
+    }
+
+    /// Returns what a call answers. If one of its frames was not sent, or the gate stopped it, each site is stopped first.
+    ///
+    /// # Errors
+    ///
+    /// 1. `Stopped`: the gate answered `false`, and the call was not made.
+    /// 2. `Refused`: the book refused it.
+    fn answer<R: Wait>(
+        &self,
+        rt: &R,
+        made: Result<bool, Halt>,
+        sites: &[Site],
+    ) -> Result<(), SiteError> {
+        match made {
+            Ok(true) => Ok(()),
+            Ok(false) => {
+                stop_all(rt, sites, Stop::Send);
+                Ok(())
+            }
+            Err(halt) => Err(self.halt(rt, halt, sites)),
+        }
     }
 
     /// Returns what a call answers that was not made. If the gate stopped it, each site is stopped first.
@@ -537,7 +500,8 @@ impl Site {
         match halt {
             Halt::Gate => {
                 stop_all(rt, sites, Stop::Gate);
-                SiteError::Stopped(self.cause(rt))
+                // It is stopped if it is among the sites, as it should be.
+                SiteError::Stopped(self.fault(rt).unwrap_or(Stop::Gate))
             }
             Halt::Refused(refused) => SiteError::Refused(refused),
         }
@@ -558,12 +522,6 @@ impl Site {
             left = others;
         }
         are_sent
-    }
-
-    /// Returns the cause for which the node is stopped.
-    fn cause<R: Wait>(&self, rt: &R) -> Stop {
-        // It is stopped if it is among the sites, as it should be.
-        self.fault(rt).unwrap_or(Stop::Gate)
     }
 
     /// Waits until a client is told that it holds a name in a mode.

@@ -1,1 +1,1 @@
-pub mod Refused
+pub mod DrawingLemmas

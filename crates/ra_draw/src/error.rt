@@ -1,9 +1,7 @@
 ghost use Rattle.std.specs.Prelude.{◌≡◌};
-ghost use Rattle.ra_draw.specs.Drawing.{of_read};
-ghost use Rattle.ra_draw.specs.declared.error.DrawError.TheVariants as draw;
+ghost use Rattle.ra_draw.specs.Drawing.{of_trace};
 
-use ra_stamp::Memory;
-use ra_world::{ReadFault, WriteFault};
+use ra_trace::TraceError;
 use std::fmt;
 use thiserror::Error;
 
@@ -35,32 +33,15 @@ impl fmt::Display for DrawError {
     }
 }
 
-impl From<ReadFault> for DrawError {
-    ghost from_gives = { λ fault e. e ≡ of_read fault };
+impl From<TraceError> for DrawError {
+    ghost from_gives = { λ fault e. e ≡ of_trace fault };
 
     /// Returns the refusal of the same word.
-    fn from(fault: ReadFault) -> DrawError {
+    fn from(fault: TraceError) -> DrawError {
         match fault {
-            ReadFault::Read => DrawError::Read,
-            ReadFault::Memory => DrawError::Memory,
+            TraceError::Read => DrawError::Read,
+            TraceError::Limit => DrawError::Limit,
+            TraceError::Memory => DrawError::Memory,
         }
-    }
-}
-
-impl From<Memory> for DrawError {
-    ghost from_gives = { λ _ e. e ≡ draw.Memory };
-
-    /// Says that memory ran out.
-    fn from(_refused: Memory) -> DrawError {
-        DrawError::Memory
-    }
-}
-
-impl From<WriteFault> for DrawError {
-    ghost from_gives = { λ _ e. e ≡ draw.Write };
-
-    /// Says that the writer failed.
-    fn from(_fault: WriteFault) -> DrawError {
-        DrawError::Write
     }
 }

@@ -1,25 +1,19 @@
 //! Pictures of runs: a space-time diagram of a trace, or the bars of a mark log, as one SVG file.
+//!
+//! `draw_trace` and `draw_log` judge a text that `draw_text` reads. What happens in it is a `timeline`, the `layout` says where that is on the
+//! page, and `svg` writes it.
 #![tactic(auto)]
 
-mod bars;
-mod course;
-mod deferrals;
-mod drawing;
+mod draw_log;
+mod draw_text;
+mod draw_trace;
 mod error;
-mod legend;
-mod log_drawing;
-mod names;
-mod page;
+mod layout;
 mod part;
-mod pen;
-mod picture;
-mod seat;
-mod shapes;
-mod stays;
-mod ways;
-mod words;
+mod svg;
+mod timeline;
 
-pub use drawing::draw;
+pub use draw_log::draw_marks;
+pub use draw_trace::draw;
 pub use error::DrawError;
-pub use log_drawing::draw_marks;
 pub use part::Part;

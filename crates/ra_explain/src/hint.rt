@@ -1,11 +1,7 @@
 //! Hints about lines that belong elsewhere.
 
-/// The text for lines that begin with a prefix.
-#[derive(Clone, Copy)]
-pub struct Hint {
-    prefix: &'static str,
-    text: &'static str,
-}
+/// A prefix of lines, and the text for them.
+type Hint = (&'static str, &'static str);
 
 /// The hint for a text that begins with a byte order mark.
 const ENCODED: &str = "the text begins with a byte order mark, which is not allowed";
@@ -47,135 +43,42 @@ const FIRST: &str =
 /// The hint for a message without its kind.
 const KINDS: &str = "expected request or reply after deliver, lose or repeat";
 
-/// The hints for the first line of a trace.
-pub const AT_FIRST: &[Hint] = &[
-    Hint {
-        prefix: "\u{feff}",
-        text: ENCODED,
-    },
-    Hint {
-        prefix: "trace\t",
-        text: TAB,
-    },
-    Hint {
-        prefix: "trace 1\t",
-        text: TAB,
-    },
-    Hint {
-        prefix: "trace 2\t",
-        text: TAB,
-    },
-    Hint {
-        prefix: "trace",
-        text: FIRST,
-    },
-    Hint {
-        prefix: "nodes",
-        text: SCRIPT,
-    },
-    Hint {
-        prefix: "client",
-        text: SCRIPT,
-    },
-    Hint {
-        prefix: "[[client]]",
-        text: SCRIPT,
-    },
-    Hint {
-        prefix: "request",
-        text: REPORT,
-    },
-    Hint {
-        prefix: "finished ",
-        text: SURVEY,
-    },
-    Hint {
-        prefix: "stuck ",
-        text: SURVEY,
-    },
-    Hint {
-        prefix: "limit ",
-        text: SURVEY,
-    },
-    Hint {
-        prefix: "none",
-        text: NONE,
-    },
-    Hint {
-        prefix: "book ",
-        text: BOOK,
-    },
-    Hint {
-        prefix: "refused ",
-        text: REFUSAL,
-    },
+/// The hints for the first line of a trace and for a line of a mark log.
+pub const AT_BOTH: &[Hint] = &[
+    ("\u{feff}", ENCODED),
+    ("nodes", SCRIPT),
+    ("client", SCRIPT),
+    ("[[client]]", SCRIPT),
+    ("none", NONE),
+    ("book ", BOOK),
+    ("refused ", REFUSAL),
 ];
 
-/// The hints for a line of a mark log.
-pub const AT_MARKS: &[Hint] = &[
-    Hint {
-        prefix: "\u{feff}",
-        text: ENCODED,
-    },
-    Hint {
-        prefix: "trace ",
-        text: TRACE,
-    },
-    Hint {
-        prefix: "ask ",
-        text: TRACE,
-    },
-    Hint {
-        prefix: "nodes",
-        text: SCRIPT,
-    },
-    Hint {
-        prefix: "client",
-        text: SCRIPT,
-    },
-    Hint {
-        prefix: "[[client]]",
-        text: SCRIPT,
-    },
-    Hint {
-        prefix: "requests ",
-        text: TOTALS,
-    },
-    Hint {
-        prefix: "none",
-        text: NONE,
-    },
-    Hint {
-        prefix: "book ",
-        text: BOOK,
-    },
-    Hint {
-        prefix: "refused ",
-        text: REFUSAL,
-    },
+/// Further hints for the first line of a trace.
+pub const AT_FIRST: &[Hint] = &[
+    ("trace\t", TAB),
+    ("trace 1\t", TAB),
+    ("trace 2\t", TAB),
+    ("trace", FIRST),
+    ("request", REPORT),
+    ("finished ", SURVEY),
+    ("stuck ", SURVEY),
+    ("limit ", SURVEY),
 ];
+
+/// Further hints for a line of a mark log.
+pub const AT_MARKS: &[Hint] = &[("trace ", TRACE), ("ask ", TRACE), ("requests ", TOTALS)];
 
 /// The hints for a later line of a trace.
-pub const AT_LATER: &[Hint] = &[
-    Hint {
-        prefix: "deliver ",
-        text: KINDS,
-    },
-    Hint {
-        prefix: "lose ",
-        text: KINDS,
-    },
-    Hint {
-        prefix: "repeat ",
-        text: KINDS,
-    },
-];
+pub const AT_LATER: &[Hint] = &[("deliver ", KINDS), ("lose ", KINDS), ("repeat ", KINDS)];
 
-/// Returns the text of the first hint whose prefix the line begins with, or `None`.
-pub fn hint_at(hints: &[Hint], line: &[u8]) -> Option<&'static str> {
-    for hint in hints {
-        if line.starts_with(hint.prefix.as_bytes()) {
-            return Some(hint.text);
+/// Returns the text of the first hint of these lists whose prefix the line begins with, or `None`.
+pub fn hint_at(lists: &[&[Hint]], line: &[u8]) -> Option<&'static str> {
+    for hints in lists {
+        for (prefix, text) in *hints {
+            if line.starts_with(prefix.as_bytes()) {
+                return Some(text);
+            }
         }
     }
     None

@@ -27,6 +27,12 @@ to_place format = 2 + node_width format
 abbrev pub mode_place : Format → ℕ
 mode_place format = 2 + node_width format + node_width format
 
+-- where each field begins, from the version to the name
+abbrev pub places : Format → List ℕ
+places format =
+    let mode = mode_place format in
+    0 ∷ 1 ∷ 2 ∷ to_place format ∷ mode ∷ (mode + 1) ∷ (mode + 9) ∷ (mode + 17) ∷ (mode + 18) ∷ []
+
 -- nodes are numbered from 1 to this
 abbrev pub greatest_node : Format → ℕ
 greatest_node V1 = 16

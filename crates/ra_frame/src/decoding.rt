@@ -62,7 +62,7 @@ fn are_name_bytes(name: &[u8]) -> bool
 ///
 /// 1. `Short`: there is no byte.
 /// 2. `Version`: it is that of no version.
-fn format_of(bytes: &[u8]) -> Result<Format, FrameError>
+pub fn format_of(bytes: &[u8]) -> Result<Format, FrameError>
     ensures { result ≡ spec.format_of bytes.now }
 {
     match bytes.first() {

@@ -38,6 +38,26 @@ impl Format {
         }
     }
 
+    /// Returns where each field of a frame begins, in bytes counted from 0: the version, the kind, the sender, the receiver, the mode,
+    /// the sequence number, the clock, the length of the name, and the name. A field ends where the next one begins, and the name
+    /// has its length. It does not allocate.
+    pub fn places(self) -> [usize; 9]
+        ensures { result ≡ spec.places self }
+    {
+        let (to, mode) = (self.to_place(), self.mode_place());
+        [
+            0,
+            KIND,
+            FROM,
+            to,
+            mode,
+            mode + SEQ,
+            mode + CLOCK,
+            mode + NAME_LENGTH,
+            mode + NAME,
+        ]
+    }
+
     /// Returns the greatest number of a node. It does not allocate.
     pub fn max_node(self) -> u64
         ensures { result ≡ spec.greatest_node self }

@@ -9,8 +9,9 @@ mod format;
 mod frame;
 mod laws;
 
-pub use decoding::decode;
+pub use decoding::{decode, format_of};
 pub use encoding::{FrameBytes, MAX_FRAME, encode, encoded};
 pub use error::FrameError;
+pub use format::Format;
 pub use frame::Frame;
 pub use laws::{one_spelling, round_trip};

@@ -1,24 +1,19 @@
 -- A book with one more event, from what is kept of it.
-use Rattle.std.proofs.Common.{◌≡◌, ℕ, ◌+◌, ◌<◌, ◌≤◌, false, Option, List, [], ◌∷◌, ◌++◌, length, take, get_or, All, Result, Ok, Err, refl, sym, ap, ◌∙◌, subst, append_assoc, arith}
-use Rattle.std.specs.Prelude.{IfOk, OnErr, IsErrAnd, IsOkUnless, MatchOption, MatchResult}
-use Rattle.std.specs.Result.{result_ok}
+use Rattle.std.proofs.Common.{◌≡◌, ℕ, ◌+◌, ◌<◌, ◌≤◌, false, List, [], ◌∷◌, ◌++◌, length, take, get_or, All, Result, Ok, Err, refl, sym, ap, ◌∙◌, subst, append_assoc, arith}
+use Rattle.std.specs.Prelude.{IsOk, OnOk}
 use Rattle.std.proofs.lemmas.List.{map_more}
 use Rattle.ra_stamp.specs.declared.entry.Mark.{Mark}
 use Rattle.ra_stamp.specs.declared.message.Message.{Message}
 use Rattle.ra_frame.specs.declared.frame.Frame.{Frame}
 use Rattle.ra_frame.specs.Fits.{Fits}
-use Rattle.ra_frame.specs.FrameText.{IsFrameText}
 use Rattle.ra_automaton.specs.State.{IsForNode}
-use Rattle.ra_node.specs.declared.outcome.Outcome.{Outcome}
 use Rattle.ra_node.specs.Node.{NodeState, IsConsistentNode}
 use Rattle.ra_node.specs.Events.{NodeEvent, IsForThisNode}
-use Rattle.ra_history.specs.declared.error.BookError.{BookError}
-use Rattle.ra_history.specs.declared.error.BookError.TheVariants.{Memory}
-use Rattle.ra_history.specs.declared.event_effect.Posted.{Posted}
-use Rattle.ra_history.specs.declared.event.BookKind.{BookKind}
-use Rattle.ra_history.specs.declared.event.BookKind.TheVariants.{Asked, Gave, Got}
-use Rattle.ra_history.specs.declared.event.BookEvent.{BookEvent}
-use Rattle.ra_history.specs.declared.sent.Sent.{Sent}
+use Rattle.ra_history.specs.declared.book.event_effect.Posted.{Posted}
+use Rattle.ra_history.specs.declared.book.event.BookKind.{BookKind}
+use Rattle.ra_history.specs.declared.book.event.BookKind.TheVariants.{Asked, Gave, Got}
+use Rattle.ra_history.specs.declared.book.event.BookEvent.{BookEvent}
+use Rattle.ra_history.specs.declared.book.sent.Sent.{Sent}
 use Rattle.ra_history.specs.History.{node_event, frames_at}
 use Rattle.ra_history.specs.Book.{BookState, LeadsTo, HasHistory, HasClock, Adds, as_sent, next_clock, with_event}
 use Rattle.ra_history.specs.Keeping.{Keeps, IsForThisBook, ComesNext, Happens, Stays}
@@ -81,93 +76,65 @@ module _ (now book : BookState) (old new : NodeState) (clock : ℕ) (kind : Book
             → Keeps book old → IsForThisNode old (node_event kind) → NodeEvent old (node_event kind) sends marks new
             → HasClock book kind
             → Keeps (with_event book (next_clock book kind) kind (frames_at (next_clock book kind) sends)) new)
-            → (r : Result Posted BookError)
-            → MatchResult r (Happens old new book.events events book.sent sent (record { clock = clock; kind = kind })) (Stays old new book.events events book.sent sent)
+            → (posted : Posted) → Happens old new book.events events book.sent sent (record { clock = clock; kind = kind }) posted
             → Keeps (record book { events = events; sent = sent }) new
-        kept_after law (Ok posted) happens =
+        kept_after law posted happens =
             subst (λ (b : BookState). Keeps b new) (sym (after_event happens.sends happens.events_are happens.sent_are))
             (subst (λ (k : ℕ). Keeps (with_event book k kind (frames_at k happens.sends)) new) clock_is
             (law book old new kind happens.sends posted.marks.items keeps for_it happens.happens has_clock))
-        kept_after law (Err e) stays = same_kept book old new events sent keeps stays.events_are stays.sent_are stays.node_is
 
-        pub added :
+        pub added : (posted : Posted) → Happens old new book.events events book.sent sent (record { clock = clock; kind = kind }) posted
+            → Adds now kind posted.frames.items posted.marks.items (record book { events = events; sent = sent })
+        added posted happens = record {
+          before = old;
+          leads = subst (λ (b : BookState). LeadsTo b old) is keeps.leads;
+          sends = happens.sends;
+          after = new;
+          event = happens.happens;
+          frames_are = happens.frames_are ∙ ap (λ (k : ℕ). frames_at k happens.sends) next.clock_is;
+          new_is = after_event happens.sends happens.events_are happens.sent_are
+              ∙ (λ i. with_event (is i) (next.clock_is i) kind (sym happens.frames_are i));
+        }
+
+        pub added_fits :
             ((book : BookState) (old new : NodeState) (kind : BookKind) (sends : List Message) (marks : List Mark)
             → Keeps book old → IsForThisNode old (node_event kind) → NodeEvent old (node_event kind) sends marks new
             → HasClock book kind → ((frame : Frame) → kind ≡ Got frame → Fits frame)
             → All Fits (frames_at (next_clock book kind) sends))
-            → (r : Result Posted BookError)
-            → MatchResult r (Happens old new book.events events book.sent sent (record { clock = clock; kind = kind })) (Stays old new book.events events book.sent sent)
-            → MatchResult r
-            (λ posted. Adds now kind posted.frames.items posted.marks.items (record book { events = events; sent = sent })
-            × All Fits posted.frames.items)
-            (λ e. (e ≡ Memory) × (record book { events = events; sent = sent } ≡ now))
-        added law (Ok posted) happens = (
-          record {
-            before = old;
-            leads = subst (λ (b : BookState). LeadsTo b old) is keeps.leads;
-            sends = happens.sends;
-            after = new;
-            event = happens.happens;
-            frames_are = happens.frames_are ∙ ap (λ (k : ℕ). frames_at k happens.sends) next.clock_is;
-            new_is = after_event happens.sends happens.events_are happens.sent_are
-                ∙ (λ i. with_event (is i) (next.clock_is i) kind (sym happens.frames_are i));
-          },
-          subst (λ (fs : List Frame). All Fits fs) (ap (λ (k : ℕ). frames_at k happens.sends) clock_is ∙ sym happens.frames_are)
-              (law book old new kind happens.sends posted.marks.items keeps for_it happens.happens has_clock
-              (frame_fits now kind next.for_this_book)),
-        )
-        added law (Err e) stays = (stays.memory, (λ i. record book { events = stays.events_are i; sent = stays.sent_are i }) ∙ is)
+            → (posted : Posted) → Happens old new book.events events book.sent sent (record { clock = clock; kind = kind }) posted
+            → All Fits posted.frames.items
+        added_fits law posted happens =
+            subst (λ (fs : List Frame). All Fits fs) (ap (λ (k : ℕ). frames_at k happens.sends) clock_is ∙ sym happens.frames_are)
+            (law book old new kind happens.sends posted.marks.items keeps for_it happens.happens has_clock
+            (frame_fits now kind next.for_this_book))
+
+-- ---- No event
+
+pub kept_still : (book : BookState) (old new : NodeState) (events : List BookEvent) (sent : List Sent) → Keeps book old
+    → Stays old new book.events events book.sent sent → Keeps (record book { events = events; sent = sent }) new
+kept_still book old new events sent keeps stays = same_kept book old new events sent keeps stays.events_are stays.sent_are stays.node_is
+
+pub same_book : (now book : BookState) (old new : NodeState) (events : List BookEvent) (sent : List Sent) → book ≡ now
+    → Stays old new book.events events book.sent sent → record book { events = events; sent = sent } ≡ now
+same_book now book old new events sent is stays = (λ i. record book { events = stays.events_are i; sent = stays.sent_are i }) ∙ is
 
 -- ---- What comes of an event at the node
 
-pub stays_where : (node : NodeState) (event : BookEvent) {events events' : List BookEvent} {sent sent' : List Sent} → events' ≡ events → sent' ≡ sent
-    → (r : Result Posted BookError) → IsErrAnd r (λ x. x ≡ Memory)
-    → MatchResult r (Happens node node events events' sent sent' event) (Stays node node events events' sent sent')
-stays_where node event events_are sent_are (Ok posted) is = absurd is
-stays_where node event events_are sent_are (Err e) is = record { memory = is; node_is = refl; events_are = events_are; sent_are = sent_are }
+-- a call that succeeds did what it does
+pub is_done : {T E : Type 0} (A : Type 0) (r : Result T E) → IsOk r → OnOk r A → A
+is_done A (Ok v) ok done = done
+is_done A (Err e) ok done = absurd cc
 
-pub happens_where : {old new : NodeState} {event : BookEvent} {events before events' : List BookEvent} {sent room sent' : List Sent} {posted : Posted}
-    → (sends : List Message) (marks : List Mark) → before ≡ events → room ≡ sent → NodeEvent old (node_event event.kind) sends marks new
-    → events' ≡ before ++ event ∷ [] → sent' ≡ room ++ as_sent (frames_at event.clock sends)
-    → posted.frames.items ≡ frames_at event.clock sends → posted.marks.items ≡ marks
-    → Happens old new events events' sent sent' event posted
-happens_where {old} {new} {event} sends marks before_is room_is happens events_are sent_are frames_are marks_are = record {
-  sends = sends;
-  happens = subst (λ (ms : List Mark). NodeEvent old (node_event event.kind) sends ms new) (sym marks_are) happens;
-  events_are = events_are ∙ ap (λ (es : List BookEvent). es ++ event ∷ []) before_is;
-  sent_are = sent_are ∙ ap (λ (ss : List Sent). ss ++ as_sent (frames_at event.clock sends)) room_is;
-  frames_are = frames_are;
+-- lists that had grown before it had the same items
+pub happens_after : {old new : NodeState} {event : BookEvent} {events before events' : List BookEvent} {sent room sent' : List Sent} {posted : Posted}
+    → before ≡ events → room ≡ sent → Happens old new before events' room sent' event posted → Happens old new events events' sent sent' event posted
+happens_after {old} {new} {event} before_is room_is happens = record {
+  sends = happens.sends;
+  happens = happens.happens;
+  events_are = happens.events_are ∙ ap (λ (es : List BookEvent). es ++ event ∷ []) before_is;
+  sent_are = happens.sent_are ∙ ap (λ (ss : List Sent). ss ++ as_sent (frames_at event.clock happens.sends)) room_is;
+  frames_are = happens.frames_are;
 }
-
--- ---- What comes of an event, as the calls of a book say it
-
-module _ (old new : BookState) (kind : BookKind) where
-  -- the book has it, or there was no memory
-  abbrev pub Added : Result Posted BookError → Type 0
-  Added r =
-      MatchResult r (λ posted. Adds old kind posted.frames.items posted.marks.items new × All Fits posted.frames.items)
-      (λ e. (e ≡ Memory) × (new ≡ old))
-
-  pub added_memory : (r : Result Posted BookError) → Added r → IsOkUnless r Memory
-  added_memory (Ok posted) added = tt
-  added_memory (Err e) added = added.0
-
-  pub added_err : (r : Result Posted BookError) → Added r → OnErr r (new ≡ old)
-  added_err (Ok posted) added = tt
-  added_err (Err e) added = added.1
-
-  pub added_fits : (r : Result Posted BookError) → Added r → IfOk r (λ posted. All Fits posted.frames.items)
-  added_fits (Ok posted) added = added.1
-  added_fits (Err e) added = tt
-
-  pub added_ok : (r : Result Posted BookError) → Added r → IfOk r (λ posted. Adds old kind posted.frames.items posted.marks.items new)
-  added_ok (Ok posted) added = added.0
-  added_ok (Err e) added = tt
-
-pub added_frame : (old new : BookState) (bytes : List ℕ) (frame : Frame) → IsFrameText bytes frame → (r : Result Posted BookError) → Added old new (Got frame) r
-    → IfOk r (λ posted. (frame : Frame) × IsFrameText bytes frame × Adds old (Got frame) posted.frames.items posted.marks.items new)
-added_frame old new bytes frame text (Ok posted) added = (frame, text, added.0)
-added_frame old new bytes frame text (Err e) added = tt
 
 -- ---- Frames that are put one after the other
 
@@ -191,18 +158,3 @@ room_left old now count i capacity capacity' before same room more = omega (arit
 
 pub all_put : (old now count i : ℕ) → now ≡ old + i → i ≤ count → count ≤ i → now ≡ old + count
 all_put old now count i before low high = omega (arith, before, low, high)
-
--- ---- What comes of an event at the node
-
-pub happened : {E : Type 0} (old new : NodeState) (kind k : BookKind) (r : Result Outcome E) (found : Option Outcome) → found ≡ result_ok r → kind ≡ k
-    → IfOk r (λ outcome. NodeEvent old (node_event k) outcome.sends.items outcome.marks.items new) → OnErr r (new ≡ old)
-    → MatchOption found (new ≡ old) (λ outcome. NodeEvent old (node_event kind) outcome.sends.items outcome.marks.items new)
-happened {E} old new kind k r found found_is kind_is ok err =
-    subst (λ (f : Option Outcome). MatchOption f (new ≡ old) (λ outcome. NodeEvent old (node_event kind) outcome.sends.items outcome.marks.items new)) (sym found_is)
-    (subst (λ (x : BookKind). MatchOption (result_ok r) (new ≡ old) (λ outcome. NodeEvent old (node_event x) outcome.sends.items outcome.marks.items new)) (sym kind_is)
-    (by_result r ok err))
-  where
-    by_result : (r : Result Outcome E) → IfOk r (λ outcome. NodeEvent old (node_event k) outcome.sends.items outcome.marks.items new) → OnErr r (new ≡ old)
-        → MatchOption (result_ok r) (new ≡ old) (λ outcome. NodeEvent old (node_event k) outcome.sends.items outcome.marks.items new)
-    by_result (Ok outcome) ok err = ok
-    by_result (Err e) ok err = err

@@ -15,8 +15,8 @@ use Rattle.ra_world.specs.declared.step.Step.TheVariants.{Lose}
 use Rattle.ra_world.specs.Traffic.{Move, taken_in, sent_by, repeated_by}
 use Rattle.ra_world.specs.Run.{IsRun, WorldRun, events_at, happened_at}
 use Rattle.ra_world.specs.Fitting.{sent_in, happened_by, WasSentBy, NamesNode, FitTogether}
-use Rattle.ra_history.specs.declared.event.BookKind.{BookKind}
-use Rattle.ra_history.specs.declared.event.BookKind.TheVariants.{Asked, Gave, Got}
+use Rattle.ra_history.specs.declared.book.event.BookKind.{BookKind}
+use Rattle.ra_history.specs.declared.book.event.BookKind.TheVariants.{Asked, Gave, Got}
 use Rattle.ra_history.specs.History.{node_event, happening_of}
 use Rattle.ra_history.specs.Book.{BookState, nothing_taken, HasHistory}
 use Rattle.ra_history.specs.Settled.{IsCluster, IsSettledOrder, Placed, WasSent, BooksFit, events_of, step_at, steps_of, all_lost, lost_among, all_received, settled_steps, start_of}
@@ -213,8 +213,8 @@ module _ (books : List BookState) (placed : List Placed) (cluster : IsCluster bo
         → (moves : List Move) × (map (λ move. move.step) moves ≡ steps) × IsRun n start moves × ((i : ℕ) → 1 ≤ i → i ≤ n → happened_at i moves ≡ happened i))
         (differ : (n start : ℕ) (moves : List Move) → IsNodeNumber n → IsRun n start moves → repeated_by moves ≡ [] → AreDifferent (sent_by moves))
         (own : All (λ b. All (λ s. from_of s.frame.message ≡ b.me) b.sent) books) where
-      came_once : AreDifferent (delivered placed)
-      came_once = delivered_apart books placed cluster histories order came
+      has_no_duplicates : AreDifferent (delivered placed)
+      has_no_duplicates = delivered_apart books placed cluster histories order came
 
       -- the events alone are a run, so all messages that a book sent are different
       abbrev Ran : List Step → Type 0
@@ -222,7 +222,7 @@ module _ (books : List BookState) (placed : List Placed) (cluster : IsCluster bo
 
       events_ran : Ran (steps_of placed ++ losses [])
       events_ran = fitting n start (steps_of placed ++ losses []) happens count
-          (fit [] (All-nil WentOut) (subst AreDifferent (sym (append-nil (delivered placed))) came_once))
+          (fit [] (All-nil WentOut) (subst AreDifferent (sym (append-nil (delivered placed))) has_no_duplicates))
 
       sent_there : (k : ℕ) (d : BookState) → k < n → sent_in (happens (k + 1)) ≡ messages_of (get_or books k d)
       sent_there k d low =
@@ -247,7 +247,7 @@ module _ (books : List BookState) (placed : List Placed) (cluster : IsCluster bo
       settled_ran : Ran (settled_steps books placed)
       settled_ran = fitting n start (settled_steps books placed) happens count
           (fit (all_lost books) lost_went_out
-          (all_apart books cluster own each_different placed (sent_all books placed cluster histories order all_sent) came_once))
+          (all_apart books cluster own each_different placed (sent_all books placed cluster histories order all_sent) has_no_duplicates))
 
       pub is_run : WorldRun n start (settled_steps books placed)
       is_run = (settled_ran.0, settled_ran.1, settled_ran.2)

@@ -1,6 +1,6 @@
 -- The clock of a node after more events.
 use Rattle.std.proofs.Common.{◌≡◌, ℕ, List, [], ◌∷◌, ◌++◌, refl}
-use Rattle.ra_history.specs.declared.event.BookEvent.{BookEvent}
+use Rattle.ra_history.specs.declared.book.event.BookEvent.{BookEvent}
 use Rattle.ra_history.specs.History.{clock_from}
 
 pub clock_append : (clock : ℕ) (xs ys : List BookEvent) → clock_from clock (xs ++ ys) ≡ clock_from (clock_from clock xs) ys

@@ -15,8 +15,8 @@ use Rattle.ra_world.specs.Run.{events_at}
 use Rattle.ra_world.specs.Fitting.{TellsApart}
 use Rattle.ra_world.proofs.Lists.{head_of, tail_of}
 use Rattle.ra_world.proofs.Times.{times, times_append, there_once}
-use Rattle.ra_history.specs.declared.event.BookKind.{BookKind}
-use Rattle.ra_history.specs.declared.event.BookKind.TheVariants.{Asked, Gave, Got}
+use Rattle.ra_history.specs.declared.book.event.BookKind.{BookKind}
+use Rattle.ra_history.specs.declared.book.event.BookKind.TheVariants.{Asked, Gave, Got}
 use Rattle.ra_history.specs.Settled.{Placed, frames_in, step_at, steps_of}
 use Rattle.ra_history.specs.Repeats.{ComesBy, AreCopiesBefore, AreWithCopies, frames_by}
 use Rattle.ra_history.proofs.Distinct.{AreDifferent, pairs_first, pairs_rest}

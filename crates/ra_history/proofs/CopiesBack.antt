@@ -7,10 +7,10 @@ use Rattle.std.proofs.lemmas.List.Elements.{All-nil, All-cons, Contains-push, Co
 use Rattle.ra_frame.specs.declared.frame.Frame.{Frame}
 use Rattle.ra_world.specs.declared.step.Step.{Step}
 use Rattle.ra_world.specs.declared.step.Step.TheVariants.{Repeat}
-use Rattle.ra_history.specs.declared.event.BookKind.{BookKind}
-use Rattle.ra_history.specs.declared.event.BookKind.TheVariants.{Asked, Gave, Got}
-use Rattle.ra_history.specs.declared.event_merge.PlacedEvent.{PlacedEvent}
-use Rattle.ra_history.specs.declared.keys.FrameKey.{FrameKey}
+use Rattle.ra_history.specs.declared.book.event.BookKind.{BookKind}
+use Rattle.ra_history.specs.declared.book.event.BookKind.TheVariants.{Asked, Gave, Got}
+use Rattle.ra_history.specs.declared.settle_books.event_merge.PlacedEvent.{PlacedEvent}
+use Rattle.ra_history.specs.declared.settle_books.order_keys.FrameKey.{FrameKey}
 use Rattle.ra_history.specs.EventMerge.{placed_at, all_placed_at}
 use Rattle.ra_history.specs.Keys.{HasKeys, frame_key}
 use Rattle.ra_history.specs.Settled.{Placed, frames_in, step_at}

@@ -9,7 +9,7 @@ use Rattle.ra_world.specs.World.{Reports}
 use Rattle.ra_world.specs.MainTheorem.{MainTheorem}
 use Rattle.ra_history.specs.declared.error.SettleError.{SettleError}
 use Rattle.ra_history.specs.declared.error.SettleError.TheVariants.{NotSent, Memory}
-use Rattle.ra_history.specs.declared.settled.Settled.{Settled}
+use Rattle.ra_history.specs.declared.settle_books.settled.Settled.{Settled}
 use Rattle.ra_history.specs.Book.{BookState, HasHistory}
 use Rattle.ra_history.specs.Settled.{IsCluster, IsSettledOrder, Placed, HasUnsent, all_lost, start_of}
 use Rattle.ra_history.specs.Repeats.{AreWithCopies, IsSettledRunWithCopies}

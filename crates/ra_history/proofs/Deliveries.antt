@@ -12,9 +12,9 @@ use Rattle.ra_node.specs.Events.{Happening}
 use Rattle.ra_world.specs.Traffic.{taken_in}
 use Rattle.ra_world.specs.Run.{events_at}
 use Rattle.ra_world.specs.Fitting.{sent_in, happened_by, WasSentBy}
-use Rattle.ra_history.specs.declared.event.BookKind.{BookKind}
-use Rattle.ra_history.specs.declared.event.BookKind.TheVariants.{Asked, Gave, Got}
-use Rattle.ra_history.specs.declared.event.BookEvent.{BookEvent}
+use Rattle.ra_history.specs.declared.book.event.BookKind.{BookKind}
+use Rattle.ra_history.specs.declared.book.event.BookKind.TheVariants.{Asked, Gave, Got}
+use Rattle.ra_history.specs.declared.book.event.BookEvent.{BookEvent}
 use Rattle.ra_history.specs.History.{AreClocked, clock_after, node_event, happening_of, frames_of}
 use Rattle.ra_history.specs.Book.{BookState, nothing_taken}
 use Rattle.ra_history.specs.Keys.{messages_among}

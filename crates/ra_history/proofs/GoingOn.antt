@@ -9,7 +9,7 @@ use Rattle.ra_automaton.specs.Steps.{greatest_number}
 use Rattle.ra_node.specs.Node.{NodeState}
 use Rattle.ra_node.specs.Events.{Event, Happening}
 use Rattle.ra_node.specs.Events.Event.{Ask as AskedFor}
-use Rattle.ra_world.specs.declared.report.Report.{Report}
+use Rattle.ra_world.specs.declared.text.report.Report.{Report}
 use Rattle.ra_world.specs.declared.step.Step.{Step}
 use Rattle.ra_world.specs.declared.step.Step.TheVariants.{Ask}
 use Rattle.ra_world.specs.Traffic.{Move, LeavesUnderWay, lost_by}
@@ -20,10 +20,10 @@ use Rattle.ra_world.specs.MainTheorem.{IsQuietReport}
 use Rattle.ra_world.proofs.Moves.{at_node, fits_split}
 use Rattle.ra_schedule.specs.Orderly.{HoldsName, WaitsForName, IsInOrder, TakeNamesInOrder}
 use Rattle.ra_schedule.specs.Orderly as any
-use Rattle.ra_history.specs.declared.event.BookEvent.{BookEvent}
-use Rattle.ra_history.specs.declared.event.BookKind.{BookKind}
-use Rattle.ra_history.specs.declared.event.BookKind.TheVariants.{Asked, Gave, Got}
-use Rattle.ra_history.specs.declared.sent.Sent.{Sent}
+use Rattle.ra_history.specs.declared.book.event.BookEvent.{BookEvent}
+use Rattle.ra_history.specs.declared.book.event.BookKind.{BookKind}
+use Rattle.ra_history.specs.declared.book.event.BookKind.TheVariants.{Asked, Gave, Got}
+use Rattle.ra_history.specs.declared.book.sent.Sent.{Sent}
 use Rattle.ra_history.specs.History.{IsHistory, node_event}
 use Rattle.ra_history.specs.Book.{BookState, whole_events, HasHistory, LeadsTo}
 use Rattle.ra_history.specs.Settled.{IsCluster, IsSettledRun, start_of}

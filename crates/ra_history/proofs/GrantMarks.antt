@@ -9,8 +9,8 @@ use Rattle.ra_stamp.specs.declared.entry.Mark.{Mark}
 use Rattle.ra_stamp.specs.declared.entry.Mark.TheVariants.{Requested, Entered, Left}
 use Rattle.ra_history.specs.declared.error.SettleError.{SettleError}
 use Rattle.ra_history.specs.declared.error.SettleError.TheVariants.{NotSent, Twice, GrantMissing, GrantTwice, Memory}
-use Rattle.ra_history.specs.declared.grant.Grant.{Grant}
-use Rattle.ra_history.specs.declared.keys.EntryKey.{EntryKey}
+use Rattle.ra_history.specs.declared.book.grant.Grant.{Grant}
+use Rattle.ra_history.specs.declared.settle_books.order_keys.EntryKey.{EntryKey}
 use Rattle.ra_history.specs.Keys.{HasKeys, entered_in, entry_key}
 use Rattle.ra_history.specs.Settled.{Repeats}
 use Rattle.ra_history.specs.SettlingParts.{RefusesGrants, RefusesRepeats}

@@ -7,8 +7,8 @@ use Rattle.ra_stamp.specs.declared.message.Message.{Message}
 use Rattle.ra_frame.specs.declared.frame.Frame.{Frame}
 use Rattle.ra_node.specs.Events.{Event, Happening}
 use Rattle.ra_world.specs.Fitting.{sent_in}
-use Rattle.ra_history.specs.declared.event.BookEvent.{BookEvent}
-use Rattle.ra_history.specs.declared.sent.Sent.{Sent}
+use Rattle.ra_history.specs.declared.book.event.BookEvent.{BookEvent}
+use Rattle.ra_history.specs.declared.book.sent.Sent.{Sent}
 use Rattle.ra_history.specs.History.{Posting, happening_of, node_event, frames_at, frames_of}
 use Rattle.ra_history.specs.Book.{BookState}
 use Rattle.ra_history.proofs.Distinct.{all_of_map, in_map}

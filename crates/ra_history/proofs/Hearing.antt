@@ -12,7 +12,7 @@ use Rattle.ra_frame.specs.FrameText.{IsFrameText}
 use Rattle.ra_automaton.specs.State.{IsForNode}
 use Rattle.ra_history.specs.declared.error.BookError.{BookError}
 use Rattle.ra_history.specs.declared.error.BookError.TheVariants.{Failed, Frame, Busy, Exhausted, NotHeld, WrongNode, Stranger, ClockFull, Memory}
-use Rattle.ra_history.specs.declared.event.BookKind.TheVariants.{Got}
+use Rattle.ra_history.specs.declared.book.event.BookKind.TheVariants.{Got}
 use Rattle.ra_history.specs.History.{clock_after, clock_of}
 use Rattle.ra_history.specs.Book.{BookState, whole_events, HasHistory, HasClock, Hears}
 use Rattle.ra_history.specs.Keeping.{ComesNext, IsChecked, AnswersReceive, IsFrameFor, IsHeard, NotHeard}
@@ -207,7 +207,7 @@ module _ (book : BookState) (bytes : List ℕ) where
     wrong_node = passed x e WrongNode h answers.wrong_node;
     stranger = passed x e Stranger h answers.stranger;
     clock_full = passed x e ClockFull h answers.clock_full;
-    allowed = passed_allowed T S x e h answers.allowed;
+    allowed = passed_allowed T S x e Memory h answers.allowed;
   }
 
   pub receive_added : {T S : Type 0} (v : T) → AnswersReceive book bytes (Ok v)

@@ -7,9 +7,9 @@ use Rattle.ra_stamp.specs.declared.message.Message.{Message}
 use Rattle.ra_frame.specs.declared.frame.Frame.{Frame}
 use Rattle.ra_node.specs.Node.{NodeState, opening_node}
 use Rattle.ra_node.specs.Events.{Event, Happening, NodeEvent, NodeEvents, IsForThisNode}
-use Rattle.ra_history.specs.declared.event.BookKind.{BookKind}
-use Rattle.ra_history.specs.declared.event.BookEvent.{BookEvent}
-use Rattle.ra_history.specs.declared.sent.Sent.{Sent}
+use Rattle.ra_history.specs.declared.book.event.BookKind.{BookKind}
+use Rattle.ra_history.specs.declared.book.event.BookEvent.{BookEvent}
+use Rattle.ra_history.specs.declared.book.sent.Sent.{Sent}
 use Rattle.ra_history.specs.History.{Posting, IsHistory, AreClocked, node_event, happening_of, clock_after, clock_from, clock_of, frames_at, frames_of}
 use Rattle.ra_history.specs.Book.{as_sent}
 
@@ -81,6 +81,19 @@ goes_on step me n start events sent old new kind sends marks history for_it happ
           (step (map happening_of history.postings) (node_event kind) sends marks opened old new history.leads happens);
       sent_are = map-append (λ (s : Sent). s.frame) sent (as_sent frames)
           ∙ (λ i. history.sent_are i ++ frames_as_sent frames i) ∙ sym (frames_of-push history.postings posting);
+    }
+
+-- what is known to be lost does not matter
+pub flagged : (me n start : ℕ) (events : List BookEvent) (sent sent' : List Sent) (node : NodeState) → IsHistory me n start events sent node
+    → map (λ (s : Sent). s.frame) sent' ≡ map (λ (s : Sent). s.frame) sent → IsHistory me n start events sent' node
+flagged me n start events sent sent' node history same =
+    record {
+      clocked = history.clocked;
+      postings = history.postings;
+      events_are = history.events_are;
+      for_this_node = history.for_this_node;
+      leads = history.leads;
+      sent_are = same ∙ history.sent_are;
     }
 
 -- ---- The events decide the rest

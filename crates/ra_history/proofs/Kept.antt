@@ -13,11 +13,11 @@ use Rattle.ra_node.specs.Node.{NodeState, opening_node, IsConsistentNode}
 use Rattle.ra_node.specs.Events.{Event, Happening, name_of_event, NodeEvent, NodeEvents, IsForThisNode, AreForThisNode}
 use Rattle.ra_node.specs.Events.Event.{Ask, Leave, Receive}
 use Rattle.ra_node.specs.Carried.{IsSend, sends_at_most, marks_at_most}
-use Rattle.ra_history.specs.declared.event.BookKind.{BookKind}
-use Rattle.ra_history.specs.declared.event.BookKind.TheVariants.{Asked, Gave, Got}
-use Rattle.ra_history.specs.declared.event.BookEvent.{BookEvent}
-use Rattle.ra_history.specs.declared.sent.Sent.{Sent}
-use Rattle.ra_history.specs.declared.stop.Stop.{Stop}
+use Rattle.ra_history.specs.declared.book.event.BookKind.{BookKind}
+use Rattle.ra_history.specs.declared.book.event.BookKind.TheVariants.{Asked, Gave, Got}
+use Rattle.ra_history.specs.declared.book.event.BookEvent.{BookEvent}
+use Rattle.ra_history.specs.declared.book.sent.Sent.{Sent}
+use Rattle.ra_history.specs.declared.book.stop.Stop.{Stop}
 use Rattle.ra_history.specs.History.{IsHistory, node_event, happening_of, clock_after, clock_of, frames_at}
 use Rattle.ra_history.specs.Book.{BookState, TakenState, opening_book, whole_events, whole_sent, with_all_taken, LeadsTo, HasHistory, HasClock, as_sent, next_clock, with_event}
 use Rattle.ra_history.specs.Keeping.{Keeps, answers_to, sends_by}

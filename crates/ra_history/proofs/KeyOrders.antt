@@ -10,9 +10,9 @@ use Rattle.ra_stamp.specs.declared.entry.Entry.{Entry}
 use Rattle.ra_stamp.specs.declared.message.Message.{Message}
 use Rattle.ra_stamp.specs.declared.message.Message.TheVariants.{Request, Reply}
 use Rattle.ra_frame.specs.declared.frame.Frame.{Frame}
-use Rattle.ra_history.specs.declared.keys.EntryKey.{EntryKey}
-use Rattle.ra_history.specs.declared.keys.FrameKey.{FrameKey}
-use Rattle.ra_history.specs.declared.keys.MessageKey.{MessageKey}
+use Rattle.ra_history.specs.declared.settle_books.order_keys.EntryKey.{EntryKey}
+use Rattle.ra_history.specs.declared.settle_books.order_keys.FrameKey.{FrameKey}
+use Rattle.ra_history.specs.declared.settle_books.order_keys.MessageKey.{MessageKey}
 use Rattle.ra_history.specs.Keys.{mode_number, entry_key, message_key, frame_key}
 
 -- a pair of orders, one after the other

@@ -43,3 +43,5 @@ pub mod CopiesBack
 mod CopiesSettled
 mod Departing
 mod TakenEvents
+mod KeptLaws
+mod SettlingLaws

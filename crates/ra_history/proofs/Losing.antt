@@ -8,7 +8,7 @@ use Rattle.ra_stamp.proofs.Places.{split_at}
 use Rattle.ra_frame.specs.declared.frame.Frame.{Frame}
 use Rattle.ra_history.specs.declared.error.MarkLostError.{MarkLostError}
 use Rattle.ra_history.specs.declared.error.MarkLostError.TheVariants.{NotSent, AlreadyLost}
-use Rattle.ra_history.specs.declared.sent.Sent.{Sent}
+use Rattle.ra_history.specs.declared.book.sent.Sent.{Sent}
 use Rattle.ra_history.specs.Book.{BookState, IsFirst, Loses}
 use Rattle.ra_history.specs.Keeping.{IsFlagged}
 

@@ -9,7 +9,7 @@ use Rattle.std.proofs.lemmas.List.Elements.{All-head, All-tail, All-map, All-fil
 use Rattle.ra_stamp.specs.declared.message.Message.{Message}
 use Rattle.ra_stamp.specs.Message.{from_of}
 use Rattle.ra_frame.specs.declared.frame.Frame.{Frame}
-use Rattle.ra_history.specs.declared.sent.Sent.{Sent}
+use Rattle.ra_history.specs.declared.book.sent.Sent.{Sent}
 use Rattle.ra_history.specs.Book.{BookState}
 use Rattle.ra_history.specs.Settled.{IsCluster, Placed, WasSent, lost_among, all_lost, frames_in}
 use Rattle.ra_history.proofs.Merging.{number_at}

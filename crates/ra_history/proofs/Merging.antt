@@ -9,9 +9,9 @@ use Rattle.std.proofs.lemmas.List.Quantifiers.{all_pairs_push}
 use Rattle.std.proofs.lemmas.List.FromFn.{get_or-range_with_len}
 use Rattle.std.proofs.lemmas.Option.{slice_get_within, get_or_from_slice_get, slice_get-get_or, slice_get_read, same_Some, none-some}
 use Rattle.ra_world.specs.declared.step.Step.{Step}
-use Rattle.ra_history.specs.declared.event.BookEvent.{BookEvent}
-use Rattle.ra_history.specs.declared.event_merge.PlacedEvent.{PlacedEvent}
-use Rattle.ra_history.specs.declared.event_merge.Turn.{Turn}
+use Rattle.ra_history.specs.declared.book.event.BookEvent.{BookEvent}
+use Rattle.ra_history.specs.declared.settle_books.event_merge.PlacedEvent.{PlacedEvent}
+use Rattle.ra_history.specs.declared.settle_books.event_merge.Turn.{Turn}
 use Rattle.ra_history.specs.Book.{BookState, IsWhole, HasHistory}
 use Rattle.ra_history.specs.Settled.{IsCluster, IsSettledOrder, Placed, IsBefore, events_of, steps_of, step_at}
 use Rattle.ra_history.specs.EventMerge.{IsNextOfBook, IsNotAfter, IsEarliest, with_one_more, placed_at, all_placed_at}

@@ -5,10 +5,10 @@ use Rattle.std.specs.Vec.{with_items}
 use Rattle.std.proofs.lemmas.Bool.{cases_eq}
 use Rattle.std.proofs.lemmas.List.{get_or-map, get_or-set_same, get_or-set_other, length-set, length-map, map-set, map_push, take_more, with_items_is}
 use Rattle.std.proofs.lemmas.Option.{slice_get_cases, slice_get_within, slice_get_read, get_or_from_slice_get, same_Some, none-some}
-use Rattle.ra_history.specs.declared.event.BookEvent.{BookEvent}
-use Rattle.ra_history.specs.declared.event_merge.Head.{Head}
-use Rattle.ra_history.specs.declared.event_merge.Next.{Next}
-use Rattle.ra_history.specs.declared.event_merge.Turn.{Turn}
+use Rattle.ra_history.specs.declared.book.event.BookEvent.{BookEvent}
+use Rattle.ra_history.specs.declared.settle_books.event_merge.Head.{Head}
+use Rattle.ra_history.specs.declared.settle_books.event_merge.Next.{Next}
+use Rattle.ra_history.specs.declared.settle_books.event_merge.Turn.{Turn}
 use Rattle.ra_history.specs.Book.{BookState}
 use Rattle.ra_history.specs.EventMerge.{IsEarliest, IsHeadOfEarliest, AreNext, taken_of, with_one_more, next_of_book, lesser_of}
 use Rattle.ra_history.proofs.Taking.{head_more, head_same, head_within, head_is_next, turn_of_head, clock_is_next, no_clock_no_next, no_next}

@@ -18,7 +18,7 @@ use Rattle.ra_world.specs.declared.step.Step.{Step}
 use Rattle.ra_world.specs.declared.step.Step.TheVariants.{Ask, Leave, Deliver, Lose, Repeat}
 use Rattle.ra_world.specs.Traffic.{Move, IsUnderWay}
 use Rattle.ra_world.specs.Run.{IsRun, IsFit, AreFit, events_at, happened_at, marks_of}
-use Rattle.ra_history.specs.declared.event.BookEvent.{BookEvent}
+use Rattle.ra_history.specs.declared.book.event.BookEvent.{BookEvent}
 use Rattle.ra_history.specs.History.{IsHistory, Posting, happening_of, node_event, frames_of}
 use Rattle.ra_history.specs.Book.{BookState, as_sent}
 use Rattle.ra_history.specs.Settled.{marks_in}

@@ -16,9 +16,9 @@ use Rattle.ra_node.specs.Events.Event.{Receive as Received}
 use Rattle.ra_world.specs.declared.step.Step.TheVariants.{Lose}
 use Rattle.ra_world.specs.Traffic.{Move, lost_in, lost_by, repeated_in, repeated_by}
 use Rattle.ra_world.specs.Run.{IsRun, events_at, happened_at}
-use Rattle.ra_history.specs.declared.event.BookKind.{BookKind}
-use Rattle.ra_history.specs.declared.event.BookKind.TheVariants.{Asked, Gave, Got}
-use Rattle.ra_history.specs.declared.event.BookEvent.{BookEvent}
+use Rattle.ra_history.specs.declared.book.event.BookKind.{BookKind}
+use Rattle.ra_history.specs.declared.book.event.BookKind.TheVariants.{Asked, Gave, Got}
+use Rattle.ra_history.specs.declared.book.event.BookEvent.{BookEvent}
 use Rattle.ra_history.specs.History.{happening_of, node_event}
 use Rattle.ra_history.specs.Book.{BookState, nothing_taken}
 use Rattle.ra_history.specs.Settled.{IsCluster, IsSettledOrder, IsSettledRun, Placed, events_of, step_at, steps_of, settled_steps, all_lost, start_of}

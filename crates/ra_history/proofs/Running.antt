@@ -1,6 +1,7 @@
 -- What a book answers to an event, in words of the node that is kept, and how the answer is passed on.
-use Rattle.std.proofs.Common.{◌≡◌, ◌≢◌, ◌↔◌, ℕ, ◌^◌, ◌<◌, ◌≤◌, Bool, false, true, Option, Some, None, List, Result, Ok, Err, refl, sym, ap, ◌∙◌, subst, arith}
-use Rattle.std.specs.Prelude.{IsErrAnd, IsErrOf, IsOkUnless, IsSome, IsTrue, is_some, MatchResult}
+use Rattle.std.proofs.Common.{◌≡◌, ◌≢◌, ◌↔◌, ℕ, ◌^◌, ◌<◌, ◌≤◌, Bool, false, true, Option, Some, None, List, [], Result, Ok, Err, refl, sym, ap, ◌∙◌, subst, arith}
+use Rattle.std.specs.Prelude.{IfOk, IfSome, OnErr, IsErrAnd, IsErrOf, IsOkUnless, IsSome, IsTrue, is_some, MatchResult}
+use Rattle.std.specs.Result.{result_ok}
 use Rattle.ra_stamp.specs.declared.entry.Entry.{Entry}
 use Rattle.ra_stamp.specs.declared.mode.Mode.{Mode}
 use Rattle.ra_automaton.specs.Steps.{greatest_number}
@@ -11,13 +12,13 @@ use Rattle.ra_node.specs.Turns.{MayAsk}
 use Rattle.ra_node.specs.Node.{NodeState, resource_at}
 use Rattle.ra_history.specs.declared.error.BookError.{BookError}
 use Rattle.ra_history.specs.declared.error.BookError.TheVariants.{Failed, Busy, Exhausted, NotHeld, ClockFull, Memory}
-use Rattle.ra_history.specs.declared.event.BookKind.{BookKind}
-use Rattle.ra_history.specs.declared.event.BookKind.TheVariants.{Asked, Gave}
-use Rattle.ra_history.specs.declared.stop.Stop.{Stop}
+use Rattle.ra_history.specs.declared.book.event.BookKind.{BookKind}
+use Rattle.ra_history.specs.declared.book.event.BookKind.TheVariants.{Asked, Gave}
+use Rattle.ra_history.specs.declared.book.stop.Stop.{Stop}
 use Rattle.ra_history.specs.Refused.{refusal_of_ask}
 use Rattle.ra_history.specs.History.{clock_after, clock_of}
 use Rattle.ra_history.specs.Book.{BookState, whole_events, LeadsTo, HasHistory, HasClock, Runs}
-use Rattle.ra_history.specs.Keeping.{Keeps, IsForThisBook, ComesNext, IsChecked, AnswersAsk, AnswersLeave}
+use Rattle.ra_history.specs.Keeping.{Keeps, IsForThisBook, ComesNext, HasNextClock, IsChecked, AnswersAsk, AnswersNodeAsk, RefusesAsk, AnswersLeave}
 
 -- a book leads to one node, so what is said of that node is said of the one that is kept
 pub runs_is :
@@ -73,6 +74,22 @@ comes_next book clock kind for_it is next comes =
       for_this_book = for_it;
     }
 
+-- the clock that comes next is that of an event of a book without a fault
+pub next_is_ok : (book : BookState) (kind : BookKind) → book.fault ≡ None → (clock : ℕ) → clock ≡ clock_of (whole_events book)
+    → (r : Result ℕ BookError) → ComesAt clock kind r → (found : Option ℕ) → found ≡ result_ok r → IfSome found (HasNextClock book kind)
+next_is_ok book kind none clock is r comes found found_is = subst (λ (o : Option ℕ). IfSome o (HasNextClock book kind)) (sym found_is) (by_clock r comes)
+  where
+    by_clock : (r : Result ℕ BookError) → ComesAt clock kind r → IfSome (result_ok r) (HasNextClock book kind)
+    by_clock (Ok next) comes = record {
+      no_fault = none;
+      clock_is = comes.0 ∙ ap (λ (k : ℕ). clock_after k kind) is;
+      has_clock = has_next book clock kind is (Ok next) comes;
+    }
+    by_clock (Err e) comes = tt
+
+pub comes_as : (book : BookState) (kind : BookKind) (clock : ℕ) → HasNextClock book kind clock → IsForThisBook book kind → ComesNext book clock kind
+comes_as book kind clock is for_it = record { clock_is = is.clock_is; has_clock = is.has_clock; for_this_book = for_it }
+
 -- ---- What a check answers
 
 module _ {T : Type 0} (book : BookState) (Next : T → Type 0) (history : HasHistory book) where
@@ -102,15 +119,46 @@ checked_next book clock kind history for_it is (Err e) comes =
 
 -- ---- An answer that is passed on
 
+-- a refusal returns nothing
+pub not_ok : {T E : Type 0} (Q : E → Type 0) (P : T → Type 0) (r : Result T E) → IsErrAnd r Q → IfOk r P
+not_ok Q P (Ok v) is = absurd is
+not_ok Q P (Err e) is = tt
+
+pub match_err : {T E : Type 0} (Q : E → Type 0) (P : T → Type 0) (A : Type 0) (r : Result T E) → IsErrAnd r Q → A → MatchResult r P (λ _. A)
+match_err Q P A (Ok v) is h = absurd is
+match_err Q P A (Err e) is h = h
+
+pub on_err : {T E : Type 0} (A : Type 0) (r : Result T E) → A → OnErr r A
+on_err A (Ok v) h = tt
+on_err A (Err e) h = h
+
 -- by an error that is the same
-pub passed : {T S Q : Type 0} (x e cause : BookError) → x ≡ e → IsErrOf {T = T} (Err e) cause ↔ Q → IsErrOf {T = S} (Err x) cause ↔ Q
+pub passed : {T S Q E : Type 0} (x e cause : E) → x ≡ e → IsErrOf {T = T} (Err e) cause ↔ Q → IsErrOf {T = S} (Err x) cause ↔ Q
 passed x e cause h is = (
   λ h'. is.0 (let same : e ≡ cause = cc in ap Err same),
   λ q. let same = is.1 q in cc,
 )
 
-pub passed_allowed : (T S : Type 0) {Q : Type 0} (x e : BookError) → x ≡ e → IsOkUnless {T = T} (Err e) Memory ↔ Q → IsOkUnless {T = S} (Err x) Memory ↔ Q
-passed_allowed T S x e h is = (λ m. is.0 (sym h ∙ m), λ q. h ∙ is.1 q)
+pub passed_allowed : (T S : Type 0) {Q E : Type 0} (x e memory : E) → x ≡ e → IsOkUnless {T = T} (Err e) memory ↔ Q → IsOkUnless {T = S} (Err x) memory ↔ Q
+passed_allowed T S x e memory h is = (λ m. is.0 (sym h ∙ m), λ q. h ∙ is.1 q)
+
+-- by a node
+pub node_passed : {T S : Type 0} (node : NodeState) (client : ℕ) (name : List ℕ) (e : AskError) → AnswersNodeAsk {T = T} node client name (Err e)
+    → (r : Result S AskError) → IsErrAnd r (λ x. x ≡ e) → AnswersNodeAsk node client name r
+node_passed {T} {S} node client name e answers (Ok v) h = absurd h
+node_passed {T} {S} node client name e answers (Err x) h = record {
+  busy = passed x e ask.Busy h answers.busy;
+  exhausted = passed x e ask.Exhausted h answers.exhausted;
+  allowed = passed_allowed T S x e ask.Memory h answers.allowed;
+}
+
+pub node_made : {T S : Type 0} (node : NodeState) (client : ℕ) (name : List ℕ) (v : T) → AnswersNodeAsk {T = T} node client name (Ok v)
+    → (w : S) → AnswersNodeAsk {T = S} node client name (Ok w)
+node_made node client name v answers w = record {
+  busy = (λ is. absurd (cc), λ is_busy. let no = answers.busy.1 is_busy in absurd (cc));
+  exhausted = (λ is. absurd (cc), λ is_exhausted. let no = answers.exhausted.1 is_exhausted in absurd (cc));
+  allowed = (λ _. answers.allowed.0 tt, λ _. tt);
+}
 
 -- by what is allowed, which stops only if memory runs out
 pub other : {T S Q : Type 0} (v : T) (r : Result S BookError) (cause : BookError) → IsOkUnless r Memory → cause ≢ Memory → IsErrOf (Ok v) cause ↔ Q → IsErrOf r cause ↔ Q
@@ -135,11 +183,21 @@ module _ (book : BookState) (client : ℕ) (name : List ℕ) (mode : Mode) where
     allowed = (λ is. absurd (cc), λ runs. absurd (has_fault book.fault some runs.no_fault));
   }
 
+  pub ask_added : {T S : Type 0} (v : T) → AnswersAsk book client name mode (Ok v)
+      → (r : Result S BookError) → IsOkUnless r Memory → AnswersAsk book client name mode r
+  ask_added v answers r h = record {
+    failed = other v r Failed h (λ is. absurd (cc)) answers.failed;
+    busy = other v r Busy h (λ is. absurd (cc)) answers.busy;
+    exhausted = other v r Exhausted h (λ is. absurd (cc)) answers.exhausted;
+    clock_full = other v r ClockFull h (λ is. absurd (cc)) answers.clock_full;
+    allowed = (λ _. answers.allowed.0 tt, λ _. h);
+  }
+
   module _ (node : NodeState) (none : book.fault ≡ None) (at : (P : NodeState → Type 0) → Runs book P ↔ ((book.fault ≡ None) × P node)) where
     -- the node refuses it
-    pub ask_refused : {T : Type 0} (e : AskError) → IsErrOf {T = Unit {0}} (Err e) ask.Busy ↔ IsBusy (resource_at node name) client
-        → IsErrOf {T = Unit {0}} (Err e) ask.Exhausted ↔ ((IsBusy (resource_at node name) client → ⊥) × ((resource_at node name).state.highest ≡ greatest_number))
-        → (IsErrOf {T = Unit {0}} (Err e) ask.Memory → ⊥)
+    pub ask_refused : {S T : Type 0} (e : AskError) → IsErrOf {T = S} (Err e) ask.Busy ↔ IsBusy (resource_at node name) client
+        → IsErrOf {T = S} (Err e) ask.Exhausted ↔ ((IsBusy (resource_at node name) client → ⊥) × ((resource_at node name).state.highest ≡ greatest_number))
+        → (IsErrOf {T = S} (Err e) ask.Memory → ⊥)
         → (r : Result T BookError) → IsErrAnd r (λ x. x ≡ refusal_of_ask e) → AnswersAsk book client name mode r
     ask_refused e busy exhausted memory (Ok v) h = absurd h
     ask_refused ask.Busy busy exhausted memory (Err x) h =
@@ -162,19 +220,31 @@ module _ (book : BookState) (client : ℕ) (name : List ℕ) (mode : Mode) where
         }
     ask_refused ask.Memory busy exhausted memory (Err x) h = absurd (memory refl)
 
+    -- the node allows it, and a clock is left
+    pub ask_allowed : {T : Type 0} (v : T) → MayAsk (resource_at node name) client → HasClock book (Asked client name mode) → AnswersAsk book client name mode (Ok v)
+    ask_allowed v may has = record {
+      failed = (λ is. absurd (cc), λ some. absurd (has_fault book.fault some none));
+      busy = (λ is. absurd (cc), λ runs. absurd (may.not_busy ((at _).0 runs).1));
+      exhausted = (λ is. absurd (cc), λ runs. absurd (omega (arith, may.number_left, ((at _).0 runs).1.1)));
+      clock_full = (λ is. absurd (cc), λ runs. absurd (((at _).0 runs).1.1 has));
+      allowed = (λ _. (at _).1 (none, (may, has)), λ _. tt);
+    }
+
+    -- the node answers it, and a clock is left
+    pub ask_answered : {S T : Type 0} (e : AskError) → AnswersNodeAsk {T = S} node client name (Err e) → HasClock book (Asked client name mode)
+        → (r : Result T BookError) → IsErrAnd r (λ x. x ≡ refusal_of_ask e) → AnswersAsk book client name mode r
+    ask_answered {S} {T} ask.Busy answers has r h = ask_refused {S = S} ask.Busy answers.busy answers.exhausted (λ is. absurd (cc)) r h
+    ask_answered {S} {T} ask.Exhausted answers has r h = ask_refused {S = S} ask.Exhausted answers.busy answers.exhausted (λ is. absurd (cc)) r h
+    ask_answered {S} {T} ask.Memory answers has (Ok v) h = absurd h
+    ask_answered {S} {T} ask.Memory answers has (Err x) h = ask_added {T = List ℕ} [] (ask_allowed {T = List ℕ} [] (answers.allowed.0 refl) has) (Err x) h
+
     -- the node allows it
     pub ask_next : (clock : ℕ) → MayAsk (resource_at node name) client → clock ≡ clock_of (whole_events book)
         → (r : Result ℕ BookError) → ComesAt clock (Asked client name mode) r → AnswersAsk book client name mode r
     ask_next clock may clock_is r comes = by_clock r (has_next book clock (Asked client name mode) clock_is r comes)
       where
         by_clock : (r : Result ℕ BookError) → HasNext book (Asked client name mode) r → AnswersAsk book client name mode r
-        by_clock (Ok next) has = record {
-          failed = (λ is. absurd (cc), λ some. absurd (has_fault book.fault some none));
-          busy = (λ is. absurd (cc), λ runs. absurd (may.not_busy ((at _).0 runs).1));
-          exhausted = (λ is. absurd (cc), λ runs. absurd (omega (arith, may.number_left, ((at _).0 runs).1.1)));
-          clock_full = (λ is. absurd (cc), λ runs. absurd (((at _).0 runs).1.1 has));
-          allowed = (λ _. (at _).1 (none, (may, has)), λ _. tt);
-        }
+        by_clock (Ok next) has = ask_allowed next may has
         by_clock (Err e) full = record {
           failed = (λ is. let wrong = sym full.0 in absurd (cc), λ some. absurd (has_fault book.fault some none));
           busy = (λ is. let wrong = sym full.0 in absurd (cc), λ runs. absurd (may.not_busy ((at _).0 runs).1));
@@ -191,18 +261,15 @@ module _ (book : BookState) (client : ℕ) (name : List ℕ) (mode : Mode) where
     busy = passed x e Busy h answers.busy;
     exhausted = passed x e Exhausted h answers.exhausted;
     clock_full = passed x e ClockFull h answers.clock_full;
-    allowed = passed_allowed T S x e h answers.allowed;
+    allowed = passed_allowed T S x e Memory h answers.allowed;
   }
 
-  pub ask_added : {T S : Type 0} (v : T) → AnswersAsk book client name mode (Ok v)
-      → (r : Result S BookError) → IsOkUnless r Memory → AnswersAsk book client name mode r
-  ask_added v answers r h = record {
-    failed = other v r Failed h (λ is. absurd (cc)) answers.failed;
-    busy = other v r Busy h (λ is. absurd (cc)) answers.busy;
-    exhausted = other v r Exhausted h (λ is. absurd (cc)) answers.exhausted;
-    clock_full = other v r ClockFull h (λ is. absurd (cc)) answers.clock_full;
-    allowed = (λ _. answers.allowed.0 tt, λ _. h);
-  }
+-- it is refused, unless memory runs out
+pub ask_refusal_of : {T : Type 0} (book : BookState) (client : ℕ) (name : List ℕ) (mode : Mode) (e : BookError) → AnswersAsk {T = T} book client name mode (Err e) → RefusesAsk book client name mode e
+ask_refusal_of {T} book client name mode e answers = ask_passed book client name mode {T = T} e answers (Err e) refl
+
+pub ask_refusal_if : {T : Type 0} (book : BookState) (client : ℕ) (name : List ℕ) (mode : Mode) (v : T) → AnswersAsk book client name mode (Ok v) → RefusesAsk book client name mode Memory
+ask_refusal_if book client name mode v answers = ask_added book client name mode v answers (Err Memory) refl
 
 -- ---- A leave
 
@@ -259,7 +326,7 @@ module _ (book : BookState) (client : ℕ) (name : List ℕ) where
     failed = passed x e Failed h answers.failed;
     not_held = passed x e NotHeld h answers.not_held;
     clock_full = passed x e ClockFull h answers.clock_full;
-    allowed = passed_allowed T S x e h answers.allowed;
+    allowed = passed_allowed T S x e Memory h answers.allowed;
   }
 
   pub leave_added : {T S : Type 0} (v : T) → AnswersLeave book client name (Ok v)

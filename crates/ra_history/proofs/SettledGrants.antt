@@ -15,8 +15,8 @@ use Rattle.ra_node.specs.Events.{Event, name_of_event, NodeEvent, NodeEvents, Is
 use Rattle.ra_node.specs.Carried.{IsMark, entry_in}
 use Rattle.ra_world.specs.Traffic.{Move, IsUnderWay}
 use Rattle.ra_world.specs.Run.{IsRun, happened_at, marks_of}
-use Rattle.ra_history.specs.declared.event.BookEvent.{BookEvent}
-use Rattle.ra_history.specs.declared.sent.Sent.{Sent}
+use Rattle.ra_history.specs.declared.book.event.BookEvent.{BookEvent}
+use Rattle.ra_history.specs.declared.book.sent.Sent.{Sent}
 use Rattle.ra_history.specs.History.{IsHistory, Posting}
 use Rattle.ra_history.specs.Book.{BookState, IsWhole, HasHistory}
 use Rattle.ra_history.specs.Settled.{IsCluster, IsSettledRun, IsGranted, HasMark, marks_in, start_of}

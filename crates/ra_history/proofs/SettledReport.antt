@@ -7,15 +7,15 @@ use Rattle.ra_stamp.specs.declared.entry.Mark.{Mark}
 use Rattle.ra_stamp.specs.declared.entry.Mark.TheVariants.{Entered}
 use Rattle.ra_stamp.specs.NodeId.{IsNodeNumber}
 use Rattle.ra_world.specs.declared.step.Step.{Step}
-use Rattle.ra_world.specs.declared.report.Report.{Report}
+use Rattle.ra_world.specs.declared.text.report.Report.{Report}
 use Rattle.ra_world.specs.Traffic.{Move}
 use Rattle.ra_world.specs.Run.{IsRun, WorldRun, marks_of}
 use Rattle.ra_world.specs.World.{Reports}
 use Rattle.ra_world.specs.MainTheorem.{MainTheorem}
 use Rattle.ra_history.specs.declared.error.SettleError.{SettleError}
 use Rattle.ra_history.specs.declared.error.SettleError.TheVariants.{NotSent, Twice, GrantMissing, GrantTwice, Memory}
-use Rattle.ra_history.specs.declared.grant.Grant.{Grant}
-use Rattle.ra_history.specs.declared.settled.Settled.{Settled}
+use Rattle.ra_history.specs.declared.book.grant.Grant.{Grant}
+use Rattle.ra_history.specs.declared.settle_books.settled.Settled.{Settled}
 use Rattle.ra_history.specs.Book.{BookState, HasHistory}
 use Rattle.ra_history.specs.Settled.{IsCluster, IsSettledOrder, IsSettledRun, IsGranted, BooksFit, Placed, settled_steps, start_of}
 use Rattle.ra_history.specs.SettlingParts.{HasRun, StepsMakeSettledRuns, GrantsAreInTheBooks, RefusesGrants, SettlesBooks, Settles, Refuses}

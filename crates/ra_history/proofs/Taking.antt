@@ -3,11 +3,11 @@ use Rattle.std.proofs.Common.{◌≡◌, ℕ, zero, suc, ◌+◌, ◌<◌, ◌�
 use Rattle.std.specs.Prelude.{option_map, slice_get}
 use Rattle.std.proofs.lemmas.Bool.{leb-true, leb-false, cases_lt}
 use Rattle.std.proofs.lemmas.Option.{same_Some, none-some}
-use Rattle.ra_history.specs.declared.event.BookKind.{BookKind}
-use Rattle.ra_history.specs.declared.event.BookKind.TheVariants.{Asked, Gave, Got}
-use Rattle.ra_history.specs.declared.event.BookEvent.{BookEvent}
-use Rattle.ra_history.specs.declared.event_merge.Head.{Head}
-use Rattle.ra_history.specs.declared.event_merge.Turn.{Turn}
+use Rattle.ra_history.specs.declared.book.event.BookKind.{BookKind}
+use Rattle.ra_history.specs.declared.book.event.BookKind.TheVariants.{Asked, Gave, Got}
+use Rattle.ra_history.specs.declared.book.event.BookEvent.{BookEvent}
+use Rattle.ra_history.specs.declared.settle_books.event_merge.Head.{Head}
+use Rattle.ra_history.specs.declared.settle_books.event_merge.Turn.{Turn}
 use Rattle.ra_history.specs.History.{AreClocked, clock_after}
 use Rattle.ra_history.specs.Book.{BookState}
 use Rattle.ra_history.specs.EventMerge.{IsNextOfBook, IsNotAfter, IsEarliest, IsHeadOfEarliest, head_of, lesser_of}

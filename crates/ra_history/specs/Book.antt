@@ -7,10 +7,10 @@ use Rattle.ra_frame.specs.declared.frame.Frame.{Frame}
 use Rattle.ra_frame.specs.FrameText.{IsFrameText}
 use Rattle.ra_node.specs.Node.{NodeState}
 use Rattle.ra_node.specs.Events.{NodeEvent}
-use Rattle.ra_history.specs.declared.event.BookKind.{BookKind}
-use Rattle.ra_history.specs.declared.event.BookEvent.{BookEvent}
-use Rattle.ra_history.specs.declared.sent.Sent.{Sent}
-use Rattle.ra_history.specs.declared.stop.Stop.{Stop}
+use Rattle.ra_history.specs.declared.book.event.BookKind.{BookKind}
+use Rattle.ra_history.specs.declared.book.event.BookEvent.{BookEvent}
+use Rattle.ra_history.specs.declared.book.sent.Sent.{Sent}
+use Rattle.ra_history.specs.declared.book.stop.Stop.{Stop}
 use Rattle.ra_history.specs.History.{IsHistory, node_event, clock_after, clock_of, frames_at}
 
 -- What was taken from a book: whether its events were ever taken, even when there were none, and the events and frames, which

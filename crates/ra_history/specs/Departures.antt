@@ -1,12 +1,10 @@
 -- What a book keeps so that no leave needs memory. No public contract speaks of it.
 use Rattle.std.specs.Prelude.{◌≡◌, ℕ, ◌+◌, ◌*◌, ◌≤◌, List, [], length, All}
-use Rattle.ra_stamp.specs.declared.entry.Entry.{Entry}
-use Rattle.ra_node.specs.Resource.{Holds}
-use Rattle.ra_node.specs.Node.{NodeState, resource_at, clients_count}
+use Rattle.ra_stamp.specs.Sequence.{Listed}
+use Rattle.ra_frame.specs.declared.frame.Frame.{Frame}
+use Rattle.ra_node.specs.Node.{NodeState, clients_count}
 use Rattle.ra_node.specs.Room.{IsNothing, HasRoomToLeave}
-use Rattle.ra_history.specs.declared.departure.Departure.{Departure}
-use Rattle.ra_history.specs.declared.event.BookKind.{BookKind}
-use Rattle.ra_history.specs.declared.event.BookKind.TheVariants.{Asked, Gave, Got}
+use Rattle.ra_history.specs.declared.book.departure.Departure.{Departure}
 
 -- the outcome and the list of frames are empty, with room for what a leave sends and marks at one of this many nodes
 pub record IsDeparture (nodes : ℕ) (departure : Departure) : Type 0 where
@@ -26,8 +24,31 @@ pub record IsReserved (nodes : ℕ) (node : NodeState) (spare len capacity : ℕ
   pub each : All (IsDeparture nodes) departures
   pub room : HasRoomFor nodes (length departures) spare len capacity
 
--- if a client leaves, it holds
-abbrev pub HoldsIfGave : NodeState → BookKind → Type 0
-HoldsIfGave node (Asked client name mode) = Unit {0}
-HoldsIfGave node (Gave client name) = (entry : Entry) × Holds (resource_at node name) client entry
-HoldsIfGave node (Got frame) = Unit {0}
+-- ---- One more event
+
+-- A list of events with this spare, one of this many sent frames with this capacity, and an empty list of frames have room for an event
+-- that sends at most this many messages, and then for this many leaves.
+pub record HasRoomMade (nodes sends leaves spare len capacity : ℕ) (list : Listed Frame) : Type 0 where
+  pub events : leaves + 1 ≤ spare
+  pub sent : len + sends + leaves * (2 * nodes) ≤ capacity
+  pub none : list.items ≡ []
+  pub frames : sends ≤ list.spare
+
+-- the lists have room for an event that sends this many messages
+pub record HasEventRoom (sends spare len capacity : ℕ) (list : Listed Frame) : Type 0 where
+  pub event : 1 ≤ spare
+  pub sent : len + sends ≤ capacity
+  pub none : list.items ≡ []
+  pub frames : sends ≤ list.spare
+
+-- an event that sent this many messages took its room
+pub record UsesRoom (sends spare spare' len len' capacity capacity' : ℕ) : Type 0 where
+  pub spare_is : spare' + 1 ≡ spare
+  pub len_is : len' ≡ len + sends
+  pub capacity_is : capacity' ≡ capacity
+
+-- the lists have no less room than before
+pub record HasGrown (spare spare' len len' capacity capacity' : ℕ) : Type 0 where
+  pub events : spare ≤ spare'
+  pub len_is : len' ≡ len
+  pub sent : capacity ≤ capacity'

@@ -1,10 +1,10 @@
 -- How the events of books are put in order, when this many of each book are taken. No public contract speaks of it.
 use Rattle.std.specs.Prelude.{◌≡◌, ◌⊎◌, ℕ, ◌+◌, ◌<◌, ◌≤◌, List, length, map, set, Option, Some, None, if◌then◌else◌, nat_le, option_map, slice_get, slice_index, slice_index_or}
-use Rattle.ra_history.specs.declared.event.BookEvent.{BookEvent}
-use Rattle.ra_history.specs.declared.event_merge.Head.{Head}
-use Rattle.ra_history.specs.declared.event_merge.Next.{Next}
-use Rattle.ra_history.specs.declared.event_merge.Turn.{Turn}
-use Rattle.ra_history.specs.declared.event_merge.PlacedEvent.{PlacedEvent}
+use Rattle.ra_history.specs.declared.book.event.BookEvent.{BookEvent}
+use Rattle.ra_history.specs.declared.settle_books.event_merge.Head.{Head}
+use Rattle.ra_history.specs.declared.settle_books.event_merge.Next.{Next}
+use Rattle.ra_history.specs.declared.settle_books.event_merge.Turn.{Turn}
+use Rattle.ra_history.specs.declared.settle_books.event_merge.PlacedEvent.{PlacedEvent}
 use Rattle.ra_history.specs.Book.{BookState}
 use Rattle.ra_history.specs.Settled.{Placed}
 

@@ -1,5 +1,5 @@
 -- How a book keeps its history: with the node to which the events lead. No public contract speaks of it.
-use Rattle.std.specs.Prelude.{◌≡◌, ◌≢◌, ◌↔◌, ◌⊎◌, ◌*◌, ◌≤◌, ◌<◌, ◌^◌, ℕ, true, false, List, [], ◌∷◌, ◌++◌, length, map, slice_index_or, All, Some, None, IsSome, vec_len, vec_capacity, Result, IsErrOf, IsOk, IsOkUnless, IfOk, IfErr, OnOk, OnErr}
+use Rattle.std.specs.Prelude.{◌≡◌, ◌≢◌, ◌↔◌, ◌⊎◌, ◌*◌, ◌≤◌, ◌<◌, ◌^◌, ℕ, true, false, List, [], ◌∷◌, ◌++◌, length, map, slice_index_or, All, Some, None, IsSome, vec_len, vec_capacity, Result, Err, IsErrOf, IsOk, IsOkUnless, IfOk, IfErr, OnOk, OnErr}
 use Rattle.std.specs.List.Sorted.{IsNonDecreasingBy}
 use Rattle.ra_stamp.specs.NodeId.{IsNodeNumber}
 use Rattle.ra_stamp.specs.declared.entry.Entry.{Entry}
@@ -15,6 +15,8 @@ use Rattle.ra_frame.specs.Fits.{Fits}
 use Rattle.ra_frame.specs.FrameText.{IsFrameText}
 use Rattle.ra_automaton.specs.State.{IsForNode}
 use Rattle.ra_automaton.specs.Steps.{greatest_number}
+use Rattle.ra_node.specs.declared.error.AskError.{AskError}
+use Rattle.ra_node.specs.declared.error.AskError.TheVariants as ask
 use Rattle.ra_node.specs.Resource.{Holds, IsBusy}
 use Rattle.ra_node.specs.Turns.{MayAsk}
 use Rattle.ra_node.specs.Node.{NodeState, opening_node, resource_at, IsConsistentNode}
@@ -25,11 +27,11 @@ use Rattle.ra_history.specs.declared.error.BookError.TheVariants as error
 use Rattle.ra_history.specs.declared.error.BookError.TheVariants.{Failed, Busy, Exhausted, NotHeld, WrongNode, Stranger, ClockFull, Memory}
 use Rattle.ra_history.specs.declared.error.MarkLostError.{MarkLostError}
 use Rattle.ra_history.specs.declared.error.MarkLostError.TheVariants.{NotSent, AlreadyLost}
-use Rattle.ra_history.specs.declared.event.BookEvent.{BookEvent}
-use Rattle.ra_history.specs.declared.event.BookKind.{BookKind}
-use Rattle.ra_history.specs.declared.event.BookKind.TheVariants.{Asked, Gave, Got}
-use Rattle.ra_history.specs.declared.event_effect.Posted.{Posted}
-use Rattle.ra_history.specs.declared.sent.Sent.{Sent}
+use Rattle.ra_history.specs.declared.book.event.BookEvent.{BookEvent}
+use Rattle.ra_history.specs.declared.book.event.BookKind.{BookKind}
+use Rattle.ra_history.specs.declared.book.event.BookKind.TheVariants.{Asked, Gave, Got}
+use Rattle.ra_history.specs.declared.book.event_effect.Posted.{Posted}
+use Rattle.ra_history.specs.declared.book.sent.Sent.{Sent}
 use Rattle.ra_history.specs.History.{node_event, clock_after, frames_at}
 use Rattle.ra_history.specs.Departures.{IsReserved}
 use Rattle.ra_history.specs.Book.{BookState, opening_book, LeadsTo, HasHistory, HasClock, next_clock, with_event, as_sent, Runs, Hears, IsFirst, Loses}
@@ -84,6 +86,11 @@ sends_by nodes (Asked client name mode) = nodes
 sends_by nodes (Gave client name) = 2 * nodes
 sends_by nodes (Got frame) = answers_to frame.message
 
+-- if this happens at the node, in a cluster of this many nodes, it sends no more than that
+abbrev pub SendsFew : ℕ → NodeState → BookKind → Type 0
+SendsFew nodes node kind =
+    (new : NodeState) (sends : List Message) (marks : List Mark) → NodeEvent node (node_event kind) sends marks new → length sends ≤ sends_by nodes kind
+
 -- the event happened at the node, follows the events so far, and its frames follow those so far
 pub record Happens (old new : NodeState) (events events' : List BookEvent) (sent sent' : List Sent) (event : BookEvent)
     (posted : Posted) : Type 0 where
@@ -93,12 +100,17 @@ pub record Happens (old new : NodeState) (events events' : List BookEvent) (sent
   pub sent_are : sent' ≡ sent ++ as_sent (frames_at event.clock sends)
   pub frames_are : posted.frames.items ≡ frames_at event.clock sends
 
--- there was no memory for it, and everything is as before
-pub record Stays (old new : NodeState) (events events' : List BookEvent) (sent sent' : List Sent) (refused : BookError) : Type 0 where
-  pub memory : refused ≡ Memory
+-- it was refused, and everything is as before
+pub record Stays (old new : NodeState) (events events' : List BookEvent) (sent sent' : List Sent) : Type 0 where
   pub node_is : new ≡ old
   pub events_are : events' ≡ events
   pub sent_are : sent' ≡ sent
+
+-- A clock is left for an event of this kind at a book without a fault, and this is that clock.
+pub record HasNextClock (book : BookState) (kind : BookKind) (clock : ℕ) : Type 0 where
+  pub no_fault : book.fault ≡ None
+  pub clock_is : clock ≡ next_clock book kind
+  pub has_clock : HasClock book kind
 
 -- what a check answers before an event: what holds of the next event, or a refusal other than `Memory`
 pub record IsChecked {T : Type 0} (book : BookState) (Next : T → Type 0) (answer : Result T BookError) : Type 0 where
@@ -119,6 +131,17 @@ pub record AnswersAsk {T : Type 0} (book : BookState) (client : ℕ) (name : Lis
       ↔ Runs book (λ node. MayAsk (resource_at node name) client × (HasClock book (Asked client name mode) → ⊥))
   pub allowed : IsOkUnless answer Memory
       ↔ Runs book (λ node. MayAsk (resource_at node name) client × HasClock book (Asked client name mode))
+
+-- an ask is refused for this cause, as `Book::ask` says, if memory may run out
+abbrev pub RefusesAsk : BookState → ℕ → List ℕ → Mode → BookError → Type 0
+RefusesAsk book client name mode refused = AnswersAsk {T = Posted} book client name mode (Err refused)
+
+-- an ask is answered as `Node::ask` says, with `Memory` as the only other error
+pub record AnswersNodeAsk {T : Type 0} (node : NodeState) (client : ℕ) (name : List ℕ) (answer : Result T AskError) : Type 0 where
+  pub busy : IsErrOf answer ask.Busy ↔ IsBusy (resource_at node name) client
+  pub exhausted : IsErrOf answer ask.Exhausted
+      ↔ ((IsBusy (resource_at node name) client → ⊥) × ((resource_at node name).state.highest ≡ greatest_number))
+  pub allowed : IsOkUnless answer ask.Memory ↔ MayAsk (resource_at node name) client
 
 -- a leave is answered as `Book::leave` says
 pub record AnswersLeave {T : Type 0} (book : BookState) (client : ℕ) (name : List ℕ) (answer : Result T BookError) : Type 0 where

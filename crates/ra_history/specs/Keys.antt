@@ -10,10 +10,10 @@ use Rattle.ra_stamp.specs.declared.entry.Mark.TheVariants.{Requested, Entered, L
 use Rattle.ra_stamp.specs.declared.message.Message.{Message}
 use Rattle.ra_stamp.specs.declared.message.Message.TheVariants.{Request, Reply}
 use Rattle.ra_frame.specs.declared.frame.Frame.{Frame}
-use Rattle.ra_history.specs.declared.keys.EntryKey.{EntryKey}
-use Rattle.ra_history.specs.declared.keys.FrameKey.{FrameKey}
-use Rattle.ra_history.specs.declared.keys.MessageKey.{MessageKey}
-use Rattle.ra_history.specs.declared.event.BookEvent.{BookEvent}
+use Rattle.ra_history.specs.declared.settle_books.order_keys.EntryKey.{EntryKey}
+use Rattle.ra_history.specs.declared.settle_books.order_keys.FrameKey.{FrameKey}
+use Rattle.ra_history.specs.declared.settle_books.order_keys.MessageKey.{MessageKey}
+use Rattle.ra_history.specs.declared.book.event.BookEvent.{BookEvent}
 use Rattle.ra_history.specs.Settled.{received_among}
 
 -- the number of a mode in a key, 1 to 5

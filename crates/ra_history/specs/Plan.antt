@@ -8,7 +8,7 @@ use Rattle.ra_schedule.specs.declared.script.Op.{Op}
 use Rattle.ra_schedule.specs.declared.script.Op.TheVariants.{Lock, Unlock}
 use Rattle.ra_schedule.specs.Script.{ScriptState, ScriptClient, client_at}
 pub use Rattle.ra_schedule.specs.Performing.{locks_in, locks_of}
-use Rattle.ra_world.specs.declared.report.Report.{Report}
+use Rattle.ra_world.specs.declared.text.report.Report.{Report}
 
 -- the request that a mark is about
 abbrev pub entry_of_mark : Mark → Entry

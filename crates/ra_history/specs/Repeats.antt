@@ -6,8 +6,8 @@ use Rattle.ra_world.specs.declared.step.Step.{Step}
 use Rattle.ra_world.specs.declared.step.Step.TheVariants.{Repeat}
 use Rattle.ra_world.specs.Traffic.{Move, lost_by}
 use Rattle.ra_world.specs.Run.{IsRun, happened_at}
-use Rattle.ra_history.specs.declared.event.BookKind.{BookKind}
-use Rattle.ra_history.specs.declared.event.BookKind.TheVariants.{Got}
+use Rattle.ra_history.specs.declared.book.event.BookKind.{BookKind}
+use Rattle.ra_history.specs.declared.book.event.BookKind.TheVariants.{Got}
 use Rattle.ra_history.specs.History.{node_event}
 use Rattle.ra_history.specs.Book.{BookState}
 use Rattle.ra_history.specs.Settled.{IsSettledOrder, Placed, frames_in, start_of, step_at}

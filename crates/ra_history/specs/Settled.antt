@@ -13,10 +13,10 @@ use Rattle.ra_world.specs.declared.step.Step.{Step}
 use Rattle.ra_world.specs.declared.step.Step.TheVariants.{Ask, Leave, Deliver, Lose}
 use Rattle.ra_world.specs.Traffic.{Move, lost_by, repeated_by}
 use Rattle.ra_world.specs.Run.{IsRun, happened_at}
-use Rattle.ra_history.specs.declared.event.BookKind.{BookKind}
-use Rattle.ra_history.specs.declared.event.BookKind.TheVariants.{Asked, Gave, Got}
-use Rattle.ra_history.specs.declared.event.BookEvent.{BookEvent}
-use Rattle.ra_history.specs.declared.sent.Sent.{Sent}
+use Rattle.ra_history.specs.declared.book.event.BookKind.{BookKind}
+use Rattle.ra_history.specs.declared.book.event.BookKind.TheVariants.{Asked, Gave, Got}
+use Rattle.ra_history.specs.declared.book.event.BookEvent.{BookEvent}
+use Rattle.ra_history.specs.declared.book.sent.Sent.{Sent}
 use Rattle.ra_history.specs.History.{Posting, node_event}
 use Rattle.ra_history.specs.Book.{BookState, LeadsTo, IsWhole}
 

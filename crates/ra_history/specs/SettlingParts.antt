@@ -13,10 +13,10 @@ use Rattle.ra_world.specs.World.{Reports}
 use Rattle.ra_world.specs.MainTheorem.{MainTheorem}
 use Rattle.ra_history.specs.declared.error.SettleError.{SettleError}
 use Rattle.ra_history.specs.declared.error.SettleError.TheVariants.{NotSent, Twice, GrantMissing, GrantTwice, Memory}
-use Rattle.ra_history.specs.declared.keys.FrameKey.{FrameKey}
+use Rattle.ra_history.specs.declared.settle_books.order_keys.FrameKey.{FrameKey}
 use Rattle.ra_history.specs.Keys.{HasKeys, frame_key}
-use Rattle.ra_history.specs.declared.grant.Grant.{Grant}
-use Rattle.ra_history.specs.declared.settled.Settled.{Settled}
+use Rattle.ra_history.specs.declared.book.grant.Grant.{Grant}
+use Rattle.ra_history.specs.declared.settle_books.settled.Settled.{Settled}
 use Rattle.ra_history.specs.Book.{BookState, HasHistory}
 use Rattle.ra_history.specs.Settled.{IsCluster, IsSettledOrder, IsSettledRun, Placed, IsGranted, BooksFit, HasUnsent, HasTwice, Repeats, settled_steps, start_of}
 use Rattle.ra_history.specs.Repeats.{AreWithCopies, IsSettledRunWithCopies, frames_by}

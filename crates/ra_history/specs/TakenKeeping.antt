@@ -1,7 +1,7 @@
 -- How a book knows what was taken from it. No public contract speaks of it.
 use Rattle.std.specs.Prelude.{◌≡◌, false, []}
 use Rattle.std.specs.List.{flat_map}
-use Rattle.ra_history.specs.declared.taken.Taken.TheInside.{Inside}
+use Rattle.ra_history.specs.declared.book.taken.Taken.TheInside.{Inside}
 use Rattle.ra_history.specs.History.{clock_of}
 use Rattle.ra_history.specs.Book.{TakenState}
 

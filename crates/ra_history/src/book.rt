@@ -1,14 +1,27 @@
-ghost use Rattle.std.specs.Prelude.{◌≡◌, ◌≢◌, ℕ, ◌<◌, ◌≤◌, ◌⊎◌, ◌↔◌, ◌^◌, List, All, Contains, length, slice_get, unwrap_or, IsErrOf, IsOk, IsOkUnless, IsSome, IfOk, OnErr, OnOk, IsTrue, MatchResult, true, false};
+pub mod accepted_frame;
+pub mod departure;
+pub mod event;
+pub mod event_effect;
+pub mod event_room;
+pub mod frame_search;
+pub mod grant;
+pub mod kept_events;
+pub mod sent;
+pub mod stop;
+pub mod taken;
+
+ghost use Rattle.std.specs.Prelude.{◌≡◌, ◌≢◌, ℕ, ◌<◌, ◌≤◌, ◌⊎◌, ◌↔◌, ◌^◌, List, All, Contains, length, slice_get, unwrap_or, IsErrOf, IsOk, IsOkUnless, IsSome, IfOk, IfSome, OnErr, OnOk, IsTrue, true, false};
 ghost use Rattle.ra_stamp.specs.declared.entry.Entry.{Entry};
 ghost use Rattle.ra_frame.specs.declared.error.FrameError.{FrameError};
 ghost use Rattle.ra_node.specs.Resource.{Holds};
 ghost use Rattle.ra_node.specs.Node.{resource_at};
 
-use crate::departure::Departure;
-use crate::frame_search::is_kept;
-use crate::heard::hear;
-use crate::keeping::{add, clock_after, events_for, flag_lost, kept_histories_go_on, sent_for};
-use crate::taken::{Taken, latest_of};
+use crate::book::accepted_frame::accept_frame;
+use crate::book::departure::Departure;
+use crate::book::event_room::{events_for, sent_for};
+use crate::book::frame_search::is_kept;
+use crate::book::kept_events::{clock_after, flag_lost, keep_ask, keep_frame, keep_leave};
+use crate::book::taken::{Taken, latest_of};
 use crate::{BookError, BookEvent, BookKind, Events, MarkLostError, NewError, Posted, Sent, Stop};
 use ra_frame::Frame;
 use ra_node::{Node, events_count_clients};
@@ -65,7 +78,7 @@ impl Book {
     ghost use Rattle.ra_node.specs.Node.{NodeState};
     ghost use Rattle.ra_history.specs.History.{clock_of};
     ghost use Rattle.ra_history.specs.Book.{opening_book, whole_events, with_all_taken, IsWhole, LeadsTo, HasHistory, HasClock, Adds, Runs, Hears, IsFirst, Loses};
-    ghost use Rattle.ra_history.specs.Keeping.{ComesNext, IsChecked, AnswersAsk, AnswersLeave, AnswersReceive};
+    ghost use Rattle.ra_history.specs.Keeping.{ComesNext, HasNextClock, IsChecked, AnswersAsk, RefusesAsk, AnswersLeave, AnswersReceive};
 
     /// Makes the book of node `me` of `nodes`, in which nothing has happened yet. The highest number of each resource begins
     /// at `start`, 0 to 2^64-1, which is to be the same at all nodes. It does not allocate until the first event comes.
@@ -83,7 +96,6 @@ impl Book {
         ensures bad_node { IsErrOf result NewError.BadNode ↔ (IsNodeNumber nodes × (nodes < me)) }
         ensures no_memory { IsErrOf result NewError.Memory → ⊥ }
     {
-        kept_histories_go_on();
         events_count_clients();
         let node = Node::new(alloc, me, nodes, start)?;
         Ok(Book {
@@ -137,8 +149,23 @@ impl Book {
             × HasClock self.old (BookKind.Asked client name mode)) }
         ensures err { OnErr result (self.new ≡ self.old) }
     {
-        let clock = self.check_ask(client, name, mode)?;
-        self.add(alloc, clock, BookKind::Asked { client, name, mode })
+        let Some(clock) = self.next_clock(&BookKind::Asked { client, name, mode }) else {
+            return Err(self.ask_refusal(client, name, mode));
+        };
+        let nodes = self.nodes;
+        let posted = keep_ask(
+            alloc,
+            nodes,
+            &mut self.node,
+            &mut self.events,
+            &mut self.sent,
+            &mut self.departures,
+            clock,
+            client,
+            name,
+            mode,
+        )?;
+        Ok(posted)
     }
 
     /// The client that holds a name leaves it. The clock is one more than before, and the frames and marks are those of the
@@ -170,7 +197,18 @@ impl Book {
         ensures err { OnErr result (self.new ≡ self.old) }
     {
         let clock = self.check_leave(client, name)?;
-        self.add(alloc, clock, BookKind::Gave { client, name })
+        let nodes = self.nodes;
+        Ok(keep_leave(
+            alloc,
+            nodes,
+            &mut self.node,
+            &mut self.events,
+            &mut self.sent,
+            &mut self.departures,
+            clock,
+            client,
+            name,
+        ))
     }
 
     /// The bytes of a frame come, in version 1 or 2. The clock is one more than the greater of the clock before and the
@@ -209,7 +247,20 @@ impl Book {
         ensures err { OnErr result (self.new ≡ self.old) }
     {
         let (frame, clock) = self.check_receive(bytes)?;
-        self.add(alloc, clock, BookKind::Got(frame))
+        let nodes = self.nodes;
+        let Ok(posted) = keep_frame(
+            alloc,
+            nodes,
+            &mut self.node,
+            &mut self.events,
+            &mut self.sent,
+            &self.departures,
+            clock,
+            frame,
+        ) else {
+            return Err(BookError::Memory);
+        };
+        Ok(posted)
     }
 
     /// Flags the sent frame that is equal to this one as lost, or the first of several equal ones. It does not allocate. The
@@ -232,7 +283,6 @@ impl Book {
         ensures allowed { IsOk result ↔ IsFirst self.old.sent frame.now false }
         ensures err { OnErr result (self.new ≡ self.old) }
     {
-        kept_histories_go_on();
         flag_lost(self.sent.as_mut_slice(), frame)
     }
 
@@ -240,7 +290,6 @@ impl Book {
     pub(crate) fn has_kept(&self, frame: &Frame) -> bool
         ensures { IsTrue result ↔ Contains self.now.sent (record { frame = frame.now; lost = false }) }
     {
-        kept_histories_go_on();
         is_kept(self.sent.as_slice(), frame)
     }
 
@@ -378,33 +427,26 @@ impl Book {
         self.node.holder(name)
     }
 
-    /// Makes an event of this kind, which comes next with this clock, happen at the node, and keeps it.
-    ///
-    /// # Errors
-    ///
-    /// `Memory`, if it is not a leave: the book is as before.
-    fn add(&mut self, alloc: Global, clock: u64, kind: BookKind) -> Result<Posted, BookError>
-        requires next { ComesNext self.old clock kind }
-        requires holds { (client : ℕ) (name : List ℕ) → kind ≡ BookKind.Gave client name
-            → Runs self.old (λ node. (entry : Entry) × Holds (resource_at node name) client entry) }
-        ensures added { MatchResult result
-            (λ posted. Adds self.old kind posted.frames.items posted.marks.items self.new × All Fits posted.frames.items)
-            (λ e. (e ≡ BookError.Memory) × (self.new ≡ self.old)) }
-        ensures leaves { (client : ℕ) (name : List ℕ) → kind ≡ BookKind.Gave client name → IsOk result }
-        ensures history { HasHistory self.new }
+    /// Returns the clock of an event of this kind that comes next, or `None` if the book has a fault or the clock would pass 2^62.
+    fn next_clock(&self, kind: &BookKind) -> Option<u64>
+        ensures { IfSome result (HasNextClock self.now kind.now) }
     {
-        kept_histories_go_on();
-        let nodes = self.nodes;
-        let event = BookEvent { clock, kind };
-        add(
-            alloc,
-            nodes,
-            &mut self.node,
-            &mut self.events,
-            &mut self.sent,
-            &mut self.departures,
-            event,
-        )
+        if self.fault.is_some() {
+            return None;
+        }
+        clock_after(self.clock(), kind).ok()
+    }
+
+    /// Returns why the ask of a client is refused if there is no memory: each other cause comes before `Memory`, as `ask` says.
+    /// It does not allocate.
+    pub fn ask_refusal(&self, client: u32, name: Name, mode: Mode) -> BookError
+        ensures refused { RefusesAsk self.now client name mode result }
+        ensures history { HasHistory self.now }
+    {
+        match self.check_ask(client, name, mode) {
+            Ok(_) => BookError::Memory,
+            Err(refused) => refused,
+        }
     }
 
     /// Returns the clock that the ask of a client has.
@@ -417,7 +459,6 @@ impl Book {
             (λ clock. ComesNext self.now clock (BookKind.Asked client name mode)) result }
         ensures answers { AnswersAsk self.now client name mode result }
     {
-        kept_histories_go_on();
         if self.fault.is_some() {
             return Err(BookError::Failed);
         }
@@ -434,7 +475,6 @@ impl Book {
         ensures checked { IsChecked self.now (λ clock. ComesNext self.now clock (BookKind.Gave client name)) result }
         ensures answers { AnswersLeave self.now client name result }
     {
-        kept_histories_go_on();
         if self.fault.is_some() {
             return Err(BookError::Failed);
         }
@@ -457,7 +497,7 @@ impl Book {
         if self.fault.is_some() {
             return Err(BookError::Failed);
         }
-        hear(self.me, self.nodes, self.clock(), bytes)
+        accept_frame(self.me, self.nodes, self.clock(), bytes)
     }
 }
 

@@ -3,7 +3,6 @@ ghost use Rattle.std.specs.Prelude.{◌≡◌};
 use ra_frame::FrameError;
 use ra_node::AskError;
 use ra_stamp::Memory;
-use std::alloc::{AllocError, AllocFailed};
 use std::fmt;
 use thiserror::Error;
 
@@ -38,16 +37,6 @@ impl fmt::Display for BookError {
             BookError::Frame(fault) => fmt::Display::fmt(fault, f),
             _ => fmt::Debug::fmt(self, f),
         }
-    }
-}
-
-impl From<Memory> for BookError {
-    ghost use Rattle.ra_history.specs.declared.error.BookError.TheVariants.{Memory};
-
-    ghost from_gives = { λ _ fault. fault ≡ Memory };
-
-    fn from(_refused: Memory) -> BookError {
-        BookError::Memory
     }
 }
 
@@ -104,26 +93,6 @@ impl From<Memory> for SettleError {
     ghost from_gives = { λ _ fault. fault ≡ Memory };
 
     fn from(_refused: Memory) -> SettleError {
-        SettleError::Memory
-    }
-}
-
-impl From<AllocError> for SettleError {
-    ghost use Rattle.ra_history.specs.declared.error.SettleError.TheVariants.{Memory};
-
-    ghost from_gives = { λ _ fault. fault ≡ Memory };
-
-    fn from(_refused: AllocError) -> SettleError {
-        SettleError::Memory
-    }
-}
-
-impl<T: Drop> From<AllocFailed<T>> for SettleError {
-    ghost use Rattle.ra_history.specs.declared.error.SettleError.TheVariants.{Memory};
-
-    ghost from_gives = { λ _ fault. fault ≡ Memory };
-
-    fn from(_refused: AllocFailed<T>) -> SettleError {
         SettleError::Memory
     }
 }

@@ -4,9 +4,9 @@ ghost use Rattle.ra_stamp.specs.declared.entry.Mark.{Mark};
 ghost use Rattle.ra_stamp.specs.declared.message.Message.{Message};
 ghost use Rattle.ra_node.specs.Node.{NodeState, opening_node};
 ghost use Rattle.ra_node.specs.Events.{NodeEvent, IsForThisNode};
-ghost use Rattle.ra_history.specs.declared.event.BookEvent.{BookEvent};
-ghost use Rattle.ra_history.specs.declared.event.BookKind.{BookKind};
-ghost use Rattle.ra_history.specs.declared.sent.Sent.{Sent};
+ghost use Rattle.ra_history.specs.declared.book.event.BookEvent.{BookEvent};
+ghost use Rattle.ra_history.specs.declared.book.event.BookKind.{BookKind};
+ghost use Rattle.ra_history.specs.declared.book.sent.Sent.{Sent};
 ghost use Rattle.ra_history.specs.History.{IsHistory, node_event, clock_after, clock_of, frames_at};
 ghost use Rattle.ra_history.specs.Book.{as_sent};
 

@@ -1,3 +1,12 @@
+pub mod copies;
+pub mod event_merge;
+pub mod flagged_losses;
+pub mod grant_checks;
+pub mod order_keys;
+pub mod receipts;
+pub mod script_plan;
+pub mod settled;
+
 ghost use Rattle.std.specs.Prelude.{◌≡◌, ◌≢◌, ◌↔◌, ◌⊎◌, ℕ, ◌+◌, List, All, AllPairs, map, length, IsTrue, IsErrOf, IsOkUnless, IfOk, OnOk, MatchResult};
 ghost use Rattle.std.specs.List.{Any};
 ghost use Rattle.ra_world.specs.Traffic.{Move};
@@ -8,13 +17,12 @@ ghost use Rattle.ra_history.specs.Book.{IsWhole};
 ghost use Rattle.ra_history.specs.Settled.{IsCluster, IsSettledOrder, IsSettledRun, Placed, settled_steps, start_of, IsGranted, HasUnsent, HasTwice, BooksFit, Repeats};
 ghost use Rattle.ra_history.specs.SettlingParts.{HasRun, Settles, SettlesBooks, Refuses};
 
-use crate::event_merge::steps_in_order;
-use crate::grant_checks::check_grants;
-use crate::losses::push_losses;
-use crate::receipts::check_received;
+use crate::settle_books::event_merge::steps_in_order;
+use crate::settle_books::flagged_losses::push_losses;
+use crate::settle_books::grant_checks::check_grants;
+use crate::settle_books::receipts::check_received;
 use crate::settled_laws::{
     books_that_fit_together_settle, grants_of_settled_runs_are_in_the_books,
-    settled_steps_make_settled_runs,
 };
 use crate::{Book, Grant, SettleError, Settled};
 use ra_world::{RunError, Steps, run};
@@ -131,7 +139,6 @@ fn settle_books(alloc: Global, books: &[Book]) -> Result<Settled, SettleError>
     requires fit { BooksFit books.now }
     ensures { MatchResult result (SettlesBooks books.now) (λ e. e ≡ SettleError.Memory) }
 {
-    settled_steps_make_settled_runs();
     books_that_fit_together_settle();
     let mut steps = steps_in_order(alloc, books)?;
     push_losses(&mut steps, books)?;

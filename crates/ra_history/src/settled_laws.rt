@@ -2,7 +2,7 @@
 ghost use Rattle.std.specs.Prelude.{◌+◌, ◌<◌, ℕ, List, All, Contains, length};
 ghost use Rattle.ra_automaton.specs.Steps.{greatest_number};
 ghost use Rattle.ra_node.specs.Node.{NodeState};
-ghost use Rattle.ra_world.specs.declared.report.Report.{Report};
+ghost use Rattle.ra_world.specs.declared.text.report.Report.{Report};
 ghost use Rattle.ra_world.specs.MainTheorem.{IsQuietReport};
 ghost use Rattle.ra_world.specs.Traffic.{Move};
 ghost use Rattle.ra_world.specs.World.{Reports};
@@ -10,7 +10,7 @@ ghost use Rattle.ra_schedule.specs.Orderly.{WaitsForName};
 ghost use Rattle.ra_history.specs.Book.{BookState, HasHistory, LeadsTo};
 ghost use Rattle.ra_history.specs.Progress.{TakesNamesInOrder, SomeoneCanGoOn, IsHeldInOrder};
 ghost use Rattle.ra_history.specs.Settled.{IsCluster, IsSettledRun, start_of};
-ghost use Rattle.ra_history.specs.SettlingParts.{FramesAreFromTheirNodes, StepsMakeSettledRuns, FittingBooksSettle, BooksSettleWithCopies, GrantsAreInTheBooks};
+ghost use Rattle.ra_history.specs.SettlingParts.{FittingBooksSettle, BooksSettleWithCopies, GrantsAreInTheBooks};
 
 use crate::histories_are_determined;
 use ra_node::{events_keep_a_node_consistent, events_leave_other_names};
@@ -21,19 +21,6 @@ use ra_world::{
     steps_that_fit_with_copies_are_runs,
 };
 
-/// All that a book sent is from its node.
-pub fn frames_of_books_are_from_their_nodes()
-    ensures { FramesAreFromTheirNodes }
-{
-    events_keep_a_node_consistent();
-    events_leave_other_names();
-}
-
-/// A run of the events in the settled order, followed by the losses, is a settled run.
-pub fn settled_steps_make_settled_runs()
-    ensures { StepsMakeSettledRuns }
-{}
-
 /// Books settle if each frame that came was sent and is not flagged lost, and no message came twice: the events in the
 /// settled order, followed by the losses, are a run.
 pub fn books_that_fit_together_settle()
@@ -41,7 +28,6 @@ pub fn books_that_fit_together_settle()
 {
     steps_that_fit_together_are_runs();
     messages_of_runs_are_different();
-    frames_of_books_are_from_their_nodes();
 }
 
 /// Books settle with copies if each frame that came was sent, however often it came. The run has the events in the settled

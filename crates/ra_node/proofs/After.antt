@@ -152,10 +152,10 @@ kept_as n m is same kept =
     let over = λ (P : List (List ℕ × Resource) → Type 0) (p : P n.slots.entries). subst P (sym same) p in
     subst IsKept (sym is)
     (record {
-      consistent = over (λ es. IsConsistentNode (node_with n.me n.nodes n.start es)) kept.consistent;
-      waiting = over (λ es. n.waiting ≡ waiting_count (node_with n.me n.nodes n.start es)) kept.waiting;
-      queued = over (λ es. n.queued ≡ queued_count (node_with n.me n.nodes n.start es)) kept.queued;
-      counted = over (λ es. excess_of (node_with n.me n.nodes n.start es) ≡ 0) kept.counted;
+      consistent = over (λ es. IsConsistentNode (node_with n.member.node n.member.nodes n.start es)) kept.consistent;
+      waiting = over (λ es. n.waiting ≡ waiting_count (node_with n.member.node n.member.nodes n.start es)) kept.waiting;
+      queued = over (λ es. n.queued ≡ queued_count (node_with n.member.node n.member.nodes n.start es)) kept.queued;
+      counted = over (λ es. excess_of (node_with n.member.node n.member.nodes n.start es) ≡ 0) kept.counted;
     })
 
 -- how a call ended, seen from the node as it was

@@ -14,7 +14,7 @@ node_with me nodes start slots = record { me = me; nodes = nodes; start = start;
 
 -- the node that these fields represent
 abbrev pub node_of : Inside → NodeState
-node_of n = node_with n.me n.nodes n.start n.slots.entries
+node_of n = node_with n.member.node n.member.nodes n.start n.slots.entries
 
 -- a look-up among the new slots finds the new resource at the name, and at all other names what it found before
 abbrev pub Finds : List (List ℕ × Resource) → List (List ℕ × Resource) → List ℕ → Resource → Type 0

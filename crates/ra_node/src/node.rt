@@ -9,7 +9,8 @@ use crate::outcome::nothing;
 use crate::slot::Slot;
 use crate::{AskError, LeaveError, NewError, Outcome, Queued, ReceiveError};
 use indexmap::IndexMap;
-use ra_stamp::{Entry, Memory, Message, Mode, Name, NodeId};
+use ra_automaton::check_address;
+use ra_stamp::{Entry, Member, Memory, Message, Mode, Name, NodeId};
 use std::alloc::Global;
 use std::marker::Model;
 
@@ -28,8 +29,7 @@ use std::marker::Model;
 /// request on a name.
 #[derive(Drop)]
 pub struct Node {
-    me: NodeId,
-    nodes: u16,
+    member: Member,
     start: u64,
     /// One for each name that the node has met, in the order in which it met them.
     slots: IndexMap<Name, Slot>,
@@ -64,18 +64,16 @@ impl Model for Node {
 fn first_slot(
     slots: &mut IndexMap<Name, Slot>,
     alloc: Global,
-    me: NodeId,
-    nodes: u16,
+    member: Member,
     name: Name,
     start: u64,
 ) -> Result<Slot, Memory>
-    requires count { IsNodeNumber nodes }
-    requires member { me ≤ nodes }
     ensures same { slots.new.entries ≡ slots.old.entries }
-    ensures made { IfOk result (λ slot. (slot ≡ unmet me nodes name start) × (1 ≤ spare slots.new)) }
+    ensures made { IfOk result (λ slot.
+        (slot ≡ unmet member.node member.nodes name start) × (1 ≤ spare slots.new)) }
 {
     slots.reserve(1)?;
-    Ok(Slot::new(alloc, me, nodes, name, start))
+    Ok(Slot::new(alloc, member, name, start))
 }
 
 /// Inserts the slot of a name, for which there is room.
@@ -118,20 +116,24 @@ impl Node {
         ensures bad_node { IsErrOf result NewError.BadNode ↔ (IsNodeNumber nodes × (nodes < me)) }
         ensures no_memory { IsErrOf result NewError.Memory → ⊥ }
     {
-        if NodeId::new(nodes).is_none() {
-            return Err(NewError::BadCount);
-        }
-        if me.get() > nodes {
-            return Err(NewError::BadNode);
-        }
-        Ok(Node {
-            me,
-            nodes,
+        let member = Member::new(me, nodes)?;
+        Ok(Node::of(alloc, member, start))
+    }
+
+    /// Makes the node of a member, as `new` does. It does not allocate until the first name comes.
+    pub fn of(alloc: Global, member: Member, start: u64) -> Node
+        ensures value { result ≡ opening_node member.node member.nodes start }
+        ensures consistent { IsConsistentNode result }
+    {
+        // Each reader tells that it is a member.
+        let _node = member.node();
+        Node {
+            member,
             start,
             slots: IndexMap::new(alloc),
             waiting: 0,
             queued: 0,
-        })
+        }
     }
 
     /// Asks for a name for a client. If no client of this node uses the name, the request is made: a REQUEST to each
@@ -270,13 +272,7 @@ impl Node {
         // A message that brings nothing takes no memory.
         ensures memory_only_to_bring { IsErrOf result ReceiveError.Memory → BringsNothing self.old message.now → ⊥ }
     {
-        if message.to() != self.me {
-            return Err(ReceiveError::WrongNode);
-        }
-        let sender = message.from();
-        if sender == self.me || sender.get() > self.nodes {
-            return Err(ReceiveError::Stranger);
-        }
+        check_address(self.member, message)?;
         // The total has room, since there are fewer than 2^64 names.
         prove!(self.slots.len() < usize::MAX);
         match self.slots.get_mut(&message.name()) {
@@ -458,7 +454,7 @@ impl Node {
             return Err(AskError::Exhausted);
         }
         let slots = &mut self.slots;
-        let first = first_slot(slots, alloc, self.me, self.nodes, name, self.start);
+        let first = first_slot(slots, alloc, self.member, name, self.start);
         let Ok(mut slot) = first else {
             return Err(AskError::Memory);
         };
@@ -497,7 +493,7 @@ impl Node {
             // A REPLY is a stray, since the node has asked nobody.
             return Ok(nothing(alloc));
         };
-        let first = first_slot(slots, alloc, self.me, self.nodes, name, self.start);
+        let first = first_slot(slots, alloc, self.member, name, self.start);
         let Ok(mut slot) = first else {
             return Err(ReceiveError::Memory);
         };

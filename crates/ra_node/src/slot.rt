@@ -9,7 +9,7 @@ use crate::queue::Queue;
 use crate::queued_client::Queued;
 use crate::{AskError, LeaveError, Outcome};
 use ra_automaton::{Automaton, Phase, Reaction, ReceiveError};
-use ra_stamp::{Entry, Mark, Marks, Memory, Message, Messages, Mode, Name, NodeId, Stamp};
+use ra_stamp::{Entry, Mark, Marks, Member, Memory, Message, Messages, Mode, Name, NodeId, Stamp};
 use std::alloc::Global;
 use std::marker::Model;
 
@@ -39,7 +39,6 @@ impl Slot {
     ghost use Rattle.std.specs.FinSet as set;
     ghost use Rattle.std.specs.FinMap as finmap;
     ghost use Rattle.ra_stamp.specs.Message.{name_of};
-    ghost use Rattle.ra_stamp.specs.NodeId.{IsNodeNumber};
     ghost use Rattle.ra_automaton.specs.State.{IsAddressed, IsConsistent, IsInside};
     ghost use Rattle.ra_automaton.specs.Steps.{greatest_number, LetsEnter};
     ghost use Rattle.ra_node.specs.Resource.{unmet, holder_of, waiter_of, Holds, IsBusy, waiting_at, ClientFits, clients_of};
@@ -49,17 +48,11 @@ impl Slot {
     ghost use Rattle.ra_node.specs.Memory.{BringsNothingTo};
 
     /// Makes the slot of a resource that no client and no message was about yet. It does not allocate.
-    pub fn new(alloc: Global, me: NodeId, nodes: u16, name: Name, start: u64) -> Slot
-        requires count { IsNodeNumber nodes }
-        requires member { me ≤ nodes }
-        ensures { result ≡ unmet me nodes name start }
+    pub fn new(alloc: Global, member: Member, name: Name, start: u64) -> Slot
+        ensures { result ≡ unmet member.node member.nodes name start }
     {
-        let Ok(automaton) = Automaton::new(alloc, me, nodes, name, start) else {
-            // The node is one of 1 to `nodes`, and no memory is needed.
-            unreachable!()
-        };
         Slot {
-            automaton,
+            automaton: Automaton::of(alloc, member, name, start),
             client: None,
             queue: Queue::new(alloc),
         }
@@ -180,26 +173,9 @@ impl Slot {
             (λ fault. IsAskRefusal self.old client fault × (self.new ≡ self.old)) }
     {
         self.may_ask(client)?;
-        if self.automaton.phase() == Phase::Idle {
-            self.ask_at_once(alloc, client, mode)
-        } else {
-            self.queue_up(alloc, client, mode)
+        if self.automaton.phase() != Phase::Idle {
+            return self.queue_up(alloc, client, mode);
         }
-    }
-
-    /// Asks for a client, which may ask, while nobody uses the resource: its request is made.
-    ///
-    /// # Errors
-    ///
-    /// `Memory`: the resource is as before.
-    fn ask_at_once(&mut self, alloc: Global, client: u32, mode: Mode) -> Result<Outcome, AskError>
-        requires idle { self.old.state.phase ≡ Phase.Idle }
-        requires number_left { self.old.state.highest < greatest_number }
-        ensures { MatchResult result
-            (λ outcome. AsksAtOnce self.old client mode outcome.sends.items outcome.marks.items self.new
-            × IsConsistent self.new.state)
-            (λ fault. (fault ≡ AskError.Memory) × (self.new ≡ self.old)) }
-    {
         let Ok(mut marks) = marks_for(alloc, 2) else {
             return Err(AskError::Memory);
         };
@@ -227,7 +203,9 @@ impl Slot {
             (λ outcome. QueuesUp self.old client mode outcome.sends.items outcome.marks.items self.new)
             (λ fault. (fault ≡ AskError.Memory) × (self.new ≡ self.old)) }
     {
-        self.queue.push_back(Queued { client, mode })?;
+        if self.queue.push_back(Queued { client, mode }).is_err() {
+            return Err(AskError::Memory);
+        }
         Ok(nothing(alloc))
     }
 
@@ -387,8 +365,12 @@ impl Slot {
             (λ fault. (fault ≡ ReceiveError.Memory) × (self.new ≡ self.old)) }
         ensures brings { OnErr result (BringsNothingTo self.old message.now → ⊥) }
     {
-        let mut marks = self.marks_by(alloc, message)?;
-        let reaction = self.automaton.receive_addressed(alloc, message)?;
+        let Ok(mut marks) = self.marks_by(alloc, message) else {
+            return Err(ReceiveError::Memory);
+        };
+        let Ok(reaction) = self.automaton.receive_addressed(alloc, message) else {
+            return Err(ReceiveError::Memory);
+        };
         if reaction.entered {
             if let Some(entry) = self.holder() {
                 push_reserved(&mut marks, Mark::Entered(entry));

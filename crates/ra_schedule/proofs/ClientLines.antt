@@ -2,9 +2,9 @@
 use Rattle.std.proofs.Common.{◌≡◌, ℕ, zero, suc, ◌+◌, ◌<◌, List, [], ◌∷◌, ◌++◌, length, Option, Some, None, IsTrue, refl, sym, ap, ◌∙◌, subst, arith}
 use Rattle.std.specs.Prelude.{◌↔◌, Bool, option_map, slice_get}
 use Rattle.ra_world.specs.Traffic.{Move}
-use Rattle.ra_schedule.specs.declared.client_state.ClientState.{ClientState}
-use Rattle.ra_schedule.specs.declared.client_state.ClientState.TheVariants.{Done, Next}
-use Rattle.ra_schedule.specs.declared.progress.Progress.{Progress}
+use Rattle.ra_schedule.specs.declared.driver.client_state.ClientState.{ClientState}
+use Rattle.ra_schedule.specs.declared.driver.client_state.ClientState.TheVariants.{Done, Next}
+use Rattle.ra_schedule.specs.declared.driver.client_progress.Progress.{Progress}
 use Rattle.ra_schedule.specs.declared.script.Op.{Op}
 use Rattle.ra_schedule.specs.Progress.{IsProgress}
 use Rattle.ra_schedule.specs.Schedule.{steps_of, steps_by, IsWaiting, IsEnabled}

@@ -1,19 +1,21 @@
 -- How scripts end, from the laws of nodes and of runs.
-use Rattle.std.proofs.Common.{◌≡◌, ◌≢◌, ℕ, ◌≤◌, true, Option, Some, None, Result, Ok, Err, List, [], refl, arith}
+use Rattle.std.proofs.Common.{◌≡◌, ◌≢◌, ℕ, ◌≤◌, Bool, true, Option, Some, None, Result, Ok, Err, List, [], refl, arith}
 use Rattle.std.proofs.lemmas.Bool.{false≢true}
 use Rattle.std.specs.Prelude.{◌↔◌, IsTrue}
-use Rattle.ra_world.specs.declared.report.Report.{Report}
+use Rattle.ra_world.specs.declared.text.report.Report.{Report}
 use Rattle.ra_world.specs.Traffic.{Move, lost_by}
 use Rattle.ra_world.specs.World.{Reports}
+use Rattle.ra_world.specs.MainTheorem.{MainTheorem}
 use Rattle.ra_schedule.specs.declared.choice.Policy.{Policy}
-use Rattle.ra_schedule.specs.declared.drive_script.Driven.{Driven}
-use Rattle.ra_schedule.specs.declared.outcomes.SeedOutcome.{SeedOutcome}
-use Rattle.ra_schedule.specs.declared.outcomes.SeedOutcome.TheVariants.{Finished, Stuck, Limit}
+use Rattle.ra_schedule.specs.declared.driver.drive_script.DrivenCluster.{DrivenCluster}
+use Rattle.ra_schedule.specs.declared.surveys.seed_outcomes.SeedOutcome.{SeedOutcome}
+use Rattle.ra_schedule.specs.declared.surveys.seed_outcomes.SeedOutcome.TheVariants.{Finished, Stuck, Limit}
 use Rattle.ra_schedule.specs.declared.error.DriveError.{DriveError}
 use Rattle.ra_schedule.specs.declared.error.DriveError.TheVariants.{TurnLimit, BadPlace, NotEnabled, Memory}
 use Rattle.ra_schedule.specs.Script.{ScriptState, IsScript}
 use Rattle.ra_schedule.specs.Schedule.{steps_of, Ends, Follows, Stops, IsFinished, RepeatsNothing}
-use Rattle.ra_schedule.specs.Drive.{Answers, IsInTime}
+use Rattle.ra_schedule.specs.Drive.{Answers, IsInTime, IsWholeRun}
+use Rattle.ra_schedule.specs.Driving.{IsThrough}
 use Rattle.ra_schedule.specs.Faults.{FaultRates}
 use Rattle.ra_schedule.specs.Survey.{chance, is_finished, IsOutcome}
 use Rattle.ra_schedule.specs.Below.{LawsBelow}
@@ -23,7 +25,6 @@ use Rattle.ra_schedule.specs.BelowFinishing.{LawsOfNodes, LawsOfRuns}
 use Rattle.ra_schedule.proofs.StandingRuns.{all_stand}
 use Rattle.ra_schedule.proofs.NoDeadlock.{finished}
 use Rattle.ra_schedule.proofs.TurnBound.{numbers_left}
-use Rattle.ra_schedule.proofs.Turns.{WaitingEnds}
 use Rattle.ra_schedule.proofs.ThoroughPolicies.{follows_performs, ends_at_rest, nothing_lost, turns_at_most, never_stops}
 
 module _ (nodes_laws : LawsOfNodes) (laws : LawsOfRuns) (script : ScriptState) (fit : IsScript script) (ordered : IsOutOfOrder script → ⊥) (released : IsUnreleased script → ⊥)
@@ -43,11 +44,23 @@ module _ (nodes_laws : LawsOfNodes) (laws : LawsOfRuns) (script : ScriptState) (
 
 -- ---- What a driver answers
 
-pub waiting_ends : LawsOfNodes → LawsOfRuns → (script : ScriptState) → IsScript script → (policy : Policy) (moves : List Move) (driven : Driven)
-    → Follows script policy moves → Ends script policy moves → Reports script.nodes 0 moves driven.report
-    → IsTrue driven.finished ↔ IsFinished script (steps_of moves) driven.report → WaitingEnds script policy driven.finished
-waiting_ends nodes_laws laws script fit policy moves driven follows ends reports is = λ itself unlost ordered released.
-    is.1 (policy_finishes nodes_laws laws script fit ordered released moves driven.report policy itself unlost follows ends reports)
+-- the run of a policy that has no choice left
+pub whole_run : LawsOfNodes → LawsOfRuns → (script : ScriptState) → IsScript script → (policy : Policy) (limit : ℕ) (records : Bool) (cluster : DrivenCluster)
+    (report : Report) (done : Bool) → IsThrough script policy limit records cluster → Reports script.nodes 0 cluster.world.moves report
+    → MainTheorem script.nodes report → IsTrue done ↔ IsFinished script (steps_of cluster.world.moves) report
+    → IsWholeRun script policy limit cluster.world.moves report done
+whole_run nodes_laws laws script fit policy limit records cluster report done through reports theorem finished_is =
+    let end = through.at_end in
+    record {
+      follows = end.follows;
+      ends = end.ends;
+      within = through.within;
+      reports = reports;
+      main_theorem = theorem;
+      finished_is = finished_is;
+      waiting_ends = λ itself unlost ordered released. finished_is.1
+          (policy_finishes nodes_laws laws script fit ordered released cluster.world.moves report policy itself unlost end.follows end.ends reports);
+    }
 
 no_ok : {X : Type 0} {x : X} {y : DriveError} → Ok x ≡ Err y → ⊥
 no_ok e = cc
@@ -67,8 +80,8 @@ module _ (laws : LawsOfRuns) (below : LawsBelow) (script : ScriptState) (fit : I
       let (moves, follows, stops) = refused (λ e. cc) in
       absurd (never_stops laws below script fit policy unrepeated itself limit enough moves NotEnabled follows stops)
 
-  pub in_time : (result : Result Driven DriveError) → Answers script policy limit result → IsInTime script policy limit result
-  in_time (Ok driven) answers = record { below_limit = λ unrepeated less is. no_ok is; only_memory = λ unrepeated itself enough. tt }
+  pub in_time : {X : Type 0} (result : Result X DriveError) → Answers script policy limit result → IsInTime script policy limit result
+  in_time (Ok value) answers = record { below_limit = λ unrepeated less is. no_ok is; only_memory = λ unrepeated itself enough. tt }
   in_time (Err fault) answers = record {
     below_limit = λ unrepeated less is.
         let (moves, follows, stops) = answers.refused TurnLimit (λ e. cc) is in

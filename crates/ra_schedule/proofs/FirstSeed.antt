@@ -1,7 +1,7 @@
 -- One more seed by which a script does not come to the end that is looked for.
 use Rattle.std.proofs.Common.{◌≡◌, ℕ, ◌+◌, ◌-◌, ◌<◌, ◌≤◌, false, Option, sym, subst, arith, inl, inr}
 use Rattle.std.proofs.lemmas.Bool.{cases_lt}
-use Rattle.ra_schedule.specs.declared.finding.Ending.{Ending}
+use Rattle.ra_schedule.specs.declared.surveys.first_seed.Ending.{Ending}
 use Rattle.ra_schedule.specs.Faults.{FaultRates}
 use Rattle.ra_schedule.specs.Script.{ScriptState}
 use Rattle.ra_schedule.specs.Survey.{chance}

@@ -1,11 +1,11 @@
 -- What a function says of a script that it hands to another one.
-use Rattle.std.proofs.Common.{◌≡◌, ℕ, ◌+◌, ◌^◌, ◌<◌, ◌≤◌, Bool, Result, Ok, Err, IfOk, OnOk, arith, refl, sym, ap, subst, inl, inr}
+use Rattle.std.proofs.Common.{◌≡◌, ℕ, ◌+◌, ◌^◌, ◌<◌, ◌≤◌, Bool, Result, Ok, Err, IfOk, OnOk, arith, refl, sym, ap, ◌∙◌, subst, inl, inr}
 use Rattle.ra_schedule.specs.declared.choice.Policy.{Policy}
-use Rattle.ra_schedule.specs.declared.drive_script.Summary.{Summary}
+use Rattle.ra_schedule.specs.declared.driver.drive_script.Summary.{Summary}
 use Rattle.ra_schedule.specs.declared.error.DriveError.{DriveError}
 use Rattle.ra_schedule.specs.declared.error.DriveError.TheVariants.{TurnLimit, Memory}
 use Rattle.ra_schedule.specs.Script.{ScriptState}
-use Rattle.ra_schedule.specs.Drive.{Answers, IsInTime, IsSummary, IsWholeRun}
+use Rattle.ra_schedule.specs.Drive.{Answers, IsInTime, Drives, IsSummary, IsWholeRun}
 use Rattle.ra_schedule.specs.Survey.{HasEnded}
 
 -- the fault of a result, whatever else it could be
@@ -47,41 +47,70 @@ pub no_value : {Y : Type 0} (P : Y → Type 0) (fault : DriveError) (s : Result 
 no_value {Y} P fault s is = subst (λ (r : Result Y DriveError). IfOk r P) (sym is) tt
 
 -- it answers as it did
-pub err_answers : {X Y : Type 0} (script : ScriptState) (policy : Policy) (limit : ℕ) (fault : DriveError) (s : Result Y DriveError) → s ≡ Err fault
-    → Answers {X = X} script policy limit (Err fault) → Answers script policy limit s
-err_answers {X} {Y} script policy limit fault s is a =
-    subst (Answers {X = Y} script policy limit) (sym is) (record {
-      refused = λ cause apart e. a.refused cause apart (err_as {X = Y} {Y = X} e);
-      exact = λ cause moves follows stops. elim (a.exact cause moves follows stops) [
-        | inl e ↦ inl (err_as {X = X} {Y = Y} e)
-        | inr e ↦ inr (err_as {X = X} {Y = Y} e)
-      ];
-      allowed = λ moves follows ends within. a.allowed moves follows ends within;
-    })
-
--- in its time
-pub err_in_time : {X Y : Type 0} (script : ScriptState) (policy : Policy) (limit : ℕ) (fault : DriveError) (s : Result Y DriveError) → s ≡ Err fault
-    → IsInTime {X = X} script policy limit (Err fault) → IsInTime script policy limit s
-err_in_time {X} {Y} script policy limit fault s is t =
-    subst (IsInTime {X = Y} script policy limit) (sym is) (record {
-      below_limit = λ unrepeated less e. t.below_limit unrepeated less (err_as {X = Y} {Y = X} e);
-      only_memory = λ unrepeated itself enough. t.only_memory unrepeated itself enough;
-    })
-
--- a value that is made of another one answers as that one did
-pub ok_answers : {X Y : Type 0} (script : ScriptState) (policy : Policy) (limit : ℕ) (x : X) (y : Y) → Answers script policy limit (Ok x) → Answers script policy limit (Ok y)
-ok_answers script policy limit x y a = record {
-  refused = λ cause apart e. absurd (no_ok e);
+err_answers : {X Y : Type 0} (script : ScriptState) (policy : Policy) (limit : ℕ) (fault : DriveError)
+    → Answers {X = X} script policy limit (Err fault) → Answers {X = Y} script policy limit (Err fault)
+err_answers {X} {Y} script policy limit fault a = record {
+  refused = λ cause apart e. a.refused cause apart (err_as {X = Y} {Y = X} e);
   exact = λ cause moves follows stops. elim (a.exact cause moves follows stops) [
-    | inl e ↦ absurd (no_ok e)
-    | inr e ↦ absurd (no_ok e)
+    | inl e ↦ inl (err_as {X = X} {Y = Y} e)
+    | inr e ↦ inr (err_as {X = X} {Y = Y} e)
   ];
-  allowed = λ moves follows ends within. tt;
+  allowed = λ moves follows ends within. a.allowed moves follows ends within;
 }
 
 -- in its time
-pub ok_in_time : {Y : Type 0} (script : ScriptState) (policy : Policy) (limit : ℕ) (y : Y) → IsInTime script policy limit (Ok y)
-ok_in_time script policy limit y = record { below_limit = λ unrepeated less e. no_ok e; only_memory = λ unrepeated itself enough. tt }
+err_in_time : {X Y : Type 0} (script : ScriptState) (policy : Policy) (limit : ℕ) (fault : DriveError)
+    → IsInTime {X = X} script policy limit (Err fault) → IsInTime {X = Y} script policy limit (Err fault)
+err_in_time {X} {Y} script policy limit fault t = record {
+  below_limit = λ unrepeated less e. t.below_limit unrepeated less (err_as {X = Y} {Y = X} e);
+  only_memory = λ unrepeated itself enough. t.only_memory unrepeated itself enough;
+}
+
+-- a refusal that is handed on
+pub refusal_on : {X Y : Type 0} (script : ScriptState) (policy : Policy) (limit : ℕ) (IsX : X → Type 0) (IsY : Y → Type 0) (fault : DriveError)
+    (s : Result Y DriveError) → s ≡ Err fault → Drives script policy limit IsX (Err fault) → Drives script policy limit IsY s
+refusal_on {X} {Y} script policy limit IsX IsY fault s is d =
+    subst (Drives script policy limit IsY) (sym is) (record {
+      ok = tt;
+      answers = err_answers script policy limit fault d.answers;
+      in_time = err_in_time script policy limit fault d.in_time;
+    })
+
+-- a value that is made of another one
+pub value_on : {X Y : Type 0} (script : ScriptState) (policy : Policy) (limit : ℕ) (IsX : X → Type 0) (IsY : Y → Type 0) (x : X) (y : Y)
+    → Drives script policy limit IsX (Ok x) → IsY y → Drives script policy limit IsY (Ok y)
+value_on script policy limit IsX IsY x y d made = record {
+  ok = made;
+  answers = record {
+    refused = λ cause apart e. absurd (no_ok e);
+    exact = λ cause moves follows stops. elim (d.answers.exact cause moves follows stops) [
+      | inl e ↦ absurd (no_ok e)
+      | inr e ↦ absurd (no_ok e)
+    ];
+    allowed = λ moves follows ends within. tt;
+  };
+  in_time = record { below_limit = λ unrepeated less e. no_ok e; only_memory = λ unrepeated itself enough. tt };
+}
+
+fault_of : {X : Type 0} (a b : DriveError) → ◌≡◌ {A = Result X DriveError} (Err a) (Err b) → a ≡ b
+fault_of a b e = cc
+
+-- memory ran out
+pub memory_ran_out : {Y : Type 0} (script : ScriptState) (policy : Policy) (limit : ℕ) (IsY : Y → Type 0) (s : Result Y DriveError) (why : DriveError)
+    → s ≡ Err why → why ≡ Memory → Drives script policy limit IsY s
+memory_ran_out {Y} script policy limit IsY s why is memory =
+    subst (Drives script policy limit IsY) (sym is) (record {
+      ok = tt;
+      answers = record {
+        refused = λ cause apart e. absurd (apart (sym (fault_of {X = Y} why cause e) ∙ memory));
+        exact = λ cause moves follows stops. inr (ap Err memory);
+        allowed = λ moves follows ends within. memory;
+      };
+      in_time = record {
+        below_limit = λ unrepeated less e. let not : Memory ≡ TurnLimit = sym memory ∙ fault_of {X = Y} why TurnLimit e in absurd cc;
+        only_memory = λ unrepeated itself enough. memory;
+      };
+    })
 
 -- what ended is what a summary says
 pub ended_as : (script : ScriptState) (policy : Policy) (limit : ℕ) (summary : Summary) (finished : Bool) → summary.finished ≡ finished → IsSummary script policy limit summary

@@ -12,7 +12,7 @@ use Rattle.ra_schedule.specs.declared.choice.Choice.{Choice}
 use Rattle.ra_schedule.specs.declared.choice.Choice.TheVariants.{Client, Message, Lost, Repeated}
 use Rattle.ra_schedule.specs.declared.error.DriveError.{DriveError}
 use Rattle.ra_schedule.specs.declared.error.DriveError.TheVariants.{BadPlace, NotEnabled, Memory}
-use Rattle.ra_schedule.specs.declared.progress.Progress.{Progress}
+use Rattle.ra_schedule.specs.declared.driver.client_progress.Progress.{Progress}
 use Rattle.ra_schedule.specs.Script.{ScriptClient, ScriptState, client_at}
 use Rattle.ra_schedule.specs.Schedule.{Enables, IsEnabled, IsAtPlace, StandsFor}
 use Rattle.ra_schedule.specs.Progress.{Tracks, IsProgress}

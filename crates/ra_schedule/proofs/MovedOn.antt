@@ -2,7 +2,7 @@
 use Rattle.std.proofs.Common.{◌≡◌, ◌≢◌, ◌<◌, ◌≤◌, ◌+◌, ◌-◌, ◌||◌, ℕ, Bool, List, length, get_or, set, sym, ap, ◌∙◌, arith}
 use Rattle.std.proofs.lemmas.List.{get_or-set_other, get_or_default}
 use Rattle.std.proofs.lemmas.Grind.{get_or-set_at}
-use Rattle.ra_schedule.specs.declared.progress.Progress.{Progress}
+use Rattle.ra_schedule.specs.declared.driver.client_progress.Progress.{Progress}
 
 pub others_kept : (list : List Progress) (client k : ℕ) (d new : Progress) → 1 ≤ client → k + 1 ≢ client → get_or (set list (client - 1) new) k d ≡ get_or list k d
 others_kept list client k d new first other = get_or-set_other list (client - 1) k new d (λ e. other (omega (arith, first, e)))

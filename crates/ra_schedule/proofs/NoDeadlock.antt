@@ -15,7 +15,7 @@ use Rattle.ra_node.specs.Resource.{Resource, use_in, use_of, IsBusy}
 use Rattle.ra_node.specs.Resource.Use.{WaitsBy}
 use Rattle.ra_node.specs.Node.{NodeState, opening_node, resource_at}
 use Rattle.ra_table.specs.Table.{LockTable, TableRun}
-use Rattle.ra_world.specs.declared.report.Report.{Report}
+use Rattle.ra_world.specs.declared.text.report.Report.{Report}
 use Rattle.ra_world.specs.Traffic.{Move}
 use Rattle.ra_world.specs.Run.{IsRun, marks_of, happened_at}
 use Rattle.ra_world.specs.Quiet.{IsQuiet}
@@ -166,7 +166,7 @@ module _ (nodes_laws : LawsOfNodes) (laws : LawsOfRuns) (script : ScriptState) (
       let r = at stuck.who.node name in
       let taken = by_use laws n 0 fit.count moves run quiet all.nodes all.ends (λ i at. (all.each i at).consistent) few stuck.who.node name stuck.client within busy (use_of r) (refl {a = use_of r}) in
       let known = all.known taken.i name taken.client taken.within (holder_stands (at taken.i name) taken.client taken.has) in
-      waits_above name taken known.0 known.1 (all.clients taken.client known.0 known.1).left refl
+      waits_above name taken known.0 known.1 (all.clients taken.client known.0 known.1).left (refl {a = (all.clients taken.client known.0 known.1).left})
 
   among_names : (name : List ℕ) → IsStuckAt name → Contains (all_names script.clients) name
   among_names name stuck =

@@ -8,7 +8,7 @@ use Rattle.ra_world.specs.Traffic.{Move, LeavesUnderWay}
 use Rattle.ra_world.specs.World.{WorldState}
 use Rattle.ra_schedule.specs.declared.choice.Choice.{Choice}
 use Rattle.ra_schedule.specs.declared.choice.Choice.TheVariants.{Client, Message, Lost, Repeated}
-use Rattle.ra_schedule.specs.declared.progress.Progress.{Progress}
+use Rattle.ra_schedule.specs.declared.driver.client_progress.Progress.{Progress}
 use Rattle.ra_schedule.specs.Script.{ScriptClient, ScriptState, client_at}
 use Rattle.ra_schedule.specs.Schedule.{IsWaiting, IsAtPlace, StandsFor}
 use Rattle.ra_schedule.specs.Progress.{Tracks}

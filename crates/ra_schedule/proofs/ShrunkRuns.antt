@@ -14,9 +14,9 @@ use Rattle.ra_schedule.specs.declared.choice.Choice.TheVariants.{Client, Message
 use Rattle.ra_schedule.specs.declared.choice.Policy.{Policy}
 use Rattle.ra_schedule.specs.declared.choice.Policy.TheVariants as policies
 use Rattle.ra_schedule.specs.declared.driver.Driver.{Driver}
-use Rattle.ra_schedule.specs.declared.drive_script.Driven.{Driven}
-use Rattle.ra_schedule.specs.declared.shrinking.Listed.{Listed}
-use Rattle.ra_schedule.specs.declared.shrinking.Found.{Found}
+use Rattle.ra_schedule.specs.declared.driver.drive_script.Driven.{Driven}
+use Rattle.ra_schedule.specs.declared.driver.shrinking.Listed.{Listed}
+use Rattle.ra_schedule.specs.declared.driver.shrinking.Found.{Found}
 use Rattle.ra_schedule.specs.Script.{ScriptState}
 use Rattle.ra_schedule.specs.Schedule.{steps_of}
 use Rattle.ra_schedule.specs.Listing.{AreChoicesBy}

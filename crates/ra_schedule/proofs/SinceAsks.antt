@@ -7,8 +7,8 @@ use Rattle.ra_world.specs.declared.step.Step.{Step}
 use Rattle.ra_world.specs.declared.step.Step.TheVariants.{Ask}
 use Rattle.ra_world.specs.Traffic.{Move}
 use Rattle.ra_world.specs.Run.{marks_of}
-use Rattle.ra_schedule.specs.declared.client_state.ClientState.{ClientState}
-use Rattle.ra_schedule.specs.declared.client_state.ClientState.TheVariants.{Done, Waits, Next}
+use Rattle.ra_schedule.specs.declared.driver.client_state.ClientState.{ClientState}
+use Rattle.ra_schedule.specs.declared.driver.client_state.ClientState.TheVariants.{Done, Waits, Next}
 use Rattle.ra_schedule.specs.Schedule.{steps_of, Asks, Enters, IsWaiting}
 use Rattle.ra_schedule.specs.Script.{ScriptState}
 use Rattle.ra_schedule.specs.Progress.{IsAskedIn, IsWaitingAt}

@@ -1,8 +1,8 @@
 -- One more seed after those that were tried.
 use Rattle.std.proofs.Common.{◌≡◌, ◌⊎◌, ℕ, zero, suc, ◌+◌, ◌<◌, ◌≤◌, Option, Some, List, [], ◌∷◌, ◌++◌, length, slice_get, refl, sym, subst, ◌∙◌, arith, inl, inr}
 use Rattle.std.proofs.lemmas.List.{length-append}
-use Rattle.ra_schedule.specs.declared.outcomes.SeedOutcome.{SeedOutcome}
-use Rattle.ra_schedule.specs.declared.outcomes.Survey.{Survey}
+use Rattle.ra_schedule.specs.declared.surveys.seed_outcomes.SeedOutcome.{SeedOutcome}
+use Rattle.ra_schedule.specs.declared.surveys.seed_outcomes.Survey.{Survey}
 use Rattle.ra_schedule.specs.Faults.{FaultRates}
 use Rattle.ra_schedule.specs.Script.{ScriptState}
 use Rattle.ra_schedule.specs.Survey.{chance, IsOutcome, AreOutcomes, Tallies, IsSurvey}

@@ -6,10 +6,10 @@ use Rattle.std.proofs.lemmas.Bool.{cases_Bool, cases_lt, cond-true, cond-false}
 use Rattle.std.proofs.lemmas.List.{append-nil, length-append, map-append}
 use Rattle.std.proofs.lemmas.List.Concat.{flat_map-append}
 use Rattle.std.proofs.lemmas.List.Elements.{filter-append, All-push, Contains-append_left, Contains-push}
-use Rattle.ra_schedule.specs.declared.outcomes.Figures.{Figures}
-use Rattle.ra_schedule.specs.declared.outcomes.SeedOutcome.{SeedOutcome}
-use Rattle.ra_schedule.specs.declared.outcomes.Tally.{Tally}
-use Rattle.ra_schedule.specs.declared.outcomes.Spread.{Spread}
+use Rattle.ra_schedule.specs.declared.surveys.seed_outcomes.Figures.{Figures}
+use Rattle.ra_schedule.specs.declared.surveys.seed_outcomes.SeedOutcome.{SeedOutcome}
+use Rattle.ra_schedule.specs.declared.surveys.seed_outcomes.Tally.{Tally}
+use Rattle.ra_schedule.specs.declared.surveys.seed_outcomes.Spread.{Spread}
 use Rattle.ra_schedule.specs.Survey.{tally_of, tally_with, figures_of, IsLeastAndMost}
 
 -- ---- The first that passes

@@ -1,5 +1,5 @@
 -- What the driver keeps from turn to turn, and how its end is read off.
-use Rattle.std.proofs.Common.{◌≡◌, ℕ, zero, suc, ◌+◌, ◌<◌, ◌≤◌, ◌^◌, Bool, true, false, Some, None, List, [], ◌∷◌, ◌++◌, All, length, take, replicate, slice_get, slice_index_or, refl, sym, ap, ◌∙◌, subst, arith, inl, inr}
+use Rattle.std.proofs.Common.{◌≡◌, ℕ, zero, suc, ◌+◌, ◌<◌, ◌≤◌, ◌^◌, Bool, true, false, Option, Some, None, List, [], ◌∷◌, ◌++◌, All, length, take, replicate, slice_get, slice_index_or, refl, sym, ap, ◌∙◌, subst, arith, inl, inr}
 use Rattle.std.specs.Prelude.{◌↔◌, IsTrue, IfSome, ◌==◌, if◌then◌else◌, option_map, option_and_then, Contains}
 use Rattle.std.proofs.lemmas.List as lists
 use Rattle.std.proofs.lemmas.List.Elements.{All-replicate}
@@ -9,24 +9,24 @@ use Rattle.ra_stamp.specs.declared.message.Message.{Message as Sent}
 use Rattle.ra_world.specs.declared.step.Step.{Step}
 use Rattle.ra_world.specs.declared.step.Step.TheVariants.{Ask, Leave, Deliver, Lose, Repeat}
 use Rattle.ra_world.specs.Traffic.{Move, IsUnderWay}
-use Rattle.ra_world.specs.World.{WorldState, Reports}
-use Rattle.ra_world.specs.MainTheorem.{MainTheorem}
+use Rattle.ra_world.specs.World.{WorldState}
 use Rattle.ra_world.specs.Run.{IsRun, GoesOn}
 use Rattle.ra_schedule.specs.declared.driver.Driver.{Driver}
-use Rattle.ra_schedule.specs.declared.drive_script.Driven.{Driven}
-use Rattle.ra_schedule.specs.declared.progress.Progress.{Progress}
+use Rattle.ra_schedule.specs.declared.driver.drive_script.Driven.{Driven}
+use Rattle.ra_schedule.specs.declared.driver.drive_script.DrivenCluster.{DrivenCluster}
+use Rattle.ra_schedule.specs.declared.driver.client_progress.Progress.{Progress}
 use Rattle.ra_schedule.specs.declared.choice.Choice.{Choice}
 use Rattle.ra_schedule.specs.declared.choice.Choice.TheVariants.{Client, Message, Lost, Repeated}
 use Rattle.ra_schedule.specs.declared.choice.Policy.{Policy}
+use Rattle.ra_schedule.specs.declared.choice.picking.Picked.{Picked}
 use Rattle.ra_schedule.specs.Script.{ScriptClient, ScriptState, client_at, op_at}
-use Rattle.ra_schedule.specs.Schedule.{steps_of, steps_in, steps_by, Enters, IsEnabled, IsAtPlace, StandsFor, Picks, Follows, IsFinished}
+use Rattle.ra_schedule.specs.Schedule.{steps_of, steps_in, steps_by, Enters, IsEnabled, IsAtPlace, StandsFor, Picks, Ends, Follows}
 use Rattle.ra_schedule.specs.Listing.{AreChoicesBy}
 use Rattle.ra_schedule.specs.Progress.{IsProgress, Tracks, OfEach, IsProgressAfter, AreCountable, AreDone, IsStuck, AreStuck, NoneEnters, recorded}
 use Rattle.ra_schedule.specs.PolicyState.{AreDraws, AreDrawsElsewhere, generator_at, generator_in, words_drawn, words_for}
-use Rattle.ra_schedule.specs.LockOrder.{IsOutOfOrder, IsUnreleased}
-use Rattle.ra_schedule.specs.Performing.{ChoosesItself, LosesNothing}
 use Rattle.ra_schedule.specs.Shrinking.{IsStuckRun}
-use Rattle.ra_schedule.specs.Driving.{IsDriven, IsReady, IsThrough, HasMade, Records}
+use Rattle.ra_schedule.specs.Drive.{IsWholeRun}
+use Rattle.ra_schedule.specs.Driving.{IsDriven, IsReady, IsAtEnd, IsMeaning, HasChosen, HasMade, IsThrough, Records}
 use Rattle.ra_schedule.proofs.ChoicesMade.{no_choices, choices_more}
 use Rattle.ra_schedule.specs.Below.{LawsBelow}
 use Rattle.ra_schedule.proofs.Waiting.{nobody_waits, goes_on}
@@ -156,21 +156,40 @@ nobody_below script world clients first tracks stuck k below (step, enables) =
 -- ---- One more turn
 
 -- a policy chose, by draws that know who is enabled, and looked for a client that is free
-pub driven_with : (script : ScriptState) (policy : Policy) (world : WorldState) (driver chosen : Driver)
-    → IsReady script policy world driver → chosen.clients.items ≡ driver.clients.items
-    → chosen.steps.items ≡ driver.steps.items → chosen.records ≡ driver.records
-    → AreStuck script driver.clients.items chosen.first
-    → IfSome chosen.draws (AreDraws script world.moves) → IsDriven script world chosen
-driven_with script policy world driver chosen ready items steps records stuck draws =
-    let driven = ready.driven in
-    record {
-      nodes = driven.nodes;
-      run = driven.run;
-      tracks = subst (Tracks script world) (sym items) driven.tracks;
+module _ (script : ScriptState) (policy : Policy) (world : WorldState) (driver chosen : Driver) (ready : IsReady script policy world driver)
+    (items : chosen.clients.items ≡ driver.clients.items) (steps : chosen.steps.items ≡ driver.steps.items)
+    (choices : chosen.choices.items ≡ driver.choices.items) (records : chosen.records ≡ driver.records) where
+  steps_kept : chosen.steps.items ≡ recorded chosen.records world.moves
+  steps_kept = steps ∙ ready.driven.steps ∙ ap (λ (b : Bool). recorded b world.moves) (sym records)
+
+  pub chosen_by : AreStuck script driver.clients.items chosen.first → IfSome chosen.draws (AreDraws script world.moves) → (picked : Option Picked)
+      → IfSome picked (λ p. Picks script policy world.moves p.choice) → IfSome picked (λ p. IsMeaning script world.moves p.choice p.meaning)
+      → IfSome picked (λ p. generator_in chosen.draws ≡ generator_at policy (words_drawn policy world.moves + words_for policy p.choice))
+      → IfSome picked (HasChosen script policy world driver chosen)
+  chosen_by stuck draws None picks means drawn = tt
+  chosen_by stuck draws (Some picked) picks means drawn = record {
+    driven = record {
+      nodes = ready.driven.nodes;
+      run = ready.driven.run;
+      tracks = subst (Tracks script world) (sym items) ready.driven.tracks;
       stuck = subst (λ (ps : List Progress). AreStuck script ps chosen.first) (sym items) stuck;
       draws = draws;
-      steps = steps ∙ driven.steps ∙ ap (λ (b : Bool). recorded b world.moves) (sym records);
-    }
+      steps = steps_kept;
+    };
+    picks = picks;
+    means = means;
+    drawn = drawn;
+    choices = choices;
+  }
+
+  pub none_left : Ends script policy world.moves → IsAtEnd script policy world chosen
+  none_left ends = record {
+    tracks = subst (Tracks script world) (sym items) ready.driven.tracks;
+    follows = ready.follows;
+    ends = ends;
+    steps = steps_kept;
+    choices = λ kept. subst (λ (cs : List Choice). AreChoicesBy script policy cs world.moves) (sym choices) (ready.choices (sym records ∙ kept));
+  }
 
 -- a move that goes on with the run
 module _ (script : ScriptState) (world next : WorldState) (driver : Driver) (move : Move) (driven : IsDriven script world driver)
@@ -315,31 +334,17 @@ are_done script world clients steps tracks are done k d within =
     let same : (slice_index_or clients k d).done ≡ length who.ops = stands ∙ ap (steps_by (k + 1)) (sym are) ∙ count in
     ap (option_map (λ (w : ScriptClient). length w.ops)) at ∙ ap Some (sym same)
 
--- clients that take names in order, and give them back, finish
-abbrev pub WaitingEnds : ScriptState → Policy → Bool → Type 0
-WaitingEnds script policy finished = ChoosesItself policy → LosesNothing policy → (IsOutOfOrder script → ⊥) → (IsUnreleased script → ⊥) → IsTrue finished
-
 -- what is recorded if no choice is left
-pub records_all : (script : ScriptState) (policy : Policy) (world : WorldState) (driver : Driver) (limit : ℕ) (records : Bool)
-    (driven : Driven) → IsThrough script policy limit records world driver
-    → driven.steps.items ≡ driver.steps.items → driven.choices.items ≡ driver.choices.items → driven.turns ≡ length world.moves
-    → Reports script.nodes 0 world.moves driven.report → MainTheorem script.nodes driven.report
-    → IsTrue driven.finished ↔ IsFinished script (steps_of world.moves) driven.report → WaitingEnds script policy driven.finished
-    → IsTrue driven.stuck ↔ IsStuckRun script world.moves
+pub records_all : (script : ScriptState) (policy : Policy) (cluster : DrivenCluster) (limit : ℕ) (records : Bool)
+    (driven : Driven) → IsThrough script policy limit records cluster
+    → driven.steps.items ≡ cluster.driver.steps.items → driven.choices.items ≡ cluster.driver.choices.items → driven.turns ≡ length cluster.world.moves
+    → IsWholeRun script policy limit cluster.world.moves driven.report driven.finished → IsTrue driven.stuck ↔ IsStuckRun script cluster.world.moves
     → Records script policy limit records driven
-records_all script policy world driver limit records driven through steps choices turns reports theorem finished waiting stuck = record {
-  moves = world.moves;
-  run = record {
-    follows = through.at_end.follows;
-    ends = through.at_end.ends;
-    within = through.within;
-    reports = reports;
-    main_theorem = theorem;
-    finished_is = finished;
-    waiting_ends = waiting;
-  };
-  steps = steps ∙ through.at_end.steps ∙ ap (λ (b : Bool). recorded b world.moves) through.records_as;
-  choices = λ kept. subst (λ (cs : List Choice). AreChoicesBy script policy cs world.moves) (sym choices) (through.at_end.choices (through.records_as ∙ kept));
+records_all script policy cluster limit records driven through steps choices turns run stuck = record {
+  moves = cluster.world.moves;
+  run = run;
+  steps = steps ∙ through.at_end.steps ∙ ap (λ (b : Bool). recorded b cluster.world.moves) through.records_as;
+  choices = λ kept. subst (λ (cs : List Choice). AreChoicesBy script policy cs cluster.world.moves) (sym choices) (through.at_end.choices (through.records_as ∙ kept));
   turns = turns;
   stuck = stuck;
 }

@@ -10,7 +10,7 @@ use Rattle.ra_world.specs.declared.step.Step.{Step}
 use Rattle.ra_world.specs.Traffic.{Move}
 use Rattle.ra_world.specs.Run.{marks_of}
 use Rattle.ra_world.proofs.Moves.{marks_more}
-use Rattle.ra_schedule.specs.declared.progress.Progress.{Progress}
+use Rattle.ra_schedule.specs.declared.driver.client_progress.Progress.{Progress}
 use Rattle.ra_schedule.specs.Schedule.{steps_of, steps_in, steps_by, Asks, Enters, IsWaiting}
 use Rattle.ra_schedule.specs.Progress.{IsProgress, IsAfterMarks, IsProgressAfter}
 use Rattle.ra_schedule.proofs.Lists.{split_last}

@@ -1,12 +1,12 @@
 -- What comes of driving a cluster through a script.
-use Rattle.std.specs.Prelude.{◌≡◌, ◌≢◌, ◌⊎◌, ◌↔◌, ℕ, ◌<◌, ◌≤◌, Bool, List, length, Result, IsTrue, IsErrOf, IsOkUnless}
-use Rattle.ra_world.specs.declared.report.Report.{Report}
+use Rattle.std.specs.Prelude.{◌≡◌, ◌≢◌, ◌⊎◌, ◌↔◌, ℕ, ◌<◌, ◌≤◌, Bool, List, length, Result, IsTrue, IfOk, IsErrOf, IsOkUnless}
+use Rattle.ra_world.specs.declared.text.report.Report.{Report}
 use Rattle.ra_world.specs.Traffic.{Move}
 use Rattle.ra_world.specs.World.{Reports}
 use Rattle.ra_world.specs.MainTheorem.{MainTheorem}
 use Rattle.ra_schedule.specs.declared.choice.Policy.{Policy}
-use Rattle.ra_schedule.specs.declared.drive_script.Recording.{Recording}
-use Rattle.ra_schedule.specs.declared.drive_script.Summary.{Summary}
+use Rattle.ra_schedule.specs.declared.driver.drive_script.Recording.{Recording}
+use Rattle.ra_schedule.specs.declared.driver.drive_script.Summary.{Summary}
 use Rattle.ra_schedule.specs.declared.error.DriveError.{DriveError}
 use Rattle.ra_schedule.specs.declared.error.DriveError.TheVariants.{TurnLimit, Memory}
 use Rattle.ra_schedule.specs.Script.{ScriptState}
@@ -56,3 +56,10 @@ pub record Answers {X : Type 0} (script : ScriptState) (policy : Policy) (limit 
 pub record IsInTime {X : Type 0} (script : ScriptState) (policy : Policy) (limit : ℕ) (result : Result X DriveError) : Type 0 where
   pub below_limit : RepeatsNothing policy → most_turns script < limit → IsErrOf result TurnLimit → ⊥
   pub only_memory : RepeatsNothing policy → ChoosesItself policy → most_turns script ≤ limit → IsOkUnless result Memory
+
+-- What `drive` and each form of it promise, whatever they make of the run. This is one record, so that none promises less than
+-- another.
+pub record Drives {X : Type 0} (script : ScriptState) (policy : Policy) (limit : ℕ) (IsMade : X → Type 0) (result : Result X DriveError) : Type 0 where
+  pub ok : IfOk result IsMade
+  pub answers : Answers script policy limit result
+  pub in_time : IsInTime script policy limit result

@@ -1,23 +1,25 @@
 -- How far the driver has come with a script, and how it ends. No public contract speaks of it.
-use Rattle.std.specs.Prelude.{◌≡◌, ◌⊎◌, ◌↔◌, ℕ, ◌+◌, ◌<◌, ◌≤◌, Bool, true, false, List, [], ◌∷◌, ◌++◌, length, Result, IsTrue, IfOk, IfErr, IfSome}
+use Rattle.std.specs.Prelude.{◌≡◌, ◌⊎◌, ◌↔◌, ℕ, ◌+◌, ◌<◌, ◌≤◌, Bool, List, [], ◌∷◌, ◌++◌, length, Result, IsTrue, IfOk, IfErr, IfSome}
 use Rattle.ra_stamp.specs.NodeId.{IsNodeNumber}
 use Rattle.ra_world.specs.Traffic.{Move}
 use Rattle.ra_world.specs.Run.{IsRun}
 use Rattle.ra_world.specs.World.{WorldState}
 use Rattle.ra_schedule.specs.declared.choice.Choice.{Choice}
 use Rattle.ra_schedule.specs.declared.choice.Policy.{Policy}
+use Rattle.ra_schedule.specs.declared.choice.picking.Picked.{Picked}
 use Rattle.ra_world.specs.declared.step.Step.{Step}
 use Rattle.ra_schedule.specs.declared.driver.Driver.{Driver}
-use Rattle.ra_schedule.specs.declared.drive_script.Driven.{Driven}
+use Rattle.ra_schedule.specs.declared.driver.drive_script.Driven.{Driven}
+use Rattle.ra_schedule.specs.declared.driver.drive_script.DrivenCluster.{DrivenCluster}
 use Rattle.ra_schedule.specs.declared.error.DriveError.{DriveError}
 use Rattle.ra_schedule.specs.declared.error.DriveError.TheVariants.{BadPlace, NotEnabled, Memory}
-use Rattle.ra_schedule.specs.Script.{ScriptState}
+use Rattle.ra_schedule.specs.Script.{ScriptState, IsScript}
 use Rattle.ra_schedule.specs.Schedule.{StandsFor, Picks, IsBadPlace, IsNotEnabled, Ends, Follows, Stops}
 use Rattle.ra_schedule.specs.Listing.{AreChoicesBy}
 use Rattle.ra_schedule.specs.Shrinking.{IsStuckRun}
 use Rattle.ra_schedule.specs.Drive.{IsWholeRun}
 use Rattle.ra_schedule.specs.Progress.{Tracks, AreStuck, recorded}
-use Rattle.ra_schedule.specs.PolicyState.{AreDraws, generator_at, generator_in, words_drawn}
+use Rattle.ra_schedule.specs.PolicyState.{AreDraws, generator_at, generator_in, words_drawn, words_for}
 
 -- the cluster has come this far with the script, by whatever choices; this is the progress of its clients, and what
 -- chance knows of them if it chooses
@@ -57,12 +59,6 @@ pub record HasMade (script : ScriptState) (choice : Choice) (world : WorldState)
   pub choices : IsTrue driver.records → new.choices.items ≡ driver.choices.items ++ choice ∷ []
   pub made : (move : Move) × StandsFor script world.moves choice move.step × (next.moves ≡ world.moves ++ move ∷ [])
 
--- after a turn that went on there is one more move; after any other turn no choice is left
-abbrev pub AfterTurn : ScriptState → Policy → WorldState → Driver → WorldState → Driver → Bool → Type 0
-AfterTurn script policy world driver next new true = (length next.moves ≡ length world.moves + 1) × (new.records ≡ driver.records)
-    × IsReady script policy next new
-AfterTurn script policy world driver next new false = (next ≡ world) × (new.records ≡ driver.records) × IsAtEnd script policy next new
-
 -- a choice has this fault
 abbrev pub HasFault : ScriptState → List Move → Choice → DriveError → Type 0
 HasFault script moves choice fault =
@@ -81,6 +77,14 @@ CannotBeMade script moves choice fault = (fault ≡ Memory) ⊎ HasFault script 
 abbrev pub IsRefused : ScriptState → Policy → List Move → DriveError → Type 0
 IsRefused script policy moves fault = (choice : Choice) × Picks script policy moves choice × CannotBeMade script moves choice fault
 
+-- the policy has made this choice, which means this; what it draws by may have changed, and who is looked at first
+pub record HasChosen (script : ScriptState) (policy : Policy) (world : WorldState) (driver chosen : Driver) (picked : Picked) : Type 0 where
+  pub driven : IsDriven script world chosen
+  pub picks : Picks script policy world.moves picked.choice
+  pub means : IsMeaning script world.moves picked.choice picked.meaning
+  pub drawn : generator_in chosen.draws ≡ generator_at policy (words_drawn policy world.moves + words_for policy picked.choice)
+  pub choices : chosen.choices.items ≡ driver.choices.items
+
 -- after these moves the policy has a choice that can be made
 abbrev pub MayGoOn : ScriptState → Policy → List Move → Type 0
 MayGoOn script policy moves = (choice : Choice) × (step : Step) × Picks script policy moves choice × StandsFor script moves choice step
@@ -92,15 +96,12 @@ pub record IsHeldUp (script : ScriptState) (policy : Policy) (limit : ℕ) (move
   pub within : length moves < limit
   pub goes_on : MayGoOn script policy moves
 
--- when memory may run out: before the first turn, or at a turn whose choice can be made
-abbrev pub MayNeedMemory : ScriptState → Policy → ℕ → List Move → Type 0
-MayNeedMemory script policy limit moves = (moves ≡ []) ⊎ IsHeldUp script policy limit moves
-
 -- the policy has no choice left after at most this many turns, and they are recorded or not
-pub record IsThrough (script : ScriptState) (policy : Policy) (limit : ℕ) (records : Bool) (world : WorldState) (driver : Driver) : Type 0 where
-  pub at_end : IsAtEnd script policy world driver
-  pub within : length world.moves ≤ limit
-  pub records_as : driver.records ≡ records
+pub record IsThrough (script : ScriptState) (policy : Policy) (limit : ℕ) (records : Bool) (cluster : DrivenCluster) : Type 0 where
+  pub fit : IsScript script
+  pub at_end : IsAtEnd script policy cluster.world cluster.driver
+  pub within : length cluster.world.moves ≤ limit
+  pub records_as : cluster.driver.records ≡ records
 
 -- the policy stops for lack of memory, or for a cause that applies
 abbrev pub IsStopped : ScriptState → Policy → ℕ → DriveError → Type 0

@@ -8,7 +8,7 @@ use Rattle.ra_schedule.specs.declared.choice.Choice.{Choice}
 use Rattle.ra_schedule.specs.declared.choice.Choice.TheVariants.{Client, Message, Lost, Repeated}
 use Rattle.ra_schedule.specs.declared.choice.Policy.{Policy}
 use Rattle.ra_schedule.specs.declared.choice.Policy.TheVariants.{Oldest, Newest, Seeded, Faulty, Listed}
-use Rattle.ra_schedule.specs.declared.chance_state.Draws.{Draws}
+use Rattle.ra_schedule.specs.declared.choice.random_state.RandomState.{RandomState}
 use Rattle.ra_schedule.specs.Script.{ScriptState}
 use Rattle.ra_schedule.specs.Schedule.{steps_of, words_by}
 use Rattle.ra_schedule.specs.Seeds.{generator_after}
@@ -53,18 +53,18 @@ IsWithoutFault (Lost place) = ⊥
 IsWithoutFault (Repeated place) = ⊥
 
 -- the generator with which chance chooses, if it does
-abbrev pub generator_in : Option Draws → Option Lcg
+abbrev pub generator_in : Option RandomState → Option Lcg
 generator_in draws = option_map (λ d. d.generator) draws
 
 -- chance knows the clients of each node, and which are enabled after these moves
-pub record AreDraws (script : ScriptState) (moves : List Move) (draws : Draws) : Type 0 where
+pub record AreDraws (script : ScriptState) (moves : List Move) (draws : RandomState) : Type 0 where
   pub rosters : AreRosters script draws.rosters.items
   pub flags : AreFlags script moves draws.enabled.flags.items
   pub count : draws.enabled.count ≡ length (numbers_from 1 draws.enabled.flags.items)
 
 -- the same, except that chance has not looked yet at the clients at the node of a step and at those that entered by its
 -- marks
-pub record AreDrawsElsewhere (step : Step) (marks : List Mark) (script : ScriptState) (moves : List Move) (draws : Draws) : Type 0 where
+pub record AreDrawsElsewhere (step : Step) (marks : List Mark) (script : ScriptState) (moves : List Move) (draws : RandomState) : Type 0 where
   pub rosters : AreRosters script draws.rosters.items
   pub alike : length draws.enabled.flags.items ≡ length script.clients
   pub flags : AreFlagsElsewhere step marks script moves draws.enabled.flags.items

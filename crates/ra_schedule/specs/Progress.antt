@@ -6,9 +6,9 @@ use Rattle.ra_world.specs.declared.step.Step.{Step}
 use Rattle.ra_world.specs.declared.step.Step.TheVariants.{Ask}
 use Rattle.ra_world.specs.Traffic.{Move}
 use Rattle.ra_world.specs.World.{WorldState}
-use Rattle.ra_schedule.specs.declared.client_state.ClientState.{ClientState}
-use Rattle.ra_schedule.specs.declared.client_state.ClientState.TheVariants.{Done, Waits, Next}
-use Rattle.ra_schedule.specs.declared.progress.Progress.{Progress}
+use Rattle.ra_schedule.specs.declared.driver.client_state.ClientState.{ClientState}
+use Rattle.ra_schedule.specs.declared.driver.client_state.ClientState.TheVariants.{Done, Waits, Next}
+use Rattle.ra_schedule.specs.declared.driver.client_progress.Progress.{Progress}
 use Rattle.ra_schedule.specs.Script.{ScriptState, client_at, op_at}
 use Rattle.ra_schedule.specs.Schedule.{steps_of, steps_in, steps_by, Asks, IsWaiting, Enters}
 use Rattle.ra_schedule.specs.StateText.{WaitsSince}

@@ -6,9 +6,9 @@ use Rattle.ra_world.specs.World.{WorldState}
 use Rattle.ra_schedule.specs.declared.choice.Choice.{Choice}
 use Rattle.ra_schedule.specs.declared.choice.Policy.TheVariants as policy
 use Rattle.ra_schedule.specs.declared.driver.Driver.{Driver}
-use Rattle.ra_schedule.specs.declared.progress.Progress.{Progress}
-use Rattle.ra_schedule.specs.declared.shrinking.Listed.{Listed}
-use Rattle.ra_schedule.specs.declared.shrinking.Found.{Found}
+use Rattle.ra_schedule.specs.declared.driver.client_progress.Progress.{Progress}
+use Rattle.ra_schedule.specs.declared.driver.shrinking.Listed.{Listed}
+use Rattle.ra_schedule.specs.declared.driver.shrinking.Found.{Found}
 use Rattle.ra_schedule.specs.Script.{ScriptState}
 use Rattle.ra_schedule.specs.Schedule.{steps_of, StandsFor}
 use Rattle.ra_schedule.specs.Listing.{AreChoicesBy, AreChoicesOf}

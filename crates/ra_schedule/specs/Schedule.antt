@@ -8,7 +8,7 @@ use Rattle.ra_stamp.specs.declared.entry.Mark.TheVariants.{Requested, Entered, L
 use Rattle.ra_stamp.specs.declared.message.Message.{Message as Sent}
 use Rattle.ra_world.specs.declared.step.Step.{Step}
 use Rattle.ra_world.specs.declared.step.Step.TheVariants.{Ask, Leave, Deliver, Lose, Repeat}
-use Rattle.ra_world.specs.declared.report.Report.{Report}
+use Rattle.ra_world.specs.declared.text.report.Report.{Report}
 use Rattle.ra_world.specs.Traffic.{Move, LeavesUnderWay}
 use Rattle.ra_world.specs.Run.{IsRun, GoesOn, marks_of}
 use Rattle.ra_schedule.specs.declared.script.Op.{Op}

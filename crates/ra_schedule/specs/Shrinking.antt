@@ -5,14 +5,14 @@ use Rattle.ra_stamp.specs.declared.message.Message.{Message as Sent}
 use Rattle.ra_stamp.specs.declared.message.Message.TheVariants.{Request, Reply}
 use Rattle.ra_world.specs.declared.step.Step.{Step}
 use Rattle.ra_world.specs.declared.step.Step.TheVariants.{Ask, Leave, Deliver, Lose, Repeat}
-use Rattle.ra_world.specs.declared.report.Report.{Report}
+use Rattle.ra_world.specs.declared.text.report.Report.{Report}
 use Rattle.ra_world.specs.Traffic.{Move, LeavesUnderWay, repeated_by}
 use Rattle.ra_world.specs.Run.{IsRun}
 use Rattle.ra_schedule.specs.declared.choice.Choice.{Choice}
 use Rattle.ra_schedule.specs.declared.choice.Choice.TheVariants.{Client, Message, Lost, Repeated}
 use Rattle.ra_schedule.specs.declared.choice.Policy.{Policy}
 use Rattle.ra_schedule.specs.declared.choice.Policy.TheVariants.{Listed}
-use Rattle.ra_schedule.specs.declared.shrinking.Shrunk.{Shrunk}
+use Rattle.ra_schedule.specs.declared.driver.shrinking.Shrunk.{Shrunk}
 use Rattle.ra_schedule.specs.Script.{ScriptClient, ScriptState, client_at}
 use Rattle.ra_schedule.specs.Schedule.{steps_of, steps_by, IsWaiting, IsEnabled, IsAtPlace, StandsFor}
 use Rattle.ra_schedule.specs.Listing.{AreChoicesBy, AreChoicesOf}

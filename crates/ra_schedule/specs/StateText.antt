@@ -4,18 +4,18 @@ use Rattle.std.specs.List.Sorted.{IsStrictlySortedBy}
 use Rattle.std.specs.Ordering.{nat_cmp}
 use Rattle.std.specs.Cmp.Lexicographic.{slice_cmp}
 use Rattle.ra_stamp.specs.declared.mode.Mode.{Mode}
-use Rattle.ra_world.specs.declared.report.Report.{Report}
+use Rattle.ra_world.specs.declared.text.report.Report.{Report}
 use Rattle.ra_world.specs.declared.step.Step.TheVariants.{Ask}
 use Rattle.ra_world.specs.Traffic.{Move}
 use Rattle.ra_world.specs.Run.{marks_of}
 use Rattle.ra_world.specs.Lines.{field, mode_word}
 use Rattle.ra_world.specs.StateLines.{IsStateText}
 use Rattle.ra_schedule.specs.declared.choice.Policy.{Policy}
-use Rattle.ra_schedule.specs.declared.client_state.ClientState.{ClientState}
-use Rattle.ra_schedule.specs.declared.client_state.ClientState.TheVariants.{Done, Waits, Next}
+use Rattle.ra_schedule.specs.declared.driver.client_state.ClientState.{ClientState}
+use Rattle.ra_schedule.specs.declared.driver.client_state.ClientState.TheVariants.{Done, Waits, Next}
 use Rattle.ra_schedule.specs.declared.script.Op.{Op}
 use Rattle.ra_schedule.specs.declared.script.Op.TheVariants.{Lock, Unlock}
-use Rattle.ra_schedule.specs.declared.showing.Shown.{Shown}
+use Rattle.ra_schedule.specs.declared.driver.showing.Shown.{Shown}
 use Rattle.ra_schedule.specs.Drive.{IsWholeRun}
 use Rattle.ra_schedule.specs.Script.{ScriptClient, ScriptState, client_at, op_at}
 use Rattle.ra_schedule.specs.Schedule.{steps_of, steps_by, IsWaiting, Enters, IsEnabled}

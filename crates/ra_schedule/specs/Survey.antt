@@ -1,17 +1,17 @@
 -- What comes of a script under many seeds.
 use Rattle.std.specs.Prelude.{◌≡◌, ℕ, ◌+◌, ◌-◌, ◌≤◌, Bool, true, false, List, [], ◌∷◌, length, map, filter, flat_map, Option, Some, None, option_map, slice_get, All, Contains, IfSome}
 use Rattle.std.specs.List.{position_from}
-use Rattle.ra_world.specs.declared.report.Report.{Report}
+use Rattle.ra_world.specs.declared.text.report.Report.{Report}
 use Rattle.ra_world.specs.Traffic.{Move}
 use Rattle.ra_schedule.specs.declared.choice.Policy.{Policy}
 use Rattle.ra_schedule.specs.declared.choice.Policy.TheVariants.{Seeded, Faulty}
 use Rattle.ra_schedule.specs.declared.error.DriveError.TheVariants.{TurnLimit}
-use Rattle.ra_schedule.specs.declared.outcomes.Figures.{Figures}
-use Rattle.ra_schedule.specs.declared.outcomes.SeedOutcome.{SeedOutcome}
-use Rattle.ra_schedule.specs.declared.outcomes.SeedOutcome.TheVariants.{Finished, Stuck, Limit}
-use Rattle.ra_schedule.specs.declared.outcomes.Tally.{Tally}
-use Rattle.ra_schedule.specs.declared.outcomes.Spread.{Spread}
-use Rattle.ra_schedule.specs.declared.outcomes.Survey.{Survey}
+use Rattle.ra_schedule.specs.declared.surveys.seed_outcomes.Figures.{Figures}
+use Rattle.ra_schedule.specs.declared.surveys.seed_outcomes.SeedOutcome.{SeedOutcome}
+use Rattle.ra_schedule.specs.declared.surveys.seed_outcomes.SeedOutcome.TheVariants.{Finished, Stuck, Limit}
+use Rattle.ra_schedule.specs.declared.surveys.seed_outcomes.Tally.{Tally}
+use Rattle.ra_schedule.specs.declared.surveys.seed_outcomes.Spread.{Spread}
+use Rattle.ra_schedule.specs.declared.surveys.seed_outcomes.Survey.{Survey}
 use Rattle.ra_schedule.specs.Faults.{FaultRates}
 use Rattle.ra_schedule.specs.Script.{ScriptState}
 use Rattle.ra_schedule.specs.LockOrder.{IsOutOfOrder, IsUnreleased}

@@ -1,3 +1,9 @@
+pub mod enabled;
+pub mod faults;
+pub mod picking;
+pub mod random_choice;
+pub mod random_state;
+
 use crate::Faults;
 use ra_stamp::Sequence;
 

@@ -1,22 +1,30 @@
 //! How far a cluster was driven.
-ghost use Rattle.std.specs.Prelude.{◌≡◌, ◌+◌, ◌++◌, ◌∷◌, [], ◌<◌, ◌≤◌, ◌^◌, ◌⊎◌, ℕ, List, length, IsTrue, IfOk, IfErr, IsErrOf, OnOk, OnErr};
+pub mod begun;
+pub mod client_progress;
+pub mod client_state;
+pub mod drive_script;
+pub mod replaying;
+pub mod showing;
+pub mod shrinking;
+
+ghost use Rattle.std.specs.Prelude.{◌≡◌, ◌+◌, ◌++◌, ◌∷◌, [], ◌<◌, ◌≤◌, ◌^◌, ◌⊎◌, ℕ, List, length, IsTrue, IsNone, IfOk, IfErr, IfSome, IsErrOf, OnOk, OnErr};
 ghost use Rattle.ra_world.specs.Traffic.{Move};
-ghost use Rattle.ra_world.specs.Run.{IsRun, GoesOn};
+ghost use Rattle.ra_world.specs.Run.{IsRun};
 ghost use Rattle.ra_world.specs.declared.step.Step.{Step};
 ghost use Rattle.ra_schedule.specs.declared.choice.Choice.{Choice};
 ghost use Rattle.ra_schedule.specs.declared.error.DriveError.{DriveError};
 ghost use Rattle.ra_schedule.specs.Schedule.{StandsFor};
-ghost use Rattle.ra_schedule.specs.Progress.{OfEach, IsProgressAfter, AreCountable, recorded};
-ghost use Rattle.ra_schedule.specs.Driving.{IsDriven, IsReady, IsAtEnd, IsMeaning, AfterTurn, HasMade, CannotBeMade, IsRefused, IsStopped, MayGoOn, IsHeldUp};
+ghost use Rattle.ra_schedule.specs.Progress.{recorded};
+ghost use Rattle.ra_schedule.specs.Driving.{IsDriven, IsReady, IsAtEnd, IsMeaning, HasChosen, HasMade, CannotBeMade, IsStopped, IsHeldUp};
 
-use crate::chance_state::{Draws, note_step_in};
-use crate::laws::schedules_rest_on_runs;
-use crate::picking::{Picked, pick};
-use crate::progress::{
-    Progress, first_entered, first_free, note_marks, note_step, opening_progress,
+use crate::choice::picking::{Picked, pick};
+use crate::choice::random_state::{RandomState, note_step_in};
+use crate::driver::client_progress::{
+    Progress, first_entered, first_free, note_move, opening_progress,
 };
+use crate::laws::schedules_rest_on_runs;
 use crate::{Choice, Choices, DriveError, Policy, Script};
-use ra_stamp::{Marks, Memory};
+use ra_stamp::Memory;
 use ra_world::{Step, Steps, World};
 use std::alloc::Global;
 
@@ -26,7 +34,7 @@ pub struct Driver {
     /// How far each client is.
     pub clients: Vec<Progress>,
     /// What the random choice is made by, if there is one.
-    draws: Option<Draws>,
+    draws: Option<RandomState>,
     /// Each client before this place waits or has nothing left to do, so that most turns need not look at all clients.
     first: u32,
     /// Whether the steps and choices are recorded.
@@ -56,7 +64,7 @@ impl Driver {
         ensures records { IfOk result (λ driver. driver.records ≡ records) }
     {
         let clients = opening_progress(alloc, script.clients())?;
-        let draws = Draws::of(alloc, policy, script, world, &clients)?;
+        let draws = RandomState::of(alloc, policy, script, world, &clients)?;
         let steps = Steps::new(alloc);
         let choices = Choices::new(alloc);
         Ok(Driver {
@@ -69,7 +77,7 @@ impl Driver {
         })
     }
 
-    /// Makes turns until no choice is left.
+    /// Makes turns until no choice is left. At each, the policy makes a choice, and what it stands for is done.
     ///
     /// # Errors
     ///
@@ -91,108 +99,65 @@ impl Driver {
         ensures memory { IsErrOf result DriveError.Memory → IsHeldUp script.now policy.now limit world.new.moves }
     {
         for _turn in 0..limit {
-            if !self.turn(alloc, script, policy, world)? {
+            let Some(picked) = self.next_choice(script, policy, world) else {
                 return Ok(());
-            }
+            };
+            self.take_step(alloc, script, world, &picked)?;
         }
-        match pick(
-            script,
-            policy,
-            &mut self.draws,
-            world,
-            &self.clients,
-            self.first,
-        ) {
+        match self.next_choice(script, policy, world) {
             None => Ok(()),
             Some(_) => Err(DriveError::TurnLimit),
         }
     }
 
-    /// Makes a turn, and returns true, or false if no choice is left.
-    ///
-    /// # Errors
-    ///
-    /// Those of `drive`, except for `TurnLimit`.
-    fn turn(
-        &mut self,
-        alloc: Global,
-        script: &Script,
-        policy: &Policy,
-        world: &mut World,
-    ) -> Result<bool, DriveError>
-        requires ready { IsReady script.now policy.now world.old self.old }
-        requires countable { length world.old.moves + 1 < 2 ^ 64 }
-        ensures ok { IfOk result (AfterTurn script.now policy.now world.old self.old world.new self.new) }
-        ensures err { IfErr result (IsRefused script.now policy.now world.old.moves) }
-        ensures same { OnErr result (world.new ≡ world.old) }
-        // If the choice can't be made, that is the answer, and not that memory ran out.
-        ensures memory { IsErrOf result DriveError.Memory → MayGoOn script.now policy.now world.old.moves }
+    /// Returns the choice that the policy makes next, with its meaning, or `None` at the end.
+    #[inline(always)]
+    fn next_choice(&mut self, script: &Script, policy: &Policy, world: &World) -> Option<Picked>
+        requires { IsReady script.now policy.now world.now self.old }
+        ensures some { IfSome result (HasChosen script.now policy.now world.now self.old self.new) }
+        ensures none { IsNone result → IsAtEnd script.now policy.now world.now self.new }
+        ensures records { self.new.records ≡ self.old.records }
     {
         self.first = first_free(script, &self.clients, self.first);
-        let Some(picked) = pick(
+        pick(
             script,
             policy,
             &mut self.draws,
             world,
             &self.clients,
             self.first,
-        ) else {
-            return Ok(false);
-        };
-        self.follow(alloc, script, world, picked)?;
-        Ok(true)
+        )
     }
 
-    /// Does what a choice stands for, if it can be made.
+    /// Makes the step that a choice stands for, if there is one. Both are recorded before the step is made, so that there is memory
+    /// for the record.
     ///
     /// # Errors
     ///
-    /// Those of `drive`, except for `TurnLimit`.
-    pub fn follow(
+    /// Those of `drive`, except for `TurnLimit`: no step was made.
+    pub fn take_step(
         &mut self,
         alloc: Global,
         script: &Script,
         world: &mut World,
-        picked: Picked,
+        picked: &Picked,
     ) -> Result<(), DriveError>
         requires driven { IsDriven script.now world.old self.old }
         requires countable { length world.old.moves + 1 < 2 ^ 64 }
-        requires meaning { IsMeaning script.now world.old.moves picked.choice picked.meaning }
-        ensures ok { OnOk result (HasMade script.now picked.choice world.old self.old world.new self.new) }
-        ensures err { IfErr result (CannotBeMade script.now world.old.moves picked.choice) }
+        requires meaning { IsMeaning script.now world.old.moves picked.now.choice picked.now.meaning }
+        ensures ok { OnOk result (HasMade script.now picked.now.choice world.old self.old world.new self.new) }
+        ensures err { IfErr result (CannotBeMade script.now world.old.moves picked.now.choice) }
         ensures same { OnErr result (world.new ≡ world.old) }
         // If the choice can't be made, that is the answer, and not that memory ran out.
         ensures memory { IsErrOf result DriveError.Memory
-            → (step : Step) × StandsFor script.now world.old.moves picked.choice step }
-    {
-        let Picked { choice, meaning } = picked;
-        match meaning {
-            Ok(step) => self.take_step(alloc, script, world, choice, &step),
-            Err(fault) => Err(fault),
-        }
-    }
-
-    /// Makes the step that a choice stands for. Both are recorded before the step is made, so that there is memory for the record.
-    ///
-    /// # Errors
-    ///
-    /// `Memory`: no step was made.
-    fn take_step(
-        &mut self,
-        alloc: Global,
-        script: &Script,
-        world: &mut World,
-        choice: Choice,
-        step: &Step,
-    ) -> Result<(), DriveError>
-        requires driven { IsDriven script.now world.old self.old }
-        requires countable { length world.old.moves + 1 < 2 ^ 64 }
-        requires means { StandsFor script.now world.old.moves choice step.now }
-        ensures ok { OnOk result (HasMade script.now choice world.old self.old world.new self.new) }
-        ensures err { IfErr result (CannotBeMade script.now world.old.moves choice) }
-        ensures same { OnErr result (world.new ≡ world.old) }
+            → (step : Step) × StandsFor script.now world.old.moves picked.now.choice step }
     {
         schedules_rest_on_runs();
+        let choice = picked.choice;
+        let step = match &picked.meaning {
+            Ok(step) => step,
+            Err(fault) => return Err(*fault),
+        };
         keep(
             &mut self.steps,
             &mut self.choices,
@@ -200,8 +165,11 @@ impl Driver {
             choice,
             step,
         )?;
-        let made = make(alloc, world, &mut self.clients, step, place_in(choice))?;
-        let marks = made.as_slice();
+        let Ok(outcome) = world.step_near(alloc, step, place_in(choice)) else {
+            return Err(DriveError::Memory);
+        };
+        let marks = outcome.marks.as_slice();
+        note_move(&mut self.clients, step, marks);
         self.first = first_entered(marks, self.first);
         note_step_in(&mut self.draws, script, world, &self.clients, step, marks);
         Ok(())
@@ -240,34 +208,4 @@ pub fn place_in(choice: Choice) -> u64
         Choice::Message(place) | Choice::Lost(place) | Choice::Repeated(place) => place,
         Choice::Client(_) => 0,
     }
-}
-
-/// Makes a step that the run goes on with, notes how far the clients are then, and returns its marks. A message that it takes is
-/// looked for at the place `near` first.
-///
-/// # Errors
-///
-/// `Memory`: memory ran out.
-fn make(
-    alloc: Global,
-    world: &mut World,
-    clients: &mut [Progress],
-    step: &Step,
-    near: u64,
-) -> Result<Marks, DriveError>
-    requires allowed { GoesOn world.old.count world.old.start world.old.moves step.now }
-    requires countable { AreCountable clients.old }
-    ensures ok { IfOk result (λ marks. (move : Move) × (move.step ≡ step.now) × (move.marks ≡ marks.items)
-        × (world.new ≡ record world.old { moves = world.old.moves ++ move ∷ [] })
-        × OfEach (IsProgressAfter move) clients.old clients.new) }
-    ensures run { OnOk result (IsRun world.new.count world.new.start world.new.moves) }
-    ensures err { IfErr result (λ fault. fault ≡ DriveError.Memory) }
-    ensures same { OnErr result (world.new ≡ world.old) }
-{
-    let Ok(outcome) = world.step_near(alloc, step, near) else {
-        return Err(DriveError::Memory);
-    };
-    note_step(clients, step);
-    note_marks(clients, outcome.marks.as_slice());
-    Ok(outcome.marks)
 }

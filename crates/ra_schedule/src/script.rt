@@ -1,3 +1,6 @@
+pub mod node_clients;
+pub mod script_names;
+
 ghost use Rattle.std.specs.Prelude.{◌≡◌, ◌⊎◌, ◌<◌, ◌≤◌, ◌↔◌, ◌∷◌, ◌++◌, ℕ, List, [], length, option_map, option_copied, IsTrue, IsErrOf, IsOkUnless, IsOk, IsSome, IfOk, IfSome, OnOk, OnErr};
 ghost use Rattle.ra_stamp.specs.NodeId.{IsNodeNumber};
 ghost use Rattle.ra_schedule.specs.declared.script.Op.{Op};

@@ -10,7 +10,7 @@ use Rattle.ra_schedule.specs.Schedule.{RepeatsNothing}
 use Rattle.ra_schedule.specs.Script.{ScriptState}
 use Rattle.ra_script.specs.declared.error.PerformError.{PerformError}
 use Rattle.ra_script.specs.declared.error.PerformError.TheVariants.{Drive}
-use Rattle.ra_script.specs.declared.format.Format.{Format}
+use Rattle.ra_script.specs.declared.performing.output_kind.OutputKind.{OutputKind}
 use Rattle.ra_script.specs.Performed.{IsPerformedAs, RefusesAs, IsOrderly, BringsToEnd}
 use Rattle.ra_script.proofs.ReadScripts.{ok_same}
 
@@ -23,14 +23,14 @@ no_err e = cc
 pub same_fault : {x y : PerformError} → ◌≡◌ {A = Result Bool PerformError} (Err x) (Err y) → x ≡ y
 same_fault e = cc
 
-pub ends_finished : (format : Format) (policy : Policy) (input output : List ℕ) (finished : Bool) → IsPerformedAs format policy input output finished
+pub ends_finished : (format : OutputKind) (policy : Policy) (input output : List ℕ) (finished : Bool) → IsPerformedAs format policy input output finished
     → LosesNothing policy → ChoosesItself policy → IsOrderly input → IsTrue finished
 ends_finished format policy input output finished performed unlost itself orderly =
     let same : orderly.script ≡ performed.script = ok_same (sym orderly.script_is ∙ performed.script_is) in
     performed.run.waiting_ends itself unlost (subst (λ (s : ScriptState). IsOutOfOrder s → ⊥) same orderly.in_order)
     (subst (λ (s : ScriptState). IsUnreleased s → ⊥) same orderly.released)
 
-pub by_ok : (format : Format) (policy : Policy) (known : Option (List ℕ)) (output : List ℕ) (finished : Bool) (Rest : List ℕ → Type 0)
+pub by_ok : (format : OutputKind) (policy : Policy) (known : Option (List ℕ)) (output : List ℕ) (finished : Bool) (Rest : List ℕ → Type 0)
     → IfSome known (λ input. IsPerformedAs format policy input output finished × Rest input) → BringsToEnd policy known (Ok finished)
 by_ok format policy known output finished Rest performed = record {
   below_limit = λ unrepeated is. no_err is;
@@ -43,9 +43,9 @@ by_ok format policy known output finished Rest performed = record {
     of_input None performed unlost itself = tt
     of_input (Some input) performed unlost itself = ends_finished format policy input output finished performed.0 unlost itself
 
-module _ (below_limit : (format : Format) (policy : Policy) (input : List ℕ) → RepeatsNothing policy → RefusesAs format policy input (Drive TurnLimit) → ⊥)
-    (never_refused : (format : Format) (policy : Policy) (input : List ℕ) (cause : DriveError) → RepeatsNothing policy → ChoosesItself policy → RefusesAs format policy input (Drive cause) → ⊥) where
-  pub by_err : (format : Format) (policy : Policy) (known : Option (List ℕ)) (why : PerformError) → (input : List ℕ) × RefusesAs format policy input why
+module _ (below_limit : (format : OutputKind) (policy : Policy) (input : List ℕ) → RepeatsNothing policy → RefusesAs format policy input (Drive TurnLimit) → ⊥)
+    (never_refused : (format : OutputKind) (policy : Policy) (input : List ℕ) (cause : DriveError) → RepeatsNothing policy → ChoosesItself policy → RefusesAs format policy input (Drive cause) → ⊥) where
+  pub by_err : (format : OutputKind) (policy : Policy) (known : Option (List ℕ)) (why : PerformError) → (input : List ℕ) × RefusesAs format policy input why
       → BringsToEnd policy known (Err why)
   by_err format policy known why (input, refuses) = record {
     below_limit = λ unrepeated is. below_limit format policy input unrepeated (subst (RefusesAs format policy input) (same_fault is) refuses);

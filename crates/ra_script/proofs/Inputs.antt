@@ -1,6 +1,6 @@
 -- What holds of the bytes that were read holds of the whole input: one of which 65,537 bytes were read is no script.
 use Rattle.std.proofs.Common.{◌≡◌, ◌≢◌, ◌⊎◌, ℕ, ◌≤◌, Bool, List, [], ◌∷◌, ◌++◌, length, Option, Some, None, Ok, Err, refl, sym, ap, subst, ◌∙◌, arith, inl, inr}
-use Rattle.std.specs.Prelude.{IfSome, Result, IfOk, IfErr, if◌then◌else◌, ok_or, not, string_bytes}
+use Rattle.std.specs.Prelude.{IfSome, if◌then◌else◌, ok_or, not}
 use Rattle.std.specs.Str.{is_utf8}
 use Rattle.std.specs.Io.KnownBytes.{Consumes}
 use Rattle.std.proofs.lemmas.Bool.{cases_lt, lt-ltb}
@@ -11,14 +11,15 @@ use Rattle.ra_world.specs.declared.error.ReadFault.{ReadFault}
 use Rattle.ra_world.specs.declared.error.ReadFault.TheVariants as read
 use Rattle.ra_schedule.specs.declared.choice.Policy.{Policy}
 use Rattle.ra_schedule.specs.Script.{ScriptState}
-use Rattle.ra_script.specs.declared.format.Format.{Format}
-use Rattle.ra_script.specs.declared.format.Format.TheVariants.{Lines, Trace, Choices, Shrunk, State}
+use Rattle.ra_script.specs.declared.performing.output_kind.OutputKind.{OutputKind}
+use Rattle.ra_script.specs.declared.performing.output_kind.OutputKind.TheVariants.{Lines, Trace, Choices, Shrunk, State}
+use Rattle.ra_script.specs.declared.error.ScriptError.{ScriptError}
 use Rattle.ra_script.specs.declared.error.ScriptError.TheVariants.{Limit, Toml, Shape}
+use Rattle.ra_script.specs.declared.error.ScriptError.TheVariants as script
 use Rattle.ra_script.specs.declared.error.PerformError.{PerformError}
 use Rattle.ra_script.specs.declared.error.PerformError.TheVariants as fault
-use Rattle.ra_script.specs.declared.performing.Printed.{Printed}
 use Rattle.ra_script.specs.Document.{document_of}
-use Rattle.ra_script.specs.Faults.{of_read}
+use Rattle.ra_script.specs.Faults.{IsRefusal, of_read, of_script}
 use Rattle.ra_script.specs.ScriptText.{result_and_then, script_in, script_of}
 use Rattle.ra_script.specs.Performed.{IsPerformedAs, RefusesAs}
 
@@ -44,7 +45,7 @@ is_read input rest taken h =
       | inr long ↦ record { how = inr (long, omega (arith, ap length h.taken, length-append taken rest)) }
     ]
 
-too_long : (format : Format) (policy : Policy) (taken input : List ℕ) (why : PerformError) → why ≢ fault.Write → 65537 ≤ length taken → 65537 ≤ length input
+too_long : (format : OutputKind) (policy : Policy) (taken input : List ℕ) (why : PerformError) → why ≢ fault.Write → 65537 ≤ length taken → 65537 ≤ length input
     → RefusesAs format policy taken why → RefusesAs format policy input why
 too_long format policy taken input fault.Read early t i h = h
 too_long format policy taken input (fault.Script why) early t i h = (h.0, long_is_refused input i ∙ sym (long_is_refused taken t) ∙ h.1)
@@ -58,7 +59,7 @@ too_long format policy taken input fault.Memory early t i h = h
 too_long format policy taken input fault.Write early t i h = absurd (early refl)
 
 -- a refusal of what was read is one of the input
-pub refuses_input : (old new : Option (List ℕ)) (format : Format) (policy : Policy) (taken : List ℕ) (why : PerformError) → why ≢ fault.Write
+pub refuses_input : (old new : Option (List ℕ)) (format : OutputKind) (policy : Policy) (taken : List ℕ) (why : PerformError) → why ≢ fault.Write
     → Reads old new 65537 taken → RefusesAs format policy taken why → IfSome old (λ input. RefusesAs format policy input why)
 refuses_input None new format policy taken why early h r = tt
 refuses_input (Some input) None format policy taken why early h r = absurd h.taken
@@ -69,7 +70,7 @@ refuses_input (Some input) (Some rest) format policy taken why early h r =
     ]
 
 -- what comes of what was read comes of the input, and nothing of it is left
-pub performs_input : (old new : Option (List ℕ)) (format : Format) (policy : Policy) (taken output : List ℕ) (finished : Bool) → Reads old new 65537 taken
+pub performs_input : (old new : Option (List ℕ)) (format : OutputKind) (policy : Policy) (taken output : List ℕ) (finished : Bool) → Reads old new 65537 taken
     → IsPerformedAs format policy taken output finished → IfSome old (λ input. IsPerformedAs format policy input output finished × Consumes old new input)
 performs_input None new format policy taken output finished h r = tt
 performs_input (Some input) None format policy taken output finished h r = absurd h.taken
@@ -93,12 +94,12 @@ not_nil bytes [] suffix e left nothing = left (sym e ∙ nothing)
 not_nil bytes (x ∷ xs) suffix e left nothing = absurd cc
 
 -- a reader that failed, and memory that ran out while it was read
-pub read_refuses : (old : Option (List ℕ)) (format : Format) (policy : Policy) (why : ReadFault) → IfSome old (λ input. RefusesAs format policy input (of_read why))
+pub read_refuses : (old : Option (List ℕ)) (format : OutputKind) (policy : Policy) (why : ReadFault) → IfSome old (λ input. RefusesAs format policy input (of_read why))
 read_refuses None format policy why = tt
 read_refuses (Some input) format policy read.Read = tt
 read_refuses (Some input) format policy read.Memory = tt
 
-pub read_cause : (format : Format) (policy : Policy) (why : ReadFault) → RefusesAs format policy [] (of_read why)
+pub read_cause : (format : OutputKind) (policy : Policy) (why : ReadFault) → RefusesAs format policy [] (of_read why)
 read_cause format policy read.Read = tt
 read_cause format policy read.Memory = tt
 
@@ -110,14 +111,40 @@ pub read_failed : (why : ReadFault) → of_read why ≡ fault.Read → why ≡ r
 read_failed read.Read e = refl
 read_failed read.Memory e = absurd cc
 
--- what comes of what was read
-pub printed_of_input : (old new : Option (List ℕ)) (format : Format) (policy : Policy) (taken : List ℕ) (r : Result Printed PerformError) → Reads old new 65537 taken
-    → IfOk r (λ printed. IsPerformedAs format policy taken (string_bytes printed.text) printed.finished)
-    → IfOk r (λ printed. IfSome old (λ input. IsPerformedAs format policy input (string_bytes printed.text) printed.finished × Consumes old new input))
-printed_of_input old new format policy taken (Ok printed) h made = performs_input old new format policy taken (string_bytes printed.text) printed.finished h made
-printed_of_input old new format policy taken (Err why) h made = tt
+-- a text that is not a script
+pub script_refuses : (format : OutputKind) (policy : Policy) (input : List ℕ) (why : ScriptError) → IsRefusal (script_of input) why
+    → RefusesAs format policy input (of_script why)
+script_refuses format policy input script.Memory is = tt
+script_refuses format policy input script.Toml (inl is) = ((λ e. absurd cc), is)
+script_refuses format policy input script.Shape (inl is) = ((λ e. absurd cc), is)
+script_refuses format policy input script.Nodes (inl is) = ((λ e. absurd cc), is)
+script_refuses format policy input script.Clients (inl is) = ((λ e. absurd cc), is)
+script_refuses format policy input script.Op (inl is) = ((λ e. absurd cc), is)
+script_refuses format policy input script.NotHeld (inl is) = ((λ e. absurd cc), is)
+script_refuses format policy input script.AlreadyHeld (inl is) = ((λ e. absurd cc), is)
+script_refuses format policy input script.Limit (inl is) = ((λ e. absurd cc), is)
+script_refuses format policy input script.Toml (inr is) = absurd cc
+script_refuses format policy input script.Shape (inr is) = absurd cc
+script_refuses format policy input script.Nodes (inr is) = absurd cc
+script_refuses format policy input script.Clients (inr is) = absurd cc
+script_refuses format policy input script.Op (inr is) = absurd cc
+script_refuses format policy input script.NotHeld (inr is) = absurd cc
+script_refuses format policy input script.AlreadyHeld (inr is) = absurd cc
+script_refuses format policy input script.Limit (inr is) = absurd cc
 
-pub refused_of_input : (old new : Option (List ℕ)) (format : Format) (policy : Policy) (taken : List ℕ) (r : Result Printed PerformError) → Reads old new 65537 taken
-    → IfErr r (λ why. why ≢ fault.Write) → IfErr r (RefusesAs format policy taken) → IfErr r (λ why. IfSome old (λ input. RefusesAs format policy input why))
-refused_of_input old new format policy taken (Ok printed) h early refusal = tt
-refused_of_input old new format policy taken (Err why) h early refusal = refuses_input old new format policy taken why early h refusal
+script_or_memory : (why : ScriptError) → (of_script why ≡ fault.Script why) ⊎ (of_script why ≡ fault.Memory)
+script_or_memory script.Toml = inl refl
+script_or_memory script.Shape = inl refl
+script_or_memory script.Nodes = inl refl
+script_or_memory script.Clients = inl refl
+script_or_memory script.Op = inl refl
+script_or_memory script.NotHeld = inl refl
+script_or_memory script.AlreadyHeld = inl refl
+script_or_memory script.Limit = inl refl
+script_or_memory script.Memory = inr refl
+
+pub script_early : (why : ScriptError) → of_script why ≢ fault.Write
+script_early why e = elim (script_or_memory why) [ inl is ↦ absurd cc | inr is ↦ absurd cc ]
+
+pub script_read : (why : ScriptError) → of_script why ≢ fault.Read
+script_read why e = elim (script_or_memory why) [ inl is ↦ absurd cc | inr is ↦ absurd cc ]

@@ -15,3 +15,4 @@ mod BroughtToEnd
 mod Performs
 mod Wording
 mod Firsts
+mod Printing

@@ -9,7 +9,7 @@ use Rattle.ra_schedule.specs.Performing.{ChoosesItself}
 use Rattle.ra_schedule.specs.Schedule.{RepeatsNothing}
 use Rattle.ra_script.specs.declared.error.PerformError.{PerformError}
 use Rattle.ra_script.specs.declared.error.PerformError.TheVariants.{Read, Drive, Write}
-use Rattle.ra_script.specs.declared.format.Format.{Format}
+use Rattle.ra_script.specs.declared.performing.output_kind.OutputKind.{OutputKind}
 use Rattle.ra_script.specs.Performed.{IsPerformedAs, RefusesAs, PerformsScript}
 use Rattle.ra_script.proofs.BroughtToEnd.{by_ok, by_err, no_err, same_fault}
 use Rattle.ra_script.proofs.Inputs.{of_known, not_nil}
@@ -17,9 +17,9 @@ use Rattle.ra_script.proofs.Inputs.{of_known, not_nil}
 not_read : Write ≡ Read → ⊥
 not_read e = cc
 
-module _ (below_limit : (format : Format) (policy : Policy) (input : List ℕ) → RepeatsNothing policy → RefusesAs format policy input (Drive TurnLimit) → ⊥)
-    (never_refused : (format : Format) (policy : Policy) (input : List ℕ) (cause : DriveError) → RepeatsNothing policy → ChoosesItself policy → RefusesAs format policy input (Drive cause) → ⊥)
-    (format : Format) (policy : Policy) (old new before after : Option (List ℕ)) (Untouched : Type 0)
+module _ (below_limit : (format : OutputKind) (policy : Policy) (input : List ℕ) → RepeatsNothing policy → RefusesAs format policy input (Drive TurnLimit) → ⊥)
+    (never_refused : (format : OutputKind) (policy : Policy) (input : List ℕ) (cause : DriveError) → RepeatsNothing policy → ChoosesItself policy → RefusesAs format policy input (Drive cause) → ⊥)
+    (format : OutputKind) (policy : Policy) (old new before after : Option (List ℕ)) (Untouched : Type 0)
     (at_most : (taken : List ℕ) × (length taken ≤ 65537) × Consumes old new taken) where
   -- nothing came of the input, so that nothing was written
   pub unmade : (why : PerformError) → IfSome old (λ input. RefusesAs format policy input why) → (input : List ℕ) × RefusesAs format policy input why

@@ -7,7 +7,7 @@ use Rattle.std.proofs.lemmas.List.Sums.{AllPass-from_list_all}
 use Rattle.std.specs.List.{list_all}
 use Rattle.ra_schedule.specs.declared.script.Op.{Op}
 use Rattle.ra_schedule.specs.Script.{ScriptClient, ScriptState, IsScript}
-use Rattle.ra_script.specs.declared.document.ClientRef.{ClientRef}
+use Rattle.ra_script.specs.declared.script_reading.document.ClientRef.{ClientRef}
 use Rattle.ra_script.specs.declared.error.ScriptError.{ScriptError}
 use Rattle.ra_script.specs.declared.error.ScriptError.TheVariants as fault
 use Rattle.ra_script.specs.Document.{ClientTable, Document, client_table}

@@ -1,8 +1,8 @@
 -- The shape of a script's document.
 use Rattle.std.specs.Prelude.{ℕ, suc, ℤ, ◌==◌, List, [], ◌∷◌, Option, Some, None, codes, map, option_map, option_and_then, if◌then◌else◌}
 use Rattle.std.specs.Borrow.{Bor}
-use Rattle.ra_script.specs.declared.document.ClientRef.{ClientRef}
-use Rattle.ra_script.specs.declared.document.DocumentRef.{DocumentRef}
+use Rattle.ra_script.specs.declared.script_reading.document.ClientRef.{ClientRef}
+use Rattle.ra_script.specs.declared.script_reading.document.DocumentRef.{DocumentRef}
 use Rattle.toml.specs.Data.{Data, Items, no_items, item, Members, no_members, member, get_member, as_str, as_integer, as_array, as_table}
 
 -- a client's table: the number of its node, and the bytes of each of its operations

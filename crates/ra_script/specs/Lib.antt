@@ -6,3 +6,4 @@ pub mod Meaning
 pub mod ChoicesText
 pub mod Performed
 pub mod Finding
+pub mod Printing

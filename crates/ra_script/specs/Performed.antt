@@ -2,7 +2,7 @@
 use Rattle.std.specs.Prelude.{◌≡◌, ◌≢◌, ◌⊎◌, ℕ, ◌<◌, ◌≤◌, List, [], ◌++◌, length, Bool, Option, IfSome, Result, Ok, Err, IfOk, IfErr, IsErrOf, IsTrue, codes}
 use Rattle.std.specs.Io.KnownBytes.{Consumes, Appends}
 use Rattle.ra_stamp.specs.Sequence.{Listed as Listing}
-use Rattle.ra_world.specs.declared.report.Report.{Report}
+use Rattle.ra_world.specs.declared.text.report.Report.{Report}
 use Rattle.ra_world.specs.Traffic.{Move, repeated_by}
 use Rattle.ra_world.specs.Lines.{report_text}
 use Rattle.ra_schedule.specs.declared.choice.Choice.{Choice}
@@ -18,8 +18,8 @@ use Rattle.ra_schedule.specs.Shrinking.{IsStuckRun, IsLeastOf}
 use Rattle.ra_schedule.specs.Schedule.{Follows, Ends, Stops, RepeatsNothing}
 use Rattle.ra_schedule.specs.StateText.{ShowsState}
 use Rattle.ra_trace.specs.TraceText.{IsTrace}
-use Rattle.ra_script.specs.declared.format.Format.{Format}
-use Rattle.ra_script.specs.declared.format.Format.TheVariants.{Lines, Trace, Choices, Shrunk, State}
+use Rattle.ra_script.specs.declared.performing.output_kind.OutputKind.{OutputKind}
+use Rattle.ra_script.specs.declared.performing.output_kind.OutputKind.TheVariants.{Lines, Trace, Choices, Shrunk, State}
 use Rattle.ra_script.specs.ChoicesText.{Lists}
 use Rattle.ra_script.specs.declared.error.ScriptError.TheVariants as script_fault
 use Rattle.ra_script.specs.declared.error.PerformError.{PerformError}
@@ -48,7 +48,7 @@ SaysShrunk script moves output =
 
 -- what the output says of a policy's run of a script: the lines of its report, its trace, its choices, what it is shrunk
 -- to, or the state at its end
-abbrev pub Says : Format → Policy → ScriptState → List Move → Report → List ℕ → Type 0
+abbrev pub Says : OutputKind → Policy → ScriptState → List Move → Report → List ℕ → Type 0
 Says Lines policy script moves report output = output ≡ report_text report
 Says Trace policy script moves report output = IsTrace script.nodes 0 moves output
 Says Choices policy script moves report output = SaysChoices policy script moves output
@@ -57,7 +57,7 @@ Says State policy script moves report output = ShowsState script moves output
 
 -- The output says in this format what came of the script that the input is, under this policy, which was followed to
 -- its end. `finished` says whether this run is finished.
-pub record IsPerformedAs (format : Format) (policy : Policy) (input output : List ℕ) (finished : Bool) : Type 0 where
+pub record IsPerformedAs (format : OutputKind) (policy : Policy) (input output : List ℕ) (finished : Bool) : Type 0 where
   pub script : ScriptState
   pub script_is : script_of input ≡ Ok script
   pub moves : List Move
@@ -79,7 +79,7 @@ pub record HasNoWords (policy : Policy) (input : List ℕ) : Type 0 where
   pub repeats : repeated_by moves ≢ []
 
 -- choices are to be written, and no word stands for one of them
-abbrev pub Unwritten : Format → Policy → List ℕ → Type 0
+abbrev pub Unwritten : OutputKind → Policy → List ℕ → Type 0
 Unwritten Lines policy input = ⊥
 Unwritten Trace policy input = ⊥
 Unwritten Choices policy input = HasNoWords policy input
@@ -88,7 +88,7 @@ Unwritten State policy input = ⊥
 
 -- when each refusal may come: its cause applies. `Memory` and faults of the reader and the writer come from outside,
 -- but the writer fails only if there is something to write.
-abbrev pub RefusesAs : Format → Policy → List ℕ → PerformError → Type 0
+abbrev pub RefusesAs : OutputKind → Policy → List ℕ → PerformError → Type 0
 RefusesAs format policy input fault.Read = Unit {0}
 RefusesAs format policy input (fault.Script why) = (why ≢ script_fault.Memory) × (script_of input ≡ Err why)
 RefusesAs format policy input (fault.Drive cause) = (script : ScriptState) × (moves : List Move) × (script_of input ≡ Ok script)
@@ -120,7 +120,7 @@ pub record BringsToEnd (policy : Policy) (known : Option (List ℕ)) (result : R
 -- The answer of each of the three, which write what comes of a script in this format. `old` and `new` are what is left in
 -- the reader before and after it, and `before` and `after` what the writer contains, if they tell. `Untouched` says that
 -- the writer is as before.
-pub record PerformsScript (format : Format) (policy : Policy) (old new before after : Option (List ℕ)) (Untouched : Type 0)
+pub record PerformsScript (format : OutputKind) (policy : Policy) (old new before after : Option (List ℕ)) (Untouched : Type 0)
     (result : Result Bool PerformError) : Type 0 where
   -- what is read is a script to its end, and what is written is what comes of it and nothing else
   pub ok : IfOk result (λ finished. IfSome old (λ input. (output : List ℕ) × IsPerformedAs format policy input output finished

@@ -10,7 +10,7 @@ ghost use Rattle.ra_schedule.specs.Schedule.{Follows, RepeatsNothing};
 ghost use Rattle.ra_schedule.specs.Script.{ScriptState, IsScript};
 ghost use Rattle.ra_script.specs.ChoicesText.{HasText};
 ghost use Rattle.ra_script.specs.declared.error.PerformError.{PerformError};
-ghost use Rattle.ra_script.specs.declared.format.Format.{Format};
+ghost use Rattle.ra_script.specs.declared.performing.output_kind.OutputKind.{OutputKind};
 ghost use Rattle.ra_script.specs.Performed.{RefusesAs};
 ghost use Rattle.ra_script.specs.ScriptText.{script_of};
 
@@ -22,9 +22,9 @@ use ra_schedule::{
 /// of turns, which is above the most that any script takes. If the policy also chooses by itself, it is never refused.
 pub fn read_scripts_come_to_rest()
     ensures scripts { (input : List ℕ) (script : ScriptState) → script_of input ≡ Ok script → IsScript script }
-    ensures below_limit { (format : Format) (policy : Policy) (input : List ℕ) → RepeatsNothing policy
+    ensures below_limit { (format : OutputKind) (policy : Policy) (input : List ℕ) → RepeatsNothing policy
         → ¬ RefusesAs format policy input (PerformError.Drive DriveError.TurnLimit) }
-    ensures never_refused { (format : Format) (policy : Policy) (input : List ℕ) (cause : DriveError)
+    ensures never_refused { (format : OutputKind) (policy : Policy) (input : List ℕ) (cause : DriveError)
         → RepeatsNothing policy → ChoosesItself policy → ¬ RefusesAs format policy input (PerformError.Drive cause) }
 {
     scripts_come_to_rest();
@@ -38,7 +38,7 @@ pub fn choices_have_words_unless_messages_are_repeated()
     ensures have_text { (script : ScriptState) (policy : Policy) (choices : List Choice) (moves : List Move) → IsScript script
         → Follows script policy moves → AreChoicesBy script policy choices moves → repeated_by moves ≡ []
         → All HasText choices }
-    ensures never_refused { (format : Format) (policy : Policy) (input : List ℕ) → RepeatsNothing policy
+    ensures never_refused { (format : OutputKind) (policy : Policy) (input : List ℕ) → RepeatsNothing policy
         → ¬ RefusesAs format policy input PerformError.Choice }
 {
     scripts_come_to_rest();

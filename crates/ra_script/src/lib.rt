@@ -3,24 +3,18 @@
 #![tactic(auto)]
 
 mod choices;
-mod document;
 mod error;
-mod explaining;
-mod finding;
-mod format;
 mod laws;
-mod operation;
 mod performing;
-mod reading;
-mod shape_note;
-mod spelling;
+mod script_reading;
 
 pub use choices::read_choices;
+pub use choices::spelling::choices_text;
 pub use error::{ChoicesError, PerformError, ScriptError};
-pub use explaining::explain_script;
-pub use finding::find_run;
-pub use format::Format;
 pub use laws::{choices_have_words_unless_messages_are_repeated, read_scripts_come_to_rest};
-pub use performing::{MAX_TURNS, Printed, perform, perform_as, perform_trace};
-pub use reading::read_script;
-pub use spelling::choices_text;
+pub use performing::find_run::find_run;
+pub use performing::output_kind::OutputKind;
+pub use performing::printed::Printed;
+pub use performing::{MAX_TURNS, perform, perform_as, perform_trace};
+pub use script_reading::explaining::explain_script;
+pub use script_reading::read_script;

@@ -1,12 +1,16 @@
-ghost use Rattle.std.specs.Prelude.{◌≡◌, ◌≢◌, ◌≤◌, ◌<◌, ◌⊎◌, All, MatchOption, List, ℕ, ◌++◌, length, string_bytes, codes, Ok, OnOk, IfOk, IfErr, IfSome, IsErrOf};
-ghost use Rattle.std.specs.Io.KnownBytes.{Consumes};
-ghost use Rattle.ra_script.specs.declared.format.Format.{Format};
-ghost use Rattle.ra_script.specs.ChoicesText.{HasText, Lists};
-ghost use Rattle.ra_script.specs.ScriptText.{script_of};
-ghost use Rattle.ra_script.specs.Performed.{IsPerformedAs, PerformsScript, RefusesAs};
+pub mod find_run;
+pub mod output_kind;
+pub mod printed;
 
-use crate::format::Format;
+ghost use Rattle.std.specs.Prelude.{◌≡◌, ◌⊎◌, All, MatchOption, ◌++◌, string_bytes, codes, OnOk, IfOk, IfErr};
+ghost use Rattle.ra_script.specs.declared.performing.output_kind.OutputKind.{OutputKind};
+ghost use Rattle.ra_script.specs.ChoicesText.{HasText, Lists};
+ghost use Rattle.ra_script.specs.Performed.{PerformsScript};
+ghost use Rattle.ra_script.specs.Printing.{PrintsRun};
+
 use crate::laws::{choices_have_words_unless_messages_are_repeated, read_scripts_come_to_rest};
+use crate::performing::output_kind::OutputKind;
+use crate::performing::printed::Printed;
 use crate::{ChoicesError, PerformError, choices_text, read_script};
 use ra_schedule::{Choices, Policy, Script, Shown, drive, show, shrink, summarize};
 use ra_stamp::Memory;
@@ -21,15 +25,6 @@ const MAX_INPUT: usize = 65_537;
 /// The most turns that a run of a script may take.
 pub const MAX_TURNS: u64 = 16_777_216;
 
-/// What is written of a script's run.
-#[derive(Drop)]
-pub struct Printed {
-    /// The text.
-    pub text: String,
-    /// Whether the run is finished: every operation is done, and nothing waits, is queued or under way.
-    pub finished: bool,
-}
-
 /// Drives a cluster through a script by a policy, and returns the lines of its report.
 ///
 /// # Errors
@@ -39,11 +34,7 @@ pub struct Printed {
 /// 1. `Drive`: the policy can't go on.
 /// 2. `Memory`: memory ran out.
 fn lines_of(alloc: Global, policy: &Policy, script: &Script) -> Result<Printed, PerformError>
-    ensures ok { (input : List ℕ) → script_of input ≡ Ok script.now
-        → IfOk result (λ printed. IsPerformedAs Format.Lines policy.now input (string_bytes printed.text) printed.finished) }
-    ensures err { (input : List ℕ) → script_of input ≡ Ok script.now → IfErr result (RefusesAs Format.Lines policy.now input) }
-    ensures early { IfErr result (λ fault. fault ≢ PerformError.Write) }
-    ensures unread { ¬ IsErrOf result PerformError.Read }
+    ensures { PrintsRun OutputKind.Lines policy.now script.now result }
 {
     let summary = summarize(alloc, script, policy, MAX_TURNS)?;
     let text = report_text(alloc, &summary.report)?;
@@ -62,11 +53,7 @@ fn lines_of(alloc: Global, policy: &Policy, script: &Script) -> Result<Printed, 
 /// 1. `Drive`: the policy can't go on.
 /// 2. `Memory`: memory ran out.
 fn trace_of(alloc: Global, policy: &Policy, script: &Script) -> Result<Printed, PerformError>
-    ensures ok { (input : List ℕ) → script_of input ≡ Ok script.now
-        → IfOk result (λ printed. IsPerformedAs Format.Trace policy.now input (string_bytes printed.text) printed.finished) }
-    ensures err { (input : List ℕ) → script_of input ≡ Ok script.now → IfErr result (RefusesAs Format.Trace policy.now input) }
-    ensures early { IfErr result (λ fault. fault ≢ PerformError.Write) }
-    ensures unread { ¬ IsErrOf result PerformError.Read }
+    ensures { PrintsRun OutputKind.Trace policy.now script.now result }
 {
     runs_are_determined();
     let recording = drive(alloc, script, policy, MAX_TURNS)?;
@@ -98,11 +85,7 @@ fn end_line(text: &mut String) -> Result<(), Memory>
 /// 2. `Choice`: a message is repeated, for which there is no word.
 /// 3. `Memory`: memory ran out.
 fn choices_of(alloc: Global, policy: &Policy, script: &Script) -> Result<Printed, PerformError>
-    ensures ok { (input : List ℕ) → script_of input ≡ Ok script.now
-        → IfOk result (λ printed. IsPerformedAs Format.Choices policy.now input (string_bytes printed.text) printed.finished) }
-    ensures err { (input : List ℕ) → script_of input ≡ Ok script.now → IfErr result (RefusesAs Format.Choices policy.now input) }
-    ensures early { IfErr result (λ fault. fault ≢ PerformError.Write) }
-    ensures unread { ¬ IsErrOf result PerformError.Read }
+    ensures { PrintsRun OutputKind.Choices policy.now script.now result }
 {
     choices_have_words_unless_messages_are_repeated();
     let recording = drive(alloc, script, policy, MAX_TURNS)?;
@@ -144,11 +127,7 @@ fn text_or_none(alloc: Global, choices: &Option<Choices>) -> Result<String, Choi
 /// 2. `Choice`: a message is repeated, for which there is no word.
 /// 3. `Memory`: memory ran out.
 fn shrunk_of(alloc: Global, policy: &Policy, script: &Script) -> Result<Printed, PerformError>
-    ensures ok { (input : List ℕ) → script_of input ≡ Ok script.now
-        → IfOk result (λ printed. IsPerformedAs Format.Shrunk policy.now input (string_bytes printed.text) printed.finished) }
-    ensures err { (input : List ℕ) → script_of input ≡ Ok script.now → IfErr result (RefusesAs Format.Shrunk policy.now input) }
-    ensures early { IfErr result (λ fault. fault ≢ PerformError.Write) }
-    ensures unread { ¬ IsErrOf result PerformError.Read }
+    ensures { PrintsRun OutputKind.Shrunk policy.now script.now result }
 {
     choices_have_words_unless_messages_are_repeated();
     let shrunk = shrink(alloc, script, policy, MAX_TURNS)?;
@@ -169,11 +148,7 @@ fn shrunk_of(alloc: Global, policy: &Policy, script: &Script) -> Result<Printed,
 /// 1. `Drive`: the policy can't go on.
 /// 2. `Memory`: memory ran out.
 fn state_of(alloc: Global, policy: &Policy, script: &Script) -> Result<Printed, PerformError>
-    ensures ok { (input : List ℕ) → script_of input ≡ Ok script.now
-        → IfOk result (λ printed. IsPerformedAs Format.State policy.now input (string_bytes printed.text) printed.finished) }
-    ensures err { (input : List ℕ) → script_of input ≡ Ok script.now → IfErr result (RefusesAs Format.State policy.now input) }
-    ensures early { IfErr result (λ fault. fault ≢ PerformError.Write) }
-    ensures unread { ¬ IsErrOf result PerformError.Read }
+    ensures { PrintsRun OutputKind.State policy.now script.now result }
 {
     let Shown { text, finished } = show(alloc, script, policy, MAX_TURNS)?;
     Ok(Printed { text, finished })
@@ -190,80 +165,19 @@ fn state_of(alloc: Global, policy: &Policy, script: &Script) -> Result<Printed, 
 /// 3. `Memory`: memory ran out.
 pub fn print_run(
     alloc: Global,
-    format: Format,
+    format: OutputKind,
     policy: &Policy,
     script: &Script,
 ) -> Result<Printed, PerformError>
-    ensures ok { (input : List ℕ) → script_of input ≡ Ok script.now
-        → IfOk result (λ printed. IsPerformedAs format policy.now input (string_bytes printed.text) printed.finished) }
-    ensures err { (input : List ℕ) → script_of input ≡ Ok script.now → IfErr result (RefusesAs format policy.now input) }
-    ensures early { IfErr result (λ fault. fault ≢ PerformError.Write) }
-    ensures unread { ¬ IsErrOf result PerformError.Read }
+    ensures { PrintsRun format policy.now script.now result }
 {
     match format {
-        Format::Lines => lines_of(alloc, policy, script),
-        Format::Trace => trace_of(alloc, policy, script),
-        Format::Choices => choices_of(alloc, policy, script),
-        Format::Shrunk => shrunk_of(alloc, policy, script),
-        Format::State => state_of(alloc, policy, script),
+        OutputKind::Lines => lines_of(alloc, policy, script),
+        OutputKind::Trace => trace_of(alloc, policy, script),
+        OutputKind::Choices => choices_of(alloc, policy, script),
+        OutputKind::Shrunk => shrunk_of(alloc, policy, script),
+        OutputKind::State => state_of(alloc, policy, script),
     }
-}
-
-/// Returns what is written of what comes of a script.
-///
-/// # Errors
-///
-/// The first that holds, except that `Memory` may come before the others:
-///
-/// 1. `Script`: the input is no script.
-/// 2. `Drive`: the policy can't go on.
-/// 3. `Choice`: the choices are to be written, and a message is repeated, for which there is no word.
-/// 4. `Memory`: memory ran out.
-fn make_printed(
-    alloc: Global,
-    format: Format,
-    policy: &Policy,
-    input: &[u8],
-) -> Result<Printed, PerformError>
-    ensures ok { IfOk result (λ printed. IsPerformedAs format policy.now input.now (string_bytes printed.text) printed.finished) }
-    ensures err { IfErr result (RefusesAs format policy.now input.now) }
-    ensures early { IfErr result (λ fault. fault ≢ PerformError.Write) }
-    ensures unread { ¬ IsErrOf result PerformError.Read }
-{
-    let script = read_script(alloc, input)?;
-    print_run(alloc, format, policy, &script)
-}
-
-/// Reads the text of a script, drives a cluster through it by a policy, and returns what is to be written of it in a format.
-///
-/// # Errors
-///
-/// Those of `perform_as`, except that of the writer.
-fn read_printed<R: Read>(
-    alloc: Global,
-    reader: &mut R,
-    format: Format,
-    policy: &Policy,
-) -> Result<Printed, PerformError>
-    ensures ok { IfOk result (λ printed. IfSome (R.remaining reader.old) (λ input.
-        IsPerformedAs format policy.now input (string_bytes printed.text) printed.finished
-        × Consumes (R.remaining reader.old) (R.remaining reader.new) input)) }
-    ensures refused { IfErr result (λ fault.
-        IfSome (R.remaining reader.old) (λ input. RefusesAs format policy.now input fault)) }
-
-    // If the reader tells nothing of its input, there still is one of which this holds.
-    ensures performed { IfOk result (λ printed. (input : List ℕ)
-        × IsPerformedAs format policy.now input (string_bytes printed.text) printed.finished) }
-    ensures cause { IfErr result (λ fault. (input : List ℕ) × RefusesAs format policy.now input fault) }
-
-    ensures early { IfErr result (λ fault. fault ≢ PerformError.Write) }
-    ensures failed { IsErrOf result PerformError.Read → (taken : List ℕ) × (length taken < 65537)
-        × Consumes (R.remaining reader.old) (R.remaining reader.new) taken }
-    ensures at_most { (taken : List ℕ) × (length taken ≤ 65537)
-        × Consumes (R.remaining reader.old) (R.remaining reader.new) taken }
-{
-    let input = read_up_to(alloc, reader, MAX_INPUT)?;
-    make_printed(alloc, format, policy, &input)
 }
 
 /// Does as [`perform`], and writes what came of it in a format. This is the lines of the report, or the trace, as [`perform_trace`]
@@ -287,16 +201,18 @@ pub fn perform_as<R: Read, W: Write>(
     alloc: Global,
     reader: &mut R,
     writer: &mut W,
-    format: Format,
+    format: OutputKind,
     policy: &Policy,
 ) -> Result<bool, PerformError>
     ensures { PerformsScript format policy.now (R.remaining reader.old) (R.remaining reader.new)
         (W.contents writer.old) (W.contents writer.new) (writer.new ≡ writer.old) result }
 {
     read_scripts_come_to_rest();
-    let done = read_printed(alloc, reader, format, policy)?;
-    write_out(writer, done.text.as_bytes())?;
-    Ok(done.finished)
+    let input = read_up_to(alloc, reader, MAX_INPUT)?;
+    let script = read_script(alloc, &input)?;
+    let printed = print_run(alloc, format, policy, &script)?;
+    write_out(writer, printed.text.as_bytes())?;
+    Ok(printed.finished)
 }
 
 /// Reads the text of a script, drives a cluster through it by a policy, in at most 16,777,216 turns, and writes the lines of
@@ -320,10 +236,10 @@ pub fn perform<R: Read, W: Write>(
     writer: &mut W,
     policy: &Policy,
 ) -> Result<bool, PerformError>
-    ensures { PerformsScript Format.Lines policy.now (R.remaining reader.old) (R.remaining reader.new)
+    ensures { PerformsScript OutputKind.Lines policy.now (R.remaining reader.old) (R.remaining reader.new)
         (W.contents writer.old) (W.contents writer.new) (writer.new ≡ writer.old) result }
 {
-    perform_as(alloc, reader, writer, Format::Lines, policy)
+    perform_as(alloc, reader, writer, OutputKind::Lines, policy)
 }
 
 /// Does as [`perform`], and writes the trace of the run in place of the lines of its report. It keeps the steps, and makes them a
@@ -346,8 +262,8 @@ pub fn perform_trace<R: Read, W: Write>(
     writer: &mut W,
     policy: &Policy,
 ) -> Result<bool, PerformError>
-    ensures { PerformsScript Format.Trace policy.now (R.remaining reader.old) (R.remaining reader.new)
+    ensures { PerformsScript OutputKind.Trace policy.now (R.remaining reader.old) (R.remaining reader.new)
         (W.contents writer.old) (W.contents writer.new) (writer.new ≡ writer.old) result }
 {
-    perform_as(alloc, reader, writer, Format::Trace, policy)
+    perform_as(alloc, reader, writer, OutputKind::Trace, policy)
 }

@@ -4,3 +4,5 @@ pub mod Name
 pub mod Sequence
 pub mod Stamp
 pub mod Message
+pub mod Mark
+pub mod Member

@@ -1,5 +1,5 @@
--- Which modes exclude each other.
-use Rattle.std.specs.Prelude.{Bool, true, false, not, IsTrue}
+-- Which modes exclude each other, and their words.
+use Rattle.std.specs.Prelude.{ℕ, Bool, true, false, not, IsTrue, List, codes}
 use Rattle.ra_stamp.specs.declared.mode.Mode.{Mode}
 use Rattle.ra_stamp.specs.declared.mode.Mode.TheVariants.{Shared, Exclusive}
 use Rattle.ra_stamp.specs.declared.mode.Mode.TheVariants.{IntentShared, IntentExclusive, SharedIntentExclusive}
@@ -41,3 +41,11 @@ conflicts a b = not (compatible a b)
 -- the same as a fact
 abbrev pub Conflict : Mode → Mode → Type 0
 Conflict a b = IsTrue (conflicts a b)
+
+-- the word of a mode
+abbrev pub mode_word : Mode → List ℕ
+mode_word Shared = codes "S"
+mode_word Exclusive = codes "X"
+mode_word IntentShared = codes "IS"
+mode_word IntentExclusive = codes "IX"
+mode_word SharedIntentExclusive = codes "SIX"

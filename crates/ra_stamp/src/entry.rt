@@ -1,3 +1,6 @@
+ghost use Rattle.std.specs.Prelude.{◌≡◌};
+ghost use Rattle.ra_stamp.specs.Mark.{entry_of_mark};
+
 use crate::{Mode, Name, Sequence, Stamp};
 use std::fmt;
 
@@ -6,12 +9,13 @@ use std::fmt;
 pub struct Entry {
     /// The resource.
     pub name: Name,
+    /// How the resource is locked. It comes second, since a name has an odd number of bytes: a copy of an entry is faster if the gap
+    /// before the next number is not of seven bytes, which are moved by two stores that overlap.
+    pub mode: Mode,
     /// When it was made, and at which node.
     pub stamp: Stamp,
     /// The client at that node, any number.
     pub client: u32,
-    /// How the resource is locked.
-    pub mode: Mode,
 }
 
 /// What became of an entry. It prints as a word and the entry: `request 1 7 r X 3`, `enter ..` or `leave ..`.
@@ -23,6 +27,17 @@ pub enum Mark {
     Entered(Entry),
     /// It was given back.
     Left(Entry),
+}
+
+impl Mark {
+    /// Returns the entry of which it tells. It does not allocate.
+    pub fn entry(&self) -> &Entry
+        ensures { result.now ≡ entry_of_mark self.now }
+    {
+        match self {
+            Mark::Requested(entry) | Mark::Entered(entry) | Mark::Left(entry) => entry,
+        }
+    }
 }
 
 /// A list of marks.

@@ -4,6 +4,7 @@
 mod entry;
 mod ghost_list;
 mod laws;
+mod member;
 mod memory;
 mod message;
 mod mode;
@@ -15,6 +16,7 @@ mod stamp;
 pub use entry::{Entry, Mark, Marks};
 pub use ghost_list::GhostList;
 pub use laws::{conflict_is_symmetric, equal_is_same, stamps_are_totally_ordered};
+pub use member::{Member, MemberError};
 pub use memory::Memory;
 pub use message::{Message, Messages};
 pub use mode::{Mode, conflicts};

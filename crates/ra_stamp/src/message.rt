@@ -1,10 +1,15 @@
-ghost use Rattle.std.specs.Prelude.{◌≡◌};
+ghost use Rattle.std.specs.Prelude.{◌≡◌, ◌+◌, ◌*◌, ◌++◌, ◌∷◌, []};
+ghost use Rattle.std.specs.Cmp.Rules.{hashing};
+ghost use Rattle.std.specs.Hash as fed;
+ghost use Rattle.std.proofs.Common.{rules};
+ghost use Rattle.ra_stamp.specs.Message.{from_of, to_of, name_of, seq_of};
 
 use crate::{Mode, Name, NodeId, Sequence};
+use std::hash::{Hash, Hasher};
 
 /// A message between two nodes, about one resource (G. Ricart and A. K. Agrawala, CACM 24(1), 1981). The name, the mode
 /// and the number in a REPLY are this project's own.
-#[derive(Clone, Copy, Debug, PartialEq, Eq, Hash)]
+#[derive(Clone, Copy, Debug, PartialEq, Eq)]
 pub enum Message {
     /// `from` asks `to` to let it lock the resource, with its sequence number, 1 or more.
     Request {
@@ -60,6 +65,21 @@ impl Message {
         match *self {
             Message::Request { seq, .. } | Message::Reply { seq, .. } => seq,
         }
+    }
+}
+
+impl Hash for Message {
+    ghost hash_input = { λ m. fed.u32 (65536 * from_of m + to_of m) ++ fed.u64 (seq_of m) ++ name_of m ∷ [] };
+
+    ghost respects_eq = { Prim.search (hashing, rules) };
+
+    // Three writes tell nearly all messages apart, and cost less than a write for each field.
+    fn hash<H: Hasher>(&self, state: &mut H) {
+        let from = u32::from(self.from().get());
+        let to = u32::from(self.to().get());
+        state.write_u32(65536 * from + to);
+        state.write_u64(self.seq());
+        state.write(self.name().bytes());
     }
 }
 

@@ -37,14 +37,23 @@ pub fn conflicts(a: Mode, b: Mode) -> bool
     !compatible
 }
 
-impl fmt::Display for Mode {
-    fn fmt<W: fmt::Write>(&self, f: &mut fmt::Formatter<W>) -> fmt::Result {
-        f.pad(match self {
+impl Mode {
+    /// Returns its word: `S`, `X`, `IS`, `IX` or `SIX`. It does not allocate.
+    pub fn word(self) -> &'static str
+        ensures { result.now ≡ spec.mode_word self }
+    {
+        match self {
             Shared => "S",
             Exclusive => "X",
             IntentShared => "IS",
             IntentExclusive => "IX",
             SharedIntentExclusive => "SIX",
-        })
+        }
+    }
+}
+
+impl fmt::Display for Mode {
+    fn fmt<W: fmt::Write>(&self, f: &mut fmt::Formatter<W>) -> fmt::Result {
+        f.pad(self.word())
     }
 }

@@ -1,10 +1,9 @@
-ghost use Rattle.std.specs.Prelude.{◌≡◌, ◌<◌, ◌≤◌, ◌↔◌, ◌==◌, List, ℕ, [], Some, length, take, IsTrue, IsErrOf, IsOk, IfOk};
+ghost use Rattle.std.specs.Prelude.{◌≡◌, ◌<◌, ◌≤◌, ◌↔◌, ◌++◌, ◌==◌, List, ℕ, [], ◌∷◌, Some, length, take, drop, IsTrue, IsErrOf, IsOk, IsSome, IfOk, IfSome};
 ghost use Rattle.std.specs.List.{AllPass};
 ghost use Rattle.std.specs.Ordering.{nat_cmp, as_partial_cmp};
 ghost use Rattle.std.specs.Cmp.Lexicographic.{pointwise, slice_cmp};
 ghost use Rattle.std.specs.Cmp.{partial_order_from_own_ties};
 ghost use Rattle.std.specs.Cmp.Rules.{comparing, hashing};
-ghost use Rattle.std.specs.Hash as fed;
 ghost use Rattle.std.proofs.Common.{rules};
 ghost use Rattle.ra_stamp.specs.Name.{IsName, is_name_byte};
 
@@ -61,14 +60,20 @@ fn is_name_byte(byte: u8) -> bool
     byte.is_ascii_alphanumeric() || matches!(byte, b'_' | b'-' | b'.')
 }
 
-/// Returns whether a name may have each of the bytes.
-fn are_name_bytes(bytes: &[u8]) -> bool
-    ensures { IsTrue result ↔ AllPass is_name_byte bytes.now }
+/// Copies the bytes of a name to the front of an array, and returns whether a name may have each of them. It looks at each
+/// byte once.
+#[inline(always)]
+fn copy_name(bytes: &[u8], array: &mut [u8; 32]) -> bool
+    requires { length bytes.now ≤ 32 }
+    ensures each { IsTrue result ↔ AllPass is_name_byte bytes.now }
+    ensures copied { IsTrue result → array.new ≡ bytes.now ++ drop (length bytes.now) array.old }
 {
-    for byte in bytes {
-        if !is_name_byte(*byte) {
+    for place in 0..bytes.len() {
+        let byte = bytes[place];
+        if !is_name_byte(byte) {
             return false;
         }
+        array[place] = byte;
     }
     true
 }
@@ -100,15 +105,33 @@ impl Name {
         if bytes.len() > Name::MAX_LEN {
             return Err(NameError::TooLong);
         }
-        if !are_name_bytes(bytes) {
+        let mut padded = [0; 32];
+        if !copy_name(bytes, &mut padded) {
             return Err(NameError::BadByte);
         }
-        let len = bytes.len();
-        let mut padded = [0; 32];
-        padded[..len].copy_from_slice(bytes);
         Ok(Name {
             bytes: padded,
-            len: len as u8,
+            len: bytes.len() as u8,
+        })
+    }
+
+    /// Makes the name of these bytes, or returns `None` if they are not one. It does not allocate. For what is read line by line it
+    /// is faster than [`Name::new`], whose answer has the name and its fault at one place in memory.
+    #[inline(always)]
+    pub fn of(bytes: &[u8]) -> Option<Name>
+        ensures some { IsSome result ↔ IsName bytes.now }
+        ensures value { IfSome result (λ name. name ≡ bytes.now) }
+    {
+        if bytes.is_empty() || bytes.len() > Name::MAX_LEN {
+            return None;
+        }
+        let mut padded = [0; 32];
+        if !copy_name(bytes, &mut padded) {
+            return None;
+        }
+        Some(Name {
+            bytes: padded,
+            len: bytes.len() as u8,
         })
     }
 
@@ -118,6 +141,15 @@ impl Name {
         ensures valid { IsName result.now }
     {
         &self.bytes[..usize::from(self.len)]
+    }
+
+    /// Returns it as text. It does not allocate.
+    #[tactic(auto, using(crate::proofs::Names::name_is_utf8))]
+    pub fn as_str(&self) -> &str
+        ensures { result.now ≡ self.now }
+    {
+        // Each byte of a name is ASCII.
+        str::from_utf8(self.bytes()).unwrap()
     }
 }
 
@@ -138,14 +170,13 @@ impl Eq for Name {
 }
 
 impl Hash for Name {
-    ghost hash_input = { fed.str };
+    ghost hash_input = { λ name. name ∷ [] };
 
     ghost respects_eq = { Prim.search (hashing, rules) };
 
-    // The bytes in one write, and after them one that no name has, as for a text.
+    // The bytes in one write. A hasher counts them, so nothing is written after them as for a text.
     fn hash<H: Hasher>(&self, state: &mut H) {
         state.write(self.bytes());
-        state.write_u8(0xff);
     }
 }
 
@@ -177,11 +208,7 @@ impl fmt::Display for Name {
     ghost output = { λ name. Some name };
 
     fn fmt<W: fmt::Write>(&self, f: &mut fmt::Formatter<W>) -> fmt::Result {
-        match str::from_utf8(self.bytes()) {
-            Ok(text) => f.pad(text),
-            // Each byte of a name is ASCII.
-            Err(_) => Err(fmt::Error),
-        }
+        f.pad(self.as_str())
     }
 }
 

@@ -1,4 +1,4 @@
-ghost use Rattle.std.specs.Prelude.{◌≡◌, ℕ, ◌↔◌, IsSome, IfSome};
+ghost use Rattle.std.specs.Prelude.{◌≡◌, ℕ, ◌-◌, ◌↔◌, IsSome, IfSome};
 ghost use Rattle.ra_stamp.specs.NodeId.{IsNodeNumber};
 
 use std::fmt;
@@ -42,6 +42,15 @@ impl NodeId {
         ensures valid { IsNodeNumber result }
     {
         self.number
+    }
+
+    /// Returns its place among the nodes, counted from 0: node 1 has place 0. It does not allocate.
+    #[inline(always)]
+    pub fn place(self) -> usize
+        ensures value { result ≡ self - 1 }
+        ensures valid { IsNodeNumber self }
+    {
+        usize::from(self.number) - 1
     }
 }
 

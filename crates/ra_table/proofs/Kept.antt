@@ -7,7 +7,7 @@ use Rattle.std.proofs.lemmas.List.{append-nil}
 use Rattle.std.proofs.lemmas.List.Elements.{All-nil, All-push}
 use Rattle.indexmap.specs.IndexMap.{IndexMap, IsUnique, WritesThrough}
 use Rattle.ra_stamp.specs.declared.entry.Entry.{Entry}
-use Rattle.ra_table.specs.declared.lanes.Lane.{Lane}
+use Rattle.ra_table.specs.declared.lanes.NameEntries.{NameEntries}
 use Rattle.ra_table.specs.Table.{Gains, Loses}
 use Rattle.ra_table.specs.Lanes.{Standing, on_name, joined, AreOnTheirNames, waiting_of, holding_of, standing_in, IsSorted}
 use Rattle.ra_table.proofs.Moves.{Gains-push}
@@ -18,13 +18,13 @@ pub on_err : {X E : Type 0} (r : Result X E) (P : Type 0) → P → OnErr r P
 on_err (Ok x) P p = tt
 on_err (Err e) P p = p
 
-module _ {S : Type 0} (lanes : IndexMap (List ℕ) Lane S) (now : Standing) (is : standing_in lanes.entries ≡ now) (sorted : IsSorted lanes.entries) (name : List ℕ) where
+module _ {S : Type 0} (lanes : IndexMap (List ℕ) NameEntries S) (now : Standing) (is : standing_in lanes.entries ≡ now) (sorted : IsSorted lanes.entries) (name : List ℕ) where
   -- ---- Looking a name up
 
-  pub waiting_found : (lane : Lane) → Some lane ≡ lookup (bytes_eq name) lanes.entries → lane.waiting.items ≡ on_name name now.waiting
+  pub waiting_found : (lane : NameEntries) → Some lane ≡ lookup (bytes_eq name) lanes.entries → lane.waiting.items ≡ on_name name now.waiting
   waiting_found lane at = found waiting_of name lanes.entries lane sorted.distinct sorted.waiting at ∙ ap (λ (s : Standing). on_name name s.waiting) is
 
-  pub holding_found : (lane : Lane) → Some lane ≡ lookup (bytes_eq name) lanes.entries → lane.holding.items ≡ on_name name now.holding
+  pub holding_found : (lane : NameEntries) → Some lane ≡ lookup (bytes_eq name) lanes.entries → lane.holding.items ≡ on_name name now.holding
   holding_found lane at = found holding_of name lanes.entries lane sorted.distinct sorted.holding at ∙ ap (λ (s : Standing). on_name name s.holding) is
 
   pub nobody_waits : None ≡ lookup (bytes_eq name) lanes.entries → [] ≡ on_name name now.waiting
@@ -34,16 +34,16 @@ module _ {S : Type 0} (lanes : IndexMap (List ℕ) Lane S) (now : Standing) (is 
   nobody_holds none = missing holding_of name lanes.entries sorted.holding none ∙ ap (λ (s : Standing). on_name name s.holding) is
 
   -- if an entry waits or holds on the name, there is a lane
-  pub lane_of_waiting : (place : ℕ) (shown : Option (MutBor Lane)) → option_copied_mut shown ≡ lookup (bytes_eq name) lanes.entries → place < length (on_name name now.waiting) → IsSome shown
+  pub lane_of_waiting : (place : ℕ) (shown : Option (MutBor NameEntries)) → option_copied_mut shown ≡ lookup (bytes_eq name) lanes.entries → place < length (on_name name now.waiting) → IsSome shown
   lane_of_waiting place None none lt = absurd (omega (arith, lt, ap length (nobody_waits none)))
   lane_of_waiting place (Some lane) at lt = refl
 
-  pub lane_of_holding : (place : ℕ) (shown : Option (MutBor Lane)) → option_copied_mut shown ≡ lookup (bytes_eq name) lanes.entries → place < length (on_name name now.holding) → IsSome shown
+  pub lane_of_holding : (place : ℕ) (shown : Option (MutBor NameEntries)) → option_copied_mut shown ≡ lookup (bytes_eq name) lanes.entries → place < length (on_name name now.holding) → IsSome shown
   lane_of_holding place None none lt = absurd (omega (arith, lt, ap length (nobody_holds none)))
   lane_of_holding place (Some lane) at lt = refl
 
   -- what is so after an entry is to wait, whether there was memory for it or not
-  pub record IsAfterWait {E : Type 0} (lanes' : IndexMap (List ℕ) Lane S) (e : Entry) (result : Result (Unit {0}) E) : Type 0 where
+  pub record IsAfterWait {E : Type 0} (lanes' : IndexMap (List ℕ) NameEntries S) (e : Entry) (result : Result (Unit {0}) E) : Type 0 where
     pub still_sorted : IsSorted lanes'.entries
     pub waiting : OnOk result (Gains now.waiting e (joined waiting_of lanes'.entries))
     pub holding : joined holding_of lanes'.entries ≡ now.holding
@@ -51,7 +51,7 @@ module _ {S : Type 0} (lanes : IndexMap (List ℕ) Lane S) (now : Standing) (is 
 
   -- ---- The lane of the name changes
 
-  module _ (lanes' : IndexMap (List ℕ) Lane S) (old new : Lane) (at : Some old ≡ lookup (bytes_eq name) lanes.entries) (written : WritesThrough bytes_eq (bytes_eq name) lanes new lanes') where
+  module _ (lanes' : IndexMap (List ℕ) NameEntries S) (old new : NameEntries) (at : Some old ≡ lookup (bytes_eq name) lanes.entries) (written : WritesThrough bytes_eq (bytes_eq name) lanes new lanes') where
     pub on_waiting : AreOn name old.waiting.items
     on_waiting = lane_is_on waiting_of name lanes.entries old sorted.waiting at
 
@@ -68,22 +68,22 @@ module _ {S : Type 0} (lanes : IndexMap (List ℕ) Lane S) (now : Standing) (is 
     pub waiting_gains : (e : Entry) → Gains old.waiting.items e new.waiting.items → Gains now.waiting e (joined waiting_of lanes'.entries)
     waiting_gains e gains =
         subst (λ (l : List Entry). Gains l e (joined waiting_of lanes'.entries)) (ap (λ (s : Standing). s.waiting) is)
-        (subst (λ (es : List (List ℕ × Lane)). Gains (joined waiting_of lanes.entries) e (joined waiting_of es)) (sym written.0) (lane_gains waiting_of name lanes.entries old new e at gains))
+        (subst (λ (es : List (List ℕ × NameEntries)). Gains (joined waiting_of lanes.entries) e (joined waiting_of es)) (sym written.0) (lane_gains waiting_of name lanes.entries old new e at gains))
 
     pub holding_gains : (e : Entry) → Gains old.holding.items e new.holding.items → Gains now.holding e (joined holding_of lanes'.entries)
     holding_gains e gains =
         subst (λ (l : List Entry). Gains l e (joined holding_of lanes'.entries)) (ap (λ (s : Standing). s.holding) is)
-        (subst (λ (es : List (List ℕ × Lane)). Gains (joined holding_of lanes.entries) e (joined holding_of es)) (sym written.0) (lane_gains holding_of name lanes.entries old new e at gains))
+        (subst (λ (es : List (List ℕ × NameEntries)). Gains (joined holding_of lanes.entries) e (joined holding_of es)) (sym written.0) (lane_gains holding_of name lanes.entries old new e at gains))
 
     pub waiting_loses : (e : Entry) → Loses old.waiting.items e new.waiting.items → Loses now.waiting e (joined waiting_of lanes'.entries)
     waiting_loses e loses =
         subst (λ (l : List Entry). Loses l e (joined waiting_of lanes'.entries)) (ap (λ (s : Standing). s.waiting) is)
-        (subst (λ (es : List (List ℕ × Lane)). Loses (joined waiting_of lanes.entries) e (joined waiting_of es)) (sym written.0) (lane_loses waiting_of name lanes.entries old new e at loses))
+        (subst (λ (es : List (List ℕ × NameEntries)). Loses (joined waiting_of lanes.entries) e (joined waiting_of es)) (sym written.0) (lane_loses waiting_of name lanes.entries old new e at loses))
 
     pub holding_loses : (e : Entry) → Loses old.holding.items e new.holding.items → Loses now.holding e (joined holding_of lanes'.entries)
     holding_loses e loses =
         subst (λ (l : List Entry). Loses l e (joined holding_of lanes'.entries)) (ap (λ (s : Standing). s.holding) is)
-        (subst (λ (es : List (List ℕ × Lane)). Loses (joined holding_of lanes.entries) e (joined holding_of es)) (sym written.0) (lane_loses holding_of name lanes.entries old new e at loses))
+        (subst (λ (es : List (List ℕ × NameEntries)). Loses (joined holding_of lanes.entries) e (joined holding_of es)) (sym written.0) (lane_loses holding_of name lanes.entries old new e at loses))
 
     pub waiting_stays : new.waiting.items ≡ old.waiting.items → joined waiting_of lanes'.entries ≡ now.waiting
     waiting_stays same = ap (joined waiting_of) written.0 ∙ lane_stays waiting_of name lanes.entries old new at same ∙ ap (λ (s : Standing). s.waiting) is
@@ -114,7 +114,7 @@ module _ {S : Type 0} (lanes : IndexMap (List ℕ) Lane S) (now : Standing) (is 
 
   -- ---- The name has its first lane
 
-  module _ (lanes' : IndexMap (List ℕ) Lane S) (new : Lane) (e : Entry) (name_is : e.name ≡ name) (waits : new.waiting.items ≡ e ∷ []) (none : new.holding.items ≡ []) (more : lanes'.entries ≡ lanes.entries ++ (name, new) ∷ []) where
+  module _ (lanes' : IndexMap (List ℕ) NameEntries S) (new : NameEntries) (e : Entry) (name_is : e.name ≡ name) (waits : new.waiting.items ≡ e ∷ []) (none : new.holding.items ≡ []) (more : lanes'.entries ≡ lanes.entries ++ (name, new) ∷ []) where
     pub sorted_with : IsUnique bytes_eq lanes' → IsSorted lanes'.entries
     sorted_with unique = record {
       distinct = unique;
@@ -131,11 +131,11 @@ module _ {S : Type 0} (lanes : IndexMap (List ℕ) Lane S) (now : Standing) (is 
     pub none_more_holds : joined holding_of lanes'.entries ≡ now.holding
     none_more_holds = ap (joined holding_of) more ∙ joined_more holding_of lanes.entries name new ∙ ap (λ (l : List Entry). joined holding_of lanes.entries ++ l) none ∙ append-nil (joined holding_of lanes.entries) ∙ ap (λ (s : Standing). s.holding) is
 
-  pub opened : {E : Type 0} (before lanes' : IndexMap (List ℕ) Lane S) (e : Entry) → before ≡ lanes → e.name ≡ name → (result : Result (Unit {0}) E)
-      → OnOk result ((lane : Lane) × (lane.waiting.items ≡ e ∷ []) × (lane.holding.items ≡ []) × (lanes'.entries ≡ before.entries ++ (name, lane) ∷ []))
+  pub opened : {E : Type 0} (before lanes' : IndexMap (List ℕ) NameEntries S) (e : Entry) → before ≡ lanes → e.name ≡ name → (result : Result (Unit {0}) E)
+      → OnOk result ((lane : NameEntries) × (lane.waiting.items ≡ e ∷ []) × (lane.holding.items ≡ []) × (lanes'.entries ≡ before.entries ++ (name, lane) ∷ []))
       → OnOk result (IsUnique bytes_eq lanes') → OnErr result (lanes'.entries ≡ before.entries) → IsAfterWait lanes' e result
   opened before lanes' e same name_is (Ok u) made unique err =
-      let more : lanes'.entries ≡ lanes.entries ++ (name, made.0) ∷ [] = made.3 ∙ ap (λ (m : IndexMap (List ℕ) Lane S). m.entries ++ (name, made.0) ∷ []) same in
+      let more : lanes'.entries ≡ lanes.entries ++ (name, made.0) ∷ [] = made.3 ∙ ap (λ (m : IndexMap (List ℕ) NameEntries S). m.entries ++ (name, made.0) ∷ []) same in
       record {
         still_sorted = sorted_with lanes' made.0 e name_is made.1 made.2 more unique;
         waiting = one_more_waits lanes' made.0 e name_is made.1 made.2 more;
@@ -143,7 +143,7 @@ module _ {S : Type 0} (lanes : IndexMap (List ℕ) Lane S) (now : Standing) (is 
         err = tt;
       }
   opened before lanes' e same name_is (Err fault) made unique err =
-      let back : lanes'.entries ≡ lanes.entries = err ∙ ap (λ (m : IndexMap (List ℕ) Lane S). m.entries) same in
+      let back : lanes'.entries ≡ lanes.entries = err ∙ ap (λ (m : IndexMap (List ℕ) NameEntries S). m.entries) same in
       record {
         still_sorted = subst IsSorted (sym back) sorted;
         waiting = tt;

@@ -82,40 +82,17 @@ highest_on-push name [] e = refl
 highest_on-push name (x ∷ xs) e =
     step_push (bytes_eq x.name name) (bytes_eq e.name name) (highest_on name xs) (highest_on name (xs ++ e ∷ [])) x.stamp.seq e.stamp.seq (highest_on-push name xs e)
 
-max_reached : (h : Option ℕ) (n : ℕ) → Reaches h n → Some (max n (unwrap_or h 0)) ≡ h
-max_reached None n at = absurd at
-max_reached (Some m) n at =
-    let same : max n m ≡ m = omega arith in
-    ap (λ (x : ℕ). Some x) same
-
-max_not_reached : (h : Option ℕ) (n : ℕ) → (Reaches h n → ⊥) → Some (max n (unwrap_or h 0)) ≡ Some n
-max_not_reached None n none =
-    let same : max n 0 ≡ n = omega arith in
-    ap (λ (x : ℕ). Some x) same
-max_not_reached (Some m) n none =
-    let above : n ≤ m → ⊥ = none in
-    let same : max n m ≡ n = omega arith in
-    ap (λ (x : ℕ). Some x) same
-
--- an entry whose number is reached leaves the highest numbers as they are
-pub highest_stay : (numbers : List (List ℕ × ℕ)) (granted : List Entry) (e : Entry) → AreHighest numbers granted → Any (IsFrom e.name e.stamp.seq) granted → AreHighest numbers (granted ++ e ∷ [])
-highest_stay numbers granted e are some name =
+-- the number of an entry's name is raised to that of the entry, if it is lower or there is none
+pub highest_raised : (numbers numbers' : List (List ℕ × ℕ)) (granted : List Entry) (e : Entry) (raised : ℕ) → AreHighest numbers granted
+    → raised ≡ max e.stamp.seq (unwrap_or (lookup (bytes_eq e.name) numbers) 0)
+    → ((name : List ℕ) → lookup (bytes_eq name) numbers' ≡ cond (bytes_eq e.name name) (Some raised) (lookup (bytes_eq name) numbers)) → AreHighest numbers' (granted ++ e ∷ [])
+highest_raised numbers numbers' granted e raised are is finds name =
     let h = highest_on name granted in
-    let stays : cond (bytes_eq e.name name) (Some (max e.stamp.seq (unwrap_or h 0))) h ≡ h =
-    elim (bytes_eq e.name name) as (λ t. bytes_eq e.name name ≡ t → cond t (Some (max e.stamp.seq (unwrap_or h 0))) h ≡ h) [
-      | true ↦ λ same. max_reached h e.stamp.seq (subst (λ (q : List ℕ). Reaches (highest_on q granted) e.stamp.seq) ((bytes_eq-Decides e.name name).0 same) (reached-Any e.name e.stamp.seq granted some))
+    let same : cond (bytes_eq e.name name) (Some raised) h ≡ cond (bytes_eq e.name name) (Some (max e.stamp.seq (unwrap_or h 0))) h =
+    elim (bytes_eq e.name name) as (λ t. bytes_eq e.name name ≡ t → cond t (Some raised) h ≡ cond t (Some (max e.stamp.seq (unwrap_or h 0))) h) [
+      | true ↦ λ here.
+          let found : lookup (bytes_eq e.name) numbers ≡ h = are e.name ∙ ap (λ (q : List ℕ). highest_on q granted) ((bytes_eq-Decides e.name name).0 here) in
+          ap (λ (n : ℕ). Some n) (is ∙ ap (λ (o : Option ℕ). max e.stamp.seq (unwrap_or o 0)) found)
       | false ↦ λ apart. refl
     ] refl in
-    are name ∙ sym (highest_on-push name granted e ∙ stays)
-
--- an entry whose number is not reached has the highest number on its name from then on
-pub highest_rise : (numbers numbers' : List (List ℕ × ℕ)) (granted : List Entry) (e : Entry) → AreHighest numbers granted → (Any (IsFrom e.name e.stamp.seq) granted → ⊥)
-    → ((name : List ℕ) → lookup (bytes_eq name) numbers' ≡ cond (bytes_eq e.name name) (Some e.stamp.seq) (lookup (bytes_eq name) numbers)) → AreHighest numbers' (granted ++ e ∷ [])
-highest_rise numbers numbers' granted e are none finds name =
-    let h = highest_on name granted in
-    let rises : cond (bytes_eq e.name name) (Some (max e.stamp.seq (unwrap_or h 0))) h ≡ cond (bytes_eq e.name name) (Some e.stamp.seq) h =
-    elim (bytes_eq e.name name) as (λ t. bytes_eq e.name name ≡ t → cond t (Some (max e.stamp.seq (unwrap_or h 0))) h ≡ cond t (Some e.stamp.seq) h) [
-      | true ↦ λ same. max_not_reached h e.stamp.seq (λ at. none (Any-reached e.name e.stamp.seq granted (subst (λ (q : List ℕ). Reaches (highest_on q granted) e.stamp.seq) (sym ((bytes_eq-Decides e.name name).0 same)) at)))
-      | false ↦ λ apart. refl
-    ] refl in
-    finds name ∙ ap (λ (o : Option ℕ). cond (bytes_eq e.name name) (Some e.stamp.seq) o) (are name) ∙ sym (highest_on-push name granted e ∙ rises)
+    finds name ∙ ap (λ (o : Option ℕ). cond (bytes_eq e.name name) (Some raised) o) (are name) ∙ same ∙ sym (highest_on-push name granted e)

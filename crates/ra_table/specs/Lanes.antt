@@ -4,7 +4,7 @@ use Rattle.std.specs.List.{filter, AllByRecursion, IsDistinct}
 use Rattle.std.specs.Map.{keys_of}
 use Rattle.std.specs.Str.{bytes_eq}
 use Rattle.ra_stamp.specs.declared.entry.Entry.{Entry}
-use Rattle.ra_table.specs.declared.lanes.Lane.{Lane}
+use Rattle.ra_table.specs.declared.lanes.NameEntries.{NameEntries}
 
 -- the entries that wait and those that hold, on all names
 pub record Standing : Type 0 where
@@ -34,19 +34,19 @@ module _ {X : Type 0} (part : X → List Entry) where
   AreOnTheirNames lanes = AllByRecursion (λ lane. All (λ x. x.name ≡ lane.0) (part lane.1)) lanes
 
 -- the entries that wait in a lane
-abbrev pub waiting_of : Lane → List Entry
+abbrev pub waiting_of : NameEntries → List Entry
 waiting_of lane = lane.waiting.items
 
 -- the entries that hold in a lane
-abbrev pub holding_of : Lane → List Entry
+abbrev pub holding_of : NameEntries → List Entry
 holding_of lane = lane.holding.items
 
 -- the entries that wait and hold in these lanes
-abbrev pub standing_in : List (List ℕ × Lane) → Standing
+abbrev pub standing_in : List (List ℕ × NameEntries) → Standing
 standing_in lanes = record { waiting = joined waiting_of lanes; holding = joined holding_of lanes }
 
 -- no name has two lanes, and each entry is in the lane of its name
-pub record IsSorted (lanes : List (List ℕ × Lane)) : Type 0 where
+pub record IsSorted (lanes : List (List ℕ × NameEntries)) : Type 0 where
   pub distinct : IsDistinct bytes_eq (keys_of lanes)
   pub waiting : AreOnTheirNames waiting_of lanes
   pub holding : AreOnTheirNames holding_of lanes

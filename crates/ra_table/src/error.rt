@@ -1,4 +1,3 @@
-use ra_stamp::Memory;
 use thiserror::Error;
 
 /// Why a request was refused.
@@ -13,17 +12,6 @@ pub enum RequestError {
     Memory,
 }
 
-impl From<Memory> for RequestError {
-    ghost use Rattle.std.specs.Prelude.{◌≡◌};
-    ghost use Rattle.ra_table.specs.declared.error.RequestError.TheVariants.{Memory};
-
-    ghost from_gives = { λ _ error. error ≡ Memory };
-
-    fn from(_refused: Memory) -> RequestError {
-        RequestError::Memory
-    }
-}
-
 /// Why an entry was not granted.
 #[derive(Clone, Copy, Debug, PartialEq, Eq, Error)]
 #[error("{:?}", self)]
@@ -36,17 +24,6 @@ pub enum EnterError {
     Earlier,
     /// Memory ran out.
     Memory,
-}
-
-impl From<Memory> for EnterError {
-    ghost use Rattle.std.specs.Prelude.{◌≡◌};
-    ghost use Rattle.ra_table.specs.declared.error.EnterError.TheVariants.{Memory};
-
-    ghost from_gives = { λ _ error. error ≡ Memory };
-
-    fn from(_refused: Memory) -> EnterError {
-        EnterError::Memory
-    }
 }
 
 /// Why an entry was not given back.

@@ -1,5 +1,5 @@
 //! The highest number granted so far on each name.
-ghost use Rattle.std.specs.Prelude.{◌≡◌, ◌≤◌, ◌↔◌, ◌++◌, ◌∷◌, [], List, Any, IsTrue, OnOk};
+ghost use Rattle.std.specs.Prelude.{◌≡◌, ◌≤◌, ◌↔◌, ◌++◌, ◌∷◌, [], ℕ, List, Any, IsTrue, OnOk};
 ghost use Rattle.ra_table.specs.Highest.{AreHighest, HasRoomFor};
 
 use indexmap::IndexMap;
@@ -18,18 +18,16 @@ pub fn is_at_most_granted(highest: &IndexMap<Name, u64>, entry: &Entry) -> bool
     }
 }
 
-/// Makes room for a number on this name, if it has none yet. The cost is constant on average.
+/// Makes room for a number on one more name. The cost is constant on average.
 ///
 /// # Errors
 ///
 /// `Memory`: memory ran out.
-pub fn make_room(highest: &mut IndexMap<Name, u64>, name: &Name) -> Result<(), Memory>
+pub fn make_room(highest: &mut IndexMap<Name, u64>) -> Result<(), Memory>
     ensures same { highest.new.entries ≡ highest.old.entries }
-    ensures ok { OnOk result (HasRoomFor highest.new name.now) }
+    ensures ok { OnOk result ((name : List ℕ) → HasRoomFor highest.new name) }
 {
-    if highest.get(name).is_none() {
-        highest.reserve(1)?;
-    }
+    highest.reserve(1)?;
     Ok(())
 }
 
@@ -40,8 +38,11 @@ pub fn raise(highest: &mut IndexMap<Name, u64>, entry: &Entry)
     ensures { (granted : List Entry) → AreHighest highest.old.entries granted
         → AreHighest highest.new.entries (granted ++ entry.now ∷ []) }
 {
-    if !is_at_most_granted(highest, entry) {
-        // There is room for it.
-        highest.insert(entry.name, entry.stamp.seq).unwrap();
+    match highest.get_mut(&entry.name) {
+        Some(number) => *number = (*number).max(entry.stamp.seq),
+        None => {
+            // There is room for it.
+            highest.insert(entry.name, entry.stamp.seq).unwrap();
+        }
     }
 }

@@ -2,7 +2,7 @@
 ghost use Rattle.std.specs.Prelude.{◌≡◌, ◌++◌, ◌∷◌, [], None, OnOk, OnErr};
 ghost use Rattle.std.specs.Str.{bytes_eq};
 ghost use Rattle.indexmap.specs.IndexMap.{get, IsUnique};
-ghost use Rattle.ra_table.specs.declared.lanes.Lane.{Lane};
+ghost use Rattle.ra_table.specs.declared.lanes.NameEntries.{NameEntries};
 ghost use Rattle.ra_table.specs.Table.{Gains, Loses};
 ghost use Rattle.ra_table.specs.Lanes.{nobody, on_name, StandsAt};
 
@@ -14,7 +14,7 @@ use std::marker::Model;
 
 /// The entries that wait and those that hold on one name.
 #[derive(Drop)]
-struct Lane {
+struct NameEntries {
     waiting: Vec<Entry>,
     holding: Vec<Entry>,
 }
@@ -27,7 +27,7 @@ struct Lane {
 /// lane stays when its last entry has left.
 #[derive(Drop)]
 pub struct Lanes {
-    by_name: IndexMap<Name, Lane>,
+    by_name: IndexMap<Name, NameEntries>,
 }
 
 impl Model for Lanes {
@@ -45,9 +45,9 @@ impl Model for Lanes {
 /// # Errors
 ///
 /// `Memory`: the lanes are as before.
-fn open(lanes: &mut IndexMap<Name, Lane>, entry: &Entry) -> Result<(), Memory>
+fn open(lanes: &mut IndexMap<Name, NameEntries>, entry: &Entry) -> Result<(), Memory>
     requires { get bytes_eq lanes.old entry.now.name ≡ None }
-    ensures ok { OnOk result ((lane : Lane) × (lane.waiting.items ≡ entry.now ∷ []) × (lane.holding.items ≡ [])
+    ensures ok { OnOk result ((lane : NameEntries) × (lane.waiting.items ≡ entry.now ∷ []) × (lane.holding.items ≡ [])
         × (lanes.new.entries ≡ lanes.old.entries ++ (entry.now.name, lane) ∷ [])) }
     ensures unique { OnOk result (IsUnique bytes_eq lanes.new) }
     ensures err { OnErr result (lanes.new.entries ≡ lanes.old.entries) }
@@ -59,12 +59,12 @@ fn open(lanes: &mut IndexMap<Name, Lane>, entry: &Entry) -> Result<(), Memory>
 }
 
 /// Makes a lane in which nothing waits or holds, and which grows as these lanes do.
-fn empty_lane(lanes: &IndexMap<Name, Lane>) -> Lane
+fn empty_lane(lanes: &IndexMap<Name, NameEntries>) -> NameEntries
     ensures waiting { result.waiting.items ≡ [] }
     ensures holding { result.holding.items ≡ [] }
 {
     let alloc = lanes.allocator();
-    Lane {
+    NameEntries {
         waiting: Vec::new(*alloc),
         holding: Vec::new(*alloc),
     }

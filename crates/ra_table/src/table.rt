@@ -84,7 +84,9 @@ impl Table {
         ensures exclusive { IsConflictFree self.new.holding }
     {
         self.check_request(&entry)?;
-        self.lanes.wait(&entry)?;
+        if self.lanes.wait(&entry).is_err() {
+            return Err(RequestError::Memory);
+        }
         Ok(())
     }
 
@@ -115,9 +117,13 @@ impl Table {
         ensures exclusive { IsConflictFree self.new.holding }
     {
         let place = self.check_enter(entry)?;
-        make_room(&mut self.highest, &entry.name)?;
+        if make_room(&mut self.highest).is_err() {
+            return Err(EnterError::Memory);
+        }
         // This is the last that can be refused.
-        self.lanes.grant(place, entry)?;
+        if self.lanes.grant(place, entry).is_err() {
+            return Err(EnterError::Memory);
+        }
         self.granted = self.granted.and(entry);
         raise(&mut self.highest, entry);
         Ok(())

@@ -7,25 +7,25 @@ use Rattle.std.proofs.lemmas.Grind.{flat_map-append}
 use Rattle.ra_world.specs.Run.{marks_of}
 use Rattle.ra_world.specs.Quiet.{requests_in}
 use Rattle.ra_world.specs.Traffic.{sent_by}
-use Rattle.ra_trace.specs.declared.check_text.Next.{Next}
+use Rattle.ra_trace.specs.declared.checker.Next.{Next}
 use Rattle.ra_trace.specs.declared.error.TraceError.{TraceError}
 use Rattle.ra_trace.specs.declared.error.TraceError.TheVariants.{Read, Limit, Memory}
 use Rattle.ra_trace.specs.declared.line.Line.{Line}
 use Rattle.ra_trace.specs.declared.line.Line.TheVariants.{First, Stepped, Marked, Last}
-use Rattle.ra_trace.specs.declared.reading.LineEnd.TheVariants.{Feed}
-use Rattle.ra_trace.specs.declared.verdict.Cause.{Cause}
-use Rattle.ra_trace.specs.declared.verdict.Cause.TheVariants as cause
-use Rattle.ra_trace.specs.declared.verdict.Verdict.{Verdict}
-use Rattle.ra_trace.specs.declared.verdict.Verdict.TheVariants.{Valid, Invalid}
+use Rattle.ra_trace.specs.declared.line_source.byte_lines.LineEnd.TheVariants.{Feed}
+use Rattle.ra_trace.specs.declared.checker.verdict.Cause.{Cause}
+use Rattle.ra_trace.specs.declared.checker.verdict.Cause.TheVariants as cause
+use Rattle.ra_trace.specs.declared.checker.verdict.Verdict.{Verdict}
+use Rattle.ra_trace.specs.declared.checker.verdict.Verdict.TheVariants.{Valid, Invalid}
 use Rattle.ra_trace.specs.declared.checker.Checker.{Checker}
-use Rattle.ra_trace.specs.declared.version.Version.{Version}
+use Rattle.ra_trace.specs.declared.line.version.Version.{Version}
 use Rattle.ra_trace.specs.Forms.{IsReadable, BeginsReadable}
 use Rattle.ra_trace.specs.TraceText.{IsLine, line_text, trace_lines}
 use Rattle.ra_trace.specs.Verdict.{IsTracePrefix, IsFirst, IsWrong}
 use Rattle.ra_trace.specs.Reading.{IsWhole, AreRight, IsOpenLine, IsOpen, IsOver, HasBegun, HasRead, Judges, StopsBehind, Answers}
 use Rattle.ra_trace.specs.NextLine.{EndsSo, TakesBytes, FailsWithin, IsOverLine, HasNone, EndsText}
-use Rattle.ra_trace.specs.Checking.{due_of, StandsBehind, Takes, Refuses, Allows}
-use Rattle.ra_trace.specs.Along.{IsBehind, IsAlong, IsDone, Opens, Judged, Turns, SomeTaken}
+use Rattle.ra_trace.specs.Checking.{due_of, StandsBehind, Takes, Refuses, Allows, Judged}
+use Rattle.ra_trace.specs.Along.{IsBehind, IsAlong, IsDone, Opens, Turns, SomeTaken}
 use Rattle.ra_trace.specs.Below.{LawsBelow}
 use Rattle.ra_trace.proofs.Lines.{begins_once}
 use Rattle.ra_trace.proofs.Versions.{begins_readable}
@@ -180,7 +180,7 @@ pub opens_by : (limit : ℕ) (old new : Option (List ℕ)) (bytes : List ℕ) (l
     → IfOk result (λ opened. IfSome opened (λ checker. IsReadable line → StandsBehind checker (line ∷ [])))
     → IfOk result (λ opened. IsNone opened → (version : Version) → IsLine version line → IsFirst line → ⊥)
     → IfErr result (λ fault. (fault ≡ Memory) × (IsReadable line → HasBegun (line ∷ [])))
-    → Opens limit old new bytes result
+    → Opens limit old new (length bytes) result
 opens_by limit old new bytes line (Ok (Some checker)) taken begins ended some none err = along_first limit old new bytes line checker taken begins some
 opens_by limit old new bytes line (Ok None) taken begins ended some none err = other_first limit old new bytes line taken begins ended (none refl)
 opens_by limit old new bytes line (Err fault) taken begins ended some none err =
@@ -282,7 +282,7 @@ done_by_last limit left old now new checker after number bytes along taken begin
 -- what the line comes to that was read
 pub turns_by : LawsBelow → (limit left : ℕ) (old now new : Option (List ℕ)) (checker after : Checker) (number : ℕ) (line : Line) (bytes : List ℕ)
     (result : Result Next TraceError) → IsAlong limit left old now checker number → TakesBytes left now new bytes → BeginsReadable bytes line []
-    → EndsSo Feed bytes new → Judged checker line after result → Turns limit left old new after number bytes result
+    → EndsSo Feed bytes new → Judged checker line after result → Turns limit left old new after number (length bytes) result
 turns_by laws limit left old now new checker after number line bytes (Ok Next.Right) along taken begins ended is =
     along_more limit left old now new checker after number line bytes along taken begins is.0 is.1
 turns_by laws limit left old now new checker after number line bytes (Ok Next.Last) along taken begins ended is =
@@ -296,7 +296,7 @@ turns_by laws limit left old now new checker after number line bytes (Err fault)
 
 -- such a line took some bytes
 pub some_taken_by : (left : ℕ) (now new : Option (List ℕ)) (bytes : List ℕ) (result : Result Next TraceError) → TakesBytes left now new bytes
-    → EndsSo Feed bytes new → IfOk result (λ next. SomeTaken left bytes next)
+    → EndsSo Feed bytes new → IfOk result (λ next. SomeTaken left (length bytes) next)
 some_taken_by left now new bytes (Ok Next.Right) taken ended = (some_bytes_at_feed bytes new ended, taken.1)
 some_taken_by left now new bytes (Ok Next.Last) taken ended = (some_bytes_at_feed bytes new ended, taken.1)
 some_taken_by left now new bytes (Ok (Next.Wrong why)) taken ended = tt
@@ -355,29 +355,29 @@ answers_at_end limit left old now new checker number (Err Memory) done none = ab
 -- ---- From line to line
 
 -- what is left if it is neither wrong nor the last
-pub right_turns : (limit left : ℕ) (old new : Option (List ℕ)) (after : Checker) (number : ℕ) (bytes : List ℕ) (next : Next)
-    → Turns limit left old new after number bytes (Ok next) → ((why : Cause) → next ≡ Next.Wrong why → ⊥) → (next ≡ Next.Last → ⊥)
-    → IsAlong limit (left - length bytes) old new after (number + 1)
-right_turns limit left old new after number bytes Next.Right turns wrong last = turns
-right_turns limit left old new after number bytes Next.Last turns wrong last = absurd (last refl)
-right_turns limit left old new after number bytes (Next.Wrong why) turns wrong last = absurd (wrong why refl)
+pub right_turns : (limit left : ℕ) (old new : Option (List ℕ)) (after : Checker) (number count : ℕ) (next : Next)
+    → Turns limit left old new after number count (Ok next) → ((why : Cause) → next ≡ Next.Wrong why → ⊥) → (next ≡ Next.Last → ⊥)
+    → IsAlong limit (left - count) old new after (number + 1)
+right_turns limit left old new after number count Next.Right turns wrong last = turns
+right_turns limit left old new after number count Next.Last turns wrong last = absurd (last refl)
+right_turns limit left old new after number count (Next.Wrong why) turns wrong last = absurd (wrong why refl)
 
-pub some_taken : (left : ℕ) (bytes : List ℕ) (next : Next) → SomeTaken left bytes next → ((why : Cause) → next ≡ Next.Wrong why → ⊥)
-    → (1 ≤ length bytes) × (length bytes ≤ left)
-some_taken left bytes Next.Right some wrong = some
-some_taken left bytes Next.Last some wrong = some
-some_taken left bytes (Next.Wrong why) some wrong = absurd (wrong why refl)
+pub some_taken : (left count : ℕ) (next : Next) → SomeTaken left count next → ((why : Cause) → next ≡ Next.Wrong why → ⊥)
+    → (1 ≤ count) × (count ≤ left)
+some_taken left count Next.Right some wrong = some
+some_taken left count Next.Last some wrong = some
+some_taken left count (Next.Wrong why) some wrong = absurd (wrong why refl)
 
 pub at_first : (limit taken : ℕ) → 2 + (limit - taken) ≤ limit + 2
 at_first limit taken = omega arith
 
-module _ (left count taken : ℕ) (is : taken ≡ count) (some : (1 ≤ count) × (count ≤ left)) where
+module _ (left taken : ℕ) (some : (1 ≤ taken) × (taken ≤ left)) where
   pub few_taken : taken ≤ left
-  few_taken = omega (arith, is, some.1)
+  few_taken = some.1
 
   pub fewer_left : left - taken < left
-  fewer_left = omega (arith, is, some.0, some.1)
+  fewer_left = omega (arith, some.0, some.1)
 
   -- no more lines than bytes
   pub still_short : (number limit : ℕ) → number + left ≤ limit + 2 → (number + 1) + (left - taken) ≤ limit + 2
-  still_short number limit short = omega (arith, is, some.0, some.1, short)
+  still_short number limit short = omega (arith, some.0, some.1, short)

@@ -15,11 +15,11 @@ pub cases_Option : {A : Type 0} (o : Option A) → (o ≡ None) ⊎ ((x : A) × 
 cases_Option None = inl refl
 cases_Option (Some x) = inr (x, refl)
 
-if_true : {A : Type 0} (b : Bool) (x y : A) → b ≡ true → (if b then x else y) ≡ x
+pub if_true : {A : Type 0} (b : Bool) (x y : A) → b ≡ true → (if b then x else y) ≡ x
 if_true true x y is = refl
 if_true false x y is = absurd (false≢true is)
 
-if_false : {A : Type 0} (b : Bool) (x y : A) → b ≡ false → (if b then x else y) ≡ y
+pub if_false : {A : Type 0} (b : Bool) (x y : A) → b ≡ false → (if b then x else y) ≡ y
 if_false true x y is = absurd (false≢true (sym is))
 if_false false x y is = refl
 

@@ -19,7 +19,7 @@ use Rattle.ra_trace.proofs.Cuts.{IsFree}
 own : IsNumeralModel (λ digits. list_all is_ascii_digit digits ≡ true) (digits_value 10)
 own = numerals_by_value (λ digits. list_all is_ascii_digit digits ≡ true) (search rules)
 
-each_digit : (digits : List ℕ) → is_decimal digits ≡ true → list_all is_ascii_digit digits ≡ true
+pub each_digit : (digits : List ℕ) → is_decimal digits ≡ true → list_all is_ascii_digit digits ≡ true
 each_digit digits h =
     let (most, first) = and_parts (nat_le 1 (length digits) && list_all is_ascii_digit digits) (length digits == 1 || not (get_or digits 0 0 == 48)) h in
     (and_parts (nat_le 1 (length digits)) (list_all is_ascii_digit digits) most).1
@@ -75,7 +75,7 @@ is_within low high digits some first each least most =
     rw (le-leb 1 (length digits) some, each, plain, le-leb low (digits_value 10 digits) least, le-leb (digits_value 10 digits) high most)
 
 -- otherwise it is none
-is_not_within : (low high : ℕ) (digits : List ℕ) → (is_decimal digits ≡ true → low ≤ digits_value 10 digits → digits_value 10 digits ≤ high → ⊥)
+pub is_not_within : (low high : ℕ) (digits : List ℕ) → (is_decimal digits ≡ true → low ≤ digits_value 10 digits → digits_value 10 digits ≤ high → ⊥)
     → number_within low high digits ≡ None
 is_not_within low high digits other =
     elim (cases_Bool (is_decimal digits)) [

@@ -6,7 +6,7 @@ use Rattle.std.proofs.lemmas.List.{append-nil, take_at}
 use Rattle.std.proofs.lemmas.List.Elements.{All-nil, All-cons, All-head, All-tail}
 use Rattle.std.proofs.lemmas.Option.{some_pair_parts}
 use Rattle.ra_trace.specs.declared.line.Line.{Line}
-use Rattle.ra_trace.specs.declared.reading.LineEnd.TheVariants.{Feed, Length, Input}
+use Rattle.ra_trace.specs.declared.line_source.byte_lines.LineEnd.TheVariants.{Feed, Length, Input}
 use Rattle.ra_trace.specs.Forms.{BeginsReadable, cut, line_in}
 use Rattle.ra_trace.specs.NextLine.{EndsSo, TakesBytes, IsOverLine, HasNone, ReadsNext}
 use Rattle.ra_trace.proofs.Cuts.{IsFree, cut-append}

@@ -13,7 +13,7 @@ use Rattle.ra_world.specs.declared.step.Step.TheVariants.{Ask, Leave, Deliver, L
 use Rattle.ra_world.specs.Lines.{mode_word}
 use Rattle.ra_trace.specs.declared.line.Line.{Line}
 use Rattle.ra_trace.specs.declared.line.Line.TheVariants.{First, Stepped, Marked, Last}
-use Rattle.ra_trace.specs.declared.version.Version.TheVariants.{One, Two}
+use Rattle.ra_trace.specs.declared.line.version.Version.TheVariants.{One, Two}
 use Rattle.ra_trace.specs.Forms.{IsReadable}
 use Rattle.ra_trace.specs.TraceText.{IsClientNumber, IsSeq, IsEntryLine}
 use Rattle.ra_trace.proofs.Rows.{body, first_tail, leave_tail, ask_tail, reply_tail, full_tail}

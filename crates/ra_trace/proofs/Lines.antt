@@ -4,7 +4,7 @@ use Rattle.std.specs.Prelude.{IfSome}
 use Rattle.std.proofs.lemmas.List.{append_cancel_right}
 use Rattle.std.proofs.lemmas.Option.{same_Some, some_pair_parts}
 use Rattle.ra_trace.specs.declared.line.Line.{Line}
-use Rattle.ra_trace.specs.declared.version.Version.{Version}
+use Rattle.ra_trace.specs.declared.line.version.Version.{Version}
 use Rattle.ra_trace.specs.Forms.{BeginsReadable, IsReadable, cut, line_in}
 use Rattle.ra_trace.specs.TraceText.{BeginsWith, line_text}
 use Rattle.ra_trace.proofs.Cuts.{cut-append, cut-only}

@@ -8,7 +8,7 @@ use Rattle.ra_stamp.specs.Stamp.{IsEarlier}
 use Rattle.ra_table.specs.Table.{LockTable, Excludes, MayRequest}
 use Rattle.ra_table.specs.Refusals.{SharesNodeAndName, IsNodeBusy, IsNotAbove, IsHeld}
 use Rattle.ra_table.specs.Laws.{AllowsMark, SameEntries}
-use Rattle.ra_trace.specs.declared.marks_verdict.MarkCause.{MarkCause}
+use Rattle.ra_trace.specs.declared.mark_log.marks_verdict.MarkCause.{MarkCause}
 use Rattle.ra_trace.specs.Marks.{TableRefuses}
 
 not_any : {X : Type 0} (P : X → Type 0) (xs : List X) → All (λ x. P x → ⊥) xs → Any P xs → ⊥

@@ -8,10 +8,10 @@ use Rattle.ra_table.specs.Laws.{AllowsMark}
 use Rattle.ra_world.specs.Lines.{mark_line}
 use Rattle.ra_world.specs.Quiet.{requests_in}
 use Rattle.ra_trace.specs.declared.line.Line.TheVariants.{Marked}
-use Rattle.ra_trace.specs.declared.marks_verdict.MarkCause.{MarkCause}
-use Rattle.ra_trace.specs.declared.marks_verdict.MarksVerdict.{MarksVerdict}
-use Rattle.ra_trace.specs.declared.marks_verdict.MarksVerdict.TheVariants.{Valid, Invalid}
-use Rattle.ra_trace.specs.declared.version.Version.TheVariants.{Two}
+use Rattle.ra_trace.specs.declared.mark_log.marks_verdict.MarkCause.{MarkCause}
+use Rattle.ra_trace.specs.declared.mark_log.marks_verdict.MarksVerdict.{MarksVerdict}
+use Rattle.ra_trace.specs.declared.mark_log.marks_verdict.MarksVerdict.TheVariants.{Valid, Invalid}
+use Rattle.ra_trace.specs.declared.line.version.Version.TheVariants.{Two}
 use Rattle.ra_trace.specs.TraceText.{IsMarkLine}
 use Rattle.ra_trace.specs.Marks.{marks_text, IsMarkRun, grants_in, BeginsWithMark, TableRefuses, IsWrongMark, IsMarksVerdict}
 use Rattle.ra_trace.specs.MarksAlong.{TableLaws}

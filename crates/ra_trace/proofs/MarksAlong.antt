@@ -2,6 +2,7 @@
 use Rattle.std.proofs.Common.{◌≡◌, ◌≢◌, ℕ, ◌+◌, ◌-◌, ◌≤◌, List, [], ◌∷◌, ◌++◌, length, All, Option, refl, sym, ap, ◌∙◌, subst, inl, inr, arith, length-append, codes}
 use Rattle.std.specs.Prelude.{Result, Ok, Err, IfOk}
 use Rattle.std.specs.Io.KnownBytes.{Consumes}
+use Rattle.std.proofs.lemmas.List.{nil_from_length}
 use Rattle.std.proofs.lemmas.List.Elements.{All-nil, All-cons, All-head, All-tail}
 use Rattle.std.proofs.lemmas.Grind.{flat_map-append}
 use Rattle.ra_stamp.specs.declared.entry.Mark.{Mark}
@@ -14,14 +15,14 @@ use Rattle.ra_trace.specs.declared.error.TraceError.{TraceError}
 use Rattle.ra_trace.specs.declared.error.TraceError.TheVariants.{Read, Limit, Memory}
 use Rattle.ra_trace.specs.declared.line.Line.{Line}
 use Rattle.ra_trace.specs.declared.line.Line.TheVariants as line
-use Rattle.ra_trace.specs.declared.marks.Log.{Log}
-use Rattle.ra_trace.specs.declared.marks.NextMark.{NextMark}
-use Rattle.ra_trace.specs.declared.marks.NextMark.TheVariants.{Right, End, Wrong}
-use Rattle.ra_trace.specs.declared.marks_verdict.MarkCause.{MarkCause}
-use Rattle.ra_trace.specs.declared.marks_verdict.MarkCause.TheVariants as cause
-use Rattle.ra_trace.specs.declared.marks_verdict.MarksVerdict.TheVariants.{Valid, Invalid}
-use Rattle.ra_trace.specs.declared.reading.LineEnd.TheVariants.{Feed}
-use Rattle.ra_trace.specs.declared.version.Version.TheVariants.{Two}
+use Rattle.ra_trace.specs.declared.mark_log.Log.{Log}
+use Rattle.ra_trace.specs.declared.mark_log.NextMark.{NextMark}
+use Rattle.ra_trace.specs.declared.mark_log.NextMark.TheVariants.{Right, End, Wrong}
+use Rattle.ra_trace.specs.declared.mark_log.marks_verdict.MarkCause.{MarkCause}
+use Rattle.ra_trace.specs.declared.mark_log.marks_verdict.MarkCause.TheVariants as cause
+use Rattle.ra_trace.specs.declared.mark_log.marks_verdict.MarksVerdict.TheVariants.{Valid, Invalid}
+use Rattle.ra_trace.specs.declared.line_source.byte_lines.LineEnd.TheVariants.{Feed}
+use Rattle.ra_trace.specs.declared.line.version.Version.TheVariants.{Two}
 use Rattle.ra_trace.specs.Forms.{BeginsReadable}
 use Rattle.ra_trace.specs.NextLine.{EndsSo, TakesBytes, FailsWithin, HasNone}
 use Rattle.ra_trace.specs.TraceText.{IsMarkLine}
@@ -251,7 +252,7 @@ memory_there laws limit left old now new log number mark bytes along taken begin
 mark_turns : TableLaws → (limit left : ℕ) (old now new : Option (List ℕ)) (log after : Log) (number : ℕ) (mark : Mark) (bytes : List ℕ)
     (result : Result NextMark TraceError) → IsAlongMarks limit left old now log number → TakesBytes left now new bytes
     → BeginsReadable bytes (line.Marked mark) [] → EndsSo Feed bytes new → JudgedMark log mark after result
-    → TurnsMarks limit left old new after number bytes result
+    → TurnsMarks limit left old new after number (length bytes) result
 mark_turns laws limit left old now new log after number mark bytes (Ok Right) along taken begins ended is =
     more_there laws limit left old now new log after number mark bytes along taken begins is
 mark_turns laws limit left old now new log after number mark bytes (Ok End) along taken begins ended is = absurd is
@@ -264,7 +265,7 @@ mark_turns laws limit left old now new log after number mark bytes (Err fault) a
 other_turns : (limit left : ℕ) (old now new : Option (List ℕ)) (log after : Log) (number : ℕ) (given : Line) (bytes : List ℕ)
     (result : Result NextMark TraceError) → IsAlongMarks limit left old now log number → TakesBytes left now new bytes
     → BeginsReadable bytes given [] → EndsSo Feed bytes new → ((mark : Mark) → given ≡ line.Marked mark → ⊥) → JudgedOther result
-    → TurnsMarks limit left old new after number bytes result
+    → TurnsMarks limit left old new after number (length bytes) result
 other_turns limit left old now new log after number given bytes (Ok Right) along taken begins ended other is = absurd is
 other_turns limit left old now new log after number given bytes (Ok End) along taken begins ended other is = absurd is
 other_turns limit left old now new log after number given bytes (Ok (Wrong why)) along taken begins ended other is =
@@ -275,7 +276,7 @@ other_turns limit left old now new log after number given bytes (Err fault) alon
 pub turns_by : TableLaws → (limit left : ℕ) (old now new : Option (List ℕ)) (log after : Log) (number : ℕ) (given : Line) (bytes : List ℕ)
     (result : Result NextMark TraceError) → IsAlongMarks limit left old now log number → TakesBytes left now new bytes
     → BeginsReadable bytes given [] → EndsSo Feed bytes new → JudgedLine log given after result
-    → TurnsMarks limit left old new after number bytes result
+    → TurnsMarks limit left old new after number (length bytes) result
 turns_by laws limit left old now new log after number (line.First version nodes start) bytes result along taken begins ended is =
     other_turns limit left old now new log after number (line.First version nodes start) bytes result along taken begins ended (λ mark e. cc) is
 turns_by laws limit left old now new log after number (line.Stepped step) bytes result along taken begins ended is =
@@ -287,7 +288,7 @@ turns_by laws limit left old now new log after number line.Last bytes result alo
 
 -- such a line took some bytes
 pub some_taken_by : (left : ℕ) (now new : Option (List ℕ)) (bytes : List ℕ) (result : Result NextMark TraceError) → TakesBytes left now new bytes
-    → EndsSo Feed bytes new → IfOk result (λ next. SomeMarkTaken left bytes next)
+    → EndsSo Feed bytes new → IfOk result (λ next. SomeMarkTaken left (length bytes) next)
 some_taken_by left now new bytes (Ok Right) taken ended = (some_bytes_at_feed bytes new ended, taken.1)
 some_taken_by left now new bytes (Ok End) taken ended = tt
 some_taken_by left now new bytes (Ok (Wrong why)) taken ended = tt
@@ -295,18 +296,19 @@ some_taken_by left now new bytes (Err fault) taken ended = tt
 
 -- what comes if there is no line
 pub none_turns : (limit left : ℕ) (old now new : Option (List ℕ)) (log : Log) (number : ℕ) (bytes : List ℕ) (next : NextMark)
-    → IsAlongMarks limit left old now log number → TakesBytes left now new bytes → HasNone bytes new → IsMissing bytes next
-    → TurnsMarks limit left old new log number bytes (Ok next)
+    → IsAlongMarks limit left old now log number → TakesBytes left now new bytes → HasNone bytes new → IsMissing (length bytes) next
+    → TurnsMarks limit left old new log number (length bytes) (Ok next)
 none_turns limit left old now new log number bytes Right along taken none is = absurd is
-none_turns limit left old now new log number bytes End along taken none is = end_there limit left old now new log number bytes along taken none is
+none_turns limit left old now new log number bytes End along taken none is =
+    end_there limit left old now new log number bytes along taken none (nil_from_length bytes is)
 none_turns limit left old now new log number bytes (Wrong why) along taken none is =
     subst (λ (w : MarkCause). JudgesMarks limit old new (Invalid number w)) (sym is.0)
-    (none_there limit left old now new log number bytes along taken none is.1)
+    (none_there limit left old now new log number bytes along taken none (λ nothing. is.1 (ap length nothing)))
 
-pub none_taken : (left : ℕ) (bytes : List ℕ) (next : NextMark) → IsMissing bytes next → SomeMarkTaken left bytes next
-none_taken left bytes Right is = absurd is
-none_taken left bytes End is = tt
-none_taken left bytes (Wrong why) is = tt
+pub none_taken : (left count : ℕ) (next : NextMark) → IsMissing count next → SomeMarkTaken left count next
+none_taken left count Right is = absurd is
+none_taken left count End is = tt
+none_taken left count (Wrong why) is = tt
 
 -- there is no memory for a log
 pub no_log : TableLaws → (limit : ℕ) (old : Option (List ℕ)) → StopsBehindMarks limit old old
@@ -314,9 +316,9 @@ no_log laws limit old =
     ([], record { lines = All-nil (IsMarkLine Two); table = empty_table; run = laws.empty }, nothing_taken old, omega arith)
 
 -- what is left if it is neither wrong nor the end
-pub right_turns : (limit left : ℕ) (old new : Option (List ℕ)) (after : Log) (number : ℕ) (bytes : List ℕ) (next : NextMark)
-    → TurnsMarks limit left old new after number bytes (Ok next) → ((why : MarkCause) → next ≡ Wrong why → ⊥) → (next ≡ End → ⊥)
-    → IsAlongMarks limit (left - length bytes) old new after (number + 1)
-right_turns limit left old new after number bytes Right turns wrong end = turns
-right_turns limit left old new after number bytes End turns wrong end = absurd (end refl)
-right_turns limit left old new after number bytes (Wrong why) turns wrong end = absurd (wrong why refl)
+pub right_turns : (limit left : ℕ) (old new : Option (List ℕ)) (after : Log) (number count : ℕ) (next : NextMark)
+    → TurnsMarks limit left old new after number count (Ok next) → ((why : MarkCause) → next ≡ Wrong why → ⊥) → (next ≡ End → ⊥)
+    → IsAlongMarks limit (left - count) old new after (number + 1)
+right_turns limit left old new after number count Right turns wrong end = turns
+right_turns limit left old new after number count End turns wrong end = absurd (end refl)
+right_turns limit left old new after number count (Wrong why) turns wrong end = absurd (wrong why refl)

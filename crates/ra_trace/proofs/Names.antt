@@ -1,11 +1,10 @@
 -- Names, as they are read.
-use Rattle.std.proofs.Common.{◌≡◌, ℕ, ◌<◌, ◌==◌, ◌↔◌, arith, true, false, ◌&&◌, nat_le, List, length, Result, Ok, Err, IfOk, IsOk, refl, inl, inr}
+use Rattle.std.proofs.Common.{◌≡◌, ℕ, ◌<◌, ◌==◌, ◌↔◌, arith, true, false, ◌&&◌, nat_le, List, length, Option, Some, None, IsSome, IfSome, refl, inl, inr}
 use Rattle.std.proofs.lemmas.Bool.{and_parts, cases_Bool, leb-true, le-leb, false≢true}
 use Rattle.std.proofs.lemmas.Bool.Decides.{nat_tests}
 use Rattle.std.proofs.lemmas.List.Elements.{All-weaker}
 use Rattle.std.proofs.lemmas.List.Sums.{AllPass-from_list_all, list_all-from_AllPass}
 use Rattle.std.specs.List.{list_all}
-use Rattle.std.specs.Result.{result_ok}
 use Rattle.ra_stamp.specs.Name.{IsName, is_name_byte}
 use Rattle.ra_trace.specs.Forms.{is_name, name_of}
 use Rattle.ra_trace.proofs.Cuts.{IsFree}
@@ -20,10 +19,10 @@ checked_name bytes h =
     let (few, each) = and_parts (nat_le (length bytes) 32) (list_all is_name_byte bytes) others in
     record { not_empty = leb-true 1 (length bytes) some; not_long = leb-true (length bytes) 32 few; each = AllPass-from_list_all is_name_byte bytes each }
 
--- by `Name::new`
-pub name_made : {E : Type 0} (bytes : List ℕ) (r : Result (List ℕ) E) → IsOk r ↔ IsName bytes → IfOk r (λ name. name ≡ bytes) → result_ok r ≡ name_of bytes
-name_made bytes (Ok name) valid value = let good = name_checked bytes (valid.0 refl) in rw (value, good)
-name_made bytes (Err e) valid value =
+-- by `Name::of`
+pub name_made : (bytes : List ℕ) (r : Option (List ℕ)) → IsSome r ↔ IsName bytes → IfSome r (λ name. name ≡ bytes) → r ≡ name_of bytes
+name_made bytes (Some name) valid value = let good = name_checked bytes (valid.0 refl) in rw (value, good)
+name_made bytes None valid value =
     elim (cases_Bool (is_name bytes)) [
       | inl good ↦ absurd (false≢true (valid.1 (checked_name bytes good)))
       | inr bad ↦ rw bad

@@ -12,7 +12,7 @@ use Rattle.ra_world.specs.Traffic.{Move}
 use Rattle.ra_world.specs.Run.{IsRun, GoesOn, marks_of}
 use Rattle.ra_trace.specs.declared.line.Line.{Line}
 use Rattle.ra_trace.specs.declared.line.Line.TheVariants.{First, Stepped, Marked, Last}
-use Rattle.ra_trace.specs.declared.version.Version.{Version}
+use Rattle.ra_trace.specs.declared.line.version.Version.{Version}
 use Rattle.ra_trace.specs.TraceText.{IsLine, IsTraceIn, line_text, move_lines, trace_lines}
 use Rattle.ra_trace.specs.Verdict.{IsTracePrefix, TableGoesOn, marks_in_line, marks_in}
 use Rattle.ra_trace.specs.Below.{LawsBelow}

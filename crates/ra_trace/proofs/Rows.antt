@@ -17,8 +17,8 @@ use Rattle.ra_world.specs.declared.step.Step.TheVariants.{Ask, Leave, Deliver, L
 use Rattle.ra_world.specs.Lines.{mode_word, entry_fields}
 use Rattle.ra_trace.specs.declared.line.Line.{Line}
 use Rattle.ra_trace.specs.declared.line.Line.TheVariants.{First, Stepped, Marked, Last}
-use Rattle.ra_trace.specs.declared.version.Version.{Version}
-use Rattle.ra_trace.specs.declared.version.Version.TheVariants.{One, Two}
+use Rattle.ra_trace.specs.declared.line.version.Version.{Version}
+use Rattle.ra_trace.specs.declared.line.version.Version.TheVariants.{One, Two}
 use Rattle.ra_trace.specs.Forms.{Form, IsReadable, fields, node_of, client_of, start_of, seq_of, name_of, mode_of, first_in, ask_in, leave_in, request_in, reply_in, entry_in, last_in, forms, behind, line_by, line_in}
 use Rattle.ra_trace.specs.TraceText.{message_fields, step_line, line_text, IsClientNumber, IsSeq, IsEntryLine, IsMessageLine, IsStepLine}
 use Rattle.ra_trace.proofs.Cuts.{IsFree, mapped, cases_Option, behind-only}

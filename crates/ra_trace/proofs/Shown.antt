@@ -7,10 +7,12 @@ use Rattle.std.specs.Io.KnownBytes.{Consumes, IsAtEnd}
 use Rattle.std.proofs.KnownBytes.{Consumes-trans}
 use Rattle.ra_trace.specs.declared.error.TraceError.{TraceError}
 use Rattle.ra_trace.specs.declared.error.TraceError.TheVariants.{Read, Limit, Memory}
-use Rattle.ra_trace.specs.declared.reading.LineEnd.TheVariants.{Feed, Input}
+use Rattle.ra_trace.specs.declared.line_source.byte_lines.LineEnd.TheVariants.{Feed, Input}
 use Rattle.ra_trace.specs.Reading.{IsOpenLine}
-use Rattle.ra_trace.specs.NextLine.{EndsPart, FailsWithin, ReadsLine, ReadsSoFar, IsPart, TakesBytes, TakesPart}
-use Rattle.ra_trace.proofs.Ends.{NoFeed}
+use Rattle.ra_trace.specs.declared.line.Line.{Line}
+use Rattle.ra_trace.specs.Forms.{line_in}
+use Rattle.ra_trace.specs.NextLine.{EndsPart, FailsWithin, ReadsLine, ReadsSoFar, ReadsSome, IsPart, TakesBytes, TakesPart}
+use Rattle.ra_trace.proofs.Ends.{NoFeed, reads_at_feed}
 
 none_before : (xs : List ℕ) (k : ℕ) → k ≤ length xs → ((j : ℕ) → j < k → get_or xs j 0 ≢ 10) → NoFeed (take k xs)
 none_before xs zero within before = All-nil (λ b. b ≢ 10)
@@ -20,24 +22,37 @@ none_before xs (suc k) within before =
     (All-more (λ b. b ≢ 10) xs k 0 (omega (arith, within)) (none_before xs k (omega (arith, within)) (λ j lt. before j (omega (arith, lt)))) (before k (omega arith)))
 
 -- the line feed is at this place
-pub over_in_part : (most : ℕ) (shown part : List ℕ) (place : ℕ) → part ≡ take (min (length shown) most) shown → place < length part
-    → get_or part place 0 ≡ 10 → ((k : ℕ) → k < place → get_or part k 0 ≢ 10) → IsPart most shown (place + 1) true
-over_in_part most shown part place part_is inside here before =
-    let k = min (length shown) most in
-    let long : length part ≡ k = ap length part_is ∙ length-take-le k shown (omega arith) in
-    let is : take (place + 1) shown ≡ take place part ++ 10 ∷ [] =
-    sym (take-take (place + 1) k shown (omega (arith, inside, long))) ∙ (ap (take (place + 1)) (sym part_is)
-    ∙ (take_more part place 0 inside ∙ ap (λ (b : ℕ). take place part ++ b ∷ []) here)) in
-    (omega (arith, inside, long), omega (arith, inside, long), (take place part, none_before part place (omega (arith, inside)) before, is))
+pub over_at : (most : ℕ) (shown : List ℕ) (place : ℕ) → place < length shown → place < most → get_or shown place 0 ≡ 10
+    → ((k : ℕ) → k < place → get_or shown k 0 ≢ 10) → IsPart most shown (place + 1) true
+over_at most shown place inside few here before =
+    let is = take_more shown place 0 inside ∙ ap (λ (b : ℕ). take place shown ++ b ∷ []) here in
+    (omega (arith, inside), omega (arith, few), (take place shown, none_before shown place (omega (arith, inside)) before, is))
 
--- there is none
-pub all_of_part : (most : ℕ) (shown part : List ℕ) → part ≡ take (min (length shown) most) shown
-    → ((k : ℕ) → k < length part → get_or part k 0 ≢ 10) → IsPart most shown (length part) false
-all_of_part most shown part part_is before =
-    let k = min (length shown) most in
-    let long : length part ≡ k = ap length part_is ∙ length-take-le k shown (omega arith) in
-    let is : take (length part) part ≡ take (length part) shown = ap (take (length part)) part_is ∙ take-take (length part) k shown (omega (arith, long)) in
-    (omega (arith, long), omega (arith, long), subst NoFeed is (none_before part (length part) (omega arith) before))
+-- there is none among so many
+pub not_over : (most : ℕ) (shown : List ℕ) (count : ℕ) → count ≡ min (length shown) most → ((k : ℕ) → k < count → get_or shown k 0 ≢ 10)
+    → IsPart most shown count false
+not_over most shown count is before = (omega (arith, is), omega (arith, is), none_before shown count (omega (arith, is)) before)
+
+-- the line feed is one of them
+pub some_in_part : (most : ℕ) (shown : List ℕ) (count : ℕ) → IsPart most shown count true → 1 ≤ count
+some_in_part most shown count (inside, few, (before, none, is)) =
+    let long = ap length is ∙ length-append before (10 ∷ []) in omega (arith, long, length-take-le count shown inside)
+
+-- a line that is shown whole
+pub whole_line : (left most : ℕ) (old new : Option (List ℕ)) (shown prefix : List ℕ) (count : ℕ) (came : Option Line) → most ≡ min left 128
+    → IsPart most shown count true → Consumes old new (take count shown) → prefix ≡ take (count - 1) shown → came ≡ line_in prefix
+    → ReadsSome left old new count (Ok came)
+whole_line left most old new shown prefix count came most_is (inside, few, (before, none, is)) taken cuts reads =
+    let bytes = take count shown in
+    let long : length bytes ≡ count = length-take-le count shown inside in
+    let split = ap length is ∙ length-append before (10 ∷ []) in
+    let first : prefix ≡ take (length bytes - 1) bytes =
+    cuts ∙ sym (ap (λ (n : ℕ). take (n - 1) bytes) long ∙ take-take (count - 1) count shown (omega arith)) in (
+      bytes,
+      long,
+      reads_at_feed left old new bytes prefix came (taken, omega (arith, long, few, most_is)) (before, (none, omega (arith, long, split, few, most_is)), is)
+          first reads,
+    )
 
 -- ---- With what bytes end
 
@@ -98,9 +113,6 @@ part_fails left most old mid new before bytes Memory took earlier unended within
 
 pub small : 136 < 9223372036854775808
 small = omega arith
-
-pub at_most : (count left len : ℕ) → len ≡ count → count ≤ left → len ≤ left
-at_most count left len is within = omega (arith, is, within)
 
 pub just_left : (count left len : ℕ) → count ≤ left → len ≡ count → left ≤ len → count ≡ left
 just_left count left len within is full = omega (arith, within, is, full)

@@ -17,10 +17,10 @@ use Rattle.ra_world.specs.Run.{IsRun, GoesOn}
 use Rattle.ra_world.specs.World.{WorldState, with_move, HasCause}
 use Rattle.ra_trace.specs.declared.line.Line.{Line}
 use Rattle.ra_trace.specs.declared.line.Line.TheVariants.{First, Stepped, Marked, Last}
-use Rattle.ra_trace.specs.declared.verdict.Cause.{Cause}
-use Rattle.ra_trace.specs.declared.verdict.Cause.TheVariants as cause
+use Rattle.ra_trace.specs.declared.checker.verdict.Cause.{Cause}
+use Rattle.ra_trace.specs.declared.checker.verdict.Cause.TheVariants as cause
 use Rattle.ra_trace.specs.declared.checker.Checker.{Checker}
-use Rattle.ra_trace.specs.declared.version.Version.{Version}
+use Rattle.ra_trace.specs.declared.line.version.Version.{Version}
 use Rattle.ra_trace.specs.Version.{IsNodeIn}
 use Rattle.ra_trace.specs.Forms.{IsReadable, BeginsReadable, has_node, allows_step, allows_mark}
 use Rattle.ra_trace.specs.TraceText.{IsLine, BeginsWith}

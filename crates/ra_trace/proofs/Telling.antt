@@ -4,10 +4,10 @@ use Rattle.std.specs.Prelude.{Result, Ok, Err}
 use Rattle.ra_stamp.specs.declared.entry.Mark.{Mark}
 use Rattle.ra_trace.specs.declared.checker.Checker.{Checker}
 use Rattle.ra_trace.specs.declared.error.TraceError.{TraceError}
-use Rattle.ra_trace.specs.declared.verdict.Cause.{Cause}
-use Rattle.ra_trace.specs.declared.verdict.Cause.TheVariants as cause
-use Rattle.ra_trace.specs.declared.verdict.Verdict.{Verdict}
-use Rattle.ra_trace.specs.declared.verdict.Verdict.TheVariants.{Valid, Invalid}
+use Rattle.ra_trace.specs.declared.checker.verdict.Cause.{Cause}
+use Rattle.ra_trace.specs.declared.checker.verdict.Cause.TheVariants as cause
+use Rattle.ra_trace.specs.declared.checker.verdict.Verdict.{Verdict}
+use Rattle.ra_trace.specs.declared.checker.verdict.Verdict.TheVariants.{Valid, Invalid}
 use Rattle.ra_trace.specs.Along.{IsAlong}
 use Rattle.ra_trace.specs.Checking.{due_of}
 use Rattle.ra_trace.specs.Due.{TellsDue}

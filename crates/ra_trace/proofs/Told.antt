@@ -10,8 +10,8 @@ use Rattle.ra_world.specs.Run.{IsRun}
 use Rattle.ra_world.specs.Traffic.{Move}
 use Rattle.ra_trace.specs.declared.line.Line.{Line}
 use Rattle.ra_trace.specs.declared.line.Line.TheVariants.{First, Stepped, Marked, Last}
-use Rattle.ra_trace.specs.declared.version.Version.{Version}
-use Rattle.ra_trace.specs.declared.version.Version.TheVariants.{Two}
+use Rattle.ra_trace.specs.declared.line.version.Version.{Version}
+use Rattle.ra_trace.specs.declared.line.version.Version.TheVariants.{Two}
 use Rattle.ra_trace.specs.Forms.{IsReadable}
 use Rattle.ra_trace.specs.TraceText.{line_text, move_lines, trace_lines, trace_text, IsLine, IsTraceIn}
 use Rattle.ra_trace.proofs.Lines.{begins_once}

@@ -23,7 +23,7 @@ use Rattle.ra_trace.specs.declared.error.WriteTraceError.{WriteTraceError}
 use Rattle.ra_trace.specs.declared.error.WriteTraceError.TheVariants.{Run, Memory}
 use Rattle.ra_trace.specs.declared.line.Line.{Line}
 use Rattle.ra_trace.specs.declared.line.Line.TheVariants.{First, Stepped, Marked, Last}
-use Rattle.ra_trace.specs.declared.version.Version.TheVariants.{Two}
+use Rattle.ra_trace.specs.declared.line.version.Version.TheVariants.{Two}
 use Rattle.ra_trace.specs.Ranges.{StepFits, MarkFits}
 use Rattle.ra_trace.specs.Writing.{MoveFits, prefix_text, HasTraced, IsOpened, StopsIn}
 use Rattle.ra_trace.specs.TraceText.{step_line, line_text, move_lines, IsMarkLine, IsStepLine, IsLine, IsTrace}

@@ -10,8 +10,8 @@ use Rattle.ra_world.specs.declared.step.Step.{Step}
 use Rattle.ra_world.specs.declared.step.Step.TheVariants.{Ask, Leave, Deliver, Lose, Repeat}
 use Rattle.ra_trace.specs.declared.line.Line.{Line}
 use Rattle.ra_trace.specs.declared.line.Line.TheVariants.{First, Stepped, Marked, Last}
-use Rattle.ra_trace.specs.declared.version.Version.{Version}
-use Rattle.ra_trace.specs.declared.version.Version.TheVariants.{One, Two}
+use Rattle.ra_trace.specs.declared.line.version.Version.{Version}
+use Rattle.ra_trace.specs.declared.line.version.Version.TheVariants.{One, Two}
 use Rattle.ra_trace.specs.Version.{last_node, has_mode, has_repeats, IsNodeIn}
 use Rattle.ra_trace.specs.TraceText.{IsEntryLine, IsMarkLine, IsMessageLine, IsStepLine, IsLine, BeginsWith}
 use Rattle.ra_trace.specs.Forms.{IsReadable, BeginsReadable, has_node, allows_entry, allows_mark, allows_message, allows_step}

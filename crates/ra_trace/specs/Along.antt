@@ -1,18 +1,16 @@
 -- How far a checker has come in what it reads. No public contract speaks of it.
-use Rattle.std.specs.Prelude.{◌≡◌, ◌≢◌, ℕ, ◌+◌, ◌-◌, ◌≤◌, List, Option, Some, None, Result, Ok, Err, flat_map, length}
+use Rattle.std.specs.Prelude.{◌≡◌, ℕ, ◌+◌, ◌-◌, ◌≤◌, List, Option, Some, None, Result, Ok, Err, flat_map, length}
 use Rattle.std.specs.Io.KnownBytes.{Consumes}
 use Rattle.ra_trace.specs.declared.error.TraceError.{TraceError}
-use Rattle.ra_trace.specs.declared.error.TraceError.TheVariants.{Memory}
 use Rattle.ra_trace.specs.declared.checker.Checker.{Checker}
-use Rattle.ra_trace.specs.declared.check_text.Next.{Next}
-use Rattle.ra_trace.specs.declared.check_text.Next.TheVariants.{Right, Last, Wrong}
+use Rattle.ra_trace.specs.declared.checker.Next.{Next}
+use Rattle.ra_trace.specs.declared.checker.Next.TheVariants.{Right, Last, Wrong}
 use Rattle.ra_trace.specs.declared.line.Line.{Line}
-use Rattle.ra_trace.specs.declared.line.Line.TheVariants as line
-use Rattle.ra_trace.specs.declared.verdict.Cause.TheVariants as cause
-use Rattle.ra_trace.specs.declared.verdict.Verdict.TheVariants.{Invalid}
+use Rattle.ra_trace.specs.declared.checker.verdict.Cause.TheVariants as cause
+use Rattle.ra_trace.specs.declared.checker.verdict.Verdict.TheVariants.{Invalid}
 use Rattle.ra_trace.specs.TraceText.{IsTraceIn, line_text, trace_lines}
 use Rattle.ra_trace.specs.Reading.{AreRight, Judges, Answers}
-use Rattle.ra_trace.specs.Checking.{StandsBehind, Takes, Refuses, Allows}
+use Rattle.ra_trace.specs.Checking.{StandsBehind}
 
 -- these lines were taken, and the text may still have this many bytes
 pub record IsBehind (limit left : ℕ) (old now : Option (List ℕ)) (prefix : List Line) : Type 0 where
@@ -35,29 +33,22 @@ pub record IsDone (limit left : ℕ) (old now : Option (List ℕ)) (checker : Ch
   pub trace : IsTraceIn checker.version checker.world.count checker.world.start checker.world.moves (flat_map line_text prefix)
   pub lines : prefix ≡ trace_lines checker.version checker.world.count checker.world.start checker.world.moves
 
--- what comes of the first line: the checker has taken it, or the line is wrong, or a fault came
-abbrev pub Opens : ℕ → Option (List ℕ) → Option (List ℕ) → List ℕ → Result (Option Checker) TraceError → Type 0
-Opens limit old new bytes (Ok (Some checker)) = IsAlong limit (limit - length bytes) old new checker 2
-Opens limit old new bytes (Ok None) = Judges limit old new (Invalid 1 cause.Line)
-Opens limit old new bytes (Err fault) = Answers limit old new (Err fault)
+-- what comes of the first line, of this many bytes: the checker has taken it, or the line is wrong, or a fault came
+abbrev pub Opens : ℕ → Option (List ℕ) → Option (List ℕ) → ℕ → Result (Option Checker) TraceError → Type 0
+Opens limit old new count (Ok (Some checker)) = IsAlong limit (limit - count) old new checker 2
+Opens limit old new count (Ok None) = Judges limit old new (Invalid 1 cause.Line)
+Opens limit old new count (Err fault) = Answers limit old new (Err fault)
 
--- what a checker says of a line
-abbrev pub Judged : Checker → Line → Checker → Result Next TraceError → Type 0
-Judged checker given after (Ok Right) = (given ≢ line.Last) × Takes checker given after
-Judged checker given after (Ok Last) = (given ≡ line.Last) × Takes checker given after
-Judged checker given after (Ok (Wrong why)) = Refuses checker given why
-Judged checker given after (Err fault) = (fault ≡ Memory) × Allows checker given
-
--- what comes of the line with this number: the checker has taken it, or the trace is over, or the line is wrong, or a
--- fault came
-abbrev pub Turns : ℕ → ℕ → Option (List ℕ) → Option (List ℕ) → Checker → ℕ → List ℕ → Result Next TraceError → Type 0
-Turns limit left old new after number bytes (Ok Right) = IsAlong limit (left - length bytes) old new after (number + 1)
-Turns limit left old new after number bytes (Ok Last) = IsDone limit (left - length bytes) old new after (number + 1)
-Turns limit left old new after number bytes (Ok (Wrong why)) = Judges limit old new (Invalid number why)
-Turns limit left old new after number bytes (Err fault) = Answers limit old new (Err fault)
+-- what comes of the line with this number, of this many bytes: the checker has taken it, or the trace is over, or the
+-- line is wrong, or a fault came
+abbrev pub Turns : ℕ → ℕ → Option (List ℕ) → Option (List ℕ) → Checker → ℕ → ℕ → Result Next TraceError → Type 0
+Turns limit left old new after number count (Ok Right) = IsAlong limit (left - count) old new after (number + 1)
+Turns limit left old new after number count (Ok Last) = IsDone limit (left - count) old new after (number + 1)
+Turns limit left old new after number count (Ok (Wrong why)) = Judges limit old new (Invalid number why)
+Turns limit left old new after number count (Err fault) = Answers limit old new (Err fault)
 
 -- a line that is right has at least one byte, and no more than the text may still have
-abbrev pub SomeTaken : ℕ → List ℕ → Next → Type 0
-SomeTaken left bytes Right = (1 ≤ length bytes) × (length bytes ≤ left)
-SomeTaken left bytes Last = (1 ≤ length bytes) × (length bytes ≤ left)
-SomeTaken left bytes (Wrong why) = Unit {0}
+abbrev pub SomeTaken : ℕ → ℕ → Next → Type 0
+SomeTaken left count Right = (1 ≤ count) × (count ≤ left)
+SomeTaken left count Last = (1 ≤ count) × (count ≤ left)
+SomeTaken left count (Wrong why) = Unit {0}

@@ -7,11 +7,11 @@ use Rattle.ra_world.specs.Run.{marks_of}
 use Rattle.ra_world.specs.Traffic.{Move, sent_by}
 use Rattle.ra_trace.specs.declared.error.TraceError.{TraceError}
 use Rattle.ra_trace.specs.declared.error.TraceError.TheVariants.{Read, Limit, Memory}
-use Rattle.ra_trace.specs.declared.marks_verdict.MarksVerdict.{MarksVerdict}
-use Rattle.ra_trace.specs.declared.marks_verdict.MarksVerdict.TheVariants as log
-use Rattle.ra_trace.specs.declared.verdict.Verdict.{Verdict}
-use Rattle.ra_trace.specs.declared.verdict.Verdict.TheVariants.{Valid}
-use Rattle.ra_trace.specs.declared.version.Version.{Version}
+use Rattle.ra_trace.specs.declared.mark_log.marks_verdict.MarksVerdict.{MarksVerdict}
+use Rattle.ra_trace.specs.declared.mark_log.marks_verdict.MarksVerdict.TheVariants as log
+use Rattle.ra_trace.specs.declared.checker.verdict.Verdict.{Verdict}
+use Rattle.ra_trace.specs.declared.checker.verdict.Verdict.TheVariants.{Valid}
+use Rattle.ra_trace.specs.declared.line.version.Version.{Version}
 use Rattle.ra_trace.specs.TraceText.{IsTraceIn}
 use Rattle.ra_trace.specs.Verdict.{IsTraceOfTableRun, IsVerdict}
 use Rattle.ra_trace.specs.Reading.{Judges, ReadsOn, PassesLimit, StopsBehind}

@@ -1,5 +1,5 @@
 -- Which lines a checker has taken. No public contract speaks of it.
-use Rattle.std.specs.Prelude.{◌≡◌, ℕ, List, [], ◌∷◌, ◌++◌, Option, Some, None, Result, Ok, Err, drop}
+use Rattle.std.specs.Prelude.{◌≡◌, ◌≢◌, ℕ, List, [], ◌∷◌, ◌++◌, Result, Ok, Err, drop, slice_get}
 use Rattle.ra_stamp.specs.declared.entry.Mark.{Mark}
 use Rattle.ra_table.specs.Table.{empty_table, TableRun}
 use Rattle.ra_world.specs.Run.{IsRun}
@@ -7,9 +7,11 @@ use Rattle.ra_trace.specs.declared.error.TraceError.{TraceError}
 use Rattle.ra_trace.specs.declared.error.TraceError.TheVariants.{Memory}
 use Rattle.ra_trace.specs.declared.line.Line.{Line}
 use Rattle.ra_trace.specs.declared.line.Line.TheVariants.{First, Stepped, Marked, Last}
-use Rattle.ra_trace.specs.declared.verdict.Cause.{Cause}
+use Rattle.ra_trace.specs.declared.checker.verdict.Cause.{Cause}
 use Rattle.ra_trace.specs.declared.checker.Checker.{Checker}
-use Rattle.ra_trace.specs.declared.version.Version.{Version}
+use Rattle.ra_trace.specs.declared.checker.Next.{Next}
+use Rattle.ra_trace.specs.declared.checker.Next.TheVariants as next
+use Rattle.ra_trace.specs.declared.line.version.Version.{Version}
 use Rattle.ra_trace.specs.Forms.{IsReadable, BeginsReadable}
 use Rattle.ra_trace.specs.Verdict.{IsTracePrefix, marks_in, IsWrong}
 use Rattle.ra_trace.specs.Reading.{HasBegun}
@@ -17,6 +19,10 @@ use Rattle.ra_trace.specs.Reading.{HasBegun}
 -- the marks of the last step that have not come yet
 abbrev pub due_of : Checker → List Mark
 due_of checker = drop checker.come checker.marks.items
+
+-- the same mark is due as before
+abbrev pub HasSameDue : Checker → Checker → Type 0
+HasSameDue old new = slice_get new.marks.items new.come ≡ slice_get old.marks.items old.come
 
 -- the checker has taken these lines: they are a prefix of a trace, the world has made its steps, and the lock table its
 -- marks
@@ -51,8 +57,9 @@ pub record Refuses (checker : Checker) (line : Line) (why : Cause) : Type 0 wher
 pub record Allows (checker : Checker) (line : Line) : Type 0 where
   pub right : (lines : List Line) → IsReadable line → StandsBehind checker lines → HasBegun (lines ++ line ∷ [])
 
--- what a checker answers to a line: that it is right, or why it is wrong
-abbrev pub Tried : Checker → Line → Checker → Result (Option Cause) TraceError → Type 0
-Tried old line new (Ok None) = Takes old line new
-Tried old line new (Ok (Some why)) = Refuses old line why
-Tried old line new (Err fault) = (fault ≡ Memory) × Allows old line
+-- what a checker answers to a line: that it is right, and whether it is the last one, or why it is wrong
+abbrev pub Judged : Checker → Line → Checker → Result Next TraceError → Type 0
+Judged old given new (Ok next.Right) = (given ≢ Last) × Takes old given new
+Judged old given new (Ok next.Last) = (given ≡ Last) × Takes old given new
+Judged old given new (Ok (next.Wrong why)) = Refuses old given why
+Judged old given new (Err fault) = (fault ≡ Memory) × Allows old given

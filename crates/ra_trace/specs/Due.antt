@@ -4,10 +4,10 @@ use Rattle.ra_stamp.specs.declared.entry.Mark.{Mark}
 use Rattle.ra_world.specs.Traffic.{Move}
 use Rattle.ra_trace.specs.declared.error.TraceError.{TraceError}
 use Rattle.ra_trace.specs.declared.line.Line.{Line}
-use Rattle.ra_trace.specs.declared.verdict.Cause.TheVariants as cause
-use Rattle.ra_trace.specs.declared.verdict.Verdict.{Verdict}
-use Rattle.ra_trace.specs.declared.verdict.Verdict.TheVariants.{Invalid}
-use Rattle.ra_trace.specs.declared.version.Version.{Version}
+use Rattle.ra_trace.specs.declared.checker.verdict.Cause.TheVariants as cause
+use Rattle.ra_trace.specs.declared.checker.verdict.Verdict.{Verdict}
+use Rattle.ra_trace.specs.declared.checker.verdict.Verdict.TheVariants.{Invalid}
+use Rattle.ra_trace.specs.declared.line.version.Version.{Version}
 use Rattle.ra_trace.specs.TraceText.{line_text}
 use Rattle.ra_trace.specs.Verdict.{IsTracePrefix}
 

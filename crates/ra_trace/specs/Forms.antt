@@ -16,16 +16,16 @@ use Rattle.ra_stamp.specs.declared.message.Message.{Message}
 use Rattle.ra_stamp.specs.declared.message.Message.TheVariants.{Request, Reply}
 use Rattle.ra_world.specs.declared.step.Step.{Step}
 use Rattle.ra_world.specs.declared.step.Step.TheVariants.{Ask, Leave, Deliver, Lose, Repeat}
-use Rattle.ra_trace.specs.declared.forms.Way.{Way}
-use Rattle.ra_trace.specs.declared.forms.Way.TheVariants.{Delivered, Lost, Repeated}
-use Rattle.ra_trace.specs.declared.forms.Change.{Change}
-use Rattle.ra_trace.specs.declared.forms.Change.TheVariants as change
-use Rattle.ra_trace.specs.declared.forms.Kind.{Kind}
-use Rattle.ra_trace.specs.declared.forms.Kind.TheVariants as kind
+use Rattle.ra_trace.specs.declared.line.forms.Way.{Way}
+use Rattle.ra_trace.specs.declared.line.forms.Way.TheVariants.{Delivered, Lost, Repeated}
+use Rattle.ra_trace.specs.declared.line.forms.Change.{Change}
+use Rattle.ra_trace.specs.declared.line.forms.Change.TheVariants as change
+use Rattle.ra_trace.specs.declared.line.forms.Kind.{Kind}
+use Rattle.ra_trace.specs.declared.line.forms.Kind.TheVariants as kind
 use Rattle.ra_trace.specs.declared.line.Line.{Line}
 use Rattle.ra_trace.specs.declared.line.Line.TheVariants.{First, Stepped, Marked, Last}
-use Rattle.ra_trace.specs.declared.version.Version.{Version}
-use Rattle.ra_trace.specs.declared.version.Version.TheVariants.{One, Two}
+use Rattle.ra_trace.specs.declared.line.version.Version.{Version}
+use Rattle.ra_trace.specs.declared.line.version.Version.TheVariants.{One, Two}
 use Rattle.ra_trace.specs.Version.{last_node, has_mode, has_repeats, IsNodeIn}
 use Rattle.ra_trace.specs.TraceText.{line_text, IsMarkLine, IsStepLine}
 

@@ -8,11 +8,11 @@ use Rattle.ra_table.specs.Table.{LockTable, TableRun}
 use Rattle.ra_table.specs.Refusals.{IsNodeBusy, IsNotAbove, IsHeld, HasEarlier}
 use Rattle.ra_world.specs.Lines.{mark_line}
 use Rattle.ra_world.specs.Quiet.{requests_in}
-use Rattle.ra_trace.specs.declared.marks_verdict.MarkCause.{MarkCause}
-use Rattle.ra_trace.specs.declared.marks_verdict.MarkCause.TheVariants as cause
-use Rattle.ra_trace.specs.declared.marks_verdict.MarksVerdict.{MarksVerdict}
-use Rattle.ra_trace.specs.declared.marks_verdict.MarksVerdict.TheVariants.{Valid, Invalid}
-use Rattle.ra_trace.specs.declared.version.Version.TheVariants.{Two}
+use Rattle.ra_trace.specs.declared.mark_log.marks_verdict.MarkCause.{MarkCause}
+use Rattle.ra_trace.specs.declared.mark_log.marks_verdict.MarkCause.TheVariants as cause
+use Rattle.ra_trace.specs.declared.mark_log.marks_verdict.MarksVerdict.{MarksVerdict}
+use Rattle.ra_trace.specs.declared.mark_log.marks_verdict.MarksVerdict.TheVariants.{Valid, Invalid}
+use Rattle.ra_trace.specs.declared.line.version.Version.TheVariants.{Two}
 use Rattle.ra_trace.specs.TraceText.{IsMarkLine}
 
 -- a line for each mark, in order

@@ -9,13 +9,13 @@ use Rattle.ra_trace.specs.declared.error.TraceError.{TraceError}
 use Rattle.ra_trace.specs.declared.error.TraceError.TheVariants.{Memory}
 use Rattle.ra_trace.specs.declared.line.Line.{Line}
 use Rattle.ra_trace.specs.declared.line.Line.TheVariants as line
-use Rattle.ra_trace.specs.declared.marks.Log.{Log}
-use Rattle.ra_trace.specs.declared.marks.NextMark.{NextMark}
-use Rattle.ra_trace.specs.declared.marks.NextMark.TheVariants.{Right, End, Wrong}
-use Rattle.ra_trace.specs.declared.marks_verdict.MarkCause.{MarkCause}
-use Rattle.ra_trace.specs.declared.marks_verdict.MarkCause.TheVariants as cause
-use Rattle.ra_trace.specs.declared.marks_verdict.MarksVerdict.TheVariants.{Valid, Invalid}
-use Rattle.ra_trace.specs.declared.version.Version.TheVariants.{Two}
+use Rattle.ra_trace.specs.declared.mark_log.Log.{Log}
+use Rattle.ra_trace.specs.declared.mark_log.NextMark.{NextMark}
+use Rattle.ra_trace.specs.declared.mark_log.NextMark.TheVariants.{Right, End, Wrong}
+use Rattle.ra_trace.specs.declared.mark_log.marks_verdict.MarkCause.{MarkCause}
+use Rattle.ra_trace.specs.declared.mark_log.marks_verdict.MarkCause.TheVariants as cause
+use Rattle.ra_trace.specs.declared.mark_log.marks_verdict.MarksVerdict.TheVariants.{Valid, Invalid}
+use Rattle.ra_trace.specs.declared.line.version.Version.TheVariants.{Two}
 use Rattle.ra_trace.specs.TraceText.{IsMarkLine}
 use Rattle.ra_trace.specs.Marks.{marks_text, grants_in, TableRefuses}
 use Rattle.ra_trace.specs.MarksReading.{JudgesMarks, AnswersMarks}
@@ -85,22 +85,22 @@ JudgedLine old (line.Stepped step) new result = JudgedOther result
 JudgedLine old (line.Marked mark) new result = JudgedMark old mark new result
 JudgedLine old line.Last new result = JudgedOther result
 
--- what comes of bytes that are not a line: the text is at its end, or they are a wrong line
-abbrev pub IsMissing : List ℕ → NextMark → Type 0
-IsMissing bytes Right = ⊥
-IsMissing bytes End = bytes ≡ []
-IsMissing bytes (Wrong why) = (why ≡ cause.Line) × (bytes ≢ [])
+-- what comes of this many bytes that are not a line: the text is at its end, or they are a wrong line
+abbrev pub IsMissing : ℕ → NextMark → Type 0
+IsMissing count Right = ⊥
+IsMissing count End = count ≡ 0
+IsMissing count (Wrong why) = (why ≡ cause.Line) × (count ≢ 0)
 
--- what comes of the line with this number: the log has taken it, or the text is at its end, or the line is wrong, or a
--- fault occurred
-abbrev pub TurnsMarks : ℕ → ℕ → Option (List ℕ) → Option (List ℕ) → Log → ℕ → List ℕ → Result NextMark TraceError → Type 0
-TurnsMarks limit left old new after number bytes (Ok Right) = IsAlongMarks limit (left - length bytes) old new after (number + 1)
-TurnsMarks limit left old new after number bytes (Ok End) = JudgesMarks limit old new (Valid after.requests after.grants)
-TurnsMarks limit left old new after number bytes (Ok (Wrong why)) = JudgesMarks limit old new (Invalid number why)
-TurnsMarks limit left old new after number bytes (Err fault) = AnswersMarks limit old new (Err fault)
+-- what comes of the line with this number, of this many bytes: the log has taken it, or the text is at its end, or the
+-- line is wrong, or a fault occurred
+abbrev pub TurnsMarks : ℕ → ℕ → Option (List ℕ) → Option (List ℕ) → Log → ℕ → ℕ → Result NextMark TraceError → Type 0
+TurnsMarks limit left old new after number count (Ok Right) = IsAlongMarks limit (left - count) old new after (number + 1)
+TurnsMarks limit left old new after number count (Ok End) = JudgesMarks limit old new (Valid after.requests after.grants)
+TurnsMarks limit left old new after number count (Ok (Wrong why)) = JudgesMarks limit old new (Invalid number why)
+TurnsMarks limit left old new after number count (Err fault) = AnswersMarks limit old new (Err fault)
 
 -- a line of a mark has at least one byte, and no more than the text may still have
-abbrev pub SomeMarkTaken : ℕ → List ℕ → NextMark → Type 0
-SomeMarkTaken left bytes Right = (1 ≤ length bytes) × (length bytes ≤ left)
-SomeMarkTaken left bytes End = Unit {0}
-SomeMarkTaken left bytes (Wrong why) = Unit {0}
+abbrev pub SomeMarkTaken : ℕ → ℕ → NextMark → Type 0
+SomeMarkTaken left count Right = (1 ≤ count) × (count ≤ left)
+SomeMarkTaken left count End = Unit {0}
+SomeMarkTaken left count (Wrong why) = Unit {0}

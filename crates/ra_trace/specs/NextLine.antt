@@ -8,11 +8,11 @@ use Rattle.ra_trace.specs.declared.error.TraceError.{TraceError}
 use Rattle.ra_trace.specs.declared.error.TraceError.TheVariants.{Read, Limit, Memory}
 use Rattle.ra_trace.specs.declared.checker.Checker.{Checker}
 use Rattle.ra_trace.specs.declared.line.Line.{Line}
-use Rattle.ra_trace.specs.declared.verdict.Cause.TheVariants as cause
-use Rattle.ra_trace.specs.declared.verdict.Verdict.{Verdict}
-use Rattle.ra_trace.specs.declared.verdict.Verdict.TheVariants.{Valid, Invalid}
-use Rattle.ra_trace.specs.declared.reading.LineEnd.{LineEnd}
-use Rattle.ra_trace.specs.declared.reading.LineEnd.TheVariants.{Feed, Length, Input}
+use Rattle.ra_trace.specs.declared.checker.verdict.Cause.TheVariants as cause
+use Rattle.ra_trace.specs.declared.checker.verdict.Verdict.{Verdict}
+use Rattle.ra_trace.specs.declared.checker.verdict.Verdict.TheVariants.{Valid, Invalid}
+use Rattle.ra_trace.specs.declared.line_source.byte_lines.LineEnd.{LineEnd}
+use Rattle.ra_trace.specs.declared.line_source.byte_lines.LineEnd.TheVariants.{Feed, Length, Input}
 use Rattle.ra_trace.specs.Forms.{BeginsReadable}
 use Rattle.ra_trace.specs.Reading.{IsOpenLine}
 
@@ -76,6 +76,11 @@ abbrev pub ReadsNext : ℕ → Option (List ℕ) → Option (List ℕ) → List 
 ReadsNext left old new bytes (Ok (Some line)) = TakesBytes left old new bytes × BeginsReadable bytes line [] × EndsSo Feed bytes new
 ReadsNext left old new bytes (Ok None) = TakesBytes left old new bytes × HasNone bytes new
 ReadsNext left old new bytes (Err fault) = FailsWithin left old new bytes fault
+
+-- what was read of the next line, and of how many bytes that is
+abbrev pub ReadsSome : ℕ → Option (List ℕ) → Option (List ℕ) → ℕ → Result (Option Line) TraceError → Type 0
+ReadsSome left old new count (Ok line) = (bytes : List ℕ) × (length bytes ≡ count) × ReadsNext left old new bytes (Ok line)
+ReadsSome left old new count (Err fault) = (bytes : List ℕ) × ReadsNext left old new bytes (Err fault)
 
 -- What follows the last line of a trace whose run the checker knows: nothing, or one byte, which would begin the line
 -- of this number.

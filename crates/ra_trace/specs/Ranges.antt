@@ -8,7 +8,7 @@ use Rattle.ra_stamp.specs.declared.entry.Mark.TheVariants.{Requested, Entered, L
 use Rattle.ra_stamp.specs.declared.message.Message.{Message}
 use Rattle.ra_world.specs.declared.step.Step.{Step}
 use Rattle.ra_world.specs.declared.step.Step.TheVariants.{Ask, Leave, Deliver, Lose, Repeat}
-use Rattle.ra_trace.specs.declared.version.Version.TheVariants.{Two}
+use Rattle.ra_trace.specs.declared.line.version.Version.TheVariants.{Two}
 use Rattle.ra_trace.specs.TraceText.{IsEntryLine, IsMessageLine, IsStepLine}
 
 -- if the request's number is 1 or more, each of its fields is in its range in version 2

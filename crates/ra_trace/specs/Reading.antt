@@ -7,9 +7,9 @@ use Rattle.ra_world.specs.Traffic.{Move}
 use Rattle.ra_trace.specs.declared.error.TraceError.{TraceError}
 use Rattle.ra_trace.specs.declared.error.TraceError.TheVariants.{Read, Limit, Memory}
 use Rattle.ra_trace.specs.declared.line.Line.{Line}
-use Rattle.ra_trace.specs.declared.verdict.Verdict.{Verdict}
-use Rattle.ra_trace.specs.declared.verdict.Verdict.TheVariants.{Valid, Invalid}
-use Rattle.ra_trace.specs.declared.version.Version.{Version}
+use Rattle.ra_trace.specs.declared.checker.verdict.Verdict.{Verdict}
+use Rattle.ra_trace.specs.declared.checker.verdict.Verdict.TheVariants.{Valid, Invalid}
+use Rattle.ra_trace.specs.declared.line.version.Version.{Version}
 use Rattle.ra_trace.specs.TraceText.{IsTraceIn, line_text, trace_lines}
 use Rattle.ra_trace.specs.Verdict.{IsTracePrefix, IsWrong, IsVerdict}
 

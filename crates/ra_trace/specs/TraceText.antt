@@ -15,8 +15,8 @@ use Rattle.ra_world.specs.Run.{IsRun}
 use Rattle.ra_world.specs.Lines.{field, mode_word, mark_line}
 use Rattle.ra_trace.specs.declared.line.Line.{Line}
 use Rattle.ra_trace.specs.declared.line.Line.TheVariants.{First, Stepped, Marked, Last}
-use Rattle.ra_trace.specs.declared.version.Version.{Version}
-use Rattle.ra_trace.specs.declared.version.Version.TheVariants.{Two}
+use Rattle.ra_trace.specs.declared.line.version.Version.{Version}
+use Rattle.ra_trace.specs.declared.line.version.Version.TheVariants.{Two}
 use Rattle.ra_trace.specs.Version.{version_word, IsNodeIn, IsModeIn, MayRepeat}
 
 -- the fields of a message: kind, sender, receiver, name, for a REQUEST the mode, and number

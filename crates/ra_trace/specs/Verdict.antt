@@ -12,11 +12,11 @@ use Rattle.ra_world.specs.Run.{IsRun, GoesOn, marks_of}
 use Rattle.ra_world.specs.Quiet.{requests_in}
 use Rattle.ra_trace.specs.declared.line.Line.{Line}
 use Rattle.ra_trace.specs.declared.line.Line.TheVariants.{First, Stepped, Marked, Last}
-use Rattle.ra_trace.specs.declared.verdict.Cause.{Cause}
-use Rattle.ra_trace.specs.declared.verdict.Cause.TheVariants as cause
-use Rattle.ra_trace.specs.declared.verdict.Verdict.{Verdict}
-use Rattle.ra_trace.specs.declared.verdict.Verdict.TheVariants.{Valid, Invalid}
-use Rattle.ra_trace.specs.declared.version.Version.{Version}
+use Rattle.ra_trace.specs.declared.checker.verdict.Cause.{Cause}
+use Rattle.ra_trace.specs.declared.checker.verdict.Cause.TheVariants as cause
+use Rattle.ra_trace.specs.declared.checker.verdict.Verdict.{Verdict}
+use Rattle.ra_trace.specs.declared.checker.verdict.Verdict.TheVariants.{Valid, Invalid}
+use Rattle.ra_trace.specs.declared.line.version.Version.{Version}
 use Rattle.ra_trace.specs.TraceText.{IsLine, IsTraceIn, line_text, move_lines, trace_lines, BeginsWith}
 
 -- the lines so far are those of these moves in this version, except for the marks of the last move that are still due;

@@ -2,8 +2,8 @@
 use Rattle.std.specs.Prelude.{ℕ, ◌≤◌, Bool, true, false, IsTrue, List, codes}
 use Rattle.ra_stamp.specs.declared.mode.Mode.{Mode}
 use Rattle.ra_stamp.specs.declared.mode.Mode.TheVariants.{Shared, Exclusive, IntentShared, IntentExclusive, SharedIntentExclusive}
-use Rattle.ra_trace.specs.declared.version.Version.{Version}
-use Rattle.ra_trace.specs.declared.version.Version.TheVariants.{One, Two}
+use Rattle.ra_trace.specs.declared.line.version.Version.{Version}
+use Rattle.ra_trace.specs.declared.line.version.Version.TheVariants.{One, Two}
 
 -- how the first line names a version
 abbrev pub version_word : Version → List ℕ

@@ -11,7 +11,7 @@ use Rattle.ra_world.specs.World.{WorldState}
 use Rattle.ra_trace.specs.declared.error.WriteTraceError.{WriteTraceError}
 use Rattle.ra_trace.specs.declared.error.WriteTraceError.TheVariants.{Run, Memory, Write}
 use Rattle.ra_trace.specs.declared.line.Line.TheVariants.{First}
-use Rattle.ra_trace.specs.declared.version.Version.TheVariants.{Two}
+use Rattle.ra_trace.specs.declared.line.version.Version.TheVariants.{Two}
 use Rattle.ra_trace.specs.Ranges.{StepFits, MarkFits}
 use Rattle.ra_trace.specs.TraceText.{line_text, move_lines, IsTrace}
 

@@ -1,18 +1,23 @@
+pub mod check_text;
+pub mod step_table;
+pub mod verdict;
+
 ghost use Rattle.std.specs.Prelude.{◌≡◌, ◌≢◌, ◌⊎◌, ◌<◌, ◌+◌, List, ◌∷◌, [], false, drop, length, slice_get, IfOk, IfErr, IfSome, IsNone, IsTrue};
 ghost use Rattle.ra_stamp.specs.declared.entry.Mark.{Mark};
 ghost use Rattle.ra_table.specs.Laws.{AllowsMark};
 ghost use Rattle.ra_world.specs.Quiet.{requests_in};
 ghost use Rattle.ra_world.specs.Run.{marks_of};
 ghost use Rattle.ra_world.specs.Traffic.{sent_by};
-ghost use Rattle.ra_trace.specs.declared.version.Version.{Version};
+ghost use Rattle.ra_trace.specs.declared.checker.verdict.Cause.{Cause};
+ghost use Rattle.ra_trace.specs.declared.line.version.Version.{Version};
 ghost use Rattle.ra_trace.specs.Forms.{IsReadable};
 ghost use Rattle.ra_trace.specs.TraceText.{IsLine};
 ghost use Rattle.ra_trace.specs.Verdict.{IsFirst};
 
+use crate::checker::step_table::{allows, step_table};
 use crate::laws::traces_rest_on_runs;
 use crate::line::Line;
-use crate::tables::{allows, step_table};
-use crate::version::Version;
+use crate::line::version::Version;
 use crate::{Cause, TraceError, Verdict};
 use ra_stamp::{Mark, Marks, NodeId, equal_is_same};
 use ra_table::Table;
@@ -33,8 +38,19 @@ pub struct Checker {
     come: u64,
 }
 
+/// What a line is.
+#[derive(Clone, Copy)]
+pub enum Next {
+    /// It is right, and not the last one.
+    Right,
+    /// It is right, and the last one.
+    Last,
+    /// It is wrong.
+    Wrong(Cause),
+}
+
 impl Checker {
-    ghost use Rattle.ra_trace.specs.Checking.{due_of, IsOpening, StandsBehind, Tried};
+    ghost use Rattle.ra_trace.specs.Checking.{due_of, HasSameDue, IsOpening, Judged, StandsBehind};
     ghost use Rattle.ra_trace.specs.Reading.{HasBegun};
 
     /// Makes the checker after this line, or answers `None` if it is not a first line of its version.
@@ -94,30 +110,46 @@ impl Checker {
                 marks: Marks::new(alloc),
                 come: 0,
             }),
-            Err(refused) => {
+            Err(_) => {
                 // By a call, since to drop each of its parts here is long to prove.
                 drop(world);
-                Err(refused.into())
+                Err(TraceError::Memory)
             }
         }
     }
 
-    /// Takes the next line, and answers why it is wrong, or `None` if it is right. It steps the world and the lock table
-    /// itself, and believes neither steps nor marks. After a wrong line, or without memory, nothing is promised of the checker.
-    /// The cost is that of one step of the world or of the lock table.
+    /// Takes the next line, and answers what it is. It steps the world and the lock table itself, and believes neither steps nor
+    /// marks. After a wrong line, only the mark that is due is promised of the checker, and without memory nothing. The cost is
+    /// that of one step of the world or of the lock table.
     ///
     /// # Errors
     ///
     /// `Memory`: memory ran out.
-    pub fn take(&mut self, alloc: Global, line: &Line) -> Result<Option<Cause>, TraceError>
-        ensures { Tried self.old line.now self.new result }
+    pub fn take(&mut self, alloc: Global, line: &Line) -> Result<Next, TraceError>
+        ensures judged { Judged self.old line.now self.new result }
+        ensures due { IfOk result (λ next. (cause : Cause) → next ≡ Next.Wrong cause → HasSameDue self.old self.new) }
     {
         match line {
-            Line::First { .. } => Ok(Some(Cause::Line)),
-            Line::Stepped(step) => self.take_step(alloc, step),
+            Line::First { .. } => Ok(Next::Wrong(Cause::Line)),
+            Line::Stepped(step) if !self.version.allows_step(step) => {
+                Ok(Next::Wrong(Cause::Line))
+            }
+            Line::Stepped(_) if self.has_due() => Ok(Next::Wrong(Cause::Marks)),
+            // Most messages are delivered in the order of sending, so each is looked for at the first place.
+            Line::Stepped(step) => match self.world.step_near(alloc, step, 0) {
+                Ok(outcome) => {
+                    self.marks = outcome.marks;
+                    self.come = 0;
+                    Ok(Next::Right)
+                }
+                Err(StepError::Memory) => Err(TraceError::Memory),
+                Err(StepError::NotUnderWay) => Ok(Next::Wrong(Cause::NotUnderWay)),
+                Err(StepError::NoNode) => Ok(Next::Wrong(Cause::Refused)),
+                Err(StepError::Node(_)) => Ok(Next::Wrong(Cause::Refused)),
+            },
             Line::Marked(mark) => self.take_mark(mark),
-            Line::Last if self.has_due() => Ok(Some(Cause::Marks)),
-            Line::Last => Ok(None),
+            Line::Last if self.has_due() => Ok(Next::Wrong(Cause::Marks)),
+            Line::Last => Ok(Next::Last),
         }
     }
 
@@ -161,55 +193,29 @@ impl Checker {
         }
     }
 
-    /// Takes a step's line.
-    ///
-    /// # Errors
-    ///
-    /// `Memory`: memory ran out.
-    fn take_step(&mut self, alloc: Global, step: &Step) -> Result<Option<Cause>, TraceError>
-        ensures { Tried self.old (Line.Stepped step.now) self.new result }
-    {
-        if !self.version.allows_step(step) {
-            return Ok(Some(Cause::Line));
-        }
-        if self.has_due() {
-            return Ok(Some(Cause::Marks));
-        }
-        match self.world.step(alloc, step) {
-            Ok(outcome) => {
-                self.marks = outcome.marks;
-                self.come = 0;
-                Ok(None)
-            }
-            Err(StepError::Memory) => Err(TraceError::Memory),
-            Err(StepError::NotUnderWay) => Ok(Some(Cause::NotUnderWay)),
-            Err(StepError::NoNode) => Ok(Some(Cause::Refused)),
-            Err(StepError::Node(_)) => Ok(Some(Cause::Refused)),
-        }
-    }
-
     /// Takes a mark's line. What the lock table says of it comes first, and the table grows only for a mark that is due.
     ///
     /// # Errors
     ///
     /// `Memory`: memory ran out.
-    fn take_mark(&mut self, mark: &Mark) -> Result<Option<Cause>, TraceError>
-        ensures { Tried self.old (Line.Marked mark.now) self.new result }
+    fn take_mark(&mut self, mark: &Mark) -> Result<Next, TraceError>
+        ensures judged { Judged self.old (Line.Marked mark.now) self.new result }
+        ensures due { IfOk result (λ next. (cause : Cause) → next ≡ Next.Wrong cause → HasSameDue self.old self.new) }
     {
         traces_rest_on_runs();
         if !self.version.allows_mark(mark) {
-            return Ok(Some(Cause::Line));
+            return Ok(Next::Wrong(Cause::Line));
         }
         if !self.is_due(mark) {
-            return Ok(Some(cause_of(&self.table, mark)));
+            return Ok(Next::Wrong(cause_of(&self.table, mark)));
         }
         if !step_table(&mut self.table, mark)? {
-            return Ok(Some(Cause::Table));
+            return Ok(Next::Wrong(Cause::Table));
         }
         // The count fits, since there are no more than these.
         let _all = self.marks.len();
         self.come += 1;
-        Ok(None)
+        Ok(Next::Right)
     }
 }
 

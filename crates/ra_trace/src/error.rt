@@ -1,10 +1,4 @@
-ghost use Rattle.std.specs.Prelude.{◌≡◌};
-ghost use Rattle.ra_trace.specs.declared.error.TraceError.TheVariants as trace;
-ghost use Rattle.ra_trace.specs.declared.error.WriteTraceError.TheVariants as write;
-
-use ra_stamp::Memory;
-use ra_world::{RunError, WriteFault};
-use std::alloc::AllocError;
+use ra_world::RunError;
 use thiserror::Error;
 
 /// Why a text was not checked.
@@ -30,49 +24,4 @@ pub enum WriteTraceError {
     Memory,
     /// The writer failed or took nothing, with bytes left to write.
     Write,
-}
-
-impl From<Memory> for TraceError {
-    ghost from_gives = { λ _ e. e ≡ trace.Memory };
-
-    fn from(_refused: Memory) -> TraceError {
-        TraceError::Memory
-    }
-}
-
-impl From<AllocError> for WriteTraceError {
-    ghost from_gives = { λ _ e. e ≡ write.Memory };
-
-    fn from(_refused: AllocError) -> WriteTraceError {
-        WriteTraceError::Memory
-    }
-}
-
-impl From<Memory> for WriteTraceError {
-    ghost from_gives = { λ _ e. e ≡ write.Memory };
-
-    fn from(_refused: Memory) -> WriteTraceError {
-        WriteTraceError::Memory
-    }
-}
-
-impl From<RunError> for WriteTraceError {
-    ghost use Rattle.ra_trace.specs.Writing.{refusal_of_run};
-
-    ghost from_gives = { λ a e. e ≡ refusal_of_run a };
-
-    fn from(refused: RunError) -> WriteTraceError {
-        match refused {
-            RunError::Memory => WriteTraceError::Memory,
-            refused => WriteTraceError::Run(refused),
-        }
-    }
-}
-
-impl From<WriteFault> for WriteTraceError {
-    ghost from_gives = { λ _ e. e ≡ write.Write };
-
-    fn from(_fault: WriteFault) -> WriteTraceError {
-        WriteTraceError::Write
-    }
 }

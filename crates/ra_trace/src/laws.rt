@@ -1,12 +1,12 @@
 //! What is true of every trace and of every text of one. Each function does nothing, and its contract is the law.
 ghost use Rattle.std.specs.Prelude.{◌≡◌, ℕ, List, All, map};
 ghost use Rattle.ra_world.specs.Traffic.{Move};
-ghost use Rattle.ra_trace.specs.declared.verdict.Verdict.{Verdict};
+ghost use Rattle.ra_trace.specs.declared.checker.verdict.Verdict.{Verdict};
 ghost use Rattle.ra_trace.specs.Below.{LawsBelow};
-ghost use Rattle.ra_trace.specs.declared.version.Version.{Version};
+ghost use Rattle.ra_trace.specs.declared.line.version.Version.{Version};
 ghost use Rattle.ra_trace.specs.TraceText.{IsLine, IsTraceIn, trace_lines, trace_text};
 ghost use Rattle.ra_trace.specs.Verdict.{IsVerdict};
-ghost use Rattle.ra_trace.specs.declared.marks_verdict.MarksVerdict.{MarksVerdict};
+ghost use Rattle.ra_trace.specs.declared.mark_log.marks_verdict.MarksVerdict.{MarksVerdict};
 ghost use Rattle.ra_trace.specs.Marks.{IsMarksVerdict};
 ghost use Rattle.ra_trace.specs.MarksAlong.{TableLaws};
 

@@ -1,11 +1,16 @@
 //! The lines of traces.
+pub mod field_ranges;
+pub mod fields;
+pub mod forms;
+pub mod version;
+
 ghost use Rattle.std.specs.Prelude.{◌≡◌, ◌++◌, None, IfSome, codes};
 ghost use Rattle.ra_trace.specs.declared.line.Line.{Line};
 ghost use Rattle.ra_trace.specs.Forms.{IsReadable};
 ghost use Rattle.ra_trace.specs.TraceText.{line_text};
 
-use crate::forms::line_of;
-use crate::version::Version;
+use crate::line::forms::line_of;
+use crate::line::version::Version;
 use ra_stamp::{Mark, NodeId};
 use ra_world::Step;
 

@@ -22,15 +22,15 @@ mod Rising
 mod NobodyDeferred
 pub mod Moves
 mod Nodes
-mod Reached
+pub mod Reached
 mod Steps
-mod Runs
-mod RequestCounts
-mod GoingOn
-mod Outcomes
+pub mod Runs
+pub mod RequestCounts
+pub mod GoingOn
+pub mod Outcomes
 mod Numbered
-mod QuietRuns
-mod TableNodes
+pub mod QuietRuns
+pub mod TableNodes
 mod DifferentLists
 mod DifferentDialogs
 mod DifferentTurns
@@ -55,3 +55,4 @@ pub mod Times
 pub mod FittingRuns
 mod Pieces
 mod Adding
+pub mod WorldLaws

@@ -10,7 +10,7 @@ use Rattle.ra_stamp.specs.Stamp.{IsEarlier}
 use Rattle.ra_node.specs.Node.{NodeState}
 use Rattle.ra_table.specs.Table.{LockTable, TableRun, MayEnter, Excludes}
 use Rattle.ra_table.specs.Laws.{IsConflictFree, IsAt}
-use Rattle.ra_world.specs.declared.report.Report.{Report}
+use Rattle.ra_world.specs.declared.text.report.Report.{Report}
 use Rattle.ra_world.specs.Traffic.{Move, LeavesUnderWay, lost_by, repeated_by}
 use Rattle.ra_world.specs.Run.{IsRun, EndsWith, marks_of, waiting_at_all}
 use Rattle.ra_world.specs.Quiet.{IsQuiet, IsBlocked, MeetsMessageCount}

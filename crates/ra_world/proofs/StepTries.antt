@@ -61,6 +61,14 @@ short start nodes moves w now step r is same on needs fails =
       }),
     ))
 
+-- a refusal for this cause, at which nothing changed
+pub fails_for : (start : ℕ) (nodes : List NodeState) (moves : List Move) (w now : WorldState) (step : Step) (cause : StepError) (r : Result Outcome StepError)
+    → shown start nodes moves ≡ w → now ≡ shown start nodes moves → HasCause (length nodes) start moves step cause
+    → IsErrAnd r (λ x. x ≡ cause) → Tries w step r now
+fails_for start nodes moves w now step cause r is same why fails =
+    at_err r (λ x. x ≡ cause) (λ q. Tries w step q now) fails
+    (λ x here. (same ∙ is, with_cause start nodes moves w step x is (subst (λ (y : StepError). HasCause (length nodes) start moves step y) (sym here) why)))
+
 -- the nodes with one of them put at its own place
 pub same_nodes : (start : ℕ) (nodes : List NodeState) (moves moves' : List Move) (place : ℕ) (old new : NodeState)
     → old ≡ get_or nodes place old → new ≡ old → moves' ≡ moves → shown start (set nodes place new) moves' ≡ shown start nodes moves
@@ -203,18 +211,56 @@ pub run_of : (start : ℕ) (nodes : List NodeState) (left : List Message) (moves
 run_of start nodes left moves moves' place new keeps is =
     subst (λ (k : ℕ). IsRun k start moves') (sym (length-set nodes place new)) (subst (λ (ms : List Move). IsRun (length nodes) start ms) (sym is) keeps.run)
 
+-- a refusal that the node of an ask gave, at which nothing changed
+pub ask_fails : (law :
+    (n start : ℕ) (moves : List Move) (nodes : ℕ → NodeState)
+    → IsNodeNumber n → IsRun n start moves → EndsWith n start moves nodes
+    → (node client : ℕ) (name : List ℕ) (mode : Mode)
+    → GoesOn n start moves (Ask node client name mode)
+    ↔ (((1 ≤ node) × (node ≤ n)) × MayAsk (resource_at (nodes node) name) client))
+    → (start : ℕ) (nodes : List NodeState) (left : List Message) (moves : List Move) (place i client : ℕ) (name : List ℕ) (mode : Mode) (old : NodeState)
+    (w now : WorldState) (e : AskError) (r : Result Outcome StepError)
+    → Keeps start nodes left moves → place + 1 ≡ i → place < length nodes → old ≡ get_or nodes place old
+    → shown start nodes moves ≡ w → now ≡ shown start nodes moves
+    → (e ≡ ask.Busy → IsBusy (resource_at old name) client)
+    → (e ≡ ask.Exhausted → (IsBusy (resource_at old name) client → ⊥) × ((resource_at old name).state.highest ≡ greatest_number))
+    → (e ≡ ask.Memory → MayAsk (resource_at old name) client)
+    → IsErrAnd r (λ x. x ≡ refusal_of_ask e) → Tries w (Ask i client name mode) r now
+ask_fails law start nodes left moves place i client name mode old w now ask.Memory r keeps number within at is same busy exhausted may fails =
+    short start nodes moves w now (Ask i client name mode) r is same
+    (ask_on law start nodes left moves place i client name mode old keeps number within at (may refl)) (inl tt) fails
+ask_fails law start nodes left moves place i client name mode old w now ask.Busy r keeps number within at is same busy exhausted may fails =
+    fails_for start nodes moves w now (Ask i client name mode) (refusal_of_ask ask.Busy) r is same
+    (ask_refused start nodes left moves place i client name mode old ask.Busy keeps number within at busy exhausted (λ none. cc)) fails
+ask_fails law start nodes left moves place i client name mode old w now ask.Exhausted r keeps number within at is same busy exhausted may fails =
+    fails_for start nodes moves w now (Ask i client name mode) (refusal_of_ask ask.Exhausted) r is same
+    (ask_refused start nodes left moves place i client name mode old ask.Exhausted keeps number within at busy exhausted (λ none. cc)) fails
+
+-- a refusal that the node of a leave gave, at which nothing changed
+pub leave_fails : (law :
+    (n start : ℕ) (moves : List Move) (nodes : ℕ → NodeState)
+    → IsNodeNumber n → IsRun n start moves → EndsWith n start moves nodes
+    → (node client : ℕ) (name : List ℕ)
+    → GoesOn n start moves (Leave node client name)
+    ↔ (((1 ≤ node) × (node ≤ n)) × ((entry : Entry) × Holds (resource_at (nodes node) name) client entry)))
+    → (start : ℕ) (nodes : List NodeState) (left : List Message) (moves : List Move) (place i client : ℕ) (name : List ℕ) (old : NodeState)
+    (w now : WorldState) (e : LeaveError) (r : Result Outcome StepError)
+    → Keeps start nodes left moves → place + 1 ≡ i → place < length nodes → old ≡ get_or nodes place old
+    → shown start nodes moves ≡ w → now ≡ shown start nodes moves
+    → (e ≡ leave.NotHeld → (entry : Entry) → Holds (resource_at old name) client entry → ⊥)
+    → (e ≡ leave.Memory → (entry : Entry) × Holds (resource_at old name) client entry)
+    → IsErrAnd r (λ x. x ≡ refusal_of_leave e) → Tries w (Leave i client name) r now
+leave_fails law start nodes left moves place i client name old w now leave.Memory r keeps number within at is same free may fails =
+    short start nodes moves w now (Leave i client name) r is same
+    (leave_on law start nodes left moves place i client name old keeps number within at (may refl)) (inl tt) fails
+leave_fails law start nodes left moves place i client name old w now leave.NotHeld r keeps number within at is same free may fails =
+    fails_for start nodes moves w now (Leave i client name) (refusal_of_leave leave.NotHeld) r is same
+    (at_node start nodes left moves place i old (λ s. (entry : Entry) → Holds (resource_at s name) client entry → ⊥) keeps number within at (free refl)) fails
+
 -- two reads of one place
 pub reads_same : (nodes : List NodeState) (place : ℕ) (old next : NodeState) → place < length nodes → old ≡ get_or nodes place old
     → next ≡ get_or nodes place next → next ≡ old
 reads_same nodes place old next within at at' = at' ∙ get_or_default nodes place next old within ∙ sym at
-
-pub memory_of_ask : (r : Result Outcome StepError) (a : AskError) → IsErrAnd r (λ e. e ≡ refusal_of_ask a) → a ≡ ask.Memory → IsErrAnd r (λ e. e ≡ Memory)
-memory_of_ask (Ok v) a h is = absurd h
-memory_of_ask (Err e) a h is = h ∙ ap refusal_of_ask is
-
-pub memory_of_leave : (r : Result Outcome StepError) (a : LeaveError) → IsErrAnd r (λ e. e ≡ refusal_of_leave a) → a ≡ leave.Memory → IsErrAnd r (λ e. e ≡ Memory)
-memory_of_leave (Ok v) a h is = absurd h
-memory_of_leave (Err e) a h is = h ∙ ap refusal_of_leave is
 
 -- what an event sends and marks at most, at the node that was read before too
 pub few_carried :

@@ -13,8 +13,8 @@ use Rattle.ra_node.specs.declared.outcome.Outcome.{Outcome}
 use Rattle.ra_world.specs.declared.step.Step.{Step}
 use Rattle.ra_world.specs.declared.error.StepError.{StepError}
 use Rattle.ra_world.specs.declared.error.StepError.TheVariants.{Memory}
-use Rattle.ra_world.specs.declared.report.Report.{Report}
-use Rattle.ra_world.specs.declared.report.Figures.{Figures}
+use Rattle.ra_world.specs.declared.text.report.Report.{Report}
+use Rattle.ra_world.specs.declared.text.report.Figures.{Figures}
 use Rattle.ra_world.specs.declared.world.WorldOf.TheInside.{Inside}
 
 -- the nodes by their numbers, from 1; any other number means nothing

@@ -6,7 +6,7 @@ use Rattle.ra_stamp.specs.declared.mode.Mode.TheVariants.{Shared, Exclusive, Int
 use Rattle.ra_stamp.specs.declared.entry.Entry.{Entry}
 use Rattle.ra_stamp.specs.declared.entry.Mark.{Mark}
 use Rattle.ra_stamp.specs.declared.entry.Mark.TheVariants.{Requested, Entered, Left}
-use Rattle.ra_world.specs.declared.report.Report.{Report}
+use Rattle.ra_world.specs.declared.text.report.Report.{Report}
 
 -- the word of a mode
 abbrev pub mode_word : Mode → List ℕ

@@ -6,7 +6,7 @@ use Rattle.ra_stamp.specs.declared.entry.Mark.TheVariants.{Entered}
 use Rattle.ra_stamp.specs.Stamp.{IsEarlier}
 use Rattle.ra_table.specs.Table.{LockTable, TableRun, Excludes, MayEnter}
 use Rattle.ra_table.specs.Laws.{IsConflictFree, IsAt}
-use Rattle.ra_world.specs.declared.report.Report.{Report}
+use Rattle.ra_world.specs.declared.text.report.Report.{Report}
 use Rattle.ra_world.specs.Quiet.{IsBlocked}
 
 -- conflicting entries on one name are granted in the order of their stamps

@@ -1,7 +1,6 @@
 ghost use Rattle.std.specs.Prelude.{◌≡◌, ◌≢◌};
 ghost use Rattle.ra_world.specs.declared.error.NewError.TheVariants as new;
 ghost use Rattle.ra_world.specs.declared.error.StepError.TheVariants as step;
-ghost use Rattle.ra_world.specs.declared.error.RunError.TheVariants as run;
 ghost use Rattle.ra_world.specs.declared.error.ReadFault.TheVariants as read;
 
 use ra_node::{AskError, LeaveError};
@@ -126,14 +125,6 @@ impl From<NewError> for RunError {
             NewError::BadCount => RunError::BadCount,
             NewError::Memory => RunError::Memory,
         }
-    }
-}
-
-impl From<Memory> for RunError {
-    ghost from_gives = { λ _ e. e ≡ run.Memory };
-
-    fn from(_refused: Memory) -> RunError {
-        RunError::Memory
     }
 }
 

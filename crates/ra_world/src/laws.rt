@@ -1,9 +1,8 @@
 //! What is true of every run of a world, for the crates above. Each function does nothing, and its contract is the law.
-ghost use Rattle.std.specs.Prelude.{◌≡◌, ◌≢◌, ◌+◌, ◌-◌, ◌*◌, ◌<◌, ◌≤◌, ◌++◌, ◌∷◌, ◌↔◌, [], ℕ, List, Some, All, AllPairs, Contains, length, map};
+ghost use Rattle.std.specs.Prelude.{◌≡◌, ◌≢◌, ◌+◌, ◌-◌, ◌*◌, ◌≤◌, ◌++◌, ◌∷◌, ◌↔◌, [], ℕ, List, Some, All, AllPairs, Contains, length, map};
 ghost use Rattle.ra_stamp.specs.declared.message.Message.{Message};
 ghost use Rattle.ra_stamp.specs.declared.mode.Mode.{Mode};
 ghost use Rattle.ra_stamp.specs.declared.entry.Entry.{Entry};
-ghost use Rattle.ra_stamp.specs.declared.entry.Mark.{Mark};
 ghost use Rattle.ra_stamp.specs.Message.{from_of, to_of, seq_of};
 ghost use Rattle.ra_stamp.specs.Mode.{Conflict};
 ghost use Rattle.ra_stamp.specs.NodeId.{IsNodeNumber};
@@ -20,32 +19,10 @@ ghost use Rattle.ra_world.specs.Numbers.{IsNumberedMark, IsNumberedMessage};
 ghost use Rattle.ra_world.specs.AtNodes.{IsTableOf};
 ghost use Rattle.ra_world.specs.Asked.{asks_by};
 ghost use Rattle.ra_world.specs.Quiet.{IsQuiet, IsBlocked, MeetsMessageCount, requests_in};
-ghost use Rattle.ra_world.specs.Below.{LawsBelow};
 ghost use Rattle.ra_world.specs.Run.{IsRun, IsFit, GoesOn, WorldRun, EndsWith, events_at, marks_of, happened_at, waiting_at_all, queued_at_all, with_node};
 
 use crate::Step;
-use ra_automaton::steps_keep_a_state_consistent;
-use ra_node::{
-    events_are_determined, events_exist_where_they_are_allowed, events_go_on,
-    events_keep_a_node_consistent, events_leave_other_names,
-};
-use ra_stamp::{Entry, Message, conflict_is_symmetric, equal_is_same};
-use ra_table::{runs_go_on_by_steps, tables_of_one_run_have_the_same_entries};
-
-/// What the laws of runs are proved from: the laws of the crates below, in one place.
-fn laws_below()
-    ensures { LawsBelow }
-{
-    conflict_is_symmetric();
-    equal_is_same();
-    steps_keep_a_state_consistent();
-    events_keep_a_node_consistent();
-    events_leave_other_names();
-    events_are_determined();
-    events_exist_where_they_are_allowed();
-    events_go_on();
-    runs_go_on_by_steps();
-}
+use ra_stamp::{Entry, Message};
 
 /// Mutual exclusion: at the end of a run no two different nodes hold a name in modes that conflict, whatever was lost
 /// or repeated and in whatever order the messages came.
@@ -56,9 +33,7 @@ pub fn two_nodes_never_hold_in_conflict()
         → IsNodeNumber i → i ≤ n → IsNodeNumber j → j ≤ n → i ≢ j
         → holder_of (resource_at (nodes i) name) ≡ Some a → holder_of (resource_at (nodes j) name) ≡ Some b
         → ¬ Conflict a.mode b.mode }
-{
-    laws_below();
-}
+{}
 
 /// Which steps a run goes on with: an ask or a leave at an existing node, if its client may ask or holds at the end of
 /// the run; and the delivery, the loss or a copy of a message that is under way.
@@ -81,9 +56,7 @@ pub fn runs_go_on_where_steps_are_allowed()
         → (message : Message) → GoesOn n start moves (Step.Lose message) ↔ IsUnderWay moves message }
     ensures repeat { (n start : ℕ) (moves : List Move) → IsNodeNumber n → IsRun n start moves
         → (message : Message) → GoesOn n start moves (Step.Repeat message) ↔ IsUnderWay moves message }
-{
-    laws_below();
-}
+{}
 
 /// A node changes by its own steps alone: after a move at another node, a run goes on with an ask or a leave at this
 /// node if it did before.
@@ -96,10 +69,7 @@ pub fn steps_elsewhere_leave_a_node()
         → (node client : ℕ) (name : List ℕ) → events_at node move.step ≡ []
         → GoesOn n start moves (Step.Leave node client name)
         ↔ GoesOn n start (moves ++ move ∷ []) (Step.Leave node client name) }
-{
-    prefixes_of_runs_are_runs();
-    runs_go_on_where_steps_are_allowed();
-}
+{}
 
 /// The marks of a run are a run of the lock table, even if messages were lost or repeated. So no two conflicting
 /// entries on one name hold at once, and conflicting entries on one name are granted in the order of their stamps. As
@@ -111,10 +81,7 @@ pub fn marks_of_runs_are_table_runs()
         → IsNodeNumber n → IsRun n start moves → EndsWith n start moves nodes
         → TableRun (marks_of moves) table
         → length table.waiting ≡ waiting_at_all n nodes }
-{
-    laws_below();
-    tables_of_one_run_have_the_same_entries();
-}
+{}
 
 /// The lock table of a run is what its nodes say at the end. On each name, a request that waits at its node is that
 /// node's waiting entry, and one that is granted is its holding entry. The table has no other entries.
@@ -122,10 +89,7 @@ pub fn tables_of_runs_are_those_of_their_nodes()
     ensures { (n start : ℕ) (moves : List Move) (nodes : ℕ → NodeState) (table : LockTable)
         → IsNodeNumber n → IsRun n start moves → EndsWith n start moves nodes
         → TableRun (marks_of moves) table → IsTableOf n nodes table }
-{
-    laws_below();
-    tables_of_one_run_have_the_same_entries();
-}
+{}
 
 /// At each moment, and whatever was lost, a run has sent at most two messages for each request and other node, and one
 /// more for each copy.
@@ -134,9 +98,7 @@ pub fn runs_send_at_most_two_messages_for_each_request_and_other_node()
         → length (sent_by moves) ≤ 2 * (n - 1) * requests_in (marks_of moves) + length (repeated_by moves) }
     ensures unrepeated { (n start : ℕ) (moves : List Move) → IsNodeNumber n → IsRun n start moves
         → repeated_by moves ≡ [] → length (sent_by moves) ≤ 2 * (n - 1) * requests_in (marks_of moves) }
-{
-    laws_below();
-}
+{}
 
 /// No number rises above the start value and the requests made so far, at any node and on any name. So from 0, an ask is
 /// refused as `Exhausted` only after 2^64-1 requests.
@@ -144,9 +106,7 @@ pub fn numbers_rise_at_most_by_the_requests()
     ensures { (n start : ℕ) (moves : List Move) (nodes : ℕ → NodeState) (i : ℕ) (name : List ℕ)
         → IsNodeNumber n → IsRun n start moves → EndsWith n start moves nodes → 1 ≤ i → i ≤ n
         → (resource_at (nodes i) name).state.highest ≤ start + requests_in (marks_of moves) }
-{
-    laws_below();
-}
+{}
 
 /// Each ask has made its request, or its client is queued: the requests made and the clients that are queued are together
 /// as many as the asks.
@@ -154,9 +114,7 @@ pub fn asks_make_requests_or_are_queued()
     ensures { (n start : ℕ) (moves : List Move) (nodes : ℕ → NodeState)
         → IsNodeNumber n → IsRun n start moves → EndsWith n start moves nodes
         → requests_in (marks_of moves) + queued_at_all n nodes ≡ asks_by moves }
-{
-    laws_below();
-}
+{}
 
 /// After each run the messages under way are one list. Each of them has a number, and goes from one existing node to
 /// another. The list changes step by step: a message that is taken is removed, and what is sent, or a copy, is added at
@@ -178,9 +136,7 @@ pub fn messages_under_way_are_between_nodes()
         → ((1 ≤ to_of message) × (to_of message ≤ n)) × IsOtherNode (to_of message) n (from_of message) }
     ensures numbered { (n start : ℕ) (moves : List Move) (message : Message)
         → IsNodeNumber n → IsRun n start moves → IsUnderWay moves message → 1 ≤ seq_of message }
-{
-    laws_below();
-}
+{}
 
 /// A run goes on by the event that a node really makes of a step, and the other nodes stay as they are. It also goes on
 /// by the loss or a copy of a message under way, and then all nodes stay.
@@ -199,9 +155,7 @@ pub fn runs_go_on_by_events()
         → IsRun n start moves → EndsWith n start moves nodes → IsUnderWay moves message
         → IsRun n start (moves ++ record { step = Step.Repeat message; sends = []; marks = [] } ∷ [])
         × EndsWith n start (moves ++ record { step = Step.Repeat message; sends = []; marks = [] } ∷ []) nodes }
-{
-    events_go_on();
-}
+{}
 
 /// Each prefix of a run is a run, and so is each prefix of a list of steps that is a run. Such a list goes on with a
 /// step exactly if the run does.
@@ -212,9 +166,7 @@ pub fn prefixes_of_runs_are_runs()
         → WorldRun n start prefix }
     ensures step { (n start : ℕ) (moves : List Move) (step : Step) → IsNodeNumber n → IsRun n start moves
         → WorldRun n start (map (λ move. move.step) moves ++ step ∷ []) ↔ GoesOn n start moves step }
-{
-    laws_below();
-}
+{}
 
 /// Each mark of a run has a number, 1 or more, and so has each message that is delivered or lost in it.
 pub fn marks_of_runs_are_numbered()
@@ -222,19 +174,14 @@ pub fn marks_of_runs_are_numbered()
         → All IsNumberedMark (marks_of moves) }
     ensures taken { (n start : ℕ) (moves : List Move) → IsNodeNumber n → IsRun n start moves
         → All IsNumberedMessage (taken_by moves) }
-{
-    laws_below();
-    events_keep_a_node_consistent();
-}
+{}
 
 /// If nothing was repeated, all messages that a run sends are different. (A REQUEST that comes again is answered
 /// again.)
 pub fn messages_of_runs_are_different()
     ensures { (n start : ℕ) (moves : List Move) → IsNodeNumber n → IsRun n start moves → repeated_by moves ≡ []
         → AllPairs (λ a b. a ≢ b) (sent_by moves) }
-{
-    laws_below();
-}
+{}
 
 /// If nothing was repeated before, no REPLY that is delivered in a run is a stray: its receiver waits with its number
 /// and awaits it.
@@ -245,17 +192,13 @@ pub fn no_delivered_reply_is_a_stray()
         → move.step ≡ Step.Deliver (Message.Reply from to name seq)
         → NodeEvents (opening_node to n start) (happened_at to prefix) node
         → (mode : Mode) × Awaits (resource_at node name).state from seq mode }
-{
-    laws_below();
-}
+{}
 
 /// The steps of a run determine what is sent and marked.
 pub fn runs_are_determined()
     ensures { (n start : ℕ) (a b : List Move) → IsNodeNumber n → IsRun n start a → IsRun n start b
         → map (λ move. move.step) a ≡ map (λ move. move.step) b → a ≡ b }
-{
-    laws_below();
-}
+{}
 
 /// If nothing was lost and nothing is under way, not even a copy, each waiting request is blocked: an entry that
 /// excludes it holds, or waits with an earlier stamp. So no waiting request could enter, whatever was repeated.
@@ -266,10 +209,7 @@ pub fn waiting_requests_are_blocked_in_quiet_runs()
     ensures no_entry { (n start : ℕ) (moves : List Move) (table : LockTable) (e : Entry)
         → IsNodeNumber n → IsRun n start moves → IsQuiet moves → TableRun (marks_of moves) table
         → ¬ MayEnter table e }
-{
-    laws_below();
-    tables_of_one_run_have_the_same_entries();
-}
+{}
 
 /// If nothing was lost or repeated, nothing is under way and no request waits, exactly two messages were sent for each
 /// request and other node, in all.
@@ -278,7 +218,4 @@ pub fn quiet_runs_sent_two_messages_for_each_request_and_other_node()
         → IsNodeNumber n → IsRun n start moves → IsQuiet moves → repeated_by moves ≡ []
         → TableRun (marks_of moves) table
         → table.waiting ≡ [] → MeetsMessageCount n moves }
-{
-    laws_below();
-    tables_of_one_run_have_the_same_entries();
-}
+{}

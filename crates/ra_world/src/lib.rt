@@ -3,29 +3,16 @@
 //! made.
 #![tactic(auto)]
 
-mod cutting;
 mod error;
-mod fitting;
-mod input;
-mod keeping;
+mod io;
 mod laws;
-mod lines;
-mod log;
-mod note;
-mod numbering;
-mod output;
-mod report;
-mod running;
-mod source;
-mod state_lines;
 mod step;
-mod target;
+mod text;
 mod world;
 
-pub use cutting::cut;
 pub use error::{NewError, NodeRefusal, ReadFault, RunError, StepError, WriteFault};
-pub use fitting::{steps_that_fit_together_are_runs, steps_that_fit_with_copies_are_runs};
-pub use input::read_up_to;
+pub use io::limited_input::read_up_to;
+pub use io::whole_output::write_out;
 pub use laws::{
     asks_make_requests_or_are_queued, marks_of_runs_are_numbered, marks_of_runs_are_table_runs,
     messages_of_runs_are_different, messages_under_way_are_between_nodes,
@@ -36,12 +23,13 @@ pub use laws::{
     tables_of_runs_are_those_of_their_nodes, two_nodes_never_hold_in_conflict,
     waiting_requests_are_blocked_in_quiet_runs,
 };
-pub use lines::{
+pub use step::{Step, Steps};
+pub use text::cutting::cut;
+pub use text::lines::{
     mark_line, mode_word, push_field, push_mark_line, push_number, report_text, text_of,
 };
-pub use note::Note;
-pub use output::write_out;
-pub use report::Report;
-pub use running::run;
-pub use step::{Step, Steps};
+pub use text::note::Note;
+pub use text::report::Report;
+pub use world::fitting::{steps_that_fit_together_are_runs, steps_that_fit_with_copies_are_runs};
+pub use world::run_steps::run;
 pub use world::{MarklessWorld, World, WorldOf};

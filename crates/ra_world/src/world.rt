@@ -1,20 +1,20 @@
+pub mod fitting;
+pub mod kept_steps;
+pub mod log;
+pub mod node_places;
+pub mod run_steps;
+
 ghost use Rattle.std.specs.Prelude.{◌≡◌, ◌↔◌, [], List, length, slice_get, string_bytes, IsTrue, IsErrOf, IfOk, OnOk};
 ghost use Rattle.ra_stamp.specs.declared.message.Message.{Message};
 
-use crate::keeping::{
-    copy_of, keep, kept_runs_go_on, make_room, make_room_for, nothing,
-    reports_meet_the_main_theorem, steps_have_one_cause, take,
-};
-use crate::log::Log;
-use crate::numbering::{is_held_by, opening_nodes, place_of, queued_at, waiting_at};
-use crate::report::Figures;
-use crate::state_lines::state_text;
-use crate::{
-    NewError, NodeRefusal, Report, Step, StepError, marks_of_runs_are_table_runs,
-    runs_go_on_where_steps_are_allowed, tables_of_runs_are_those_of_their_nodes,
-};
+use crate::text::report::Figures;
+use crate::text::state_lines::state_text;
+use crate::world::kept_steps::{copy_of, keep, make_room, make_room_for, nothing, take};
+use crate::world::log::Log;
+use crate::world::node_places::{is_held_by, opening_nodes, place_of, queued_at, waiting_at};
+use crate::{NewError, NodeRefusal, Report, Step, StepError};
 use ra_bag::Bag;
-use ra_node::{Node, Outcome, ReceiveError, events_keep_a_node_consistent};
+use ra_node::{Node, Outcome, ReceiveError};
 use ra_stamp::{Memory, Message, Mode, Name, NodeId};
 use std::alloc::Global;
 use std::marker::Model;
@@ -75,7 +75,6 @@ impl<const KEEPS_MARKS: u8> WorldOf<KEEPS_MARKS> {
         ensures count { OnOk result (IsNodeNumber nodes) }
         ensures bad_count { IsErrOf result NewError.BadCount ↔ (IsNodeNumber nodes → ⊥) }
     {
-        kept_runs_go_on();
         if NodeId::new(nodes).is_none() {
             return Err(NewError::BadCount);
         }
@@ -123,7 +122,6 @@ impl<const KEEPS_MARKS: u8> WorldOf<KEEPS_MARKS> {
     pub fn step_near(&mut self, alloc: Global, step: &Step, near: u64) -> Result<Outcome, StepError>
         ensures { AnswersStep self.old step.now result self.new }
     {
-        steps_have_one_cause();
         // Before the step, the steps so far are a run.
         let _ = &self.start;
         match step {
@@ -147,8 +145,6 @@ impl<const KEEPS_MARKS: u8> WorldOf<KEEPS_MARKS> {
         ensures run { IsRun self.now.count self.now.start self.now.moves }
         ensures count { IsNodeNumber self.now.count }
     {
-        kept_runs_go_on();
-        runs_go_on_where_steps_are_allowed();
         match *step {
             Step::Ask {
                 node,
@@ -190,7 +186,6 @@ impl<const KEEPS_MARKS: u8> WorldOf<KEEPS_MARKS> {
         ensures run { IsRun self.now.count self.now.start self.now.moves }
         ensures count { IsNodeNumber self.now.count }
     {
-        kept_runs_go_on();
         waiting_at(&self.nodes)
     }
 
@@ -200,7 +195,6 @@ impl<const KEEPS_MARKS: u8> WorldOf<KEEPS_MARKS> {
         ensures run { IsRun self.now.count self.now.start self.now.moves }
         ensures count { IsNodeNumber self.now.count }
     {
-        kept_runs_go_on();
         // There are at most as many queued clients as steps, so their count fits.
         let _steps = self.log.len();
         queued_at(&self.nodes)
@@ -247,8 +241,6 @@ impl<const KEEPS_MARKS: u8> WorldOf<KEEPS_MARKS> {
         ensures run { IsRun self.now.count self.now.start self.now.moves }
         ensures count { IsNodeNumber self.now.count }
     {
-        marks_of_runs_are_table_runs();
-        tables_of_runs_are_those_of_their_nodes();
         let steps = self.log.len();
         state_text(alloc, steps, &self.nodes, &self.under_way, names, clients)
     }
@@ -266,17 +258,19 @@ impl<const KEEPS_MARKS: u8> WorldOf<KEEPS_MARKS> {
         ensures run { IsRun self.new.count self.new.start self.new.moves }
         ensures count { IsNodeNumber self.new.count }
     {
-        kept_runs_go_on();
-        runs_go_on_where_steps_are_allowed();
-        events_keep_a_node_consistent();
         let Some(place) = place_of(&self.nodes, node) else {
             return Err(StepError::NoNode);
         };
         let asked = &self.nodes[place];
-        asked.may_ask(client, &name)?;
+        // It says that the node is consistent, and so sends and marks no more than there is room for.
+        let _waiting = asked.waiting();
         // A REQUEST is sent to each other node, and the request may enter at once.
         let sends = self.nodes.len() as u64;
-        make_room(&mut self.under_way, &mut self.log, sends, 2)?;
+        let Ok(()) = make_room(&mut self.under_way, &mut self.log, sends, 2) else {
+            // That the node refuses comes before that memory ran out.
+            asked.may_ask(client, &name)?;
+            return Err(StepError::Memory);
+        };
         let asked = &mut self.nodes[place];
         let outcome = asked.ask(alloc, client, name, mode)?;
         let step = Step::Ask {
@@ -301,19 +295,21 @@ impl<const KEEPS_MARKS: u8> WorldOf<KEEPS_MARKS> {
         ensures run { IsRun self.new.count self.new.start self.new.moves }
         ensures count { IsNodeNumber self.new.count }
     {
-        kept_runs_go_on();
-        runs_go_on_where_steps_are_allowed();
-        events_keep_a_node_consistent();
         let Some(place) = place_of(&self.nodes, node) else {
             return Err(StepError::NoNode);
         };
         let left = &self.nodes[place];
-        if !is_held_by(left, client, &name) {
-            return Err(StepError::Node(NodeRefusal::NotHeld));
-        }
+        // It says that the node is consistent, and so sends and marks no more than there is room for.
+        let _waiting = left.waiting();
         // The deferred REPLYs and the next request are sent, and the marks are Left, Requested and Entered.
         let sends = 2 * self.nodes.len() as u64;
-        make_room(&mut self.under_way, &mut self.log, sends, 3)?;
+        let Ok(()) = make_room(&mut self.under_way, &mut self.log, sends, 3) else {
+            // That the node refuses comes before that memory ran out.
+            if !is_held_by(left, client, &name) {
+                return Err(StepError::Node(NodeRefusal::NotHeld));
+            }
+            return Err(StepError::Memory);
+        };
         let left = &mut self.nodes[place];
         let outcome = left.leave(alloc, client, name)?;
         let step = Step::Leave { node, client, name };
@@ -327,8 +323,6 @@ impl<const KEEPS_MARKS: u8> WorldOf<KEEPS_MARKS> {
         ensures run { IsRun self.new.count self.new.start self.new.moves }
         ensures count { IsNodeNumber self.new.count }
     {
-        kept_runs_go_on();
-        runs_go_on_where_steps_are_allowed();
         let Some(found) = self.under_way.find(message, near) else {
             return Err(StepError::NotUnderWay);
         };
@@ -357,9 +351,6 @@ impl<const KEEPS_MARKS: u8> WorldOf<KEEPS_MARKS> {
         ensures run { IsRun self.new.count self.new.start self.new.moves }
         ensures count { IsNodeNumber self.new.count }
     {
-        kept_runs_go_on();
-        runs_go_on_where_steps_are_allowed();
-        events_keep_a_node_consistent();
         let Some(found) = self.under_way.find(message, near) else {
             return Err(StepError::NotUnderWay);
         };
@@ -377,8 +368,6 @@ impl<const KEEPS_MARKS: u8> WorldOf<KEEPS_MARKS> {
         ensures run { IsRun self.new.count self.new.start self.new.moves }
         ensures count { IsNodeNumber self.new.count }
     {
-        kept_runs_go_on();
-        runs_go_on_where_steps_are_allowed();
         let Some(_) = self.under_way.find(message, near) else {
             return Err(StepError::NotUnderWay);
         };
@@ -397,7 +386,6 @@ impl<const KEEPS_MARKS: u8> WorldOf<KEEPS_MARKS> {
         ensures run { IsRun self.now.count self.now.start self.now.moves }
         ensures count { IsNodeNumber self.now.count }
     {
-        runs_go_on_where_steps_are_allowed();
         match place_of(&self.nodes, node) {
             Some(place) => self.nodes[place].may_ask(client, name).is_ok(),
             None => false,
@@ -411,7 +399,6 @@ impl<const KEEPS_MARKS: u8> WorldOf<KEEPS_MARKS> {
         ensures run { IsRun self.now.count self.now.start self.now.moves }
         ensures count { IsNodeNumber self.now.count }
     {
-        runs_go_on_where_steps_are_allowed();
         match place_of(&self.nodes, node) {
             Some(place) => is_held_by(&self.nodes[place], client, name),
             None => false,
@@ -439,7 +426,6 @@ impl WorldOf<1> {
         ensures count { IsNodeNumber self.now.count }
         ensures main_theorem { IfOk result (MainTheorem self.now.count) }
     {
-        reports_meet_the_main_theorem();
         let figures = self.figures();
         let marks = copy_of(alloc, self.log.marks())?;
         Ok(figures.with_marks(marks))
@@ -453,7 +439,6 @@ impl WorldOf<1> {
         ensures count { IsNodeNumber self.count }
         ensures main_theorem { MainTheorem self.count result }
     {
-        reports_meet_the_main_theorem();
         let figures = self.figures();
         let marks = self.log.into_marks();
         figures.with_marks(marks)
@@ -466,7 +451,6 @@ impl WorldOf<1> {
         ensures run { IsRun self.now.count self.now.start self.now.moves }
         ensures count { IsNodeNumber self.now.count }
     {
-        kept_runs_go_on();
         // There are at most as many queued clients as steps, so their count fits.
         let _steps = self.log.len();
         Figures {

@@ -1,10 +1,20 @@
 //! What tests of several crates share. Nothing but tests uses it.
 #![tactic(auto)]
 
+mod at;
+mod frames;
+mod messages;
+mod modes;
 mod printing;
+mod reports;
 mod streams;
 mod tried;
 
-pub use printing::{printed, prints};
+pub use at::At;
+pub use frames::{ASKS_1, ASKS_2, Change, with};
+pub use messages::{entry, entry_of, id, message_between, q, r, reply, request, writer};
+pub use modes::{Modes, PAIRS};
+pub use printing::printed;
+pub use reports::ONE_LOCK_LINES;
 pub use streams::{FailingReader, FailingWriter, failing_writer};
-pub use tried::{Tried, again, both};
+pub use tried::{Tried, again, at_once_or, both, tried_if};

@@ -2,20 +2,18 @@
 use std::alloc::Global;
 use std::fmt::Display;
 
-/// Returns whether a value prints as this text.
-pub fn prints<T: Display>(alloc: Global, value: &T, text: &str) -> bool {
+/// Returns the text that a value prints, or an empty one if there is no memory for it.
+pub fn printed<T: Display>(alloc: Global, value: &T) -> String {
     match value.to_string(alloc) {
-        Ok(printed) => printed.as_str() == text,
-        Err(_) => false,
+        Ok(text) => text,
+        Err(_) => String::new(alloc),
     }
 }
 
-/// Returns how many values print as the text beside them, up to the first that does not.
-pub fn printed<T: Display>(alloc: Global, rows: &[(T, &str)]) -> usize {
-    for place in 0..rows.len() {
-        if !prints(alloc, &rows[place].0, rows[place].1) {
-            return place;
-        }
-    }
-    rows.len()
+/// Asserts, by the `assert_prints` of the crate that calls it, that each of these variants of each type prints as its name.
+#[macro_export]
+macro_rules! assert_words {
+    ($rt:expr; $($kind:ident: $($variant:ident)+);+) => {
+        $(assert_prints($rt, &[$(($kind::$variant, stringify!($variant))),+]);)+
+    };
 }

@@ -15,7 +15,22 @@ pub struct FailingReader<'a> {
     pub fault: io::ErrorKind,
 }
 
-impl FailingReader<'_> {
+impl<'a> FailingReader<'a> {
+    /// Returns a reader of these bytes that fails with this fault after this many reads, or never.
+    pub fn new(
+        bytes: &'a [u8],
+        size: usize,
+        before_fault: Option<usize>,
+        fault: io::ErrorKind,
+    ) -> FailingReader<'a> {
+        FailingReader {
+            bytes,
+            size,
+            before_fault,
+            fault,
+        }
+    }
+
     /// Counts a read.
     ///
     /// # Errors

@@ -3,48 +3,20 @@
 #![tactic(auto)]
 
 #[cfg(test)]
-mod acts;
+mod book_tests;
 #[cfg(test)]
-mod asserting;
+mod growth_in_texts;
 #[cfg(test)]
-mod book_prefixes;
-#[cfg(test)]
-mod book_streams;
-#[cfg(test)]
-mod choice_words;
-#[cfg(test)]
-mod choices;
-#[cfg(test)]
-mod explained;
-#[cfg(test)]
-mod growth;
-#[cfg(test)]
-mod growth_of_books;
-#[cfg(test)]
-mod growth_of_settling;
-#[cfg(test)]
-mod growth_of_written_books;
-#[cfg(test)]
-mod helpers;
-#[cfg(test)]
-mod log_readers;
-#[cfg(test)]
-mod notes;
-#[cfg(test)]
-mod performing;
+mod note_tests;
 #[cfg(test)]
 mod pictures;
 #[cfg(test)]
-mod readers;
+mod script_texts;
 #[cfg(test)]
-mod refusals;
+mod shared_texts;
 #[cfg(test)]
-mod refused_traces;
+mod text_asserting;
 #[cfg(test)]
-mod round_trips;
+mod text_words;
 #[cfg(test)]
-mod script_clients;
-#[cfg(test)]
-mod traces;
-#[cfg(test)]
-mod written_books;
+mod trace_tests;

@@ -1,6 +1,6 @@
 //! Pictures of traces: what is in parts that no command draws, and readers and writers that fail. `cases/` has the rest.
-use crate::asserting::assert_same;
-use crate::helpers::{ONE_LOCK, failing};
+use crate::shared_texts::{ONE_LOCK, failing};
+use crate::text_asserting::assert_same;
 use ra_draw::{DrawError, Part, draw, draw_marks};
 use ra_trace::{MarksVerdict, Verdict};
 use std::alloc::Global;
@@ -20,15 +20,11 @@ const fn lines(from: u64, to: u64) -> Part {
 
 /// Returns how often the words occur in a text.
 fn count_in(text: &str, words: &str) -> u64 {
-    let mut rest = text;
-    let mut count = 0;
-    for _ in 0..text.len() {
-        match rest.split_once(words) {
-            Some((_, behind)) => {
-                rest = behind;
-                count = u64::saturating_add(count, 1);
-            }
-            None => return count,
+    let bytes = text.as_bytes();
+    let mut count = 0u64;
+    for place in 0..bytes.len() {
+        if bytes[place..].starts_with(words.as_bytes()) {
+            count = count.saturating_add(1);
         }
     }
     count
@@ -120,12 +116,8 @@ fn a_part_may_begin_at_0_but_not_after_its_end(rt: HostRuntime) {
 /// A reader that fails is a fault, and nothing is drawn.
 #[test]
 fn a_reader_that_fails_is_a_fault(rt: HostRuntime) {
-    let mut reader = FailingReader {
-        bytes: ONE_LOCK.as_bytes(),
-        size: 1,
-        before_fault: Some(139),
-        fault: io::ErrorKind::Interrupted,
-    };
+    let trace = ONE_LOCK.as_bytes();
+    let mut reader = FailingReader::new(trace, 1, Some(139), io::ErrorKind::Interrupted);
     let mut picture = Vec::new(rt.alloc());
     let came = drawn_to(rt.alloc(), &mut reader, &mut picture, Part::WHOLE);
     assert_same(&rt, "what came", &came, &Err(DrawError::Read));

@@ -1,4 +1,3 @@
-use Rattle.ra_stamp.specs.contracts.message.MessagePartialEq.TheImpl.{eq-value}
 use Rattle.ra_audit.proofs.Flying.{same_or_apart}
 use Rattle.ra_audit.proofs.OwnMessages.{own}
 use Rattle.ra_audit.proofs.UnderWay.{go_on}
@@ -15,6 +14,6 @@ returns c =
           own node.consistent node.sends c.events_leave_other_names.ensures.node n start (prefixes n start)
           (λ ms message ran. under.between_nodes n start ms message count ran) (λ k member. node.opening k n start count member) moves i run low high;
       go_on =
-          go_on (same_or_apart eq-value.it c.equal_is_same.ensures.messages) under.exist under.among_them under.go_on under.put_is_sent prefixes
+          go_on (same_or_apart c.equal_is_same.ensures.messages) under.exist under.among_them under.go_on under.put_is_sent prefixes
           c.messages_of_runs_are_different.ensures;
     }

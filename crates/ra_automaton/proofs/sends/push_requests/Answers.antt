@@ -7,24 +7,25 @@ use Rattle.ra_automaton.proofs.sends.push_requests.Goals.{then-number-get+in_ok-
 
 pub loop-place-preserved : goal.loop-place-preserved
 loop-place-preserved c =
-    let f = λ (other : ℕ). Request c.args.me other c.args.name c.args.mode c.args.seq in
-    let p = λ (node : ℕ). not (node == c.args.me) in
+    let f = λ (other : ℕ). Request c.node-me.result other c.args.name c.args.mode c.args.seq in
+    let p = λ (node : ℕ). not (node == c.node-me.result) in
     let n = c.loop-place.place in
     let items = c.loop-place.invariant.0 in
     let left = c.loop-place.invariant.1 in
-    let room : c.args.nodes ≤ c.args.sends.now.spare → 1 ≤ c.loop-place.sends.spare = λ roomy. omega (arith, roomy, left roomy, c.loop-place-test.true) in
+    let room : c.nodes-nodes.result ≤ c.args.sends.now.spare → 1 ≤ c.loop-place.sends.spare = λ roomy. omega (arith, roomy, left roomy, c.loop-place-test.true) in
     elim c.if-number-get.branch [
       | then-number-get+in_ok-push w ↦
           let here : w.node.result ≡ suc n = omega (arith, w.node.ensures) in
           rw (add-one, w.sends-is)
-          (to_passing f p n c.args.sends.now.items c.loop-place.sends.items _ items (is_other n c.args.me (λ e. w.if-number-get.true (omega (arith, e, c.get.ensures.value)))) (rw here at w.in_ok-push.ensures.ok), λ roomy. omega (arith, left roomy, w.in_ok-push.ensures.spare (room roomy)))
+          (to_passing f p n c.args.sends.now.items c.loop-place.sends.items _ items (is_other n c.node-me.result (λ e. w.if-number-get.true (omega (arith, e, c.get.ensures.value)))) (rw here at w.in_ok-push.ensures.ok), λ roomy. omega (arith, left roomy, w.in_ok-push.ensures.spare (room roomy)))
       | else-number-get w ↦
           rw (add-one, w.sends-is)
-          (to_failing f p n c.args.sends.now.items c.loop-place.sends.items items (is_itself n c.args.me (omega (arith, c.get.ensures.value, w.if-number-get.false))), λ roomy. omega (arith, left roomy))
+          (to_failing f p n c.args.sends.now.items c.loop-place.sends.items items (is_itself n c.node-me.result (omega (arith, c.get.ensures.value, w.if-number-get.false))), λ roomy. omega (arith, left roomy))
     ]
 
 pub returns-in_err-push-clause-succeeds : goal.returns-in_err-push-clause-succeeds
 returns-in_err-push-clause-succeeds c roomy =
-    let room : 1 ≤ c.loop-place.sends.spare = omega (arith, roomy, c.loop-place.invariant.1 roomy, c.loop-place-test.true) in
+    let all : c.nodes-nodes.result ≤ c.args.sends.now.spare = omega (arith, c.nodes-nodes.ensures.value, roomy) in
+    let room : 1 ≤ c.loop-place.sends.spare = omega (arith, all, c.loop-place.invariant.1 all, c.loop-place-test.true) in
     let never = c.in_err-push.ensures.succeeds room in
     absurd cc

@@ -1,12 +1,12 @@
 use Rattle.std.proofs.Common.{◌≡◌, ◌≤◌, sym, ℕ, Bool, true, false, List, length, Option, Some, None, inl, inr, refl, subst, ◌∙◌}
 use Rattle.std.specs.Prelude.{IfSome}
 use Rattle.std.specs.Io.KnownBytes.{Consumes, Appends}
-use Rattle.ra_trace.specs.declared.marks_verdict.MarksVerdict.{MarksVerdict}
-use Rattle.ra_trace.specs.declared.marks_verdict.MarksVerdict.TheVariants.{Valid, Invalid}
+use Rattle.ra_trace.specs.declared.mark_log.marks_verdict.MarksVerdict.{MarksVerdict}
+use Rattle.ra_trace.specs.declared.mark_log.marks_verdict.MarksVerdict.TheVariants.{Valid, Invalid}
 use Rattle.ra_trace.specs.Marks.{IsMarksVerdict}
 use Rattle.ra_cli.specs.Checks.{ChecksMarks, is_run, marks_verdict_text}
 use Rattle.ra_trace.specs.declared.error.TraceError.TheVariants.{Memory}
-use Rattle.ra_cli.specs.declared.refusal.Refusal.TheVariants.{Check}
+use Rattle.ra_cli.specs.declared.refusal_lines.Refusal.TheVariants.{Check}
 use Rattle.ra_cli.proofs.Statuses.{none_of_check, of_marks_verdict, broken, prefix_of}
 use Rattle.ra_cli.proofs.TaskLemmas.{refused_for}
 use Rattle.ra_cli.proofs.Numbers.{at_most_3, none_of_done, none_of_3, done_not_1, done_not_2, done_not_3, left_not_0, left_not_1, left_not_2, broken_not_0, broken_not_2, broken_not_3}

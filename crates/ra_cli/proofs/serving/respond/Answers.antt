@@ -1,7 +1,7 @@
 use Rattle.std.proofs.Common.{◌≡◌, Err, refl, ap, inl}
 use Rattle.ra_cli.specs.Answer.{Refuses}
 use Rattle.ra_cli.specs.declared.error.AnswerError.{AnswerError}
-use Rattle.ra_cli.specs.declared.refusal.Refusal.TheVariants.{Answer}
+use Rattle.ra_cli.specs.declared.refusal_lines.Refusal.TheVariants.{Answer}
 use Rattle.ra_cli.proofs.ClusterRuns.{of_known}
 use Rattle.ra_cli.proofs.Statuses.{of_answer, of_answered, broken}
 use Rattle.ra_cli.proofs.TaskLemmas.{refused_for}

@@ -1,7 +1,7 @@
 use Rattle.std.proofs.Common.{◌≡◌, Err, refl, ap, inl, inr}
 use Rattle.ra_cli.specs.ClusterRun.{RefusesRun}
 use Rattle.ra_cli.specs.declared.error.RunScriptError.{RunScriptError}
-use Rattle.ra_cli.specs.declared.refusal.Refusal.TheVariants.{Cluster}
+use Rattle.ra_cli.specs.declared.refusal_lines.Refusal.TheVariants.{Cluster}
 use Rattle.ra_cli.proofs.ClusterRuns.{of_known}
 use Rattle.ra_cli.proofs.Statuses.{of_run, of_cluster_run, broken}
 use Rattle.ra_cli.proofs.TaskLemmas.{refused_for}

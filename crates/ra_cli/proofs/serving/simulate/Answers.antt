@@ -1,6 +1,6 @@
 use Rattle.std.proofs.Common.{Err, refl, ap, inl, inr}
 use Rattle.std.proofs.lemmas.Bool.{false≢true}
-use Rattle.ra_cli.specs.declared.refusal.Refusal.TheVariants.{Choices, Perform}
+use Rattle.ra_cli.specs.declared.refusal_lines.Refusal.TheVariants.{Choices, Perform}
 use Rattle.ra_cli.proofs.Statuses.{none_of_choices, of_perform, of_performed, broken}
 use Rattle.ra_cli.proofs.Numbers.{at_most_3, none_of_done, none_of_3, done_at_most_3, left_at_most_3, done_not_1, done_not_2, done_not_3, left_not_0, left_not_1, left_not_2}
 use Rattle.ra_cli.proofs.TaskLemmas.{of_choices, of_named, refused_for}

@@ -1,5 +1,5 @@
 use Rattle.std.proofs.Common.{◌≡◌, Err, refl, ap, inl, inr}
-use Rattle.ra_cli.specs.declared.refusal.Refusal.TheVariants.{Cluster}
+use Rattle.ra_cli.specs.declared.refusal_lines.Refusal.TheVariants.{Cluster}
 use Rattle.ra_cli.specs.Surveyed.{RefusesSurvey}
 use Rattle.ra_cli.specs.declared.error.RunScriptError.{RunScriptError}
 use Rattle.ra_cli.proofs.ClusterRuns.{of_known}

@@ -5,6 +5,7 @@ use Rattle.ra_world.specs.Run.{WorldRun}
 use Rattle.ra_history.specs.Settled.{all_lost, settled_steps, start_of}
 use Rattle.ra_history.specs.SettlingParts.{HasRun, SettlesBooks}
 use Rattle.ra_history.proofs.SettledReport.{settles, where_ok}
+use Rattle.ra_history.proofs.SettlingLaws.{settled_steps_make_settled_runs}
 use Rattle.ra_history.proofs.settle_books.settle_books.Goals as goal
 
 -- what the books say fits together, so that the steps are a run
@@ -22,5 +23,5 @@ returns c =
     let placed = c.in_ok-steps.ensures.0 in
     let steps = c.push_losses.new.steps.items in
     let are : steps ≡ settled_steps books placed = c.in_ok-push_losses.ensures.ok ∙ ap (λ (xs : List Step). xs ++ map (λ m. Lose m) (all_lost books)) c.in_ok-steps.ensures.2 in
-    where_ok (HasRun books steps) (SettlesBooks books) (λ settled. settles c.settled_steps_make_settled_runs.ensures books c.requires.cluster c.in_ok-push_losses.ensures.histories placed steps settled c.in_ok-steps.ensures.1 are)
+    where_ok (HasRun books steps) (SettlesBooks books) (λ settled. settles settled_steps_make_settled_runs books c.requires.cluster c.in_ok-push_losses.ensures.histories placed steps settled c.in_ok-steps.ensures.1 are)
     c.run_steps.result c.run_steps.ensures

@@ -3,15 +3,15 @@ use Rattle.ra_world.specs.Traffic.{Move, repeated_by}
 use Rattle.ra_schedule.specs.declared.choice.Policy.{Policy}
 use Rattle.ra_schedule.specs.Schedule.{Follows, RepeatsNothing}
 use Rattle.ra_schedule.specs.Script.{ScriptState}
-use Rattle.ra_script.specs.declared.format.Format.{Format}
-use Rattle.ra_script.specs.declared.format.Format.TheVariants.{Lines, Trace, Choices, Shrunk, State}
+use Rattle.ra_script.specs.declared.performing.output_kind.OutputKind.{OutputKind}
+use Rattle.ra_script.specs.declared.performing.output_kind.OutputKind.TheVariants.{Lines, Trace, Choices, Shrunk, State}
 use Rattle.ra_script.specs.Performed.{Unwritten}
 use Rattle.ra_script.proofs.Wording.{all_have_text}
 use Rattle.ra_script.proofs.laws.choices_have_words_unless_messages_are_repeated.Goals as goal
 
 -- a policy that repeats nothing has words for its choices
 written : ((script : ScriptState) (policy : Policy) (moves : List Move) → RepeatsNothing policy → Follows script policy moves → repeated_by moves ≡ [])
-    → (format : Format) (policy : Policy) (input : List ℕ) → RepeatsNothing policy → Unwritten format policy input → ⊥
+    → (format : OutputKind) (policy : Policy) (input : List ℕ) → RepeatsNothing policy → Unwritten format policy input → ⊥
 written law Lines policy input unrepeated none = none
 written law Trace policy input unrepeated none = none
 written law State policy input unrepeated none = none

@@ -1,13 +1,15 @@
-use Rattle.std.proofs.Common.{◌≡◌, ◌⊎◌, ℕ, List, All, string_bytes, sym, subst, inl, inr}
-use Rattle.std.proofs.lemmas.Result.{err_from_is_err_and, IfOk-from_err}
+use Rattle.std.proofs.Common.{◌≡◌, ◌⊎◌, ℕ, List, Ok, All, string_bytes, sym, subst, inl, inr}
+use Rattle.std.proofs.lemmas.Result.{err_from_is_err_and}
 use Rattle.ra_schedule.specs.declared.choice.Policy.{Policy}
 use Rattle.ra_script.specs.declared.error.ChoicesError.{ChoicesError}
 use Rattle.ra_script.specs.declared.error.ChoicesError.TheVariants as choices
-use Rattle.ra_script.specs.declared.format.Format.TheVariants.{Choices}
+use Rattle.ra_script.specs.declared.performing.output_kind.OutputKind.TheVariants.{Choices}
 use Rattle.ra_script.specs.ChoicesText.{HasText}
 use Rattle.ra_script.specs.Faults.{of_choices}
 use Rattle.ra_script.specs.Performed.{HasNoWords, RefusesAs}
+use Rattle.ra_script.specs.ScriptText.{script_of}
 use Rattle.ra_script.proofs.ReadScripts.{read_scripts}
+use Rattle.ra_script.proofs.Printing.{written, no_memory, undriven, wordless}
 use Rattle.ra_script.proofs.performing.choices_of.Goals as goal
 
 -- why choices are not written
@@ -16,10 +18,10 @@ of_fault : (policy : Policy) (input : List ℕ) (fault : ChoicesError) (P Q : Ty
 of_fault policy input fault P Q none (inl (is, holds)) = subst (λ (why : ChoicesError). RefusesAs Choices policy input (of_choices why)) (sym is) (none holds)
 of_fault policy input fault P Q none (inr (is, holds)) = subst (λ (why : ChoicesError). RefusesAs Choices policy input (of_choices why)) (sym is) tt
 
-pub returns-clause-ok : goal.returns-clause-ok
-returns-clause-ok c input script_is =
+pub returns : goal.returns
+returns c =
     let recording = c.in_ok-recording.ensures.ok in
-    record {
+    written Choices c.args.policy.now c.args.script.now _ (λ input script_is. record {
       script = c.args.script.now;
       script_is = script_is;
       moves = recording.moves;
@@ -33,14 +35,14 @@ returns-clause-ok c input script_is =
         lists = c.in_ok-text.ensures.ok;
         line = c.in_ok-end_line.ensures;
       };
-    }
+    })
 
-pub returns-in_err-text-clause-err : goal.returns-in_err-text-clause-err
-returns-in_err-text-clause-err c input script_is =
+pub returns-in_err-text : goal.returns-in_err-text
+returns-in_err-text c =
     let p = err_from_is_err_and c.from_residual-in_err-text.result c.from_residual-in_err-text.ensures.1 in
     let recording = c.in_ok-recording.ensures.ok in
     let items = c.in_ok-recording.recording.choices.items in
-    let wordless : (All HasText items → ⊥) → HasNoWords c.args.policy.now input = λ none. record {
+    let none_have : (input : List ℕ) → script_of input ≡ Ok c.args.script.now → (All HasText items → ⊥) → HasNoWords c.args.policy.now input = λ input script_is none. record {
       script = c.args.script.now;
       script_is = script_is;
       moves = recording.moves;
@@ -49,13 +51,15 @@ returns-in_err-text-clause-err c input script_is =
       repeats = λ unrepeated. none (c.choices_have_words_unless_messages_are_repeated.ensures.have_text c.args.script.now c.args.policy.now items recording.moves
           (read_scripts input c.args.script.now script_is) recording.run.follows recording.choices unrepeated);
     } in
-    rw (p.1, p.2) (of_fault c.args.policy.now input c.in_err-text.field-0.0 (All HasText items → ⊥) _ wordless c.in_err-text.ensures.err)
+    rw (p.1, p.2) (wordless Choices c.args.policy.now c.args.script.now c.in_err-text.field-0.0
+    (λ input is. of_fault c.args.policy.now input c.in_err-text.field-0.0 (All HasText items → ⊥) _ (none_have input is) c.in_err-text.ensures.err))
 
-pub returns-in_err-recording-clause-ok : goal.returns-in_err-recording-clause-ok
-returns-in_err-recording-clause-ok c input script_is = IfOk-from_err c.from_residual.result _ c.from_residual.ensures.0
+pub returns-in_err-recording : goal.returns-in_err-recording
+returns-in_err-recording c =
+    let p = err_from_is_err_and c.from_residual.result c.from_residual.ensures.1 in
+    rw (p.1, p.2) (undriven Choices c.args.policy.now c.args.script.now c.in_err-recording.field-0.0 c.in_err-recording.ensures.answers)
 
-pub returns-in_err-text-clause-ok : goal.returns-in_err-text-clause-ok
-returns-in_err-text-clause-ok c input script_is = IfOk-from_err c.from_residual-in_err-text.result _ c.from_residual-in_err-text.ensures.0
-
-pub returns-in_err-end_line-clause-ok : goal.returns-in_err-end_line-clause-ok
-returns-in_err-end_line-clause-ok c input script_is = IfOk-from_err c.from_residual-in_err-end_line.result _ c.from_residual-in_err-end_line.ensures.0
+pub returns-in_err-end_line : goal.returns-in_err-end_line
+returns-in_err-end_line c =
+    let p = err_from_is_err_and c.from_residual-in_err-end_line.result c.from_residual-in_err-end_line.ensures.1 in
+    rw (p.1, p.2) (no_memory Choices c.args.policy.now c.args.script.now)

@@ -1,6 +1,6 @@
-use Rattle.std.proofs.Common.{◌≡◌, ◌⊎◌, ℕ, List, [], ◌++◌, All, Option, Some, None, codes, string_bytes, sym, ap, ◌∙◌, subst, inl, inr}
+use Rattle.std.proofs.Common.{◌≡◌, ◌⊎◌, ℕ, List, [], ◌++◌, All, Option, Some, None, Ok, codes, string_bytes, sym, ap, ◌∙◌, subst, inl, inr}
 use Rattle.std.specs.Prelude.{MatchOption}
-use Rattle.std.proofs.lemmas.Result.{err_from_is_err_and, IfOk-from_err}
+use Rattle.std.proofs.lemmas.Result.{err_from_is_err_and}
 use Rattle.ra_stamp.specs.Sequence.{Listed as Listing}
 use Rattle.ra_world.specs.Traffic.{Move, repeated_by}
 use Rattle.ra_schedule.specs.declared.choice.Choice.{Choice}
@@ -12,11 +12,13 @@ use Rattle.ra_schedule.specs.Script.{ScriptState, IsScript}
 use Rattle.ra_schedule.specs.Shrinking.{IsStuckRun, IsLeastOf}
 use Rattle.ra_script.specs.declared.error.ChoicesError.{ChoicesError}
 use Rattle.ra_script.specs.declared.error.ChoicesError.TheVariants as choices
-use Rattle.ra_script.specs.declared.format.Format.TheVariants.{Shrunk}
+use Rattle.ra_script.specs.declared.performing.output_kind.OutputKind.TheVariants.{Shrunk}
 use Rattle.ra_script.specs.ChoicesText.{HasText, Lists}
 use Rattle.ra_script.specs.Faults.{of_choices}
 use Rattle.ra_script.specs.Performed.{HasNoWords, RefusesAs, SaysShrunk}
+use Rattle.ra_script.specs.ScriptText.{script_of}
 use Rattle.ra_script.proofs.ReadScripts.{read_scripts}
+use Rattle.ra_script.proofs.Printing.{written, no_memory, undriven, wordless}
 use Rattle.ra_script.proofs.performing.shrunk_of.Goals as goal
 
 says : (script : ScriptState) (moves : List Move) (found : Option (Listing Choice)) (text output : List ℕ)
@@ -26,13 +28,13 @@ says script moves None text output none is line = inr (none, line ∙ ap (λ (t 
 says script moves (Some list) text output (stuck, least) lists line = inl (list, text, stuck, least, lists, line)
 
 -- choices without a word repeat a message, and so does the run that was shrunk to them
-wordless : (script : ScriptState) (moves : List Move) (found : Option (Listing Choice)) → IsScript script
+has_no_words : (script : ScriptState) (moves : List Move) (found : Option (Listing Choice)) → IsScript script
     → ((policy : Policy) (choices : List Choice) (moves : List Move) → Follows script policy moves → AreChoicesBy script policy choices moves
     → repeated_by moves ≡ [] → All HasText choices)
     → MatchOption found (IsStuckRun script moves → ⊥) (λ list. IsStuckRun script moves × IsLeastOf script moves list)
     → MatchOption found ⊥ (λ list. All HasText list.items → ⊥) → repeated_by moves ≡ [] → ⊥
-wordless script moves None fit law none never unrepeated = never
-wordless script moves (Some list) fit law (stuck, least) none unrepeated =
+has_no_words script moves None fit law none never unrepeated = never
+has_no_words script moves (Some list) fit law (stuck, least) none unrepeated =
     none (law (Listed list) list.items least.moves least.makes.0 least.by (least.unrepeated unrepeated))
 
 -- why choices are not written
@@ -41,41 +43,44 @@ of_fault : (policy : Policy) (input : List ℕ) (fault : ChoicesError) (P : Type
 of_fault policy input fault P none (inl (is, holds)) = subst (λ (why : ChoicesError). RefusesAs Shrunk policy input (of_choices why)) (sym is) (none holds)
 of_fault policy input fault P none (inr is) = subst (λ (why : ChoicesError). RefusesAs Shrunk policy input (of_choices why)) (sym is) tt
 
-pub returns-clause-ok : goal.returns-clause-ok
-returns-clause-ok c input script_is =
+pub returns : goal.returns
+returns c =
     let told = c.in_ok-shrunk.ensures.ok in
-    record {
+    written Shrunk c.args.policy.now c.args.script.now _ (λ input script_is. record {
       script = c.args.script.now;
       script_is = script_is;
       moves = told.moves;
       report = told.report;
       run = told.run;
       says = says c.args.script.now told.moves c.in_ok-shrunk.shrunk.choices (string_bytes c.in_ok-text.text) _ told.choices c.in_ok-text.ensures.ok c.in_ok-end_line.ensures;
-    }
+    })
 
-pub returns-in_err-text-clause-err : goal.returns-in_err-text-clause-err
-returns-in_err-text-clause-err c input script_is =
+pub returns-in_err-text : goal.returns-in_err-text
+returns-in_err-text c =
     let p = err_from_is_err_and c.from_residual-in_err-text.result c.from_residual-in_err-text.ensures.1 in
     let told = c.in_ok-shrunk.ensures.ok in
-    let fit = read_scripts input c.args.script.now script_is in
     let found = c.in_ok-shrunk.shrunk.choices in
-    let none : MatchOption found ⊥ (λ list. All HasText list.items → ⊥) → HasNoWords c.args.policy.now input = λ never. record {
+    let none_have : (input : List ℕ) → script_of input ≡ Ok c.args.script.now → MatchOption found ⊥ (λ list. All HasText list.items → ⊥)
+    → HasNoWords c.args.policy.now input = λ input script_is never. record {
       script = c.args.script.now;
       script_is = script_is;
       moves = told.moves;
       follows = told.run.follows;
       ends = told.run.ends;
-      repeats = λ unrepeated. wordless c.args.script.now told.moves found fit
-          (λ policy list moves follows by unrepeated. c.choices_have_words_unless_messages_are_repeated.ensures.have_text c.args.script.now policy list moves fit follows by unrepeated)
+      repeats = λ unrepeated. has_no_words c.args.script.now told.moves found (read_scripts input c.args.script.now script_is)
+          (λ policy list moves follows by unrepeated. c.choices_have_words_unless_messages_are_repeated.ensures.have_text c.args.script.now policy list moves
+          (read_scripts input c.args.script.now script_is) follows by unrepeated)
           told.choices never unrepeated;
     } in
-    rw (p.1, p.2) (of_fault c.args.policy.now input c.in_err-text.field-0.0 _ none c.in_err-text.ensures.err)
+    rw (p.1, p.2) (wordless Shrunk c.args.policy.now c.args.script.now c.in_err-text.field-0.0
+    (λ input is. of_fault c.args.policy.now input c.in_err-text.field-0.0 _ (none_have input is) c.in_err-text.ensures.err))
 
-pub returns-in_err-shrunk-clause-ok : goal.returns-in_err-shrunk-clause-ok
-returns-in_err-shrunk-clause-ok c input script_is = IfOk-from_err c.from_residual.result _ c.from_residual.ensures.0
+pub returns-in_err-shrunk : goal.returns-in_err-shrunk
+returns-in_err-shrunk c =
+    let p = err_from_is_err_and c.from_residual.result c.from_residual.ensures.1 in
+    rw (p.1, p.2) (undriven Shrunk c.args.policy.now c.args.script.now c.in_err-shrunk.field-0.0 c.in_err-shrunk.ensures.answers)
 
-pub returns-in_err-text-clause-ok : goal.returns-in_err-text-clause-ok
-returns-in_err-text-clause-ok c input script_is = IfOk-from_err c.from_residual-in_err-text.result _ c.from_residual-in_err-text.ensures.0
-
-pub returns-in_err-end_line-clause-ok : goal.returns-in_err-end_line-clause-ok
-returns-in_err-end_line-clause-ok c input script_is = IfOk-from_err c.from_residual-in_err-end_line.result _ c.from_residual-in_err-end_line.ensures.0
+pub returns-in_err-end_line : goal.returns-in_err-end_line
+returns-in_err-end_line c =
+    let p = err_from_is_err_and c.from_residual-in_err-end_line.result c.from_residual-in_err-end_line.ensures.1 in
+    rw (p.1, p.2) (no_memory Shrunk c.args.policy.now c.args.script.now)

@@ -1,12 +1,14 @@
 use Rattle.std.proofs.Common.{◌≡◌, ℕ, List, string_bytes, sym, subst, ◌∙◌}
-use Rattle.std.proofs.lemmas.Result.{IfOk-from_err}
+use Rattle.std.proofs.lemmas.Result.{err_from_is_err_and}
 use Rattle.ra_world.specs.Run.{IsRun}
 use Rattle.ra_world.specs.Traffic.{Move}
 use Rattle.ra_trace.specs.TraceText.{IsTrace}
+use Rattle.ra_script.specs.declared.performing.output_kind.OutputKind.TheVariants.{Trace}
+use Rattle.ra_script.proofs.Printing.{written, no_memory, undriven}
 use Rattle.ra_script.proofs.performing.trace_of.Goals as goal
 
-pub returns-clause-ok : goal.returns-clause-ok
-returns-clause-ok c input script_is =
+pub returns : goal.returns
+returns c =
     let script = c.args.script.now in
     let recording = c.in_ok-recording.ensures.ok in
     let moves = recording.moves in
@@ -14,15 +16,20 @@ returns-clause-ok c input script_is =
     let nodes_is : c.nodes.result ≡ script.nodes = c.nodes.ensures.value in
     let run : IsRun c.nodes.result 0 moves = subst (λ (n : ℕ). IsRun n 0 moves) (sym nodes_is) recording.run.follows.run in
     let equal : others ≡ moves = c.runs_are_determined.ensures c.nodes.result 0 others moves trace.count trace.run run (same ∙ recording.steps) in
-    record {
+    written Trace c.args.policy.now script _ (λ input is. record {
       script = script;
-      script_is = script_is;
+      script_is = is;
       moves = moves;
       report = c.in_ok-recording.recording.report;
       run = recording.run;
       says = subst (λ (n : ℕ). IsTrace n 0 moves (string_bytes c.in-Ok.text)) nodes_is
           (subst (λ (xs : List Move). IsTrace c.nodes.result 0 xs (string_bytes c.in-Ok.text)) equal trace);
-    }
+    })
 
-pub returns-in_err-recording-clause-ok : goal.returns-in_err-recording-clause-ok
-returns-in_err-recording-clause-ok c input script_is = IfOk-from_err c.from_residual.result _ c.from_residual.ensures.0
+pub returns-in_err-recording : goal.returns-in_err-recording
+returns-in_err-recording c =
+    let p = err_from_is_err_and c.from_residual.result c.from_residual.ensures.1 in
+    rw (p.1, p.2) (undriven Trace c.args.policy.now c.args.script.now c.in_err-recording.field-0.0 c.in_err-recording.ensures.answers)
+
+pub returns-in_default : goal.returns-in_default
+returns-in_default c = no_memory Trace c.args.policy.now c.args.script.now

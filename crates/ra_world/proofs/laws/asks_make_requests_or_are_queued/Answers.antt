@@ -1,5 +1,6 @@
 use Rattle.ra_world.proofs.RequestCounts.{asks_counted}
+use Rattle.ra_world.proofs.WorldLaws.{laws_below}
 use Rattle.ra_world.proofs.laws.asks_make_requests_or_are_queued.Goals as goal
 
 pub returns : goal.returns
-returns c n start moves nodes count run = asks_counted c.laws_below.ensures n start count moves run nodes
+returns c n start moves nodes count run = asks_counted laws_below n start count moves run nodes

@@ -18,8 +18,8 @@ invariant_of-result c = (
   sym (ap (λ (w : WorldState). w.start) c.in_ok-world.ensures.ok),
   ap (λ (w : WorldState). lost_by w.moves) c.in_ok-world.ensures.ok
       ∙ sym (ap (λ (l : LossState). map (λ (f : Frame). f.message) l.lost) c.new-losses.ensures),
-  subst (λ (w : WorldState). IsTracked c.in_ok-progress.progress.items w.moves c.new-flights.result) (sym c.in_ok-world.ensures.ok)
-      (tracked_first c.in_ok-progress.progress.items c.args.nodes c.new-flights.result c.in_ok-progress.ensures c.new-flights.ensures),
+  subst (λ (w : WorldState). IsTracked c.in_ok-progress.progress.items w.moves c.in_ok-flights.flights) (sym c.in_ok-world.ensures.ok)
+      (tracked_first c.in_ok-progress.progress.items c.args.nodes c.in_ok-flights.flights c.in_ok-progress.ensures c.in_ok-flights.ensures),
   subst (λ (l : LossState). All (WasSentIn c.in_ok-progress.progress.items c.in_ok-world.world.moves) l.lost) (sym c.new-losses.ensures)
       (All-nil (WasSentIn c.in_ok-progress.progress.items c.in_ok-world.world.moves)),
 )

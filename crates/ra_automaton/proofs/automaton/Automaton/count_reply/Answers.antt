@@ -11,7 +11,7 @@ invariant_of-self c =
     let kept = c.self.invariant in
     let waits = subst (λ (s : State). IsWaiting s.phase) (sym c.self.view_is) c.requires.waits in
     record {
-      numbers = kept.numbers;
-      consistent = subst IsConsistent (λ i. record old { awaited = sym c.remove-self-inside.ensures i })
+      room = kept.room;
+      consistent = subst IsConsistent (λ i. record old { awaited = sym c.remove.ensures i })
           (consistent_waits_on old c.args.other kept.consistent (λ e. c.requires.not_last (subst (λ (s : State). set.remove s.awaited c.args.other ≡ set.empty) c.self.view_is e)) waits);
     }

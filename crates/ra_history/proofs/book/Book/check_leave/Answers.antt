@@ -1,7 +1,8 @@
-use Rattle.ra_history.specs.declared.event.BookKind.TheVariants.{Gave}
+use Rattle.ra_history.specs.declared.book.event.BookKind.TheVariants.{Gave}
 use Rattle.ra_history.specs.Keeping.{book_of}
 use Rattle.ra_history.proofs.Kept.{history_of}
 use Rattle.ra_history.proofs.Running.{runs_is, some_fault, no_fault, checked_failed, checked_not_held, checked_next, leave_failed, leave_refused, leave_next, tested_not}
+use Rattle.ra_history.proofs.KeptLaws.{kept_histories_go_on}
 use Rattle.ra_history.proofs.book.Book.check_leave.Goals as goal
 
 pub returns-then-is_some-clause-checked : goal.returns-then-is_some-clause-checked
@@ -17,7 +18,7 @@ pub returns-then-not-is_held_by-clause-answers : goal.returns-then-not-is_held_b
 returns-then-not-is_held_by-clause-answers c =
     let h = c.if-not-is_held_by in
     leave_refused c.args.self.now c.args.client c.args.name c.self.inside.node (no_fault c.self.view_is c.if-is_some.ensures)
-    (runs_is c.kept_histories_go_on.ensures.determined c.args.self.now (book_of c.self.inside) c.self.inside.node c.self.invariant.keeps c.self.view_is)
+    (runs_is kept_histories_go_on.determined c.args.self.now (book_of c.self.inside) c.self.inside.node c.self.invariant.keeps c.self.view_is)
     (tested_not c.is_held_by.ensures c.if-not-is_held_by.true)
 
 pub returns-clause-checked : goal.returns-clause-checked
@@ -28,5 +29,5 @@ returns-clause-checked c =
 pub returns-clause-answers : goal.returns-clause-answers
 returns-clause-answers c =
     leave_next c.args.self.now c.args.client c.args.name c.self.inside.node (no_fault c.self.view_is c.if-is_some.ensures)
-    (runs_is c.kept_histories_go_on.ensures.determined c.args.self.now (book_of c.self.inside) c.self.inside.node c.self.invariant.keeps c.self.view_is)
+    (runs_is kept_histories_go_on.determined c.args.self.now (book_of c.self.inside) c.self.inside.node c.self.invariant.keeps c.self.view_is)
     c.clock.result (c.is_held_by.ensures.0 c.if-not-is_held_by.false) c.clock.ensures.value c.clock_after.result c.clock_after.ensures

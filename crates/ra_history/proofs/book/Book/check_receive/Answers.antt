@@ -11,10 +11,10 @@ returns-then-is_some-clause-answers c = receive_failed c.args.self.now c.args.by
 
 pub returns-clause-checked : goal.returns-clause-checked
 returns-clause-checked c =
-    receive_checked c.args.self.now c.args.bytes.now (no_fault c.self.view_is c.if-is_some.ensures) c.clock.result c.clock.ensures.value c.hear.result
-    (heard_by c.self.view_is c.hear.ensures) (history_of c.args.self.now _ _ c.self.invariant.keeps c.self.view_is)
+    receive_checked c.args.self.now c.args.bytes.now (no_fault c.self.view_is c.if-is_some.ensures) c.clock.result c.clock.ensures.value c.accept_frame.result
+    (heard_by c.self.view_is c.accept_frame.ensures) (history_of c.args.self.now _ _ c.self.invariant.keeps c.self.view_is)
 
 pub returns-clause-answers : goal.returns-clause-answers
 returns-clause-answers c =
-    receive_answers c.args.self.now c.args.bytes.now (no_fault c.self.view_is c.if-is_some.ensures) c.clock.result c.clock.ensures.value c.hear.result
-    (heard_by c.self.view_is c.hear.ensures)
+    receive_answers c.args.self.now c.args.bytes.now (no_fault c.self.view_is c.if-is_some.ensures) c.clock.result c.clock.ensures.value c.accept_frame.result
+    (heard_by c.self.view_is c.accept_frame.ensures)

@@ -1,73 +1,82 @@
-use Rattle.std.proofs.Common.{refl}
-use Rattle.ra_history.specs.declared.error.BookError.TheVariants.{Memory}
-use Rattle.ra_history.specs.declared.event.BookKind.TheVariants.{Gave}
-use Rattle.ra_history.proofs.Departing.{is_ok_not_err, passed_memory, holds_as}
-use Rattle.ra_history.proofs.Running.{leave_passed, leave_added}
-use Rattle.ra_history.proofs.Adding.{added_memory, added_err, added_fits, added_ok}
+use Rattle.std.proofs.Common.{Ok, refl}
+use Rattle.ra_stamp.specs.declared.entry.Entry.{Entry}
+use Rattle.ra_node.specs.Resource.{Holds}
+use Rattle.ra_node.specs.Node.{resource_at}
+use Rattle.ra_history.specs.declared.book.event.BookKind.TheVariants.{Gave}
+use Rattle.ra_history.specs.Book.{HasClock}
+use Rattle.ra_history.specs.Keeping.{book_of}
+use Rattle.ra_history.proofs.Departing.{passed_memory}
+use Rattle.ra_history.proofs.Kept.{history_of}
+use Rattle.ra_history.proofs.Running.{runs_is, leave_passed, leave_added, not_ok, on_err}
+use Rattle.ra_history.proofs.Adding as adding
+use Rattle.ra_history.proofs.KeptLaws.{kept_histories_go_on}
 use Rattle.ra_history.proofs.book.Book.leave.Goals as goal
 
-pub returns-in_err-clock-clause-history : goal.returns-in_err-clock-clause-history
-returns-in_err-clock-clause-history c = c.in_err-clock.ensures.checked.history
+pub keep_leave-requires : goal.keep_leave-requires
+keep_leave-requires c =
+    let node = c.self.inside.node in
+    let keeps = c.self.invariant.keeps in
+    let is_kept = kept_histories_go_on.node (book_of c.self.inside) node keeps in
+    let allowed = (runs_is kept_histories_go_on.determined c.args.self.now (book_of c.self.inside) node keeps c.self.view_is
+    (λ n. ((entry : Entry) × Holds (resource_at n c.args.name) c.args.client entry) × HasClock c.args.self.now (Gave c.args.client c.args.name))).0
+    (c.in_ok-clock.ensures.answers.allowed.0 tt)
+    in
+    record {
+      few = λ new sends marks. kept_histories_go_on.few (book_of c.self.inside) node new (Gave c.args.client c.args.name) sends marks keeps;
+      nodes = is_kept.1;
+      holds = allowed.1.0;
+      reserved = c.self.invariant.reserved;
+    }
 
-pub returns-in_err-clock-clause-failed : goal.returns-in_err-clock-clause-failed
-returns-in_err-clock-clause-failed c =
-    (leave_passed c.args.self.now c.args.client c.args.name c.in_err-clock.field-0.0 c.in_err-clock.ensures.answers c.from_residual.result c.from_residual.ensures.1).failed
+-- ---- It is refused
 
-pub returns-in_err-clock-clause-not_held : goal.returns-in_err-clock-clause-not_held
-returns-in_err-clock-clause-not_held c =
-    (leave_passed c.args.self.now c.args.client c.args.name c.in_err-clock.field-0.0 c.in_err-clock.ensures.answers c.from_residual.result c.from_residual.ensures.1).not_held
+pub returns-in_err-clock : goal.returns-in_err-clock
+returns-in_err-clock c =
+    let r = c.from_residual.result in
+    let is = c.from_residual.ensures.1 in
+    let refused = leave_passed c.args.self.now c.args.client c.args.name c.in_err-clock.field-0.0 c.in_err-clock.ensures.answers r is in
+    record {
+      ok = not_ok _ _ r is;
+      history = c.in_err-clock.ensures.checked.history;
+      fits = not_ok _ _ r is;
+      failed = refused.failed;
+      not_held = refused.not_held;
+      clock_full = refused.clock_full;
+      no_memory = passed_memory c.in_err-clock.field-0.0 c.in_err-clock.ensures.checked.memory r is;
+      allowed = refused.allowed;
+      err = on_err _ r refl;
+    }
 
-pub returns-in_err-clock-clause-clock_full : goal.returns-in_err-clock-clause-clock_full
-returns-in_err-clock-clause-clock_full c =
-    (leave_passed c.args.self.now c.args.client c.args.name c.in_err-clock.field-0.0 c.in_err-clock.ensures.answers c.from_residual.result c.from_residual.ensures.1).clock_full
+-- ---- It is made
 
-pub returns-in_err-clock-clause-allowed : goal.returns-in_err-clock-clause-allowed
-returns-in_err-clock-clause-allowed c =
-    (leave_passed c.args.self.now c.args.client c.args.name c.in_err-clock.field-0.0 c.in_err-clock.ensures.answers c.from_residual.result c.from_residual.ensures.1).allowed
+pub invariant_of-self : goal.invariant_of-self
+invariant_of-self c = record {
+  keeps = adding.kept_after c.args.self.now (book_of c.self.inside) c.self.inside.node c.keep_leave.new.node c.in_ok-clock.clock (Gave c.args.client c.args.name)
+      c.keep_leave.new.events.items c.keep_leave.new.sent.items c.self.invariant.keeps c.self.view_is c.in_ok-clock.ensures.checked.next
+      kept_histories_go_on.node kept_histories_go_on.event c.keep_leave.result c.keep_leave.ensures.kept;
+  reserved = c.keep_leave.ensures.reserved;
+}
 
-pub add-requires-clause-next : goal.add-requires-clause-next
-add-requires-clause-next c = c.in_ok-clock.ensures.checked.next
-
-pub add-requires-clause-holds : goal.add-requires-clause-holds
-add-requires-clause-holds c client name is =
-    let allowed = c.in_ok-clock.ensures.answers.allowed.0 tt in
-    holds_as c.args.self.now c.args.client client c.args.name name is
-    (record { no_fault = allowed.no_fault; node = allowed.node; leads = allowed.leads; holds = allowed.holds.0 })
-
-pub returns-clause-no_memory : goal.returns-clause-no_memory
-returns-clause-no_memory c = is_ok_not_err c.add.result Memory (c.add.ensures.leaves c.args.client c.args.name refl)
-
-pub returns-clause-ok : goal.returns-clause-ok
-returns-clause-ok c = added_ok c.args.self.now c.add.new.self (Gave c.args.client c.args.name) c.add.result c.add.ensures.added
-
-pub returns-clause-history : goal.returns-clause-history
-returns-clause-history c = c.add.ensures.history
-
-pub returns-clause-fits : goal.returns-clause-fits
-returns-clause-fits c = added_fits c.args.self.now c.add.new.self (Gave c.args.client c.args.name) c.add.result c.add.ensures.added
-
-pub returns-clause-err : goal.returns-clause-err
-returns-clause-err c = added_err c.args.self.now c.add.new.self (Gave c.args.client c.args.name) c.add.result c.add.ensures.added
-
-pub returns-clause-failed : goal.returns-clause-failed
-returns-clause-failed c =
-    (leave_added c.args.self.now c.args.client c.args.name c.in_ok-clock.clock c.in_ok-clock.ensures.answers c.add.result
-    (added_memory c.args.self.now c.add.new.self (Gave c.args.client c.args.name) c.add.result c.add.ensures.added)).failed
-
-pub returns-clause-not_held : goal.returns-clause-not_held
-returns-clause-not_held c =
-    (leave_added c.args.self.now c.args.client c.args.name c.in_ok-clock.clock c.in_ok-clock.ensures.answers c.add.result
-    (added_memory c.args.self.now c.add.new.self (Gave c.args.client c.args.name) c.add.result c.add.ensures.added)).not_held
-
-pub returns-clause-clock_full : goal.returns-clause-clock_full
-returns-clause-clock_full c =
-    (leave_added c.args.self.now c.args.client c.args.name c.in_ok-clock.clock c.in_ok-clock.ensures.answers c.add.result
-    (added_memory c.args.self.now c.add.new.self (Gave c.args.client c.args.name) c.add.result c.add.ensures.added)).clock_full
-
-pub returns-clause-allowed : goal.returns-clause-allowed
-returns-clause-allowed c =
-    (leave_added c.args.self.now c.args.client c.args.name c.in_ok-clock.clock c.in_ok-clock.ensures.answers c.add.result
-    (added_memory c.args.self.now c.add.new.self (Gave c.args.client c.args.name) c.add.result c.add.ensures.added)).allowed
-
-pub returns-in_err-clock-clause-no_memory : goal.returns-in_err-clock-clause-no_memory
-returns-in_err-clock-clause-no_memory c = passed_memory c.in_err-clock.field-0.0 c.in_err-clock.ensures.checked.memory c.from_residual.result c.from_residual.ensures.1
+pub returns : goal.returns
+returns c =
+    let now = c.args.self.now in
+    let node = c.self.inside.node in
+    let kind = Gave c.args.client c.args.name in
+    let next = c.in_ok-clock.ensures.checked.next in
+    let events = c.keep_leave.new.events.items in
+    let sent = c.keep_leave.new.sent.items in
+    let posted = c.keep_leave.result in
+    let made = leave_added now c.args.client c.args.name c.in_ok-clock.clock c.in_ok-clock.ensures.answers (Ok posted) tt in
+    record {
+      ok = adding.added now (book_of c.self.inside) node c.keep_leave.new.node c.in_ok-clock.clock kind events sent c.self.invariant.keeps c.self.view_is next
+          kept_histories_go_on.node posted c.keep_leave.ensures.kept;
+      history = history_of _ _ _ (invariant_of-self c).keeps refl;
+      fits = adding.added_fits now (book_of c.self.inside) node c.keep_leave.new.node c.in_ok-clock.clock kind events sent c.self.invariant.keeps c.self.view_is next
+          kept_histories_go_on.node kept_histories_go_on.fit posted c.keep_leave.ensures.kept;
+      failed = made.failed;
+      not_held = made.not_held;
+      clock_full = made.clock_full;
+      no_memory = λ is. absurd cc;
+      allowed = made.allowed;
+      err = tt;
+    }

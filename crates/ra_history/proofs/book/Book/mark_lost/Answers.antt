@@ -2,17 +2,18 @@ use Rattle.std.proofs.Common.{refl, sym, subst}
 use Rattle.ra_history.specs.Keeping.{Ascends, book_of}
 use Rattle.ra_history.proofs.Kept.{history_of}
 use Rattle.ra_history.proofs.Losing.{flags_book, flags_now, marked_ok, marked_err}
+use Rattle.ra_history.proofs.KeptLaws.{kept_histories_go_on}
 use Rattle.ra_history.proofs.book.Book.mark_lost.Goals as goal
 
 pub flag_lost-requires : goal.flag_lost-requires
 flag_lost-requires c =
-    subst Ascends (sym c.as_mut_slice.ensures.value) (c.kept_histories_go_on.ensures.ascends (book_of c.self.inside) c.self.inside.node c.self.invariant.keeps)
+    subst Ascends (sym c.as_mut_slice.ensures.value) (kept_histories_go_on.ascends (book_of c.self.inside) c.self.inside.node c.self.invariant.keeps)
 
 pub invariant_of-self : goal.invariant_of-self
 invariant_of-self c =
     let lent = c.as_mut_slice in
     record {
-      keeps = c.kept_histories_go_on.ensures.flags (book_of c.self.inside) _ c.self.inside.node c.self.invariant.keeps
+      keeps = kept_histories_go_on.flags (book_of c.self.inside) _ c.self.inside.node c.self.invariant.keeps
           (flags_book c.args.self.now (book_of c.self.inside) c.self.view_is c.args.frame.now c.self.inside.sent lent.result.now c.flag_lost.new.sent
           c.flag_lost.result lent.ensures.value lent.ensures.len c.flag_lost.ensures).frames;
       reserved = c.self.invariant.reserved;

@@ -5,6 +5,7 @@ use Rattle.ra_history.specs.Book.{TakenState, HasHistory, opening_book}
 use Rattle.ra_history.specs.Keeping.{Keeps}
 use Rattle.ra_history.proofs.Adding.{same_kept, same_history}
 use Rattle.ra_history.proofs.Departing.{reserved_first}
+use Rattle.ra_history.proofs.KeptLaws.{kept_histories_go_on}
 use Rattle.ra_history.proofs.book.Book.new.Goals as goal
 
 pub invariant_of-result : goal.invariant_of-result
@@ -16,7 +17,7 @@ invariant_of-result c =
     record {
       keeps = subst (λ (t : TakenState). Keeps (record opened { taken = t; events = c.new-2.result.items; sent = c.new-3.result.items }) c.in_ok-node.node) (sym c.nothing.ensures)
           (same_kept opened _ _ c.new-2.result.items c.new-3.result.items
-          (c.kept_histories_go_on.ensures.opened c.args.me c.args.nodes c.args.start count member) c.new-2.ensures c.new-3.ensures.items c.in_ok-node.ensures.ok);
+          (kept_histories_go_on.opened c.args.me c.args.nodes c.args.start count member) c.new-2.ensures c.new-3.ensures.items c.in_ok-node.ensures.ok);
       reserved = reserved_first c.args.nodes c.in_ok-node.node _ _ _ c.new-4.result.items
           (ap clients_count c.in_ok-node.ensures.ok ∙ c.events_count_clients.ensures.opening c.args.me c.args.nodes c.args.start) c.new-4.ensures.items c.new-3.ensures.len;
     }
@@ -29,4 +30,4 @@ returns-clause-history c =
     let opened = opening_book c.args.me c.args.nodes c.args.start in
     subst (λ (t : TakenState). HasHistory (record opened { taken = t; events = c.new-2.result.items; sent = c.new-3.result.items })) (sym c.nothing.ensures)
     (same_history opened _ c.new-2.result.items c.new-3.result.items
-    (c.kept_histories_go_on.ensures.opened c.args.me c.args.nodes c.args.start count member) c.new-2.ensures c.new-3.ensures.items)
+    (kept_histories_go_on.opened c.args.me c.args.nodes c.args.start count member) c.new-2.ensures c.new-3.ensures.items)

@@ -37,7 +37,7 @@ invariant_of-self c =
     let within = λ (f : Resource → ℕ). part f n.slots.entries c.args.name c.in-Some.slot.now c.in-Some.ensures.value in
     let kept = c.self.invariant in
     record {
-      consistent = (asked_at n.me n.nodes n.start n.slots slots c.args.self.now c.self.view_is kept.consistent c.in-Some.slot.now new c.ask-outcome.result _ c.args.client c.args.name c.args.mode c.ask-outcome.ensures c.in-Some.ensures.value (c.get_mut.follows.holds new)).consistent;
+      consistent = (asked_at n.member.node n.member.nodes n.start n.slots slots c.args.self.now c.self.view_is kept.consistent c.in-Some.slot.now new c.ask-outcome.result _ c.args.client c.args.name c.args.mode c.ask-outcome.ensures c.in-Some.ensures.value (c.get_mut.follows.holds new)).consistent;
       waiting = omega (arith, kept.waiting, moves waiting_at, within waiting_at, c.waiting.ensures, c.waiting-in-Some.ensures);
       queued = omega (arith, kept.queued, moves (λ r. length r.queue), within (λ r. length r.queue), c.queued.ensures, c.queued-in-Some.ensures);
       counted = omega (arith, kept.counted, moves (λ r. length r.queue / 2 ^ 64), c.queued-in-Some.ensures, c.queued-in-Some.type_inv);
@@ -48,14 +48,14 @@ returns-in-Some-clause-ok c =
     let n = c.self.inside in
     let new = c.ask-outcome.new.self in
     let slots = c.get_mut.follows.lender new in
-    (asked_at n.me n.nodes n.start n.slots slots c.args.self.now c.self.view_is c.self.invariant.consistent c.in-Some.slot.now new c.ask-outcome.result _ c.args.client c.args.name c.args.mode c.ask-outcome.ensures c.in-Some.ensures.value (c.get_mut.follows.holds new)).ok
+    (asked_at n.member.node n.member.nodes n.start n.slots slots c.args.self.now c.self.view_is c.self.invariant.consistent c.in-Some.slot.now new c.ask-outcome.result _ c.args.client c.args.name c.args.mode c.ask-outcome.ensures c.in-Some.ensures.value (c.get_mut.follows.holds new)).ok
 
 pub returns-in-Some-clause-err : goal.returns-in-Some-clause-err
 returns-in-Some-clause-err c =
     let n = c.self.inside in
     let new = c.ask-outcome.new.self in
     let slots = c.get_mut.follows.lender new in
-    (asked_at n.me n.nodes n.start n.slots slots c.args.self.now c.self.view_is c.self.invariant.consistent c.in-Some.slot.now new c.ask-outcome.result _ c.args.client c.args.name c.args.mode c.ask-outcome.ensures c.in-Some.ensures.value (c.get_mut.follows.holds new)).err
+    (asked_at n.member.node n.member.nodes n.start n.slots slots c.args.self.now c.self.view_is c.self.invariant.consistent c.in-Some.slot.now new c.ask-outcome.result _ c.args.client c.args.name c.args.mode c.ask-outcome.ensures c.in-Some.ensures.value (c.get_mut.follows.holds new)).err
 
 pub returns-in-Some-clause-consistent : goal.returns-in-Some-clause-consistent
 returns-in-Some-clause-consistent c = (invariant_of-self c).consistent
@@ -63,7 +63,7 @@ returns-in-Some-clause-consistent c = (invariant_of-self c).consistent
 tells : (c : goal.After-self-in-Some-2-1) → AskTells c.ask-outcome.result (resource_at c.args.self.now c.args.name) c.args.client
 tells c =
     let n = c.self.inside in
-    let here = found n.me n.nodes n.start n.slots.entries c.args.self.now c.self.view_is c.args.name c.in-Some.slot.now c.in-Some.ensures.value in
+    let here = found n.member.node n.member.nodes n.start n.slots.entries c.args.self.now c.self.view_is c.args.name c.in-Some.slot.now c.in-Some.ensures.value in
     subst (λ (r : Resource). AskTells c.ask-outcome.result r c.args.client) here (turn_tells c.ask-outcome.result c.in-Some.slot.now c.args.client c.args.mode _ _ c.ask-outcome.ensures)
 
 pub returns-in-Some-clause-busy : goal.returns-in-Some-clause-busy
@@ -90,7 +90,7 @@ first_seen : (c : goal.After-ask_first) → IfOk c.ask_first.result (λ o. AskEv
 first_seen c =
     let n = c.self.inside in
     let new = c.ask_first.new.self in
-    let view = same_view n.me n.nodes n.start n.slots.entries c.get_mut.follows.lender-at-none.entries c.args.self.now (ap (λ (m : IndexMap (List ℕ) Resource _). m.entries) c.get_mut.follows.holds-at-none) c.self.view_is in
+    let view = same_view n.member.node n.member.nodes n.start n.slots.entries c.get_mut.follows.lender-at-none.entries c.args.self.now (ap (λ (m : IndexMap (List ℕ) Resource _). m.entries) c.get_mut.follows.holds-at-none) c.self.view_is in
     seen_from c.ask_first.result _ (λ (m : NodeState) (o : Outcome). AskEvent m c.args.client c.args.name c.args.mode o.sends.items o.marks.items new) _ c.args.self.now new view c.ask_first.ensures.asked
 
 pub returns-in-None-clause-ok : goal.returns-in-None-clause-ok
@@ -102,7 +102,7 @@ returns-in-None-clause-err c = (first_seen c).1
 first_tells : (c : goal.After-ask_first) → AskTells c.ask_first.result (resource_at c.args.self.now c.args.name) c.args.client
 first_tells c =
     let n = c.self.inside in
-    let view = same_view n.me n.nodes n.start n.slots.entries c.get_mut.follows.lender-at-none.entries c.args.self.now (ap (λ (m : IndexMap (List ℕ) Resource _). m.entries) c.get_mut.follows.holds-at-none) c.self.view_is in
+    let view = same_view n.member.node n.member.nodes n.start n.slots.entries c.get_mut.follows.lender-at-none.entries c.args.self.now (ap (λ (m : IndexMap (List ℕ) Resource _). m.entries) c.get_mut.follows.holds-at-none) c.self.view_is in
     event_tells c.ask_first.result _ c.args.self.now c.ask_first.new.self view c.args.name c.args.client c.args.mode _ c.ask_first.ensures.asked
 
 pub returns-in-None-clause-busy : goal.returns-in-None-clause-busy

@@ -16,8 +16,8 @@ exhausted : (c : Then-self) → IsAskRefusal (resource_at c.args.self.now c.args
 exhausted c =
     let n = c.self.inside in
     let r = resource_at c.args.self.now c.args.name in
-    let here = unmet_here n.me n.nodes n.start n.slots.entries c.args.self.now c.args.name c.self.view_is c.requires in
-    ask_refusal Exhausted r c.args.client (unmet_is_exhausted r n.me n.nodes c.args.name n.start c.args.client (sym here) c.if-self.true)
+    let here = unmet_here n.member.node n.member.nodes n.start n.slots.entries c.args.self.now c.args.name c.self.view_is c.requires in
+    ask_refusal Exhausted r c.args.client (unmet_is_exhausted r n.member.node n.member.nodes c.args.name n.start c.args.client (sym here) c.if-self.true)
 
 pub returns-then-self-clause-asked : goal.returns-then-self-clause-asked
 returns-then-self-clause-asked c = (exhausted c, refl)
@@ -36,8 +36,8 @@ pub returns-in_default-clause-asked : goal.returns-in_default-clause-asked
 returns-in_default-clause-asked c =
     let n = c.self.inside in
     let below : n.start < greatest_number = search rules in
-    let here = unmet_here n.me n.nodes n.start n.slots.entries c.args.self.now c.args.name c.self.view_is c.requires in
-    ((unmet_is_free (resource_at c.args.self.now c.args.name) n.me n.nodes c.args.name n.start c.args.client (sym here) below).allowed.0 refl, same_view n.me n.nodes n.start n.slots.entries c.first_slot-first.new.slots.entries c.args.self.now c.first_slot-first.ensures.same c.self.view_is)
+    let here = unmet_here n.member.node n.member.nodes n.start n.slots.entries c.args.self.now c.args.name c.self.view_is c.requires in
+    ((unmet_is_free (resource_at c.args.self.now c.args.name) n.member.node n.member.nodes c.args.name n.start c.args.client (sym here) below).allowed.0 refl, same_view n.member.node n.member.nodes n.start n.slots.entries c.first_slot-first.new.slots.entries c.args.self.now c.first_slot-first.ensures.same c.self.view_is)
 
 pub returns-in_default-clause-consistent : goal.returns-in_default-clause-consistent
 returns-in_default-clause-consistent c = (invariant_of-self c).consistent
@@ -50,8 +50,8 @@ invariant_of-self-in-Err c =
 pub returns-in-Err-clause-asked : goal.returns-in-Err-clause-asked
 returns-in-Err-clause-asked c =
     let n = c.self.inside in
-    let here = unmet_here n.me n.nodes n.start n.slots.entries c.args.self.now c.args.name c.self.view_is c.requires in
-    (subst (λ (r : Resource). IsAskRefusal r c.args.client c.in-Err.fault) (c.in-Ok.ensures.made.0 ∙ here) c.in-Err.ensures.0, same_view n.me n.nodes n.start n.slots.entries c.first_slot-first.new.slots.entries c.args.self.now c.first_slot-first.ensures.same c.self.view_is)
+    let here = unmet_here n.member.node n.member.nodes n.start n.slots.entries c.args.self.now c.args.name c.self.view_is c.requires in
+    (subst (λ (r : Resource). IsAskRefusal r c.args.client c.in-Err.fault) (c.in-Ok.ensures.made.0 ∙ here) c.in-Err.ensures.0, same_view n.member.node n.member.nodes n.start n.slots.entries c.first_slot-first.new.slots.entries c.args.self.now c.first_slot-first.ensures.same c.self.view_is)
 
 pub returns-in-Err-clause-consistent : goal.returns-in-Err-clause-consistent
 returns-in-Err-clause-consistent c = (invariant_of-self-in-Err c).consistent
@@ -76,10 +76,10 @@ invariant_of-self-2 c =
     let same = c.first_slot-first.ensures.same in
     let name = c.args.name in
     let ended = c.in-Ok-ask.ensures in
-    let more = λ (f : Resource → ℕ). come f n.me n.nodes n.start n.slots.entries slots slots' now name c.ask.new.self c.self.view_is same c.requires c.put.ensures in
+    let more = λ (f : Resource → ℕ). come f n.member.node n.member.nodes n.start n.slots.entries slots slots' now name c.ask.new.self c.self.view_is same c.requires c.put.ensures in
     let was = c.self.invariant in
     record {
-      consistent = (first_asked n.me n.nodes n.start n.slots.entries slots now c.self.view_is was.consistent same name c.requires c.in-Ok.slot c.ask.new.self c.in-Ok.ensures.made.0 slots' c.put.ensures c.args.client c.args.mode _ _ ended.0 ended.1).0;
+      consistent = (first_asked n.member.node n.member.nodes n.start n.slots.entries slots now c.self.view_is was.consistent same name c.requires c.in-Ok.slot c.ask.new.self c.in-Ok.ensures.made.0 slots' c.put.ensures c.args.client c.args.mode _ _ ended.0 ended.1).0;
       waiting = omega (arith, was.waiting, more waiting_at, c.waiting.ensures);
       queued = omega (arith, was.queued, more (λ r. length r.queue), c.queued.ensures);
       counted = omega (arith, was.counted, more (λ r. length r.queue / 2 ^ 64), c.queued.ensures, c.queued.type_inv);
@@ -89,7 +89,7 @@ pub returns-clause-asked : goal.returns-clause-asked
 returns-clause-asked c =
     let n = c.self.inside in
     let ended = c.in-Ok-ask.ensures in
-    (first_asked n.me n.nodes n.start n.slots.entries c.first_slot-first.new.slots.entries c.args.self.now c.self.view_is c.self.invariant.consistent c.first_slot-first.ensures.same c.args.name c.requires c.in-Ok.slot c.ask.new.self c.in-Ok.ensures.made.0
+    (first_asked n.member.node n.member.nodes n.start n.slots.entries c.first_slot-first.new.slots.entries c.args.self.now c.self.view_is c.self.invariant.consistent c.first_slot-first.ensures.same c.args.name c.requires c.in-Ok.slot c.ask.new.self c.in-Ok.ensures.made.0
     c.put.new.slots.entries c.put.ensures c.args.client c.args.mode _ _ ended.0 ended.1).1
 
 pub returns-clause-consistent : goal.returns-clause-consistent

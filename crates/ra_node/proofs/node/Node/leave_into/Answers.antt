@@ -14,8 +14,8 @@ use Rattle.ra_node.proofs.node.Node.leave_into.Goals as goal
 pub returns-in_default-clause-not_held : goal.returns-in_default-clause-not_held
 returns-in_default-clause-not_held c =
     let n = c.self.inside in
-    let none = missing n.me n.nodes n.start n.slots.entries c.args.self.now c.self.view_is c.args.name (search rules) in
-    (λ _. nobody_holds _ n.me n.nodes c.args.name n.start none.0 c.args.client, λ _. refl)
+    let none = missing n.member.node n.member.nodes n.start n.slots.entries c.args.self.now c.self.view_is c.args.name (search rules) in
+    (λ _. nobody_holds _ n.member.node n.member.nodes c.args.name n.start none.0 c.args.client, λ _. refl)
 
 not_memory : NotHeld ≡ Memory → ⊥
 not_memory e = cc
@@ -23,13 +23,13 @@ not_memory e = cc
 pub returns-in_default-clause-allowed : goal.returns-in_default-clause-allowed
 returns-in_default-clause-allowed c =
     let n = c.self.inside in
-    let none = missing n.me n.nodes n.start n.slots.entries c.args.self.now c.self.view_is c.args.name (search rules) in
-    (λ e. absurd (not_memory e), λ held. absurd (nobody_holds _ n.me n.nodes c.args.name n.start none.0 c.args.client held.0 held.1))
+    let none = missing n.member.node n.member.nodes n.start n.slots.entries c.args.self.now c.self.view_is c.args.name (search rules) in
+    (λ e. absurd (not_memory e), λ held. absurd (nobody_holds _ n.member.node n.member.nodes c.args.name n.start none.0 c.args.client held.0 held.1))
 
 pub leave-outcome-requires-clause-once : goal.leave-outcome-requires-clause-once
 leave-outcome-requires-clause-once c =
     let n = c.self.inside in
-    (slot_is_consistent n.me n.nodes n.start n.slots.entries c.args.self.now c.self.view_is c.args.name c.in-Some.slot.now c.self.invariant.consistent c.in-Some.ensures.value).once
+    (slot_is_consistent n.member.node n.member.nodes n.start n.slots.entries c.args.self.now c.self.view_is c.args.name c.in-Some.slot.now c.self.invariant.consistent c.in-Some.ensures.value).once
 
 pub overflow_sub-waiting : goal.overflow_sub-waiting
 overflow_sub-waiting c =
@@ -62,7 +62,7 @@ invariant_of-self-2 c =
     let within = λ (f : Resource → ℕ). part f n.slots.entries c.args.name c.in-Some.slot.now c.in-Some.ensures.value in
     let kept = c.self.invariant in
     record {
-      consistent = (left_at n.me n.nodes n.start n.slots slots c.args.self.now c.self.view_is c.self.invariant.consistent c.in-Some.slot.now new c.leave-outcome.result _ c.args.client c.args.name c.leave-outcome.ensures.left c.in-Some.ensures.value (c.get_mut.follows.holds new)).consistent;
+      consistent = (left_at n.member.node n.member.nodes n.start n.slots slots c.args.self.now c.self.view_is c.self.invariant.consistent c.in-Some.slot.now new c.leave-outcome.result _ c.args.client c.args.name c.leave-outcome.ensures.left c.in-Some.ensures.value (c.get_mut.follows.holds new)).consistent;
       waiting = omega (arith, kept.waiting, moves waiting_at, within waiting_at, c.waiting.ensures, c.waiting-2.ensures);
       queued = omega (arith, kept.queued, moves (λ r. length r.queue), within (λ r. length r.queue), c.queued.ensures, c.queued-2.ensures);
       counted = omega (arith, kept.counted, moves (λ r. length r.queue / 2 ^ 64), c.queued-2.ensures, c.queued-2.type_inv);
@@ -72,13 +72,13 @@ pub returns-clause-ok : goal.returns-clause-ok
 returns-clause-ok c =
     let n = c.self.inside in
     let new = c.leave-outcome.new.self in
-    (left_at n.me n.nodes n.start n.slots (c.get_mut.follows.lender new) c.args.self.now c.self.view_is c.self.invariant.consistent c.in-Some.slot.now new c.leave-outcome.result _ c.args.client c.args.name c.leave-outcome.ensures.left c.in-Some.ensures.value (c.get_mut.follows.holds new)).ok
+    (left_at n.member.node n.member.nodes n.start n.slots (c.get_mut.follows.lender new) c.args.self.now c.self.view_is c.self.invariant.consistent c.in-Some.slot.now new c.leave-outcome.result _ c.args.client c.args.name c.leave-outcome.ensures.left c.in-Some.ensures.value (c.get_mut.follows.holds new)).ok
 
 pub returns-clause-err : goal.returns-clause-err
 returns-clause-err c =
     let n = c.self.inside in
     let new = c.leave-outcome.new.self in
-    (left_at n.me n.nodes n.start n.slots (c.get_mut.follows.lender new) c.args.self.now c.self.view_is c.self.invariant.consistent c.in-Some.slot.now new c.leave-outcome.result _ c.args.client c.args.name c.leave-outcome.ensures.left c.in-Some.ensures.value (c.get_mut.follows.holds new)).err
+    (left_at n.member.node n.member.nodes n.start n.slots (c.get_mut.follows.lender new) c.args.self.now c.self.view_is c.self.invariant.consistent c.in-Some.slot.now new c.leave-outcome.result _ c.args.client c.args.name c.leave-outcome.ensures.left c.in-Some.ensures.value (c.get_mut.follows.holds new)).err
 
 pub returns-clause-consistent : goal.returns-clause-consistent
 returns-clause-consistent c = (invariant_of-self-2 c).consistent
@@ -86,7 +86,7 @@ returns-clause-consistent c = (invariant_of-self-2 c).consistent
 tells : (c : goal.After-self-3-1) → LeaveTells c.leave-outcome.result (resource_at c.args.self.now c.args.name) c.args.client
 tells c =
     let n = c.self.inside in
-    let here = found n.me n.nodes n.start n.slots.entries c.args.self.now c.self.view_is c.args.name c.in-Some.slot.now c.in-Some.ensures.value in
+    let here = found n.member.node n.member.nodes n.start n.slots.entries c.args.self.now c.self.view_is c.args.name c.in-Some.slot.now c.in-Some.ensures.value in
     subst (λ (r : Resource). LeaveTells c.leave-outcome.result r c.args.client) here (left_tells c.leave-outcome.result c.in-Some.slot.now c.args.client c.leave-outcome.new.self _ c.leave-outcome.ensures.left)
 
 pub returns-clause-not_held : goal.returns-clause-not_held
@@ -98,5 +98,5 @@ returns-clause-allowed c = (tells c).allowed
 pub returns-clause-room : goal.returns-clause-room
 returns-clause-room c room =
     let n = c.self.inside in
-    let kept = slot_is_consistent n.me n.nodes n.start n.slots.entries c.args.self.now c.self.view_is c.args.name c.in-Some.slot.now c.self.invariant.consistent c.in-Some.ensures.value in
+    let kept = slot_is_consistent n.member.node n.member.nodes n.start n.slots.entries c.args.self.now c.self.view_is c.args.name c.in-Some.slot.now c.self.invariant.consistent c.in-Some.ensures.value in
     c.leave-outcome.ensures.room (subst (λ (k : ℕ). HasRoomToLeave k c.args.empty) (sym kept.nodes_is) room)

@@ -1,14 +1,14 @@
-use Rattle.std.proofs.Common.{rules, List, ℕ, ◌≡◌, ◌≢◌, ◌⊎◌, ◌<◌, Err, IfOk, OnErr, refl, ◌/◌, ◌^◌, length, Some, None, sym, ap, ◌∙◌, subst, arith}
+use Rattle.std.proofs.Common.{List, ℕ, ◌≡◌, IfOk, OnErr, refl, ◌/◌, ◌^◌, length, Some, None, sym, ap, ◌∙◌, subst, arith}
 use Rattle.std.specs.Str.{bytes_eq}
 use Rattle.std.specs.Map.{lookup}
 use Rattle.indexmap.specs.IndexMap.{IndexMap}
-use Rattle.ra_stamp.specs.Message.{from_of, to_of, name_of}
-use Rattle.ra_automaton.specs.declared.error.ReceiveError.TheVariants.{WrongNode, Stranger}
+use Rattle.ra_stamp.specs.Message.{name_of}
+use Rattle.ra_automaton.specs.State.{IsForNode}
 use Rattle.ra_node.specs.declared.outcome.Outcome.{Outcome}
 use Rattle.ra_node.specs.declared.queued_client.Queued.{Queued}
 use Rattle.ra_node.specs.Resource.{Resource, waiting_at}
-use Rattle.ra_node.specs.Node.{NodeState, IsConsistentNode}
-use Rattle.ra_automaton.proofs.Refusals.{ReceiveTells, wrong_node_tells, stranger_tells, received_tells}
+use Rattle.ra_node.specs.Node.{NodeState}
+use Rattle.ra_automaton.proofs.Refusals.{ReceiveTells, received_tells}
 use Rattle.ra_node.specs.Events.{ReceiveEvent}
 use Rattle.ra_node.specs.Memory.{BringsNothing}
 use Rattle.ra_node.proofs.After.{received_at, kept_as, same_view, seen_from}
@@ -18,27 +18,22 @@ use Rattle.ra_node.proofs.Bringing.{of_node, refused_to_bring}
 use Rattle.ra_node.proofs.Totals.{part, through, one_at_most, few_wait, queue_stays}
 use Rattle.ra_node.proofs.node.Node.receive.Goals as goal
 
-pub returns-then-ne-clause-consistent : goal.returns-then-ne-clause-consistent
-returns-then-ne-clause-consistent c = subst IsConsistentNode c.self.view_is c.self.invariant.consistent
-
-pub returns-then-eq-clause-consistent : goal.returns-then-eq-clause-consistent
-returns-then-eq-clause-consistent c = subst IsConsistentNode c.self.view_is c.self.invariant.consistent
-
 pub receive-outcome-requires-clause-name : goal.receive-outcome-requires-clause-name
 receive-outcome-requires-clause-name c =
     let n = c.self.inside in
-    sym ((slot_is_consistent n.me n.nodes n.start n.slots.entries c.args.self.now c.self.view_is c.name.result c.in-Some.slot.now c.self.invariant.consistent c.in-Some.ensures.value).name_is ∙ c.name.ensures)
+    sym ((slot_is_consistent n.member.node n.member.nodes n.start n.slots.entries c.args.self.now c.self.view_is c.name.result c.in-Some.slot.now c.self.invariant.consistent c.in-Some.ensures.value).name_is ∙ c.name.ensures)
 
 pub receive-outcome-requires-clause-addressed : goal.receive-outcome-requires-clause-addressed
 receive-outcome-requires-clause-addressed c =
     let n = c.self.inside in
-    let at = slot_is_consistent n.me n.nodes n.start n.slots.entries c.args.self.now c.self.view_is c.name.result c.in-Some.slot.now c.self.invariant.consistent c.in-Some.ensures.value in
-    addressed c.args.self.now c.args.message.now c.in-Some.slot.now.state at.me_is at.nodes_is (search rules)
+    let at = slot_is_consistent n.member.node n.member.nodes n.start n.slots.entries c.args.self.now c.self.view_is c.name.result c.in-Some.slot.now c.self.invariant.consistent c.in-Some.ensures.value in
+    let mine = subst (λ (m : NodeState). IsForNode m.me m.nodes c.args.message.now) c.self.view_is (c.in_ok-check_address.ensures.addressed.0 refl) in
+    addressed c.args.self.now c.args.message.now c.in-Some.slot.now.state at.me_is at.nodes_is mine
 
 pub receive-outcome-requires-clause-client : goal.receive-outcome-requires-clause-client
 receive-outcome-requires-clause-client c =
     let n = c.self.inside in
-    (slot_is_consistent n.me n.nodes n.start n.slots.entries c.args.self.now c.self.view_is c.name.result c.in-Some.slot.now c.self.invariant.consistent c.in-Some.ensures.value).client_fits
+    (slot_is_consistent n.member.node n.member.nodes n.start n.slots.entries c.args.self.now c.self.view_is c.name.result c.in-Some.slot.now c.self.invariant.consistent c.in-Some.ensures.value).client_fits
 
 pub receive_first-requires-clause-first : goal.receive_first-requires-clause-first
 receive_first-requires-clause-first c =
@@ -63,7 +58,7 @@ invariant_of-self c =
     let queue = queue_stays c.receive-outcome.result _ old new c.args.message.now c.receive-outcome.ensures.received in
     let kept = c.self.invariant in
     record {
-      consistent = (received_at n.me n.nodes n.start n.slots slots c.args.self.now c.self.view_is c.self.invariant.consistent c.in-Some.slot.now new c.receive-outcome.result _ c.args.message.now c.name.result c.name.ensures c.receive-outcome.ensures.received c.in-Some.ensures.value (c.get_mut.follows.holds new)).consistent;
+      consistent = (received_at n.member.node n.member.nodes n.start n.slots slots c.args.self.now c.self.view_is c.self.invariant.consistent c.in-Some.slot.now new c.receive-outcome.result _ c.args.message.now c.name.result c.name.ensures c.receive-outcome.ensures.received c.in-Some.ensures.value (c.get_mut.follows.holds new)).consistent;
       waiting = omega (arith, kept.waiting, moves waiting_at, part waiting_at n.slots.entries c.name.result old c.in-Some.ensures.value, c.waiting.ensures, c.waiting-in-Some.ensures);
       queued = omega (arith, kept.queued, moves (λ r. length r.queue), ap (λ (queue : List Queued). length queue) queue);
       counted = omega (arith, kept.counted, moves (λ r. length r.queue / 2 ^ 64), ap (λ (queue : List Queued). length queue / 2 ^ 64) queue);
@@ -73,54 +68,23 @@ pub returns-in-Some-clause-ok : goal.returns-in-Some-clause-ok
 returns-in-Some-clause-ok c =
     let n = c.self.inside in
     let new = c.receive-outcome.new.self in
-    (received_at n.me n.nodes n.start n.slots (c.get_mut.follows.lender new) c.args.self.now c.self.view_is c.self.invariant.consistent c.in-Some.slot.now new c.receive-outcome.result _ c.args.message.now c.name.result c.name.ensures c.receive-outcome.ensures.received c.in-Some.ensures.value (c.get_mut.follows.holds new)).ok
+    (received_at n.member.node n.member.nodes n.start n.slots (c.get_mut.follows.lender new) c.args.self.now c.self.view_is c.self.invariant.consistent c.in-Some.slot.now new c.receive-outcome.result _ c.args.message.now c.name.result c.name.ensures c.receive-outcome.ensures.received c.in-Some.ensures.value (c.get_mut.follows.holds new)).ok
 
 pub returns-in-Some-clause-err : goal.returns-in-Some-clause-err
 returns-in-Some-clause-err c =
     let n = c.self.inside in
     let new = c.receive-outcome.new.self in
-    (received_at n.me n.nodes n.start n.slots (c.get_mut.follows.lender new) c.args.self.now c.self.view_is c.self.invariant.consistent c.in-Some.slot.now new c.receive-outcome.result _ c.args.message.now c.name.result c.name.ensures c.receive-outcome.ensures.received c.in-Some.ensures.value (c.get_mut.follows.holds new)).err
+    (received_at n.member.node n.member.nodes n.start n.slots (c.get_mut.follows.lender new) c.args.self.now c.self.view_is c.self.invariant.consistent c.in-Some.slot.now new c.receive-outcome.result _ c.args.message.now c.name.result c.name.ensures c.receive-outcome.ensures.received c.in-Some.ensures.value (c.get_mut.follows.holds new)).err
 
 pub returns-in-Some-clause-consistent : goal.returns-in-Some-clause-consistent
 returns-in-Some-clause-consistent c = (invariant_of-self c).consistent
 
--- ---- The message is refused
-
-wrong_node : (c : goal.Then-ne) → ReceiveTells {X = Outcome} (Err WrongNode) c.args.self.now.me c.args.self.now.nodes c.args.message.now
-wrong_node c =
-    let wrong : to_of c.args.message.now ≢ c.self.inside.me = search rules in
-    wrong_node_tells c.args.self.now.me c.args.self.now.nodes c.args.message.now (λ e. wrong (e ∙ sym (ap (λ (n : NodeState). n.me) c.self.view_is)))
-
-pub returns-then-ne-clause-wrong_node : goal.returns-then-ne-clause-wrong_node
-returns-then-ne-clause-wrong_node c = (wrong_node c).wrong_node
-
-pub returns-then-ne-clause-stranger : goal.returns-then-ne-clause-stranger
-returns-then-ne-clause-stranger c = (wrong_node c).stranger
-
-pub returns-then-ne-clause-allowed : goal.returns-then-ne-clause-allowed
-returns-then-ne-clause-allowed c = (wrong_node c).allowed
-
-stranger : (c : goal.Joined-then-eq) → ReceiveTells {X = Outcome} (Err Stranger) c.args.self.now.me c.args.self.now.nodes c.args.message.now
-stranger c =
-    let n = c.self.inside in
-    let message = c.args.message.now in
-    let here : to_of message ≡ n.me = search rules in
-    let either : (from_of message ≡ n.me) ⊎ (n.nodes < from_of message) = search rules in
-    subst (λ (m : NodeState). ReceiveTells {X = Outcome} (Err Stranger) m.me m.nodes message) c.self.view_is (stranger_tells n.me n.nodes message here either)
-
-pub returns-then-eq-clause-wrong_node : goal.returns-then-eq-clause-wrong_node
-returns-then-eq-clause-wrong_node c = (stranger c).wrong_node
-
-pub returns-then-eq-clause-stranger : goal.returns-then-eq-clause-stranger
-returns-then-eq-clause-stranger c = (stranger c).stranger
-
-pub returns-then-eq-clause-allowed : goal.returns-then-eq-clause-allowed
-returns-then-eq-clause-allowed c = (stranger c).allowed
-
 -- ---- The message is taken
 
 tells : (c : goal.After-self-in-Some-2-1) → ReceiveTells c.receive-outcome.result c.args.self.now.me c.args.self.now.nodes c.args.message.now
-tells c = received_tells c.args.self.now.me c.args.self.now.nodes c.args.message.now c.receive-outcome.result _ _ (search rules) c.receive-outcome.ensures.received
+tells c =
+    let mine = subst (λ (n : NodeState). IsForNode n.me n.nodes c.args.message.now) c.self.view_is (c.in_ok-check_address.ensures.addressed.0 refl) in
+    received_tells c.args.self.now.me c.args.self.now.nodes c.args.message.now c.receive-outcome.result _ _ mine c.receive-outcome.ensures.received
 
 pub returns-in-Some-clause-wrong_node : goal.returns-in-Some-clause-wrong_node
 returns-in-Some-clause-wrong_node c = (tells c).wrong_node
@@ -137,7 +101,9 @@ invariant_of-self-in-None c =
     kept_as n (record n { slots = c.get_mut.follows.lender-at-none }) refl (ap (λ (m : IndexMap (List ℕ) Resource _). m.entries) c.get_mut.follows.holds-at-none) c.self.invariant
 
 first_tells : (c : goal.After-receive_first) → ReceiveTells c.receive_first.result c.args.self.now.me c.args.self.now.nodes c.args.message.now
-first_tells c = received_tells c.args.self.now.me c.args.self.now.nodes c.args.message.now c.receive_first.result _ _ (search rules) c.receive_first.ensures.received
+first_tells c =
+    let mine = subst (λ (n : NodeState). IsForNode n.me n.nodes c.args.message.now) c.self.view_is (c.in_ok-check_address.ensures.addressed.0 refl) in
+    received_tells c.args.self.now.me c.args.self.now.nodes c.args.message.now c.receive_first.result _ _ mine c.receive_first.ensures.received
 
 pub returns-in-None-clause-wrong_node : goal.returns-in-None-clause-wrong_node
 returns-in-None-clause-wrong_node c = (first_tells c).wrong_node
@@ -152,7 +118,7 @@ first_seen : (c : goal.After-receive_first) → IfOk c.receive_first.result (λ 
 first_seen c =
     let n = c.self.inside in
     let new = c.receive_first.new.self in
-    let view = same_view n.me n.nodes n.start n.slots.entries c.get_mut.follows.lender-at-none.entries c.args.self.now (ap (λ (m : IndexMap (List ℕ) Resource _). m.entries) c.get_mut.follows.holds-at-none) c.self.view_is in
+    let view = same_view n.member.node n.member.nodes n.start n.slots.entries c.get_mut.follows.lender-at-none.entries c.args.self.now (ap (λ (m : IndexMap (List ℕ) Resource _). m.entries) c.get_mut.follows.holds-at-none) c.self.view_is in
     seen_from c.receive_first.result _ (λ (m : NodeState) (o : Outcome). ReceiveEvent m c.args.message.now o.sends.items o.marks.items new) _ c.args.self.now new view c.receive_first.ensures.received
 
 pub returns-in-None-clause-ok : goal.returns-in-None-clause-ok
@@ -170,12 +136,12 @@ pub returns-in-Some-clause-memory_only_to_bring : goal.returns-in-Some-clause-me
 returns-in-Some-clause-memory_only_to_bring c =
     let n = c.self.inside in
     let name = name_of c.args.message.now in
-    let here = found n.me n.nodes n.start n.slots.entries c.args.self.now c.self.view_is name c.in-Some.slot.now
+    let here = found n.member.node n.member.nodes n.start n.slots.entries c.args.self.now c.self.view_is name c.in-Some.slot.now
     (subst (λ (q : List ℕ). Some c.in-Some.slot.now ≡ lookup (bytes_eq q) n.slots.entries) c.name.ensures c.in-Some.ensures.value) in
     λ is brings. refused_to_bring c.receive-outcome.result _ is c.receive-outcome.ensures.brings (of_node c.args.self.now c.args.message.now c.in-Some.slot.now here brings)
 
 pub returns-in-None-clause-memory_only_to_bring : goal.returns-in-None-clause-memory_only_to_bring
 returns-in-None-clause-memory_only_to_bring c =
     let n = c.self.inside in
-    let view = same_view n.me n.nodes n.start n.slots.entries c.get_mut.follows.lender-at-none.entries c.args.self.now (ap (λ (m : IndexMap (List ℕ) Resource _). m.entries) c.get_mut.follows.holds-at-none) c.self.view_is in
+    let view = same_view n.member.node n.member.nodes n.start n.slots.entries c.get_mut.follows.lender-at-none.entries c.args.self.now (ap (λ (m : IndexMap (List ℕ) Resource _). m.entries) c.get_mut.follows.holds-at-none) c.self.view_is in
     λ is brings. refused_to_bring c.receive_first.result _ is c.receive_first.ensures.brings (subst (λ (m : NodeState). BringsNothing m c.args.message.now) (sym view) brings)

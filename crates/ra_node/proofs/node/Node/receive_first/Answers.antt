@@ -28,7 +28,7 @@ invariant_of-self-in_default-first c =
 pub returns-in_default-first-clause-received : goal.returns-in_default-first-clause-received
 returns-in_default-first-clause-received c =
     let n = c.self.inside in
-    (refl, same_view n.me n.nodes n.start n.slots.entries c.first_slot-first.new.slots.entries c.args.self.now c.first_slot-first.ensures.same c.self.view_is)
+    (refl, same_view n.member.node n.member.nodes n.start n.slots.entries c.first_slot-first.new.slots.entries c.args.self.now c.first_slot-first.ensures.same c.self.view_is)
 
 pub returns-in_default-first-clause-brings : goal.returns-in_default-first-clause-brings
 returns-in_default-first-clause-brings c = first_is_brought c.args.self.now c.args.message.now _ _ _ _ _ c.in-Request.is c.requires.first
@@ -44,7 +44,7 @@ invariant_of-self-in-Err c =
 pub returns-in-Err-clause-received : goal.returns-in-Err-clause-received
 returns-in-Err-clause-received c =
     let n = c.self.inside in
-    (c.in-Err.ensures.received.0, same_view n.me n.nodes n.start n.slots.entries c.first_slot-first.new.slots.entries c.args.self.now c.first_slot-first.ensures.same c.self.view_is)
+    (c.in-Err.ensures.received.0, same_view n.member.node n.member.nodes n.start n.slots.entries c.first_slot-first.new.slots.entries c.args.self.now c.first_slot-first.ensures.same c.self.view_is)
 
 pub returns-in-Err-clause-brings : goal.returns-in-Err-clause-brings
 returns-in-Err-clause-brings c = first_is_brought c.args.self.now c.args.message.now _ _ _ _ _ c.in-Request.is c.requires.first
@@ -67,12 +67,12 @@ invariant_of-self-2 c =
     let fresh = c.in-Ok.ensures.made.0 in
     let ended = c.in-Ok-receive.ensures.received in
     let no_stray = request_is_no_stray c.in-Ok.slot c.args.message.now _ _ _ _ _ c.in-Request.is in
-    let more = λ (f : Resource → ℕ). come f n.me n.nodes n.start n.slots.entries slots slots' now name c.receive.new.self c.self.view_is same none c.put.ensures in
+    let more = λ (f : Resource → ℕ). come f n.member.node n.member.nodes n.start n.slots.entries slots slots' now name c.receive.new.self c.self.view_is same none c.put.ensures in
     let was = c.self.invariant in
     let idle : c.receive.new.self.state.phase ≡ Idle = idle_stays c.in-Ok.slot.state c.args.message.now _ _ c.receive.new.self.state ended.0.step (ap (λ (r : Resource). r.state.phase) fresh) in
     let queue : c.receive.new.self.queue ≡ [] = ended.0.queue_is ∙ ap (λ (r : Resource). r.queue) fresh in
     record {
-      consistent = (first_received n.me n.nodes n.start n.slots.entries slots now c.self.view_is was.consistent same name none c.in-Ok.slot c.receive.new.self fresh slots' c.put.ensures c.args.message.now _ _ name-is ended.0 ended.1 no_stray).0;
+      consistent = (first_received n.member.node n.member.nodes n.start n.slots.entries slots now c.self.view_is was.consistent same name none c.in-Ok.slot c.receive.new.self fresh slots' c.put.ensures c.args.message.now _ _ name-is ended.0 ended.1 no_stray).0;
       waiting = omega (arith, was.waiting, more waiting_at, ap waiting_in idle);
       queued = omega (arith, was.queued, more (λ r. length r.queue), ap (λ (queue : List Queued). length queue) queue);
       counted = omega (arith, was.counted, more (λ r. length r.queue / 2 ^ 64), ap (λ (queue : List Queued). length queue / 2 ^ 64) queue);
@@ -85,7 +85,7 @@ returns-clause-received c =
     let name-is : c.in-Request.name ≡ name_of c.args.message.now = sym (ap name_of c.in-Request.is) in
     let none = ap (λ (q : List ℕ). finmap.get c.args.self.now.resources q) name-is ∙ c.requires.first in
     let no_stray = request_is_no_stray c.in-Ok.slot c.args.message.now _ _ _ _ _ c.in-Request.is in
-    (first_received n.me n.nodes n.start n.slots.entries c.first_slot-first.new.slots.entries c.args.self.now c.self.view_is c.self.invariant.consistent c.first_slot-first.ensures.same c.in-Request.name none c.in-Ok.slot c.receive.new.self c.in-Ok.ensures.made.0
+    (first_received n.member.node n.member.nodes n.start n.slots.entries c.first_slot-first.new.slots.entries c.args.self.now c.self.view_is c.self.invariant.consistent c.first_slot-first.ensures.same c.in-Request.name none c.in-Ok.slot c.receive.new.self c.in-Ok.ensures.made.0
     c.put.new.slots.entries c.put.ensures c.args.message.now _ _ name-is ended.0 ended.1 no_stray).1
 
 pub returns-clause-consistent : goal.returns-clause-consistent

@@ -1,4 +1,4 @@
-use Rattle.std.proofs.Common.{rules, ◌∙◌, nat_eq, length}
+use Rattle.std.proofs.Common.{rules, ◌∙◌, nat_eq}
 use Rattle.indexmap.specs.IndexMap.{keys}
 use Rattle.ra_node.specs.Queue.{IsKnown}
 use Rattle.ra_node.proofs.Known.{finds, has_value, some_keys}

@@ -1,5 +1,5 @@
 use Rattle.std.proofs.Common.{replicate, ap, refl, subst, sym, ◌∙◌, ℕ, List}
-use Rattle.ra_schedule.specs.declared.progress.Progress.{Progress}
+use Rattle.ra_schedule.specs.declared.driver.client_progress.Progress.{Progress}
 use Rattle.ra_schedule.specs.Progress.{Tracks}
 use Rattle.ra_schedule.proofs.Turns.{opening_progress, tracks_none, ready_none}
 use Rattle.ra_schedule.proofs.driver.Driver.open.Goals as goal

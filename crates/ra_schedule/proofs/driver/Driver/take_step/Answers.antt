@@ -1,75 +1,97 @@
-use Rattle.std.proofs.Common.{◌≡◌, ℕ, List, drop, length, refl, sym, ap, ◌∙◌, subst, arith}
+use Rattle.std.proofs.Common.{◌≡◌, List, Result, Err, IfOk, IfErr, drop, length, refl, sym, ap, ◌∙◌, subst, arith, inr}
 use Rattle.std.specs.Option.{IfSome}
 use Rattle.ra_stamp.specs.declared.entry.Mark.{Mark}
 use Rattle.ra_world.specs.declared.step.Step.{Step}
-use Rattle.ra_world.specs.Run.{GoesOn}
+use Rattle.ra_world.specs.Traffic.{Move}
 use Rattle.ra_world.specs.World.{WorldState}
-use Rattle.ra_schedule.specs.declared.progress.Progress.{Progress}
+use Rattle.ra_schedule.specs.declared.driver.client_progress.Progress.{Progress}
+use Rattle.ra_schedule.specs.declared.error.DriveError.{DriveError}
+use Rattle.ra_schedule.specs.declared.error.DriveError.TheVariants.{Memory}
 use Rattle.ra_schedule.specs.Schedule.{StandsFor}
+use Rattle.ra_schedule.specs.Driving.{HasFault}
 use Rattle.ra_schedule.specs.PolicyState.{AreDrawsElsewhere}
 use Rattle.ra_schedule.specs.Progress.{Tracks, AreCountable, OfEach, IsProgressAfter, NoneEnters}
-use Rattle.ra_schedule.proofs.Turns.{tracks_on, draws_before, driven_more, countable, can_be_done, whole}
+use Rattle.ra_schedule.proofs.HandedOn.{no_ok, one_refusal}
+use Rattle.ra_schedule.proofs.Meanings.{not_memory}
+use Rattle.ra_schedule.proofs.Turns.{tracks_on, draws_before, driven_more, countable, whole}
 use Rattle.ra_schedule.proofs.driver.Driver.take_step.Goals as goal
 
-pub make-requires-clause-allowed : goal.make-requires-clause-allowed
-make-requires-clause-allowed c =
-    let driven = c.requires.driven in
-    let moves = c.args.world.now.moves in
-    let step = c.args.step.now in
-    let on = can_be_done c.schedules_rest_on_runs.ensures c.args.script.now moves c.args.choice step driven.nodes driven.run c.requires.means in
-    subst (λ (n : ℕ). GoesOn n c.args.world.now.start moves step) (sym driven.tracks.count)
-    (subst (λ (s : ℕ). GoesOn c.args.script.now.nodes s moves step) (sym driven.tracks.start) on)
-
-pub make-requires-clause-countable : goal.make-requires-clause-countable
-make-requires-clause-countable c =
+pub note_move-requires : goal.note_move-requires
+note_move-requires c =
     subst AreCountable (sym c.deref_mut.ensures.value)
     (countable c.args.script.now c.args.world.now c.args.self.now.clients.items c.requires.driven.tracks c.requires.countable)
 
 pub note_step_in-requires-clause-tracked : goal.note_step_in-requires-clause-tracked
 note_step_in-requires-clause-tracked c =
     let clients = c.args.self.now.clients in
-    let driven = c.requires.driven in
-    let (move, this, marks, next, after) = c.in_ok-made.ensures.ok in
-    let len : length c.make.new.clients ≡ clients.len = let same = c.make.auto.clients in let lent = c.deref_mut.ensures.len in omega arith in
-    let back = whole c.make.new.clients (drop (length c.make.new.clients) clients.items) clients.len (sym len) in
-    subst (λ (list : List Progress). Tracks c.args.script.now c.make.new.world list) (sym (c.deref.ensures.value ∙ back))
-    (tracks_on c.args.script.now c.args.world.now c.make.new.world clients.items c.make.new.clients move driven.tracks next
-    (c.make.auto.clients ∙ ap length c.deref_mut.ensures.value)
-    (subst (λ (list : List Progress). OfEach (IsProgressAfter move) list c.make.new.clients) c.deref_mut.ensures.value after))
+    let outcome = c.in-Ok-step_near.outcome in
+    let move : Move = record { step = c.in-Ok.step; sends = outcome.sends.items; marks = outcome.marks.items } in
+    let after = c.note_move.ensures move refl (sym c.as_slice-marks.ensures) in
+    let len : length c.note_move.new.list ≡ clients.len = let same = c.note_move.auto.list in let lent = c.deref_mut.ensures.len in omega arith in
+    let back = whole c.note_move.new.list (drop (length c.note_move.new.list) clients.items) clients.len (sym len) in
+    subst (λ (list : List Progress). Tracks c.args.script.now c.step_near.new.self list) (sym (c.deref.ensures.value ∙ back))
+    (tracks_on c.args.script.now c.args.world.now c.step_near.new.self clients.items c.note_move.new.list move c.requires.driven.tracks c.in-Ok-step_near.ensures.ok
+    (c.note_move.auto.list ∙ ap length c.deref_mut.ensures.value)
+    (subst (λ (list : List Progress). OfEach (IsProgressAfter move) list c.note_move.new.list) c.deref_mut.ensures.value after))
 
 pub note_step_in-requires-clause-draws : goal.note_step_in-requires-clause-draws
 note_step_in-requires-clause-draws c =
-    let script = c.args.script.now in
-    let moves = c.make.new.world.moves in
-    let draws = c.args.self.now.draws in
-    let (move, this, marks, next, after) = c.in_ok-made.ensures.ok in
-    let told : c.as_slice-marks.result.now ≡ move.marks = c.as_slice-marks.ensures ∙ sym marks in
-    let kept = draws_before script c.args.world.now c.make.new.world c.args.self.now move c.requires.driven next c.in_ok-made.ensures.run
-    c.schedules_rest_on_runs.ensures c.args.choice (subst (StandsFor script c.args.world.now.moves c.args.choice) (sym this) c.requires.means) in
-    subst (λ (ms : List Mark). IfSome draws (AreDrawsElsewhere c.args.step.now ms script moves)) (sym told)
-    (subst (λ (s : Step). IfSome draws (AreDrawsElsewhere s move.marks script moves)) this kept)
+    let means = subst (λ (m : Result Step DriveError). IfOk m (StandsFor c.args.script.now c.args.world.now.moves c.args.picked.now.choice)) c.in-Ok.is
+    c.requires.meaning.ok in
+    let outcome = c.in-Ok-step_near.outcome in
+    let move : Move = record { step = c.in-Ok.step; sends = outcome.sends.items; marks = outcome.marks.items } in
+    let kept = draws_before c.args.script.now c.args.world.now c.step_near.new.self c.args.self.now move c.requires.driven c.in-Ok-step_near.ensures.ok c.in-Ok-step_near.ensures.run
+    c.schedules_rest_on_runs.ensures c.args.picked.now.choice means in
+    subst (λ (ms : List Mark). IfSome c.args.self.now.draws (AreDrawsElsewhere c.in-Ok.step ms c.args.script.now c.step_near.new.self.moves)) (sym c.as_slice-marks.ensures) kept
 
 pub returns-clause-ok : goal.returns-clause-ok
 returns-clause-ok c =
+    let means = subst (λ (m : Result Step DriveError). IfOk m (StandsFor c.args.script.now c.args.world.now.moves c.args.picked.now.choice)) c.in-Ok.is
+    c.requires.meaning.ok in
     let script = c.args.script.now in
     let clients = c.args.self.now.clients in
-    let (move, this, marks, next, after) = c.in_ok-made.ensures.ok in
-    let len : length c.make.new.clients ≡ clients.len = let same = c.make.auto.clients in let lent = c.deref_mut.ensures.len in omega arith in
-    let back = whole c.make.new.clients (drop (length c.make.new.clients) clients.items) clients.len (sym len) in
-    let told : c.as_slice-marks.result.now ≡ move.marks = c.as_slice-marks.ensures ∙ sym marks in
-    let means = subst (StandsFor script c.args.world.now.moves c.args.choice) (sym this) c.requires.means in
-    let after' = subst (λ (list : List Progress). OfEach (IsProgressAfter move) list c.make.new.clients) c.deref_mut.ensures.value after in
+    let outcome = c.in-Ok-step_near.outcome in
+    let move : Move = record { step = c.in-Ok.step; sends = outcome.sends.items; marks = outcome.marks.items } in
+    let next = c.in-Ok-step_near.ensures.ok in
+    let len : length c.note_move.new.list ≡ clients.len = let same = c.note_move.auto.list in let lent = c.deref_mut.ensures.len in omega arith in
+    let back = whole c.note_move.new.list (drop (length c.note_move.new.list) clients.items) clients.len (sym len) in
+    let after = subst (λ (list : List Progress). OfEach (IsProgressAfter move) list c.note_move.new.list) c.deref_mut.ensures.value
+    (c.note_move.ensures move refl (sym c.as_slice-marks.ensures)) in
     record {
-      driven = driven_more script c.args.world.now c.make.new.world c.args.self.now move c.requires.driven next c.in_ok-made.ensures.run _
-          (subst (λ (list : List Progress). Tracks script c.make.new.world list) (sym back)
-          (tracks_on script c.args.world.now c.make.new.world clients.items c.make.new.clients move c.requires.driven.tracks next
-          (c.make.auto.clients ∙ ap length c.deref_mut.ensures.value) after'))
-          (subst (λ (list : List Progress). OfEach (IsProgressAfter move) clients.items list) (sym back) after')
-          c.first_entered-self.ensures.not_past (subst (NoneEnters c.first_entered-self.result) told c.first_entered-self.ensures.none)
+      driven = driven_more script c.args.world.now c.step_near.new.self c.args.self.now move c.requires.driven next c.in-Ok-step_near.ensures.run _
+          (subst (λ (list : List Progress). Tracks script c.step_near.new.self list) (sym back)
+          (tracks_on script c.args.world.now c.step_near.new.self clients.items c.note_move.new.list move c.requires.driven.tracks next
+          (c.note_move.auto.list ∙ ap length c.deref_mut.ensures.value) after))
+          (subst (λ (list : List Progress). OfEach (IsProgressAfter move) clients.items list) (sym back) after)
+          c.first_entered-self.ensures.not_past (subst (NoneEnters c.first_entered-self.result) c.as_slice-marks.ensures c.first_entered-self.ensures.none)
           c.note_step_in.ensures.draws
-          (c.in_ok-keep.ensures.steps c.args.world.now.moves move this c.requires.driven.steps);
+          (c.in_ok-keep.ensures.steps c.args.world.now.moves move refl c.requires.driven.steps);
       drawn = c.note_step_in.ensures.generator;
       records = refl;
       choices = λ kept. c.in_ok-keep.ensures.choices kept;
       made = (move, means, ap (λ (w : WorldState). w.moves) next);
     }
+
+pub returns-clause-memory : goal.returns-clause-memory
+returns-clause-memory c is = absurd (no_ok is)
+
+pub returns-in-Err-clause-err : goal.returns-in-Err-clause-err
+returns-in-Err-clause-err c =
+    inr (subst (λ (m : Result Step DriveError). IfErr m (HasFault c.args.script.now c.args.world.now.moves c.args.picked.now.choice)) c.in-Err.is c.requires.meaning.err)
+
+pub returns-in-Err-clause-memory : goal.returns-in-Err-clause-memory
+returns-in-Err-clause-memory c is =
+    absurd (not_memory c.args.script.now c.args.world.now.moves c.args.picked.now.choice c.args.picked.now.meaning c.in-Err.fault c.in-Err.is c.requires.meaning.err
+    (one_refusal {X = Unit {0}} (Err c.in-Err.fault) c.in-Err.fault Memory refl is))
+
+pub returns-in_err-keep-clause-memory : goal.returns-in_err-keep-clause-memory
+returns-in_err-keep-clause-memory c is = (
+  c.in-Ok.step,
+  subst (λ (m : Result Step DriveError). IfOk m (StandsFor c.args.script.now c.args.world.now.moves c.args.picked.now.choice)) c.in-Ok.is c.requires.meaning.ok,
+)
+
+pub returns-in_default-clause-memory : goal.returns-in_default-clause-memory
+returns-in_default-clause-memory c is = (
+  c.in-Ok.step,
+  subst (λ (m : Result Step DriveError). IfOk m (StandsFor c.args.script.now c.args.world.now.moves c.args.picked.now.choice)) c.in-Ok.is c.requires.meaning.ok,
+)

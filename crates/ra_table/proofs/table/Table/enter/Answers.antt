@@ -1,24 +1,24 @@
-use Rattle.std.proofs.Common.{◌≡◌, ℕ, List, [], ◌∷◌, ◌++◌, Result, Err, Ok, IfErr, refl, sym, ap, ◌∙◌, subst}
+use Rattle.std.proofs.Common.{◌≡◌, ℕ, List, [], ◌∷◌, ◌++◌, Result, Err, Ok, refl, rules, sym, ap, ◌∙◌, subst}
 use Rattle.ra_stamp.specs.declared.entry.Entry.{Entry}
 use Rattle.ra_stamp.specs.declared.entry.Mark.TheVariants.{Entered}
 use Rattle.ra_table.specs.Table.{LockTable, Gains, Loses}
 use Rattle.ra_table.specs.declared.error.EnterError.{EnterError}
-use Rattle.ra_table.specs.declared.error.EnterError.TheVariants.{Memory}
 use Rattle.ra_table.specs.Highest.{AreHighest}
-use Rattle.ra_table.specs.Lanes.{Standing, on_name, StandsAt}
+use Rattle.ra_table.specs.Lanes.{on_name, StandsAt}
 use Rattle.ra_table.proofs.Conflicts.{stays_conflict_free}
-use Rattle.ra_table.proofs.Kept.{on_err}
 use Rattle.ra_table.proofs.Moves.{Gains-push}
-use Rattle.ra_table.proofs.Refused.{EnterTells, same_fault, fault_is, enter_refused, enter_made, same_table, kept_as}
+use Rattle.ra_table.proofs.Refused.{EnterTells, same_fault, enter_refused, enter_made}
 use Rattle.ra_table.proofs.table.Table.enter.Goals as goal
 
 pub returns-clause-ok : goal.returns-clause-ok
 returns-clause-ok c =
     let e = c.args.entry.now in
+    let loses : Loses c.self.inside.lanes.waiting e c.grant.new.self.waiting = search rules in
+    let gains : Gains c.self.inside.lanes.holding e c.grant.new.self.holding = search rules in
     let granted-is : c.and-self-inside.result.items ≡ c.args.self.now.granted ++ e ∷ [] = c.and-self-inside.ensures ∙ ap (λ (t : LockTable). t.granted ++ e ∷ []) c.self.view_is in (
       c.in_ok-place.ensures.allowed.0 refl,
-      subst (λ (es : List Entry). Loses es e c.grant.new.self.waiting) (ap (λ (t : LockTable). t.waiting) c.self.view_is) c.in_ok-grant.ensures.waiting,
-      subst (λ (es : List Entry). Gains es e c.grant.new.self.holding) (ap (λ (t : LockTable). t.holding) c.self.view_is) c.in_ok-grant.ensures.holding,
+      subst (λ (es : List Entry). Loses es e c.grant.new.self.waiting) (ap (λ (t : LockTable). t.waiting) c.self.view_is) loses,
+      subst (λ (es : List Entry). Gains es e c.grant.new.self.holding) (ap (λ (t : LockTable). t.holding) c.self.view_is) gains,
       subst (Gains c.args.self.now.granted e) (sym granted-is) (Gains-push c.args.self.now.granted e),
     )
 
@@ -77,61 +77,3 @@ returns-in_err-place-clause-allowed c = (refused c).allowed
 
 pub returns-in_err-place-clause-exclusive : goal.returns-in_err-place-clause-exclusive
 returns-in_err-place-clause-exclusive c = c.in_err-place.ensures.exclusive
-
--- ---- It may be granted, and there is no memory for its name's highest number
-
-pub invariant_of-self : goal.invariant_of-self
-invariant_of-self c = kept_as _ _ _ _ _ _ refl refl c.make_room.ensures.same c.self.invariant
-
-pub returns-in_err-make_room-clause-exclusive : goal.returns-in_err-make_room-clause-exclusive
-returns-in_err-make_room-clause-exclusive c = c.self.invariant.conflict_free
-
-pub returns-in_err-make_room-clause-err : goal.returns-in_err-make_room-clause-err
-returns-in_err-make_room-clause-err c =
-    on_err c.from_residual-in_err-make_room.result _ (same_table c.self.inside.lanes c.self.inside.lanes c.self.inside.granted.items c.self.inside.granted.items c.args.self.now refl refl c.self.view_is)
-
-no_number : (c : goal.After-from_residual-in_err-make_room) → EnterTells c.from_residual-in_err-make_room.result c.args.self.now c.args.entry.now
-no_number c =
-    let memory : IfErr c.from_residual-in_err-make_room.result (λ fault. fault ≡ Memory) = fault_is _ c.from_residual-in_err-make_room.result c.from_residual-in_err-make_room.ensures.1 in
-    enter_made c.from_residual-in_err-make_room.result c.args.self.now c.args.entry.now (c.in_ok-place.ensures.allowed.0 refl) memory
-
-pub returns-in_err-make_room-clause-not_waiting : goal.returns-in_err-make_room-clause-not_waiting
-returns-in_err-make_room-clause-not_waiting c = (no_number c).not_waiting
-
-pub returns-in_err-make_room-clause-held : goal.returns-in_err-make_room-clause-held
-returns-in_err-make_room-clause-held c = (no_number c).held
-
-pub returns-in_err-make_room-clause-earlier : goal.returns-in_err-make_room-clause-earlier
-returns-in_err-make_room-clause-earlier c = (no_number c).earlier
-
-pub returns-in_err-make_room-clause-allowed : goal.returns-in_err-make_room-clause-allowed
-returns-in_err-make_room-clause-allowed c = (no_number c).allowed
-
--- ---- none for it to hold
-
-pub invariant_of-self-in_err-grant : goal.invariant_of-self-in_err-grant
-invariant_of-self-in_err-grant c = kept_as _ _ _ _ _ _ (ap (λ (l : Standing). l.holding) c.in_err-grant.ensures.err) refl c.make_room.ensures.same c.self.invariant
-
-pub returns-in_err-grant-clause-exclusive : goal.returns-in_err-grant-clause-exclusive
-returns-in_err-grant-clause-exclusive c = (invariant_of-self-in_err-grant c).conflict_free
-
-pub returns-in_err-grant-clause-err : goal.returns-in_err-grant-clause-err
-returns-in_err-grant-clause-err c =
-    on_err c.from_residual-in_err-grant.result _ (same_table c.self.inside.lanes c.grant.new.self c.self.inside.granted.items c.self.inside.granted.items c.args.self.now c.in_err-grant.ensures.err refl c.self.view_is)
-
-no_hold : (c : goal.After-from_residual-in_err-grant) → EnterTells c.from_residual-in_err-grant.result c.args.self.now c.args.entry.now
-no_hold c =
-    let memory : IfErr c.from_residual-in_err-grant.result (λ fault. fault ≡ Memory) = fault_is _ c.from_residual-in_err-grant.result c.from_residual-in_err-grant.ensures.1 in
-    enter_made c.from_residual-in_err-grant.result c.args.self.now c.args.entry.now (c.in_ok-place.ensures.allowed.0 refl) memory
-
-pub returns-in_err-grant-clause-not_waiting : goal.returns-in_err-grant-clause-not_waiting
-returns-in_err-grant-clause-not_waiting c = (no_hold c).not_waiting
-
-pub returns-in_err-grant-clause-held : goal.returns-in_err-grant-clause-held
-returns-in_err-grant-clause-held c = (no_hold c).held
-
-pub returns-in_err-grant-clause-earlier : goal.returns-in_err-grant-clause-earlier
-returns-in_err-grant-clause-earlier c = (no_hold c).earlier
-
-pub returns-in_err-grant-clause-allowed : goal.returns-in_err-grant-clause-allowed
-returns-in_err-grant-clause-allowed c = (no_hold c).allowed

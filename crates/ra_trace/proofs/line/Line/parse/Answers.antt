@@ -1,4 +1,4 @@
-use Rattle.std.proofs.Common.{◌≡◌, sym, ◌∙◌}
+use Rattle.std.proofs.Common.{sym, ◌∙◌}
 use Rattle.ra_trace.proofs.Lines.{is_line, is_no_line}
 use Rattle.ra_trace.proofs.line.Line.parse.Goals as goal
 

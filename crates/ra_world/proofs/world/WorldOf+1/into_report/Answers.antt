@@ -1,6 +1,7 @@
 use Rattle.std.proofs.Common.{refl, sym, ap, ◌∙◌, subst}
 use Rattle.ra_world.specs.Run.{marks_of}
 use Rattle.ra_world.specs.World.{WorldState, Reports}
+use Rattle.ra_world.proofs.WorldLaws.{reports_meet_the_main_theorem}
 use Rattle.ra_world.proofs.world.WorldOf+1.into_report.Goals as goal
 
 pub returns-clause-report : goal.returns-clause-report
@@ -12,4 +13,4 @@ returns-clause-report c =
 pub returns-clause-main_theorem : goal.returns-clause-main_theorem
 returns-clause-main_theorem c =
     let s = c.args.self in
-    c.reports_meet_the_main_theorem.ensures s.count s.start s.moves c.with_marks.result c.figures-figures.ensures.count c.figures-figures.ensures.run (returns-clause-report c)
+    reports_meet_the_main_theorem s.count s.start s.moves c.with_marks.result c.figures-figures.ensures.count c.figures-figures.ensures.run (returns-clause-report c)

@@ -6,6 +6,7 @@ use Rattle.ra_world.specs.declared.step.Step.TheVariants.{Deliver, Lose, Repeat}
 use Rattle.ra_world.specs.Run.{GoesOn}
 use Rattle.ra_world.specs.World.{WorldState}
 use Rattle.ra_world.proofs.Worlds.{accepted_message}
+use Rattle.ra_world.proofs.WorldLaws.{kept_runs_go_on, deliver_allowed, lose_allowed, repeat_allowed}
 use Rattle.ra_world.proofs.world.WorldOf.accepts.Goals as goal
 
 pub returns-in-Ask-clause-value : goal.returns-in-Ask-clause-value
@@ -17,14 +18,13 @@ pub returns-in-Deliver-clause-value : goal.returns-in-Deliver-clause-value
 returns-in-Deliver-clause-value g c =
     let w = c.self.inside in
     let k = c.self.invariant in
-    let laws = c.runs_go_on_where_steps_are_allowed.ensures in
     let some : (m : Message) × ((c.args.step.now ≡ Deliver m) ⊎ ((c.args.step.now ≡ Lose m) ⊎ (c.args.step.now ≡ Repeat m))) × (IsTrue c.contains.result ↔ Contains w.under_way.items m) =
     search rules in
     let m = some.0 in
     subst (λ (s : WorldState). IsTrue c.contains.result ↔ GoesOn s.count s.start s.moves c.args.step.now) c.self.view_is
     (accepted_message (length w.nodes.items) w.start w.log.moves w.under_way.items c.args.step.now m c.contains.result
-    (laws.deliver (length w.nodes.items) w.start w.log.moves k.count k.run m)
-    (laws.lose (length w.nodes.items) w.start w.log.moves k.count k.run m)
-    (laws.repeat (length w.nodes.items) w.start w.log.moves k.count k.run m)
-    (c.kept_runs_go_on.ensures.under_way w.start w.nodes.items w.under_way.items w.log.moves m k)
+    (deliver_allowed (length w.nodes.items) w.start w.log.moves k.count k.run m)
+    (lose_allowed (length w.nodes.items) w.start w.log.moves k.count k.run m)
+    (repeat_allowed (length w.nodes.items) w.start w.log.moves k.count k.run m)
+    (kept_runs_go_on.under_way w.start w.nodes.items w.under_way.items w.log.moves m k)
     some.2 some.1)

@@ -5,36 +5,33 @@ use Rattle.ra_node.specs.Turns.{MayAsk}
 use Rattle.ra_node.specs.Node.{NodeState, resource_at}
 use Rattle.ra_node.specs.declared.error.AskError.TheVariants as refused
 use Rattle.ra_world.specs.declared.step.Step.TheVariants.{Ask}
-use Rattle.ra_world.specs.declared.error.StepError.{StepError}
+use Rattle.ra_world.specs.declared.error.StepError.TheVariants.{Memory}
 use Rattle.ra_world.specs.World.{HasCause}
 use Rattle.ra_world.specs.Keeping.{Tries}
 use Rattle.ra_world.specs.Refused.{refusal_of_ask}
-use Rattle.ra_world.proofs.StepTries.{shown, with_cause, at_err, short, same_nodes, ask_refused, ask_on, reads_same, memory_of_ask, few_carried, room_for, kept_by, here, run_of}
+use Rattle.ra_world.proofs.StepTries.{shown, short, same_nodes, ask_on, ask_fails, few_carried, room_for, kept_by, here, run_of}
 use Rattle.ra_world.proofs.StepAnswers.{kept_run}
 use Rattle.ra_world.proofs.AtPlace.{place_in, number_above, number_of, count_with, kept_as, kept_back, moved, sends_fit}
+use Rattle.ra_node.proofs.EventsKept.{event_room}
+use Rattle.ra_world.proofs.GoingOn.{ask_goes_on}
+use Rattle.ra_world.proofs.WorldLaws.{kept_runs_go_on, laws_below}
 use Rattle.ra_world.proofs.world.WorldOf.ask.Goals as goal
 
 pub returns-in_err-may_ask-clause-tried : goal.returns-in_err-may_ask-clause-tried
 returns-in_err-may_ask-clause-tried g c =
     let w = c.self.inside in
     let old = c.index-asked.result.now in
-    let e = c.in_err-may_ask.field-0.0 in
     let place = c.in-Some.place in
     let number : place + 1 ≡ c.args.node = c.in-Some.ensures.some.0 in
     let within = place_in w.nodes.items c.deref.result.now place c.deref.ensures.value c.in-Some.ensures.some.1 in
-    let at = c.index-asked.ensures in
-    let why = ask_refused w.start w.nodes.items w.under_way.items w.log.moves place c.args.node c.args.client c.args.name c.args.mode old e
-    c.self.invariant number within at
-    (λ is. c.in_err-may_ask.ensures.busy.0 (ap Err is)) (λ is. c.in_err-may_ask.ensures.exhausted.0 (ap Err is)) (λ is. c.in_err-may_ask.ensures.no_memory (ap Err is)) in
-    at_err c.from_residual.result (λ x. x ≡ refusal_of_ask e) (λ r. Tries c.args.self.now (Ask c.args.node c.args.client c.args.name c.args.mode) r c.args.self.now) c.from_residual.ensures.1
-    (λ x is. (
-      refl,
-      with_cause w.start w.nodes.items w.log.moves c.args.self.now (Ask c.args.node c.args.client c.args.name c.args.mode) x c.self.view_is
-          (subst (λ (y : StepError). HasCause (length w.nodes.items) w.start w.log.moves (Ask c.args.node c.args.client c.args.name c.args.mode) y) (sym is) why),
-    ))
+    ask_fails (λ n start moves. ask_goes_on laws_below n start moves) w.start w.nodes.items w.under_way.items w.log.moves place c.args.node c.args.client c.args.name c.args.mode old
+    c.args.self.now _ c.in_err-may_ask.field-0.0 c.from_residual.result c.self.invariant number within c.index-asked.ensures
+    c.self.view_is (ap (shown w.start w.nodes.items) c.make_room.ensures.moves)
+    (λ is. c.in_err-may_ask.ensures.busy.0 (ap Err is)) (λ is. c.in_err-may_ask.ensures.exhausted.0 (ap Err is)) (λ is. absurd (c.in_err-may_ask.ensures.no_memory (ap Err is)))
+    c.from_residual.ensures.1
 
-pub returns-in_err-make_room-clause-tried : goal.returns-in_err-make_room-clause-tried
-returns-in_err-make_room-clause-tried g c =
+pub returns-in_default-make_room-clause-tried : goal.returns-in_default-make_room-clause-tried
+returns-in_default-make_room-clause-tried g c =
     let w = c.self.inside in
     let old = c.index-asked.result.now in
     let place = c.in-Some.place in
@@ -42,30 +39,25 @@ returns-in_err-make_room-clause-tried g c =
     let within = place_in w.nodes.items c.deref.result.now place c.deref.ensures.value c.in-Some.ensures.some.1 in
     let at = c.index-asked.ensures in
     let may = c.in_ok-may_ask.ensures.allowed.0 refl in
-    short w.start w.nodes.items w.log.moves c.args.self.now _ (Ask c.args.node c.args.client c.args.name c.args.mode) c.from_residual-in_err-make_room.result c.self.view_is
+    short w.start w.nodes.items w.log.moves c.args.self.now _ (Ask c.args.node c.args.client c.args.name c.args.mode) (Err Memory) c.self.view_is
     (ap (shown w.start w.nodes.items) c.make_room.ensures.moves)
-    (ask_on c.runs_go_on_where_steps_are_allowed.ensures.ask w.start w.nodes.items w.under_way.items w.log.moves place c.args.node c.args.client c.args.name c.args.mode old
+    (ask_on (λ n start moves. ask_goes_on laws_below n start moves) w.start w.nodes.items w.under_way.items w.log.moves place c.args.node c.args.client c.args.name c.args.mode old
     c.self.invariant number within at may) (inl tt)
-    c.from_residual-in_err-make_room.ensures.1
+    refl
 
 pub returns-in_err-outcome-clause-tried : goal.returns-in_err-outcome-clause-tried
 returns-in_err-outcome-clause-tried g c =
     let w = c.self.inside in
-    let first = c.index-asked.result.now in
     let old = c.index_mut-asked.result.now in
     let place = c.in-Some.place in
     let number : place + 1 ≡ c.args.node = c.in-Some.ensures.some.0 in
     let within = place_in w.nodes.items c.deref.result.now place c.deref.ensures.value c.in-Some.ensures.some.1 in
-    let at_first = c.index-asked.ensures in
     let at = c.index_mut-asked.ensures.value in
-    let may_first = c.in_ok-may_ask.ensures.allowed.0 refl in
-    let may = subst (λ (s : NodeState). MayAsk (resource_at s c.args.name) c.args.client) (sym (reads_same w.nodes.items place first old within at_first at)) may_first in
-    let memory : c.in_err-outcome.field-0.0 ≡ refused.Memory = c.in_err-outcome.ensures.allowed.1 may in
-    short w.start w.nodes.items w.log.moves c.args.self.now _ (Ask c.args.node c.args.client c.args.name c.args.mode) c.from_residual-in_err-outcome.result c.self.view_is
-    (same_nodes w.start w.nodes.items w.log.moves c.make_room.new.log.moves place old c.ask.new.self at c.in_err-outcome.ensures.err c.make_room.ensures.moves)
-    (ask_on c.runs_go_on_where_steps_are_allowed.ensures.ask w.start w.nodes.items w.under_way.items w.log.moves place c.args.node c.args.client c.args.name c.args.mode old
-    c.self.invariant number within at may) (inl tt)
-    (memory_of_ask c.from_residual-in_err-outcome.result c.in_err-outcome.field-0.0 c.from_residual-in_err-outcome.ensures.1 memory)
+    ask_fails (λ n start moves. ask_goes_on laws_below n start moves) w.start w.nodes.items w.under_way.items w.log.moves place c.args.node c.args.client c.args.name c.args.mode old
+    c.args.self.now _ c.in_err-outcome.field-0.0 c.from_residual-in_err-outcome.result c.self.invariant number within at
+    c.self.view_is (same_nodes w.start w.nodes.items w.log.moves c.make_room.new.log.moves place old c.ask.new.self at c.in_err-outcome.ensures.err c.make_room.ensures.moves)
+    (λ is. c.in_err-outcome.ensures.busy.0 (ap Err is)) (λ is. c.in_err-outcome.ensures.exhausted.0 (ap Err is)) (λ is. c.in_err-outcome.ensures.allowed.0 is)
+    c.from_residual-in_err-outcome.ensures.1
 
 pub returns-in_err-outcome-clause-run : goal.returns-in_err-outcome-clause-run
 returns-in_err-outcome-clause-run g c =
@@ -81,7 +73,7 @@ invariant_of-self-2 g c =
     let number : place + 1 ≡ c.args.node = c.in-Some.ensures.some.0 in
     let within = place_in w.nodes.items c.deref.result.now place c.deref.ensures.value c.in-Some.ensures.some.1 in
     let at = c.index_mut-asked.ensures.value in
-    kept_by c.kept_runs_go_on.ensures.event w.start w.nodes.items w.under_way.items w.under_way.items c.keep.new.under_way.items w.log.moves c.make_room.new.log.moves c.keep.new.log.moves
+    kept_by kept_runs_go_on.event w.start w.nodes.items w.under_way.items w.under_way.items c.keep.new.under_way.items w.log.moves c.make_room.new.log.moves c.keep.new.log.moves
     (record { step = Ask c.args.node c.args.client c.args.name c.args.mode; sends = outcome.sends.items; marks = outcome.marks.items })
     place c.args.node (AskedFor c.args.client c.args.name c.args.mode) old c.ask.new.self c.self.invariant number within at
     (number_of w.nodes.items place c.args.node number within) (here c.args.node (AskedFor c.args.client c.args.name c.args.mode))
@@ -103,13 +95,13 @@ keep-requires g c =
     let within = place_in w.nodes.items c.deref.result.now place c.deref.ensures.value c.in-Some.ensures.some.1 in
     let at_first = c.index-asked.ensures in
     let at = c.index_mut-asked.ensures.value in
-    let few = few_carried c.events_keep_a_node_consistent.ensures.room_by_event w.nodes.items place first old c.ask.new.self (AskedFor c.args.client c.args.name c.args.mode)
+    let few = few_carried event_room w.nodes.items place first old c.ask.new.self (AskedFor c.args.client c.args.name c.args.mode)
     outcome.sends.items outcome.marks.items
-    (c.kept_runs_go_on.ensures.counts w.start w.nodes.items w.under_way.items w.log.moves place c.self.invariant within) within at_first at c.may_ask.ensures.consistent c.in_ok-outcome.ensures.ok in (
+    (kept_runs_go_on.counts w.start w.nodes.items w.under_way.items w.log.moves place c.self.invariant within) within at_first at c.waiting-waiting.ensures.consistent c.in_ok-outcome.ensures.ok in (
       lit< tt,
       (
-        sends_fit w.nodes.items c.deref.result.now _ _ _ _ c.deref.ensures.value c.deref.ensures.len c.len-sends.ensures few.0 c.in_ok-make_room.ensures.bag_room,
-        room_for c.make_room.new.log (length outcome.marks.items) 2 c.in_ok-make_room.ensures.log_room few.1,
+        sends_fit w.nodes.items c.deref.result.now _ _ _ _ c.deref.ensures.value c.deref.ensures.len c.len-sends.ensures few.0 c.in-Ok.ensures.bag_room,
+        room_for c.make_room.new.log (length outcome.marks.items) 2 c.in-Ok.ensures.log_room few.1,
       ),
     )
 
@@ -131,27 +123,28 @@ returns-in_default-clause-count g c =
 pub index-asked-requires : goal.index-asked-requires
 index-asked-requires g c = subst (λ (n : ℕ). c.in-Some.place < n) c.deref.ensures.len c.in-Some.ensures.some.1
 
-pub returns-in_err-may_ask-clause-run : goal.returns-in_err-may_ask-clause-run
-returns-in_err-may_ask-clause-run g c =
-    let w = c.self.inside in
-    (kept_run w.start w.nodes.items w.under_way.items w.log.moves c.args.self.now c.self.invariant c.self.view_is).1
-
-pub returns-in_err-may_ask-clause-count : goal.returns-in_err-may_ask-clause-count
-returns-in_err-may_ask-clause-count g c =
-    let w = c.self.inside in
-    (kept_run w.start w.nodes.items w.under_way.items w.log.moves c.args.self.now c.self.invariant c.self.view_is).0
-
 pub invariant_of-self : goal.invariant_of-self
 invariant_of-self g c =
     let w = c.self.inside in
     kept_as w.start w.nodes.items w.under_way.items c.make_room.new.under_way.items w.log.moves c.make_room.new.log.moves c.self.invariant
     c.make_room.ensures.messages c.make_room.ensures.moves
 
-pub returns-in_err-make_room-clause-run : goal.returns-in_err-make_room-clause-run
-returns-in_err-make_room-clause-run g c = (invariant_of-self g c).run
+pub returns-in_err-may_ask-clause-run : goal.returns-in_err-may_ask-clause-run
+returns-in_err-may_ask-clause-run g c =
+    (invariant_of-self g c).run
 
-pub returns-in_err-make_room-clause-count : goal.returns-in_err-make_room-clause-count
-returns-in_err-make_room-clause-count g c = c.self.invariant.count
+pub returns-in_err-may_ask-clause-count : goal.returns-in_err-may_ask-clause-count
+returns-in_err-may_ask-clause-count g c =
+    c.self.invariant.count
+
+pub returns-in_default-make_room-clause-run : goal.returns-in_default-make_room-clause-run
+returns-in_default-make_room-clause-run g c =
+    let w = c.self.inside in
+    (kept_as w.start w.nodes.items w.under_way.items c.make_room.new.under_way.items w.log.moves c.make_room.new.log.moves c.self.invariant
+    c.make_room.ensures.messages c.make_room.ensures.moves).run
+
+pub returns-in_default-make_room-clause-count : goal.returns-in_default-make_room-clause-count
+returns-in_default-make_room-clause-count g c = c.self.invariant.count
 
 pub index_mut-asked-requires : goal.index_mut-asked-requires
 index_mut-asked-requires g c = subst (λ (n : ℕ). c.in-Some.place < n) c.deref.ensures.len c.in-Some.ensures.some.1

@@ -12,12 +12,13 @@ use Rattle.ra_world.specs.declared.step.Step.TheVariants.{Deliver}
 use Rattle.ra_world.specs.declared.error.StepError.TheVariants.{NotUnderWay, Memory}
 use Rattle.ra_world.proofs.StepTries.{shown, with_cause, short, same_nodes, at_node, node_here, took_first, room_here, kept_by, here, run_of}
 use Rattle.ra_world.proofs.AtPlace.{place_in, count_with, kept_as, kept_back, moved, sends_fit_still}
+use Rattle.ra_world.proofs.WorldLaws.{kept_runs_go_on, deliver_allowed}
 use Rattle.ra_world.proofs.world.WorldOf.deliver.Goals as goal
 
 pub returns-in_default-clause-tried : goal.returns-in_default-clause-tried
 returns-in_default-clause-tried g c =
     let w = c.self.inside in
-    let under = c.kept_runs_go_on.ensures.under_way w.start w.nodes.items w.under_way.items w.log.moves c.args.message.now c.self.invariant in
+    let under = kept_runs_go_on.under_way w.start w.nodes.items w.under_way.items w.log.moves c.args.message.now c.self.invariant in
     let absent : Contains w.under_way.items c.args.message.now → ⊥ = λ there. let some = c.in_default.ensures.found.1 there in absurd cc in
     (c.self.view_is, with_cause w.start w.nodes.items w.log.moves c.args.self.now (Deliver c.args.message.now) NotUnderWay c.self.view_is (λ on. absent (under.0 on)))
 
@@ -25,7 +26,7 @@ pub unreachable-requires : goal.unreachable-requires
 unreachable-requires g c =
     let w = c.self.inside in
     let there : Contains w.under_way.items c.args.message.now = c.in-Some.ensures.found.0 refl in
-    let taken = c.kept_runs_go_on.ensures.is_taken w.start w.nodes.items w.under_way.items w.log.moves c.args.message.now c.self.invariant there in
+    let taken = kept_runs_go_on.is_taken w.start w.nodes.items w.under_way.items w.log.moves c.args.message.now c.self.invariant there in
     omega (arith, taken.0, c.in_default-place_of.ensures.none.0 refl, c.to.ensures, ap length c.deref.ensures.value)
 
 pub returns-in_err-make_room_for-clause-tried : goal.returns-in_err-make_room_for-clause-tried
@@ -33,10 +34,10 @@ returns-in_err-make_room_for-clause-tried g c =
     let w = c.self.inside in
     let k = c.self.invariant in
     let there : Contains w.under_way.items c.args.message.now = c.in-Some.ensures.found.0 refl in
-    let under = c.kept_runs_go_on.ensures.under_way w.start w.nodes.items w.under_way.items w.log.moves c.args.message.now k in
+    let under = kept_runs_go_on.under_way w.start w.nodes.items w.under_way.items w.log.moves c.args.message.now k in
     short w.start w.nodes.items w.log.moves c.args.self.now _ (Deliver c.args.message.now) c.from_residual.result c.self.view_is
     (ap (shown w.start w.nodes.items) c.make_room_for.ensures.moves)
-    ((c.runs_go_on_where_steps_are_allowed.ensures.deliver _ w.start w.log.moves k.count k.run c.args.message.now).1 (under.1 there))
+    ((deliver_allowed _ w.start w.log.moves k.count k.run c.args.message.now).1 (under.1 there))
     (elim c.in_err-make_room_for.ensures.err [
       | inl brings ↦ inl (at_node w.start w.nodes.items w.under_way.items w.log.moves c.in-Some-place_of.place (to_of c.args.message.now) c.index-receiver.result.now (λ s. BringsNothing s c.args.message.now → ⊥) k
           (c.in-Some-place_of.ensures.some.0 ∙ c.to.ensures) (place_in w.nodes.items c.deref.result.now c.in-Some-place_of.place c.deref.ensures.value c.in-Some-place_of.ensures.some.1) c.index-receiver.ensures brings)
@@ -52,7 +53,7 @@ returns-in-Err-Memory-clause-tried g c =
     let place = c.in-Some-place_of.place in
     let old = c.index_mut-receiver.result.now in
     let there : Contains w.under_way.items message = c.in-Some.ensures.found.0 refl in
-    let under = c.kept_runs_go_on.ensures.under_way w.start w.nodes.items w.under_way.items w.log.moves message k in
+    let under = kept_runs_go_on.under_way w.start w.nodes.items w.under_way.items w.log.moves message k in
     let number : place + 1 ≡ to_of message = c.in-Some-place_of.ensures.some.0 ∙ c.to.ensures in
     let within = place_in w.nodes.items c.deref.result.now place c.deref.ensures.value c.in-Some-place_of.ensures.some.1 in
     let at = c.index_mut-receiver.ensures.value in
@@ -60,7 +61,7 @@ returns-in-Err-Memory-clause-tried g c =
     c.in-Err-Memory.ensures.memory_only_to_bring (ap Err c.in-Err-Memory.field-0-is) in
     short w.start w.nodes.items w.log.moves c.args.self.now _ (Deliver message) (Err Memory) c.self.view_is
     (same_nodes w.start w.nodes.items w.log.moves c.make_room_for.new.log.moves place old c.receive.new.self at c.in-Err-Memory.ensures.err c.make_room_for.ensures.moves)
-    ((c.runs_go_on_where_steps_are_allowed.ensures.deliver _ w.start w.log.moves k.count k.run message).1 (under.1 there))
+    ((deliver_allowed _ w.start w.log.moves k.count k.run message).1 (under.1 there))
     (inl (at_node w.start w.nodes.items w.under_way.items w.log.moves place (to_of message) old (λ s. BringsNothing s message → ⊥) k number within at brings))
     refl
 
@@ -71,7 +72,7 @@ unreachable-requires-in-Err-WrongNode g c =
     let place = c.in-Some-place_of.place in
     let old = c.index_mut-receiver.result.now in
     let there : Contains w.under_way.items message = c.in-Some.ensures.found.0 refl in
-    let taken = c.kept_runs_go_on.ensures.is_taken w.start w.nodes.items w.under_way.items w.log.moves message c.self.invariant there in
+    let taken = kept_runs_go_on.is_taken w.start w.nodes.items w.under_way.items w.log.moves message c.self.invariant there in
     let number : place + 1 ≡ to_of message = c.in-Some-place_of.ensures.some.0 ∙ c.to.ensures in
     let within = place_in w.nodes.items c.deref.result.now place c.deref.ensures.value c.in-Some-place_of.ensures.some.1 in
     let at = c.index_mut-receiver.ensures.value in
@@ -92,15 +93,15 @@ invariant_of-self-2 g c =
     let message = c.args.message.now in
     let outcome = c.in-Ok.outcome in
     let there : Contains w.under_way.items message = c.in-Some.ensures.found.0 refl in
-    let under = c.kept_runs_go_on.ensures.under_way w.start w.nodes.items w.under_way.items w.log.moves message c.self.invariant in
+    let under = kept_runs_go_on.under_way w.start w.nodes.items w.under_way.items w.log.moves message c.self.invariant in
     let number : place + 1 ≡ to_of message = c.in-Some-place_of.ensures.some.0 ∙ c.to.ensures in
     let within = place_in w.nodes.items c.deref.result.now place c.deref.ensures.value c.in-Some-place_of.ensures.some.1 in
     let at = c.index_mut-receiver.ensures.value in
     let takes : TakesFirst w.under_way.items message c.take.new.under_way.items =
     took_first c.make_room_for.new.under_way.items w.under_way.items c.take.new.under_way.items message w.log.moves c.make_room_for.new.log.moves (c.make_room_for.ensures.messages ∙ ap (λ (b : Listed Message). b.items) c.in-Some.ensures.same) c.make_room_for.ensures.moves
     c.take.ensures.taken
-    (c.kept_runs_go_on.ensures.taken w.start w.nodes.items w.under_way.items c.take.new.under_way.items w.log.moves message c.self.invariant) in
-    kept_by c.kept_runs_go_on.ensures.event w.start w.nodes.items w.under_way.items c.take.new.under_way.items c.keep.new.under_way.items w.log.moves c.make_room_for.new.log.moves c.keep.new.log.moves
+    (kept_runs_go_on.taken w.start w.nodes.items w.under_way.items c.take.new.under_way.items w.log.moves message c.self.invariant) in
+    kept_by kept_runs_go_on.event w.start w.nodes.items w.under_way.items c.take.new.under_way.items c.keep.new.under_way.items w.log.moves c.make_room_for.new.log.moves c.keep.new.log.moves
     (record { step = Deliver message; sends = outcome.sends.items; marks = outcome.marks.items })
     place (to_of message) (Received message) old c.receive.new.self c.self.invariant number within at
     (under.1 there) (here (to_of message) (Received message))

@@ -8,6 +8,8 @@ use Rattle.ra_world.specs.Run.{GoesOn}
 use Rattle.ra_world.specs.World.{WorldState}
 use Rattle.ra_world.specs.Keeping.{nodes_of}
 use Rattle.ra_world.proofs.Worlds.{accepted_at, refused_above}
+use Rattle.ra_world.proofs.GoingOn.{leave_goes_on}
+use Rattle.ra_world.proofs.WorldLaws.{laws_below}
 use Rattle.ra_world.proofs.world.WorldOf.may_leave.Goals as goal
 
 pub returns-in-Some-clause-value : goal.returns-in-Some-clause-value
@@ -15,7 +17,7 @@ returns-in-Some-clause-value g c =
     let w = c.self.inside in
     let k = c.self.invariant in
     let step = Leave c.args.node c.args.client c.args.name.now in
-    let law = c.runs_go_on_where_steps_are_allowed.ensures.leave (length w.nodes.items) w.start w.log.moves (nodes_of w.nodes.items) k.count k.run k.ends
+    let law = leave_goes_on laws_below (length w.nodes.items) w.start w.log.moves (nodes_of w.nodes.items) k.count k.run k.ends
     c.args.node c.args.client c.args.name.now in
     let within : c.in-Some.place < length w.nodes.items = omega (arith, c.in-Some.ensures.some.1, ap length c.deref.ensures.value) in
     subst (λ (s : WorldState). IsTrue c.is_held_by.result ↔ GoesOn s.count s.start s.moves step) c.self.view_is
@@ -28,7 +30,7 @@ returns-in-None-clause-value g c =
     let w = c.self.inside in
     let k = c.self.invariant in
     let step = Leave c.args.node c.args.client c.args.name.now in
-    let law = c.runs_go_on_where_steps_are_allowed.ensures.leave (length w.nodes.items) w.start w.log.moves (nodes_of w.nodes.items) k.count k.run k.ends
+    let law = leave_goes_on laws_below (length w.nodes.items) w.start w.log.moves (nodes_of w.nodes.items) k.count k.run k.ends
     c.args.node c.args.client c.args.name.now in
     let above : length w.nodes.items < c.args.node = omega (arith, c.in-None.ensures.none.0 refl, ap length c.deref.ensures.value) in
     subst (λ (s : WorldState). IsTrue false ↔ GoesOn s.count s.start s.moves step) c.self.view_is

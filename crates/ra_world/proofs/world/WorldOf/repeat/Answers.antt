@@ -7,12 +7,13 @@ use Rattle.ra_world.specs.Traffic.{Move}
 use Rattle.ra_world.specs.Keeping.{Keeps}
 use Rattle.ra_world.proofs.StepTries.{shown, with_cause, short, one_more, copied_on}
 use Rattle.ra_world.proofs.AtPlace.{kept_as, moved_elsewhere}
+use Rattle.ra_world.proofs.WorldLaws.{kept_runs_go_on, repeat_allowed}
 use Rattle.ra_world.proofs.world.WorldOf.repeat.Goals as goal
 
 pub returns-in_default-clause-tried : goal.returns-in_default-clause-tried
 returns-in_default-clause-tried g c =
     let w = c.self.inside in
-    let under = c.kept_runs_go_on.ensures.under_way w.start w.nodes.items w.under_way.items w.log.moves c.args.message.now c.self.invariant in
+    let under = kept_runs_go_on.under_way w.start w.nodes.items w.under_way.items w.log.moves c.args.message.now c.self.invariant in
     let absent : Contains w.under_way.items c.args.message.now → ⊥ = λ there. let some = c.in_default.ensures.found.1 there in absurd cc in
     (c.self.view_is, with_cause w.start w.nodes.items w.log.moves c.args.self.now (Repeat c.args.message.now) NotUnderWay c.self.view_is (λ on. absent (under.0 on)))
 
@@ -20,11 +21,11 @@ pub returns-in_err-make_room-clause-tried : goal.returns-in_err-make_room-clause
 returns-in_err-make_room-clause-tried g c =
     let w = c.self.inside in
     let k = c.self.invariant in
-    let under = c.kept_runs_go_on.ensures.under_way w.start w.nodes.items w.under_way.items w.log.moves c.args.message.now k in
+    let under = kept_runs_go_on.under_way w.start w.nodes.items w.under_way.items w.log.moves c.args.message.now k in
     let there : Contains w.under_way.items c.args.message.now = c.in-Some.ensures.found.0 refl in
     short w.start w.nodes.items w.log.moves c.args.self.now _ (Repeat c.args.message.now) c.from_residual.result c.self.view_is
     (ap (shown w.start w.nodes.items) c.make_room.ensures.moves)
-    ((c.runs_go_on_where_steps_are_allowed.ensures.repeat _ w.start w.log.moves k.count k.run c.args.message.now).1 (under.1 there))
+    ((repeat_allowed _ w.start w.log.moves k.count k.run c.args.message.now).1 (under.1 there))
     (inl tt)
     c.from_residual.ensures.1
 
@@ -42,7 +43,7 @@ invariant_of-self-2 g c =
     c.push.ensures c.make_room.ensures.moves c.nothing-outcome.ensures.0 c.nothing-outcome.ensures.1 in
     subst (λ (ms : List Message). Keeps w.start w.nodes.items ms c.push.new.self.moves) (sym left)
     (subst (λ (ms : List Move). Keeps w.start w.nodes.items (w.under_way.items ++ message ∷ []) ms) (sym moves)
-    (c.kept_runs_go_on.ensures.copy w.start w.nodes.items w.under_way.items w.log.moves message c.self.invariant there))
+    (kept_runs_go_on.copy w.start w.nodes.items w.under_way.items w.log.moves message c.self.invariant there))
 
 pub returns-clause-run : goal.returns-clause-run
 returns-clause-run g c = (invariant_of-self-2 g c).run

@@ -1,4 +1,4 @@
-use Rattle.std.proofs.Common.{◌≡◌, ℕ, List, length, string_bytes, sym, ap, ◌∙◌, subst}
+use Rattle.std.proofs.Common.{ℕ, List, length, string_bytes, sym, ap, ◌∙◌, subst}
 use Rattle.std.specs.Prelude.{IfOk}
 use Rattle.std.proofs.lemmas.Result.{IfOk-weaker}
 use Rattle.ra_stamp.specs.NodeId.{IsNodeNumber}
@@ -7,6 +7,11 @@ use Rattle.ra_world.specs.Keeping.{nodes_of}
 use Rattle.ra_world.specs.StateLines.{IsStateText, state_text}
 use Rattle.ra_world.specs.World.{WorldState}
 use Rattle.ra_world.proofs.StateTexts.{state_here}
+use Rattle.ra_table.proofs.History.{same_entries}
+use Rattle.ra_world.specs.Run.{marks_of}
+use Rattle.ra_world.proofs.Outcomes.{has_table}
+use Rattle.ra_world.proofs.TableNodes.{table_of_nodes}
+use Rattle.ra_world.proofs.WorldLaws.{laws_below}
 use Rattle.ra_world.proofs.world.WorldOf.state_text.Goals as goal
 
 pub state_text-requires : goal.state_text-requires
@@ -15,11 +20,11 @@ state_text-requires g c = subst (λ (ns : List NodeState). IsNodeNumber (length 
 pub returns-clause-ok : goal.returns-clause-ok
 returns-clause-ok g c =
     let w = c.self.inside in
-    let laws = c.marks_of_runs_are_table_runs.ensures in
     subst (λ (s : WorldState). IfOk c.state_text.result (λ t. IsStateText s.count s.start s.moves c.args.names.now c.args.clients.now (string_bytes t))) c.self.view_is
     (IfOk-weaker c.state_text.result _ _
     (λ t is. state_here w.start w.nodes.items w.under_way.items w.log.moves c.args.names.now c.args.clients.now (string_bytes t) c.self.invariant
-    laws.table c.tables_of_runs_are_those_of_their_nodes.ensures
+    (has_table laws_below)
+    (λ n start moves nodes table count run ends. table_of_nodes laws_below n start moves count run nodes ends (same_entries (marks_of moves)) table)
     (is ∙ ap (λ (ns : List NodeState). state_text (length ns) c.len-steps.result c.args.names.now (nodes_of ns) w.under_way.items c.args.clients.now) c.deref.ensures.value
     ∙ ap (λ (n : ℕ). state_text (length w.nodes.items) n c.args.names.now (nodes_of w.nodes.items) w.under_way.items c.args.clients.now) c.len-steps.ensures))
     c.state_text.ensures)

@@ -3,11 +3,12 @@ use Rattle.std.specs.Prelude.{sum_by}
 use Rattle.ra_node.specs.Node.{waiting_count}
 use Rattle.ra_world.specs.World.{WorldState, AreWaiting}
 use Rattle.ra_world.proofs.Worlds.{waiting_here}
+use Rattle.ra_world.proofs.WorldLaws.{kept_runs_go_on}
 use Rattle.ra_world.proofs.world.WorldOf.waiting.Goals as goal
 
 pub returns-clause-value : goal.returns-clause-value
 returns-clause-value g c =
     let w = c.self.inside in
     subst (λ (s : WorldState). AreWaiting s.count s.start s.moves c.waiting_at.result) c.self.view_is
-    (waiting_here w.start w.nodes.items w.under_way.items w.log.moves c.waiting_at.result c.self.invariant c.kept_runs_go_on.ensures.at_all
+    (waiting_here w.start w.nodes.items w.under_way.items w.log.moves c.waiting_at.result c.self.invariant kept_runs_go_on.at_all
     (c.waiting_at.ensures ∙ ap (sum_by waiting_count) c.deref.ensures.value))

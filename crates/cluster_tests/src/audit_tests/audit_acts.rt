@@ -1,0 +1,589 @@
+//! What a cluster, its clients and its auditor do and show, act by act. Frames come that no node sent.
+use crate::audit_tests::audits::{Came, Shown, assert_losses, fault_of, loses};
+use crate::cluster_asserting::{assert_same, fail_at};
+use crate::cluster_values::{WANTING, node, request_with};
+use crate::site_tests::shown::{Ended, assert_ended};
+use crate::site_tests::site_cluster;
+use crate::site_tests::site_cluster::{make_cluster, send};
+use crate::whole_clusters::cluster_calls::{books_at_the_end, clusters_of, lock, site, unlock};
+use Act::{
+    Asks, Audits, AuditsAnew, Comes, Ends, Enters, HandsOver, HasAt, HasLosses, IsRefused, Leaves,
+    Loses, Shows, Stops, Waits,
+};
+use Answer::{Finds, Fine, LostUnsent, NeverSent, NotAudited, NotLost, OtherCluster, OutOfTurn};
+use Mode::Exclusive;
+use ra_audit::{Auditor, FinishError, RoundError, TakeError, Told};
+use ra_cluster::{BookError, CallError, Cluster, Handed, OpenGate, Site, SiteError, Stop};
+use ra_frame::Frame;
+use ra_stamp::{Message, Mode};
+use ra_world::NewError;
+use std::alloc::Global;
+use std::process::Abort;
+use std::sync::Wait;
+use std::thread::Threads;
+use test_support::{At, Tried, both, r};
+
+/// The REQUEST of an exclusive request with the last number, in a frame with this clock, from the first node to the second.
+#[derive(Clone, Copy)]
+pub struct Sends(pub u64, pub u16, pub u16, pub u64);
+
+/// What a round answers, or the end of an audit.
+#[derive(Clone, Copy)]
+pub enum Answer {
+    /// `Ok`.
+    Fine,
+    /// This event does not fit.
+    Finds(Came),
+    /// The frame of this event was never sent, which the end of an audit says.
+    NeverSent(Came),
+    /// The cluster is not audited.
+    NotAudited,
+    /// The auditor is not one of this cluster.
+    OtherCluster,
+    /// The events of this node are out of turn.
+    OutOfTurn(u16),
+    /// This frame was not lost.
+    NotLost(Sends),
+    /// This frame is noted as lost and was never sent, which the end of an audit says.
+    LostUnsent(Sends),
+}
+
+/// What a cluster, its clients and its auditor do or show. All is about the name `r`. A call that finds no memory has to leave all as it
+/// was, and is made again.
+#[derive(Clone, Copy)]
+pub enum Act {
+    /// Client 1 of this node locks the name.
+    Enters(u16),
+    /// Client 1 of this node unlocks it, which needs no memory.
+    Leaves(u16),
+    /// The post is closed, and client 1 of this node asks in this mode. Its REQUESTs are lost, which stops all nodes.
+    Asks(u16, Mode),
+    /// Client 1 of this node asks for the name, and is refused for this cause.
+    IsRefused(u16, BookError),
+    /// A REQUEST of an exclusive request with number 1 comes, in a frame with this clock, as if the first node had sent it to the second.
+    Comes(u64, u16, u16),
+    /// The site of this node hands over what came after an event with this clock: its last event has the other clock, and this frame
+    /// was lost, or none.
+    HandsOver(u16, u64, u64, Option<Sends>),
+    /// A round answers this.
+    Audits(Answer),
+    /// A round with a new auditor answers this.
+    AuditsAnew(Answer),
+    /// The end of the audit answers this.
+    Ends(Answer),
+    /// The auditor has this run; marks are not counted.
+    Shows(Shown),
+    /// This many events wait to be put into the run.
+    Waits(u128),
+    /// The site of this node shows this clock, and this many events.
+    HasAt(u16, u64, u64),
+    /// All nodes are stopped for this cause.
+    Stops(Stop),
+    /// This frame is noted as lost.
+    Loses(Sends),
+    /// So many losses are in the run, and so many wait.
+    HasLosses(u64, usize),
+}
+
+/// For which cluster an auditor is made: of how many nodes, whether it is audited, and of how many nodes and with which start the auditor
+/// takes it to be.
+#[derive(Clone, Copy)]
+pub struct Made {
+    /// How many nodes the cluster has.
+    pub nodes: u16,
+    /// Whether it is audited.
+    pub is_audited: bool,
+    /// How many nodes the auditor takes it to have, and with which start.
+    pub auditor: (u16, u64),
+}
+
+/// A cluster of one node, and its auditor.
+pub const ONE_NODE: Made = Made {
+    nodes: 1,
+    is_audited: true,
+    auditor: (1, 0),
+};
+
+/// A cluster of two nodes, and its auditor.
+pub const TWO_NODES: Made = Made {
+    nodes: 2,
+    is_audited: true,
+    auditor: (2, 0),
+};
+
+/// The book of a node from which a round took all events, and which is stopped since a frame was lost.
+pub const LOST: Ended = Ended(Some(Stop::Send), 0);
+
+/// The book of a node from which a round took all events, and which was not stopped before it was closed.
+pub const TAKEN: Ended = Ended(Some(Stop::Refused), 0);
+
+/// What is done with a cluster and its auditor, in a few words, and how its books end.
+pub struct Row {
+    /// The words.
+    pub words: &'static str,
+    /// The cluster and its auditor.
+    pub made: Made,
+    /// What is done and shown while the threads of the nodes run, which they do only if there is something to do.
+    pub running: &'static [Act],
+    /// What is done and shown then, in order.
+    pub acts: &'static [Act],
+    /// How the books end.
+    pub ended: &'static [Ended],
+}
+
+/// What is done with a cluster of two nodes that loses frames.
+pub const LOSING: Row = Row {
+    words: "",
+    made: TWO_NODES,
+    running: &[],
+    acts: &[],
+    ended: &[LOST, LOST],
+};
+
+/// What is done with a cluster of two nodes that is not stopped.
+pub const OF_TWO: Row = Row {
+    ended: &[TAKEN, TAKEN],
+    ..LOSING
+};
+
+/// What is done with a cluster of one node that is not stopped.
+pub const OF_ONE: Row = Row {
+    made: ONE_NODE,
+    ended: &[TAKEN],
+    ..LOSING
+};
+
+/// Makes a round, of which callers know its answer alone, so that their proofs are short. The end of an audit may answer the same.
+fn round<R: Wait>(
+    rt: &R,
+    alloc: Global,
+    cluster: &Cluster<OpenGate>,
+    auditor: &mut Auditor,
+) -> Result<(), FinishError> {
+    match auditor.audit(rt, alloc, cluster, &mut Told::new()) {
+        Ok(()) => Ok(()),
+        Err(refused) => Err(FinishError::Round(refused)),
+    }
+}
+
+/// Ends an audit, of which callers know the answer alone.
+fn last_round<R: Wait>(
+    rt: &R,
+    alloc: Global,
+    cluster: &mut Cluster<OpenGate>,
+    auditor: &mut Auditor,
+) -> Result<(), FinishError> {
+    auditor.finish(rt, alloc, cluster, &mut Told::new())
+}
+
+/// Returns the frame.
+fn frame_of(rt: &impl Abort, sends: Sends) -> Frame {
+    let Sends(clock, from, to, seq) = sends;
+    let message = request_with(rt, from, to, Exclusive, seq);
+    Frame { clock, message }
+}
+
+/// Returns what a round is to answer.
+fn due_of_round(rt: &impl Abort, answer: Answer) -> Result<(), RoundError> {
+    let refusal = match answer {
+        NotLost(sends) => RoundError::NotLost(frame_of(rt, sends)),
+        Finds(came) => RoundError::Fault(fault_of(rt, came)),
+        NotAudited => RoundError::NotAudited,
+        OtherCluster => RoundError::OtherCluster,
+        OutOfTurn(number) => RoundError::NotTaken {
+            node: node(rt, number),
+            cause: TakeError::OutOfTurn,
+        },
+        _ => return Ok(()),
+    };
+    Err(refusal)
+}
+
+/// Returns what a round or the end of an audit is to answer.
+fn due(rt: &impl Abort, answer: Answer) -> Result<(), FinishError> {
+    match answer {
+        NeverSent(came) => Err(FinishError::NeverSent(fault_of(rt, came))),
+        LostUnsent(sends) => Err(FinishError::LostUnsent(frame_of(rt, sends))),
+        of_a_round => match due_of_round(rt, of_a_round) {
+            Ok(()) => Ok(()),
+            Err(refusal) => Err(FinishError::Round(refusal)),
+        },
+    }
+}
+
+/// Returns whether a round was refused since memory ran out.
+fn is_of_memory(answer: Result<(), FinishError>) -> bool {
+    match answer {
+        Err(FinishError::Round(RoundError::Memory)) => true,
+        Err(FinishError::Round(RoundError::NotTaken { node: _, cause })) => {
+            cause == TakeError::Memory
+        }
+        _ => false,
+    }
+}
+
+/// Asserts that a round answers this. If memory runs out, the next one does.
+fn audits<R: AllocGlobal + Wait + Abort>(
+    rt: &R,
+    at: At<'_>,
+    cluster: &Cluster<OpenGate>,
+    auditor: &mut Auditor,
+    answer: Answer,
+) -> Tried {
+    let mut tried = Tried::NoFailure;
+    let mut came = round(rt, rt.alloc(), cluster, auditor);
+    if is_of_memory(came) {
+        tried = Tried::RetrySucceeded;
+        came = round(rt, rt.alloc(), cluster, auditor);
+    }
+    assert_same(rt, at, &came, &due(rt, answer));
+    tried
+}
+
+/// Asserts that the end of the audit answers this. If memory runs out, the next one does.
+fn ends<R: AllocGlobal + Wait + Abort>(
+    rt: &R,
+    at: At<'_>,
+    cluster: &mut Cluster<OpenGate>,
+    auditor: &mut Auditor,
+    answer: Answer,
+) -> Tried {
+    let mut tried = Tried::NoFailure;
+    let mut came = last_round(rt, rt.alloc(), cluster, auditor);
+    if is_of_memory(came) {
+        tried = Tried::RetrySucceeded;
+        came = last_round(rt, rt.alloc(), cluster, auditor);
+    }
+    assert_same(rt, at, &came, &due(rt, answer));
+    tried
+}
+
+/// Asserts that a round with a new auditor answers this.
+fn audits_anew<R: AllocGlobal + Wait + Abort>(
+    rt: &R,
+    at: At<'_>,
+    cluster: &Cluster<OpenGate>,
+    answer: Answer,
+) -> Tried {
+    match Auditor::new(rt.alloc(), cluster.nodes(), 0) {
+        Ok(mut other) => audits(rt, at, cluster, &mut other, answer),
+        Err(_) => fail_at(rt, at, "there is no memory for the auditor"),
+    }
+}
+
+/// Has client 1 of a node lock the name. Returns why it does not, or `None` if it does.
+fn refusal_of_lock<R: Wait + Abort>(
+    rt: &R,
+    alloc: Global,
+    cluster: &Cluster<OpenGate>,
+    number: u16,
+    mode: Mode,
+) -> Option<CallError> {
+    lock(rt, alloc, cluster, node(rt, number), 1, r(), mode).err()
+}
+
+/// Asserts that client 1 of a node locks the name, or does not, for this reason. If memory runs out, it tries again.
+fn locks<R: AllocGlobal + Wait + Abort>(
+    rt: &R,
+    at: At<'_>,
+    cluster: &Cluster<OpenGate>,
+    number: u16,
+    mode: Mode,
+    due: Option<SiteError>,
+) -> Tried {
+    let mut tried = Tried::NoFailure;
+    let mut came = refusal_of_lock(rt, rt.alloc(), cluster, number, mode);
+    if came == Some(CallError::Site(WANTING)) {
+        tried = Tried::RetrySucceeded;
+        came = refusal_of_lock(rt, rt.alloc(), cluster, number, mode);
+    }
+    let due = match due {
+        Some(refused) => Some(CallError::Site(refused)),
+        None => None,
+    };
+    assert_same(rt, at, &came, &due);
+    tried
+}
+
+/// Has a message come to a site by the post of this cluster, which is not its own, in a frame with this clock. What the site answers
+/// goes to the sites of others.
+fn carry<R: AllocGlobal + Wait + Abort>(
+    rt: &R,
+    at: At<'_>,
+    carrier: &site_cluster::Cluster,
+    others: &site_cluster::Cluster,
+    site: &Site,
+    clock: u64,
+    message: Message,
+) {
+    let sent = send(rt, rt.alloc(), &carrier.post, clock, message);
+    assert_same(rt, at, &sent, &Ok(()));
+    carrier.post.close(rt);
+    let place = usize::from(site.node().get()).wrapping_sub(1);
+    match carrier.inboxes.get(place) {
+        Some(inbox) => others.pump_at(rt, site, inbox, &OpenGate),
+        None => fail_at(rt, at, "there is no such inbox"),
+    }
+}
+
+/// Has a REQUEST come to the second node, in a frame with this clock, as if the first had sent it.
+fn comes<R: AllocGlobal + Wait + Abort>(
+    rt: &R,
+    at: At<'_>,
+    cluster: &Cluster<OpenGate>,
+    clock: u64,
+    from: u16,
+    to: u16,
+) {
+    let message = request_with(rt, from, to, Exclusive, 1);
+    let (carriers, others) = (make_cluster(rt.alloc(), 2), make_cluster(rt.alloc(), 2));
+    match (carriers.first(), others.first()) {
+        (Some(carrier), Some(others)) => {
+            carry(
+                rt,
+                at,
+                carrier,
+                others,
+                site(rt, cluster, to),
+                clock,
+                message,
+            )
+        }
+        _ => fail_at(rt, at, "there is no memory for a post"),
+    }
+}
+
+/// The clock of the last event that was handed over, how many frames were lost, and the first of these.
+pub type Given = (u64, usize, Option<Frame>);
+
+/// Returns what was handed over.
+fn given(handed: &Handed) -> Given {
+    let clock = match handed.events.as_slice().last() {
+        Some(event) => event.clock,
+        None => handed.after,
+    };
+    let lost = handed.lost.as_slice();
+    (clock, lost.len(), lost.first().copied())
+}
+
+/// Has the site of a node hand over what came after an event with this clock.
+fn take<R: Wait>(rt: &R, alloc: Global, site: &Site, clock: u64) -> Result<Given, TakeError> {
+    match site.hand_over(rt, alloc, clock) {
+        Ok(handed) => Ok(given(&handed)),
+        Err(refused) => Err(refused),
+    }
+}
+
+/// Has the site of a node hand over what came after an event with this clock, and does it again if memory ran out. Returns what became
+/// of it, too.
+pub fn hand_over<R: AllocGlobal + Wait + Abort>(
+    rt: &R,
+    at: At<'_>,
+    cluster: &Cluster<OpenGate>,
+    number: u16,
+    clock: u64,
+) -> (Tried, Given) {
+    let (site, mut tried) = (site(rt, cluster, number), Tried::NoFailure);
+    let mut came = take(rt, rt.alloc(), site, clock);
+    if came == Err(TakeError::Memory) {
+        tried = Tried::RetrySucceeded;
+        came = take(rt, rt.alloc(), site, clock);
+    }
+    match came {
+        Ok(given) => (tried, given),
+        Err(_) => fail_at(rt, at, "nothing is handed over"),
+    }
+}
+
+/// Asserts that the site of a node hands this over.
+fn hands_over<R: AllocGlobal + Wait + Abort>(
+    rt: &R,
+    at: At<'_>,
+    cluster: &Cluster<OpenGate>,
+    number: u16,
+    clock: u64,
+    due: (u64, Option<Sends>),
+) -> Tried {
+    let (tried, came) = hand_over(rt, at, cluster, number, clock);
+    let lost = match due.1 {
+        Some(sends) => Some(frame_of(rt, sends)),
+        None => None,
+    };
+    assert_same(rt, at, &came, &(due.0, usize::from(lost.is_some()), lost));
+    tried
+}
+
+/// Asserts that the auditor has this run.
+fn assert_run(rt: &impl Abort, at: At<'_>, auditor: &Auditor, shown: Shown) {
+    let Shown(steps, requests, sent, under_way, _marks) = shown;
+    let run = (auditor.steps(), auditor.requests(), auditor.sent());
+    assert_same(rt, at, &run, &(steps, requests, sent));
+    assert_same(rt, at, &auditor.under_way(), &under_way);
+}
+
+/// Asserts that the site of a node shows this clock, and this many events.
+fn assert_at_site<R: Wait + Abort>(
+    rt: &R,
+    at: At<'_>,
+    cluster: &Cluster<OpenGate>,
+    number: u16,
+    due: (u64, u64),
+) {
+    let site = site(rt, cluster, number);
+    assert_same(rt, at, &(site.clock(rt), site.events(rt)), &due);
+}
+
+/// Has this happen in the cluster, or asserts that it is shown.
+fn happens<R: AllocGlobal + Wait + Abort>(
+    rt: &R,
+    at: At<'_>,
+    cluster: &Cluster<OpenGate>,
+    auditor: &Auditor,
+    act: Act,
+) {
+    match act {
+        Leaves(number) => {
+            let came = unlock(rt, rt.alloc(), cluster, node(rt, number), 1);
+            assert_same(rt, at, &came, &Ok(()));
+        }
+        Comes(clock, from, to) => comes(rt, at, cluster, clock, from, to),
+        Shows(shown) => assert_run(rt, at, auditor, shown),
+        Waits(events) => assert_same(rt, at, &auditor.waiting(), &events),
+        HasAt(number, clock, events) => assert_at_site(rt, at, cluster, number, (clock, events)),
+        HasLosses(lost, losing) => assert_losses(rt, at, auditor, (lost, losing)),
+        Stops(stop) => cluster.stop(rt, stop),
+        _ => fail_at(rt, at, "the audit can only be ended when no thread runs"),
+    }
+}
+
+/// Does this, or asserts that it is shown. The audit is not ended.
+fn does<R: AllocGlobal + Wait + Abort>(
+    rt: &R,
+    at: At<'_>,
+    cluster: &Cluster<OpenGate>,
+    auditor: &mut Auditor,
+    act: Act,
+) -> Tried {
+    match act {
+        Enters(number) => return locks(rt, at, cluster, number, Exclusive, None),
+        Asks(number, mode) => {
+            cluster.close_post(rt);
+            let due = Some(SiteError::Stopped(Stop::Send));
+            return locks(rt, at, cluster, number, mode, due);
+        }
+        IsRefused(number, cause) => {
+            let due = Some(SiteError::Refused(cause));
+            return locks(rt, at, cluster, number, Exclusive, due);
+        }
+        Audits(answer) => return audits(rt, at, cluster, auditor, answer),
+        AuditsAnew(answer) => return audits_anew(rt, at, cluster, answer),
+        HandsOver(number, after, clock, lost) => {
+            return hands_over(rt, at, cluster, number, after, (clock, lost));
+        }
+        Loses(sends) => return loses(rt, at, auditor, &frame_of(rt, sends)),
+        other => happens(rt, at, cluster, auditor, other),
+    }
+    Tried::NoFailure
+}
+
+/// Does and shows what a row says while the threads of its nodes run.
+fn done_running<R: AllocGlobal + Wait + Abort>(
+    rt: &R,
+    cluster: &Cluster<OpenGate>,
+    auditor: &mut Auditor,
+    row: &Row,
+) -> Tried {
+    let mut tried = Tried::NoFailure;
+    for place in 0..row.running.len() {
+        let at = At(row.words, "act of the running cluster", place);
+        tried = both(tried, does(rt, at, cluster, auditor, row.running[place]));
+    }
+    tried
+}
+
+/// Has the threads of the nodes run meanwhile, if there is something to do.
+fn run_first<R: AllocGlobal + Threads + Wait + Abort + Sync>(
+    rt: &R,
+    cluster: &Cluster<OpenGate>,
+    auditor: &mut Auditor,
+    row: &Row,
+) -> Tried {
+    if row.running.is_empty() {
+        return Tried::NoFailure;
+    }
+    cluster.run(rt, rt.alloc(), || done_running(rt, cluster, auditor, row))
+}
+
+/// Does and shows all that a row says, in order.
+fn done<R: AllocGlobal + Threads + Wait + Abort + Sync>(
+    rt: &R,
+    cluster: &mut Cluster<OpenGate>,
+    auditor: &mut Auditor,
+    row: &Row,
+) -> Tried {
+    let mut tried = run_first(rt, cluster, auditor, row);
+    for place in 0..row.acts.len() {
+        let at = At(row.words, "act", place);
+        let came = match row.acts[place] {
+            Ends(answer) => ends(rt, at, cluster, auditor, answer),
+            other => does(rt, at, cluster, auditor, other),
+        };
+        tried = both(tried, came);
+    }
+    tried
+}
+
+/// Makes a cluster of this many nodes that is audited, or none if it cannot be made.
+fn audited_clusters(alloc: Global, nodes: u16) -> Vec<Cluster<OpenGate>> {
+    let mut all = Vec::new(alloc);
+    if let Ok(cluster) = Cluster::new_audited(alloc, nodes, 0, OpenGate) {
+        let _added = all.push(cluster);
+    }
+    all
+}
+
+/// Makes a cluster, audited or not, or none if it cannot be made.
+pub fn clusters_as(alloc: Global, made: Made) -> Vec<Cluster<OpenGate>> {
+    if made.is_audited {
+        audited_clusters(alloc, made.nodes)
+    } else {
+        clusters_of(alloc, made.nodes, 0, OpenGate)
+    }
+}
+
+/// Has a cluster and this auditor do and show all of a row, and closes the cluster. If there is none, memory ran out.
+fn done_with<R: AllocGlobal + Threads + Wait + Abort + Sync>(
+    rt: &R,
+    auditor: &mut Auditor,
+    row: &Row,
+) -> Result<Tried, bool> {
+    let mut clusters = clusters_as(rt.alloc(), row.made);
+    let tried = match clusters.get_mut(0) {
+        Some(cluster) => Ok(done(rt, cluster, auditor, row)),
+        None => Err(true),
+    };
+    let books = books_at_the_end(rt.alloc(), clusters);
+    if tried.is_ok() {
+        assert_ended(rt, row.words, &books, row.ended);
+    }
+    tried
+}
+
+/// Has a cluster and an auditor do and show all of a row, and closes the cluster. Ends the test if something else comes of it. If they
+/// cannot be made, returns whether memory ran out.
+pub fn try_row<R: AllocGlobal + Threads + Wait + Abort + Sync>(
+    rt: &R,
+    row: &Row,
+) -> Result<Tried, bool> {
+    let (nodes, start) = row.made.auditor;
+    match Auditor::new(rt.alloc(), nodes, start) {
+        Ok(mut auditor) => done_with(rt, &mut auditor, row),
+        Err(fault) => Err(fault == NewError::Memory),
+    }
+}
+
+/// Asserts that a cluster and an auditor do and show all of a row.
+pub fn perform<R: AllocGlobal + Threads + Wait + Abort + Sync>(rt: &R, row: &Row) {
+    let at = At(row.words, "after act", row.acts.len());
+    assert_same(rt, at, &try_row(rt, row), &Ok(Tried::NoFailure));
+}

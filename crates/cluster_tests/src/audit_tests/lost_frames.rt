@@ -1,0 +1,57 @@
+//! The frames that an audited cluster loses are handed over, each once, whatever its rounds took before. Rounds of an auditor put
+//! them into the run.
+use crate::audit_tests::audit_acts::Act::{
+    Asks, Audits, Ends, Enters, HandsOver, HasLosses, Leaves, Shows,
+};
+use crate::audit_tests::audit_acts::Answer::Fine;
+use crate::audit_tests::audit_acts::{LOSING, Row, Sends};
+use crate::audit_tests::audits::Shown;
+use crate::plays::play_audits;
+use ra_stamp::Mode;
+
+/// The REQUEST with number 2 of node 1.
+const SECOND: Sends = Sends(5, 1, 2, 2);
+
+/// Client 1 of node 1 locks the name and unlocks it, and asks again in vain. Each node hands over what happened: first all of it, then
+/// what came after that, and then nothing more.
+const HANDED_OVER: &[Row] = &[Row {
+    words: "a loss is handed over once after rounds",
+    running: &[
+        Enters(1),
+        Leaves(1),
+        // The ask, the REPLY and the leave, of which the last has clock 4; and the REQUEST.
+        HandsOver(1, 0, 4, None),
+        HandsOver(2, 0, 2, None),
+        Asks(1, Mode::Exclusive),
+        HandsOver(1, 4, 5, Some(SECOND)),
+        HandsOver(2, 2, 2, None),
+    ],
+    acts: &[HandsOver(1, 5, 5, None), HandsOver(2, 2, 2, None)],
+    ..LOSING
+}];
+
+#[test]
+fn a_loss_is_handed_over_once_after_rounds(rt: HostRuntime) {
+    play_audits(&rt, HANDED_OVER);
+}
+
+/// Client 1 of node 1 does the same, with rounds of an auditor. The run has all: an ask, a REQUEST, a REPLY and a leave, and then an ask and
+/// the loss of its REQUEST.
+const AUDITED: &[Row] = &[Row {
+    words: "a loss is put into the run by rounds",
+    running: &[
+        Enters(1),
+        Leaves(1),
+        Audits(Fine),
+        HasLosses(0, 0),
+        Asks(1, Mode::Exclusive),
+        Audits(Fine),
+    ],
+    acts: &[Ends(Fine), HasLosses(1, 0), Shows(Shown(6, 2, 3, 0, 0))],
+    ..LOSING
+}];
+
+#[test]
+fn a_loss_is_put_into_the_run_by_rounds_of_a_running_cluster(rt: HostRuntime) {
+    play_audits(&rt, AUDITED);
+}

@@ -1,0 +1,48 @@
+//! Each growth of an auditor is refused: its call answers that memory ran out, leaves everything as it was, and does what
+//! it should when it is made again. If that happens in the middle of a round, the events before are in the run.
+use crate::audit_tests::audits::Act::{AdvancesInParts, Gets, Has, Leaves};
+use crate::audit_tests::audits::{Act, EVENT_BY_EVENT, LOST, Part, Shown, audited};
+use crate::growth_in_clusters::growth_of_books::end;
+use crate::growth_in_clusters::growth_of_settling::ONE_LOCK;
+use crate::kept_books::histories::{ONE, TWO, books_after};
+use std::process::Abort;
+use test_support::{Tried, again};
+
+/// Has an auditor of the books of [`ONE_LOCK`] do all of this. If these cannot be made, memory ran out.
+fn try_auditor(rt: &(impl Abort + AllocGlobal), all: &[Act]) -> Result<Tried, bool> {
+    let (alloc, words) = (rt.alloc(), "a growth may be refused");
+    let books = books_after(rt, alloc, words, &[ONE, TWO], ONE_LOCK);
+    if books.len() != 2 {
+        return Err(true);
+    }
+    audited(rt, alloc, words, &books, all).ok_or(true)
+}
+
+/// Tries it, and tries it anew if memory ran out before it began.
+fn grow(rt: &(impl Abort + AllocGlobal), all: &[Act]) {
+    end(rt, again(try_auditor(rt, all), try_auditor(rt, all)));
+}
+
+#[test]
+fn growth_of_an_auditor(rt: HostRuntime) {
+    grow(&rt, EVENT_BY_EVENT);
+}
+
+/// The whole lock in one round.
+const ONE_ROUND: &[Act] = &[
+    Gets(Part(1, 0, 3, 0)),
+    Gets(Part(2, 0, 1, 0)),
+    AdvancesInParts,
+    Has(Shown(4, 1, 2, 0, 3)),
+    Leaves(None),
+];
+
+#[test]
+fn growth_of_a_round_of_an_auditor(rt: HostRuntime) {
+    grow(&rt, ONE_ROUND);
+}
+
+#[test]
+fn growth_of_an_auditor_of_losses(rt: HostRuntime) {
+    grow(&rt, LOST);
+}

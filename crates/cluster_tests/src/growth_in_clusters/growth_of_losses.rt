@@ -1,0 +1,173 @@
+//! Each growth is refused in audited clusters that lose frames. A loss needs no memory to be flagged, and is handed over once. A round
+//! of an auditor notes it once, whichever memory it is refused.
+use crate::audit_tests::audit_acts::Act::{Asks, Audits, Ends, HandsOver, HasLosses, Shows};
+use crate::audit_tests::audit_acts::Answer::Fine;
+use crate::audit_tests::audit_acts::{Act, LOSING, Row, Sends, TWO_NODES, clusters_as, hand_over};
+use crate::audit_tests::audits::Shown;
+use crate::cluster_asserting::assert_so;
+use crate::cluster_values::{node, reply, request};
+use crate::growth_in_clusters::growth_of_books::end;
+use crate::growth_in_clusters::growth_of_rounds::grow;
+use crate::whole_clusters::cluster_calls::{lock, site, unlock};
+use ra_cluster::{Cluster, OpenGate, Stop};
+use ra_frame::Frame;
+use ra_stamp::Mode;
+use std::alloc::Global;
+use std::process::Abort;
+use std::sync::Wait;
+use std::thread::Threads;
+use test_support::{At, Tried, again, both, r};
+
+/// What two nodes handed over so far: what became of the calls, the clock of the last event of node 1 and of node 2, 0 before the first, and
+/// how many frames were lost.
+#[derive(Clone, Copy)]
+struct Rounds {
+    tried: Tried,
+    clocks: (u64, u64),
+    lost: usize,
+}
+
+/// No round was made.
+const NO_ROUND: Rounds = Rounds {
+    tried: Tried::NoFailure,
+    clocks: (0, 0),
+    lost: 0,
+};
+
+/// Returns whether this frame is sent if a client of node 1 locks the name: its REQUEST, or the REPLY of node 2.
+fn was_sent(rt: &impl Abort, frame: Frame) -> bool {
+    match frame.clock {
+        1 => frame.message == request(rt, 1, 2, Mode::Exclusive),
+        2 => frame.message == reply(rt, 2, 1),
+        _ => false,
+    }
+}
+
+/// Has a node hand over what came after an event with this clock. Of one event at most one frame is lost, which was sent.
+fn node_after<R: AllocGlobal + Wait + Abort>(
+    rt: &R,
+    cluster: &Cluster<OpenGate>,
+    number: u16,
+    clock: u64,
+) -> (Tried, u64, usize) {
+    let at = At(
+        "a client uses the name",
+        "the round of node",
+        usize::from(number),
+    );
+    let (tried, (latest, lost, first)) = hand_over(rt, at, cluster, number, clock);
+    let is_right = match first {
+        Some(frame) => lost == 1 && was_sent(rt, frame),
+        None => true,
+    };
+    assert_so(rt, at, "just a frame that was sent is lost", is_right);
+    (tried, latest, lost)
+}
+
+/// Has both nodes hand over what came after these rounds.
+fn round_after<R: AllocGlobal + Wait + Abort>(
+    rt: &R,
+    cluster: &Cluster<OpenGate>,
+    before: Rounds,
+) -> Rounds {
+    let one = node_after(rt, cluster, 1, before.clocks.0);
+    let two = node_after(rt, cluster, 2, before.clocks.1);
+    Rounds {
+        tried: both(before.tried, both(one.0, two.0)),
+        clocks: (one.1, two.1),
+        lost: before.lost.wrapping_add(one.2).wrapping_add(two.2),
+    }
+}
+
+/// Has client 1 of node 1 lock the name and unlock it. What became of it, a round shows.
+fn use_once<R: Wait + Abort>(rt: &R, alloc: Global, cluster: &Cluster<OpenGate>) {
+    let one = node(rt, 1);
+    if lock(rt, alloc, cluster, one, 1, r(), Mode::Exclusive).is_ok() {
+        let _unlocked = unlock(rt, alloc, cluster, one, 1).is_ok();
+    }
+}
+
+/// Has the client do so, and makes a round.
+fn use_in_a_round<R: AllocGlobal + Wait + Abort>(rt: &R, cluster: &Cluster<OpenGate>) -> Rounds {
+    use_once(rt, rt.alloc(), cluster);
+    round_after(rt, cluster, NO_ROUND)
+}
+
+/// Returns what became of the rounds, if one frame was handed over as lost in a cluster that was stopped since a frame could not be sent,
+/// and none in any other one. If the client did not lock and unlock the name, returns whether memory ran out.
+fn judge(fault: Option<Stop>, rounds: Rounds) -> Result<Tried, bool> {
+    match fault {
+        None if rounds.lost == 0 && rounds.clocks.0 == 4 => Ok(rounds.tried),
+        // The client was refused.
+        None if rounds.lost == 0 && rounds.clocks.0 == 0 => Err(true),
+        Some(Stop::Send) if rounds.lost == 1 => Err(true),
+        Some(Stop::Memory) | Some(Stop::Spawn) if rounds.lost == 0 => Err(true),
+        _ => Ok(Tried::Broken),
+    }
+}
+
+/// Has the client use the name while the threads of the nodes run, with a round, and makes another one after they have ended.
+fn try_cluster<R: AllocGlobal + Threads + Wait + Abort + Sync>(
+    rt: &R,
+    cluster: &Cluster<OpenGate>,
+) -> Result<Tried, bool> {
+    let first = cluster.run(rt, rt.alloc(), || use_in_a_round(rt, cluster));
+    let rounds = round_after(rt, cluster, first);
+    judge(site(rt, cluster, 1).fault(rt), rounds)
+}
+
+/// Makes the cluster, and does so. If it cannot be made, memory ran out.
+fn try_running<R: AllocGlobal + Threads + Wait + Abort + Sync>(rt: &R) -> Result<Tried, bool> {
+    let clusters = clusters_as(rt.alloc(), TWO_NODES);
+    match clusters.first() {
+        Some(cluster) => try_cluster(rt, cluster),
+        None => Err(true),
+    }
+}
+
+/// A frame for which there is no memory is handed over as lost.
+#[test]
+fn growth_of_lost_frames_that_are_audited(rt: HostRuntime) {
+    end(&rt, again(try_running(&rt), try_running(&rt)));
+}
+
+/// The client asks in vain. Its REQUEST is lost.
+const ASKS: Act = Asks(1, Mode::Exclusive);
+
+/// Two rounds, of which the first has the loss.
+const HANDED_OVER: &Row = &Row {
+    words: "a loss is handed over once",
+    acts: &[
+        ASKS,
+        HandsOver(1, 0, 1, Some(Sends(1, 1, 2, 1))),
+        HandsOver(2, 0, 0, None),
+        HandsOver(1, 1, 1, None),
+        HandsOver(2, 0, 0, None),
+    ],
+    ..LOSING
+};
+
+/// A loss that is not handed over for lack of memory is handed over when that is tried again.
+#[test]
+fn growth_of_losses_that_are_handed_over(rt: HostRuntime) {
+    grow(&rt, HANDED_OVER);
+}
+
+/// A round, and the end of the audit. Then the ask and the loss are in the run.
+const AUDITED: &Row = &Row {
+    words: "a loss is put once",
+    acts: &[
+        ASKS,
+        Audits(Fine),
+        Ends(Fine),
+        HasLosses(1, 0),
+        Shows(Shown(2, 1, 1, 0, 0)),
+    ],
+    ..LOSING
+};
+
+/// A loss that is not noted or put for lack of memory is put once, when the round is made again.
+#[test]
+fn growth_of_losses_in_rounds(rt: HostRuntime) {
+    grow(&rt, AUDITED);
+}

@@ -1,0 +1,165 @@
+//! Each growth of a settling is refused: it answers that memory ran out, and does what it should when it is done again.
+use crate::cluster_asserting::assert_same;
+use crate::cluster_values::settled;
+use crate::growth_in_clusters::growth_of_books::end;
+use crate::kept_books::book_steps::Step::Takes;
+use crate::kept_books::book_steps::{ASK, LEAVE, refusal};
+use crate::kept_books::histories::Done::{AtNode, Loses, Passes};
+use crate::kept_books::histories::{
+    Done, Granted, Made, ONE, TWO, books_after, grants_of, new_books,
+};
+use ra_cluster::{Book, Grant, SettleError, Settled};
+use ra_stamp::Mode;
+use std::alloc::Global;
+use std::process::Abort;
+use test_support::{At, Tried, again};
+
+/// What is done to two books: the client of node 1 asks, enters and leaves.
+pub const ONE_LOCK: &[Done] = &[
+    AtNode(1, Takes(ASK)),
+    Passes(1, 0),
+    Passes(2, 0),
+    AtNode(1, Takes(LEAVE)),
+];
+
+/// How many steps the run has into which books settle, and how many requests, messages, losses and waiting requests its report tells.
+type Due = (u64, (u128, u128), (u128, u128));
+
+/// Asserts that books settled into such a run, in which no message is under way.
+fn assert_run(rt: &impl Abort, settled: &Settled, due: Due) {
+    let (at, report) = (At("books settle", "the run of row", 0), &settled.report);
+    let (made, left) = (
+        (report.requests, report.sent),
+        (report.lost, report.waiting),
+    );
+    assert_same(rt, at, &(settled.steps.len(), made, left), &due);
+    assert_same(rt, at, &report.under_way, &0);
+}
+
+/// Settles books. If that is refused, returns whether memory ran out.
+fn try_to_settle(
+    rt: &impl Abort,
+    alloc: Global,
+    books: &[Book],
+    grants: &[Grant],
+    due: Due,
+) -> Result<Tried, bool> {
+    match settled(alloc, books, grants) {
+        Ok(settled) => {
+            assert_run(rt, &settled, due);
+            Ok(Tried::NoFailure)
+        }
+        Err(fault) => Err(fault == Some(SettleError::Memory)),
+    }
+}
+
+/// The run of the one lock: the ask, two messages and the leave.
+const ONE_RUN: Due = (4, (1, 2), (0, 0));
+
+/// Settles two books. If that is refused, returns whether memory ran out.
+fn try_settling(rt: &impl Abort, alloc: Global) -> Result<Tried, bool> {
+    let books = books_after(rt, alloc, "one lock", &[ONE, TWO], ONE_LOCK);
+    if books.len() == 2 {
+        try_to_settle(rt, alloc, &books, &[], ONE_RUN)
+    } else {
+        Err(true)
+    }
+}
+
+#[test]
+fn growth_of_settling(rt: HostRuntime) {
+    let alloc = rt.alloc();
+    end(
+        &rt,
+        again(try_settling(&rt, alloc), try_settling(&rt, alloc)),
+    );
+}
+
+/// The same, after which the client asks again, and its REQUEST is lost.
+const ASKS_AGAIN: &[Done] = &[
+    AtNode(1, Takes(ASK)),
+    Passes(1, 0),
+    Passes(2, 0),
+    AtNode(1, Takes(LEAVE)),
+    AtNode(1, Takes(ASK)),
+    Loses(1, 1),
+];
+
+/// The run of the client, with the loss at its end.
+const LOSING_RUN: Due = (6, (2, 3), (1, 1));
+
+/// Settles two books with a grant, and with the last REQUEST lost. If that is refused, returns whether memory ran out.
+fn try_settling_a_loss(rt: &impl Abort, alloc: Global) -> Result<Tried, bool> {
+    let books = books_after(rt, alloc, "a loss", &[ONE, TWO], ASKS_AGAIN);
+    let grants = grants_of(rt, alloc, &[Granted(1, 1, Mode::Exclusive, 1)]);
+    if grants.len() == 1 && books.len() == 2 {
+        try_to_settle(rt, alloc, &books, &grants, LOSING_RUN)
+    } else {
+        Err(true)
+    }
+}
+
+#[test]
+fn growth_of_settling_with_a_grant_and_a_loss(rt: HostRuntime) {
+    let alloc = rt.alloc();
+    end(
+        &rt,
+        again(
+            try_settling_a_loss(&rt, alloc),
+            try_settling_a_loss(&rt, alloc),
+        ),
+    );
+}
+
+/// How often a client asks for `r` and leaves it in the book that is settled. Each time takes two events.
+const VERY_MANY: u64 = 50_000;
+
+/// Has a client ask for a name and leave it. Returns whether that succeeds.
+fn asks_and_leaves(alloc: Global, book: &mut Book) -> bool {
+    refusal(alloc, book, ASK).is_none() && refusal(alloc, book, LEAVE).is_none()
+}
+
+/// Has a client of the first book do so very often. Returns whether that succeeds.
+fn become_large(alloc: Global, books: &mut [Book]) -> bool {
+    let Some(book) = books.get_mut(0) else {
+        return false;
+    };
+    for _ in 0..VERY_MANY {
+        if !asks_and_leaves(alloc, book) {
+            return false;
+        }
+    }
+    true
+}
+
+/// The book of a single node.
+const ALONE: Made = Made {
+    me: 1,
+    nodes: 1,
+    start: 0,
+};
+
+/// The run of that client.
+const LARGE_RUN: Due = (2 * VERY_MANY, (VERY_MANY as u128, 0), (0, 0));
+
+/// Settles books with very many events. If that is refused, returns whether memory ran out.
+fn try_large_settling(rt: &impl Abort, alloc: Global) -> Result<Tried, bool> {
+    let mut books = new_books(alloc, &[ALONE]);
+    if become_large(alloc, books.as_mut_slice()) {
+        try_to_settle(rt, alloc, &books, &[], LARGE_RUN)
+    } else {
+        Err(true)
+    }
+}
+
+#[test]
+fn large_growth_of_settling(rt: HostRuntime) {
+    let alloc = rt.alloc();
+    end(
+        &rt,
+        again(
+            try_large_settling(&rt, alloc),
+            try_large_settling(&rt, alloc),
+        ),
+    );
+}

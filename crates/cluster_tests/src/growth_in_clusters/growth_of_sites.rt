@@ -1,0 +1,186 @@
+//! Each growth of a post or a site is refused: the call answers that memory ran out, and does what it should when it is
+//! made again; or a frame is lost, and all sites are stopped.
+use crate::cluster_asserting::assert_same;
+use crate::cluster_values::{WANTING, request};
+use crate::growth_in_clusters::growth_of_books::end;
+use crate::site_tests::shown::{Ended, assert_ended};
+use crate::site_tests::site_cluster::{Cluster, books_at_the_end, loses_inbox, make_cluster, send};
+use ra_cluster::{Book, Inbox, NewPostError, OpenGate, Post, SendError, Site, SiteError, Stop};
+use ra_stamp::{Entry, Mode};
+use std::alloc::Global;
+use std::process::Abort;
+use std::sync::Wait;
+use test_support::{At, Tried, again, r};
+
+/// Sends a frame from node 1 to node 2.
+fn send_one<R: Wait + Abort>(rt: &R, alloc: Global, post: &Post) -> Result<(), Option<SendError>> {
+    send(rt, alloc, post, 1, request(rt, 1, 2, Mode::Exclusive))
+}
+
+/// Sends a frame from node 1 to node 2, and sends it again if it was refused.
+fn try_send<R: Wait + Abort>(rt: &R, alloc: Global, post: &Post) -> Tried {
+    match send_one(rt, alloc, post) {
+        Ok(()) => Tried::NoFailure,
+        Err(Some(SendError::Refused)) if send_one(rt, alloc, post).is_ok() => Tried::RetrySucceeded,
+        Err(_) => Tried::Broken,
+    }
+}
+
+/// Makes a post and sends a frame through it. If the post cannot be made, returns whether memory ran out.
+fn try_post<R: Wait + Abort>(rt: &R, alloc: Global) -> Result<Tried, bool> {
+    match Post::new(alloc, 2) {
+        Ok((post, _inboxes)) => Ok(try_send(rt, alloc, &post)),
+        Err(fault) => Err(fault == NewPostError::Memory),
+    }
+}
+
+#[test]
+fn growth_of_a_post(rt: HostRuntime) {
+    let alloc = rt.alloc();
+    end(&rt, again(try_post(&rt, alloc), try_post(&rt, alloc)));
+}
+
+/// Returns what a site shows: its events, the holder of `r`, and how many requests wait, how many clients are queued, and the fault.
+fn state_of<R: Wait>(rt: &R, site: &Site) -> ((u64, Option<Entry>), (u64, u128, Option<Stop>)) {
+    (
+        (site.events(rt), site.holder(rt, &r())),
+        (site.waiting(rt), site.queued(rt), site.fault(rt)),
+    )
+}
+
+/// Has client 1 lock `r` at a site. Returns why it does not, or `None` if it does.
+fn refusal_of_lock<R: Wait>(
+    rt: &R,
+    alloc: Global,
+    all: &Cluster,
+    site: &Site,
+) -> Option<SiteError> {
+    all.lock_at(rt, alloc, site, 1, Mode::Exclusive, &OpenGate)
+        .err()
+}
+
+/// Has a client lock `r` at a site, and lock it again if memory ran out, when the site has to be as before. Then the client unlocks it,
+/// which needs no memory.
+fn try_site<R: Wait + Abort>(rt: &R, alloc: Global, all: &Cluster, site: &Site) -> Tried {
+    let (at, before) = (At("a client of one site", "lock", 0), state_of(rt, site));
+    let (mut tried, mut came) = (Tried::NoFailure, refusal_of_lock(rt, alloc, all, site));
+    if came == Some(WANTING) {
+        assert_same(rt, at, &state_of(rt, site), &before);
+        tried = Tried::RetrySucceeded;
+        came = refusal_of_lock(rt, alloc, all, site);
+    }
+    assert_same(rt, at, &came, &None);
+    let unlocked = all.unlock_at(rt, alloc, site, 1, &OpenGate);
+    assert_same(rt, at, &unlocked, &Ok(()));
+    tried
+}
+
+/// Makes a cluster of one site, at which a client locks `r` and unlocks it. If it cannot be made, memory ran out.
+fn try_sites<R: Wait + Abort>(rt: &R, alloc: Global) -> Result<Tried, bool> {
+    let clusters = make_cluster(alloc, 1);
+    match clusters.first() {
+        Some(all) => Ok(try_site(rt, alloc, all, all.site(rt, 1))),
+        None => Err(true),
+    }
+}
+
+#[test]
+fn growth_of_a_site(rt: HostRuntime) {
+    let alloc = rt.alloc();
+    end(&rt, again(try_sites(&rt, alloc), try_sites(&rt, alloc)));
+}
+
+/// Has a site take all frames that are left in an inbox. Returns how many events it has then, or `None` if it is stopped since memory
+/// ran out.
+fn events_unless_memory<R: AllocGlobal + Wait + Abort>(
+    rt: &R,
+    all: &Cluster,
+    site: &Site,
+    inbox: &Inbox,
+) -> Option<u64> {
+    all.pump_at(rt, site, inbox, &OpenGate);
+    if site.fault(rt) == Some(Stop::Memory) {
+        None
+    } else {
+        Some(site.events(rt))
+    }
+}
+
+/// Returns how many frames are left in an inbox, that of node 3, which a new site of the node takes. The post has to be closed before.
+/// Returns `None` if memory ran out.
+fn frames_left<R: AllocGlobal + Wait + Abort>(rt: &R, inbox: &Inbox) -> Option<u64> {
+    let fresh = make_cluster(rt.alloc(), 3);
+    match fresh.first() {
+        Some(all) => events_unless_memory(rt, all, all.site(rt, 3), inbox),
+        None => None,
+    }
+}
+
+/// The books of three nodes, of which the first has lost a frame.
+const LOST: &[Ended] = &[
+    Ended(Some(Stop::Send), 1),
+    Ended(Some(Stop::Send), 0),
+    Ended(Some(Stop::Send), 0),
+];
+
+/// Asserts that the books have lost a frame. Returns whether the frame for node 2 is lost, and that for node 3 either is the one that is
+/// left in its inbox, or is lost too.
+fn are_accounted_for(rt: &impl Abort, books: &[Book], left: u64) -> Tried {
+    assert_ended(rt, "the frame for node 2 is lost", books, LOST);
+    let Some(one) = books.first() else {
+        return Tried::Broken;
+    };
+    match (one.sent(0), one.sent(1)) {
+        (Some(two), Some(three)) if two.lost && !three.lost && left == 1 => Tried::NoFailure,
+        (Some(two), Some(three)) if two.lost && three.lost && left == 0 => Tried::RetrySucceeded,
+        _ => Tried::Broken,
+    }
+}
+
+/// Has client 1 of node 1 of three lock `r`, and closes the post. The inbox of node 2 is gone, so at least the frame for node 2 is lost.
+/// Returns how many frames are left for node 3. If the client was refused, or that cannot be looked at, returns whether memory ran out.
+fn loses<R: AllocGlobal + Wait + Abort>(rt: &R, all: &Cluster) -> Result<u64, bool> {
+    let Some(inbox) = all.inboxes.get(1) else {
+        return Err(false);
+    };
+    let came = refusal_of_lock(rt, rt.alloc(), all, all.site(rt, 1));
+    all.post.close(rt);
+    if came != Some(SiteError::Stopped(Stop::Send)) {
+        return Err(came == Some(WANTING));
+    }
+    frames_left(rt, inbox).ok_or(true)
+}
+
+/// Loses the inbox of node 2 of the cluster, and does so. If it cannot be done, returns whether memory ran out.
+fn loses_two<R: AllocGlobal + Wait + Abort>(
+    rt: &R,
+    clusters: &mut Vec<Cluster>,
+) -> Result<u64, bool> {
+    let Some(all) = clusters.get_mut(0) else {
+        return Err(true);
+    };
+    if loses_inbox(all, 1) {
+        loses(rt, all)
+    } else {
+        Err(false)
+    }
+}
+
+/// Makes the three nodes, and does so. If it cannot be done, returns whether memory ran out.
+fn try_losing<R: AllocGlobal + Wait + Abort>(rt: &R) -> Result<Tried, bool> {
+    let mut clusters = make_cluster(rt.alloc(), 3);
+    let left = loses_two(rt, &mut clusters);
+    let books = books_at_the_end(rt.alloc(), clusters);
+    match left {
+        // Memory ran out while the books were put together.
+        Ok(_) if books.len() != 3 => Err(true),
+        Ok(left) => Ok(are_accounted_for(rt, &books, left)),
+        Err(memory) => Err(memory),
+    }
+}
+
+/// A frame for which there is no memory is flagged as lost, and the others of its event are sent.
+#[test]
+fn growth_of_lost_frames(rt: HostRuntime) {
+    end(&rt, again(try_losing(&rt), try_losing(&rt)));
+}

@@ -1,0 +1,116 @@
+//! Frames of which one byte is another, or of which the last bytes are missing: whether a book takes them, and that it is as
+//! before if it does not.
+use crate::cluster_asserting::assert_same;
+use crate::kept_books::book_steps::Call::Receive;
+use crate::kept_books::book_steps::{ASK, ASKS, ASKS_1, counts_of, refusal};
+use crate::kept_books::histories::{TWO_OF_THREE, new_books};
+use ra_cluster::{Book, BookError};
+use ra_frame::FrameError;
+use std::alloc::Global;
+use std::process::Abort;
+use test_support::{At, r};
+
+/// With how many of the 256 bytes at each place node 2 of 3 takes the REQUEST of version 1.
+const TAKEN_1: [u32; 23] = [
+    // The version 1, the kind REQUEST, a sender 1 or 3, the receiver 2, and a mode.
+    1, 1, 2, 1, 2,
+    // A number that is not 0.
+    256, 256, 256, 256, 256, 256, 256, 255,
+    // A clock that is not 0, and not above 2^62.
+    64, 256, 256, 256, 256, 256, 256, 255,
+    // The length 1, and a letter, a digit or one of three others.
+    1, 65,
+];
+
+/// With how many that of version 2.
+const TAKEN_2: [u32; 25] = [
+    // The version 2, the kind REQUEST, a sender 1 or 3, the receiver 2, and a mode.
+    1, 1, 1, 2, 1, 1, 5,
+    // Everything else as in version 1.
+    256, 256, 256, 256, 256, 256, 256, 255, 64, 256, 256, 256, 256, 256, 256, 255, 1, 65,
+];
+
+/// Returns these bytes with this byte at the place.
+fn with<const N: usize>(text: &[u8; N], place: usize, byte: u8) -> [u8; N] {
+    let mut bytes = *text;
+    if place < bytes.len() {
+        bytes[place] = byte;
+    }
+    bytes
+}
+
+/// Returns whether a book has nothing but the ask: one event, two REQUESTs, the clock 1, no fault, and the number 1, which waits.
+fn is_as_before(book: &Book) -> bool {
+    let node = book.node();
+    counts_of(book) == (1, 2, 1)
+        && book.fault().is_none()
+        && (node.highest(&r()), node.waiting(), node.queued()) == (1, 1, 0)
+}
+
+/// Client 1 of a new book asks for `r` exclusively, and the bytes come. Returns whether the book takes them, or why not.
+/// Returns `None` if it takes them without an event, or does not take them and is not as before.
+fn outcome_at(alloc: Global, book: &mut Book, bytes: &[u8]) -> Option<Result<(), BookError>> {
+    if refusal(alloc, book, ASK).is_some() {
+        return None;
+    }
+    match refusal(alloc, book, Receive(bytes)) {
+        None if book.events().len() == 2 => Some(Ok(())),
+        Some(fault) if is_as_before(book) => Some(Err(fault)),
+        _ => None,
+    }
+}
+
+/// The same for the book of node 2 of 3.
+fn outcome(alloc: Global, bytes: &[u8]) -> Option<Result<(), BookError>> {
+    let mut books = new_books(alloc, &[TWO_OF_THREE]);
+    match books.get_mut(0) {
+        Some(book) => outcome_at(alloc, book, bytes),
+        None => None,
+    }
+}
+
+/// Returns with how many of the 256 bytes at the place the REQUEST is taken, or `None` if a book is not as it is to be.
+fn count_taken<const N: usize>(alloc: Global, text: &[u8; N], place: usize) -> Option<u32> {
+    let mut count = 0u32;
+    for byte in 0..=u8::MAX {
+        if outcome(alloc, &with(text, place, byte))?.is_ok() {
+            count = count.wrapping_add(1);
+        }
+    }
+    Some(count)
+}
+
+/// Ends the test unless the REQUEST is taken with as many of the 256 bytes at each place.
+fn assert_taken<R: Abort + AllocGlobal, const N: usize>(rt: &R, text: &[u8; N], taken: &[u32; N]) {
+    for place in 0..N {
+        let at = At("the frame is taken with other bytes", "place", place);
+        let came = count_taken(rt.alloc(), text, place);
+        assert_same(rt, at, &came, &Some(taken[place]));
+    }
+}
+
+#[test]
+fn with_another_byte_a_frame_of_version_1_is_taken_or_leaves_the_book(rt: HostRuntime) {
+    assert_taken(&rt, &ASKS_1, &TAKEN_1);
+}
+
+#[test]
+fn with_another_byte_a_frame_of_version_2_is_taken_or_leaves_the_book(rt: HostRuntime) {
+    assert_taken(&rt, &ASKS, &TAKEN_2);
+}
+
+/// Ends the test if a part of these bytes is taken, or is not too short.
+fn assert_short<R: Abort + AllocGlobal>(rt: &R, text: &[u8]) {
+    let short = Some(Err(BookError::Frame(FrameError::Short)));
+    for end in 0..text.len() {
+        let at = At("a part of the frame", "bytes up to", end);
+        let came = outcome(rt.alloc(), &text[..end]);
+        assert_same(rt, at, &came, &short);
+    }
+}
+
+#[test]
+fn each_part_of_a_frame_leaves_the_book(rt: HostRuntime) {
+    assert_short(&rt, &ASKS_1);
+    assert_short(&rt, &ASKS);
+}

@@ -1,0 +1,3 @@
+//! Books that settle into a run, or do not.
+pub mod settled_outcomes;
+pub mod settled_runs;

@@ -1,0 +1,158 @@
+//! What is shown when a cluster of sites has done its steps.
+use crate::cluster_asserting::{assert_same, assert_so, fail_at};
+use crate::cluster_values::{books_of, entry, settled};
+use crate::kept_books::book_steps::Wire::Asks;
+use crate::kept_books::book_steps::frame;
+use crate::settled_books::settled_runs::{LOST_ONCE, assert_comes};
+use crate::site_tests::site_cluster::{Answer, Cluster};
+use ra_cluster::{Book, Grant, Sent, SiteError, Stop};
+use ra_stamp::Mode;
+use std::alloc::Global;
+use std::process::Abort;
+use test_support::{At, r};
+
+/// A book at the end: its fault, and how many events it has.
+#[derive(Clone, Copy)]
+pub struct Ended(pub Option<Stop>, pub u64);
+
+/// What is shown at the end.
+#[derive(Clone, Copy)]
+pub enum Shown {
+    /// The books end so.
+    Books(&'static [Ended]),
+    /// The book of this node has this fault.
+    Fault(usize, Stop),
+    /// The frame that node 1 sent at this place is lost, or is not.
+    Sent(u64, bool),
+    /// Node 1 sent the REQUEST of [`ASKS`](crate::kept_books::book_steps::ASKS) and nothing else, and that was lost, and the books settle into its loss.
+    OneLoss,
+    /// Client 1 of node 1 holds `r`.
+    Held,
+    /// The last client that locked on a thread of its own was this one of node 1, which got the grant with this number.
+    Granted(u32, u64),
+    /// That client was refused for this reason.
+    Refused(SiteError),
+    /// The books settle into a run in which one client is queued and no request waits.
+    OneQueued,
+    /// The clients that lock and unlock often got more than this many grants, with which the books settle into a run that tells of a
+    /// loss.
+    LostAfter(usize),
+}
+
+/// What there is when all steps are done.
+#[derive(Drop)]
+pub struct After {
+    books: Vec<Book>,
+    answer: Answer,
+    grants: Vec<Grant>,
+}
+
+/// Returns the fault of the book at this place, and how many events it has.
+fn end_of(books: &[Book], place: usize) -> Option<(Option<Stop>, u64)> {
+    match books.get(place) {
+        Some(book) => Some((book.fault(), book.events().len())),
+        None => None,
+    }
+}
+
+/// Asserts that all the books end as expected, and that there are no others.
+pub fn assert_ended(rt: &impl Abort, words: &str, books: &[Book], ended: &[Ended]) {
+    for place in 0..ended.len() {
+        let Ended(fault, events) = ended[place];
+        let at = At(words, "the end of book", place);
+        assert_same(rt, at, &end_of(books, place), &Some((fault, events)));
+    }
+    let at = At(words, "books beside book", 0);
+    assert_same(rt, at, &books.len(), &ended.len());
+}
+
+/// Returns whether a book sent a frame at this place that is lost, or not, or `None` if it sent none.
+fn is_lost(one: &Book, place: u64) -> Option<bool> {
+    match one.sent(place) {
+        Some(sent) => Some(sent.lost),
+        None => None,
+    }
+}
+
+/// Asserts that node 1 sent the one REQUEST, which is lost, and that the books settle into its loss.
+fn assert_one_loss(rt: &impl Abort, alloc: Global, at: At<'_>, one: &Book, books: &[Book]) {
+    let (frame, lost) = (frame(rt, 1, Asks), true);
+    assert_same(rt, at, &one.sent(0), &Some(Sent { frame, lost }));
+    assert_same(rt, at, &one.sent(1), &None);
+    assert_comes(rt, alloc, at.0, books, &[], LOST_ONCE);
+}
+
+/// What a run tells into which books settle: whether messages were lost, and how many clients are queued and how many requests wait.
+type Told = (bool, u128, u128);
+
+/// Returns what the run tells into which the books settle with grants, or `None` if they do not.
+fn told(alloc: Global, books: &[Book], grants: &[Grant]) -> Option<Told> {
+    match settled(alloc, books, grants) {
+        Ok(settled) => {
+            let report = &settled.report;
+            Some((report.lost > 0, report.queued, report.waiting))
+        }
+        Err(_) => None,
+    }
+}
+
+/// Asserts that the books settle with the grants, of which there are more than this many, into a run that tells of a loss.
+fn assert_lost_after(rt: &impl Abort, alloc: Global, at: At<'_>, after: &After, least: usize) {
+    let are_many = after.grants.len() > least;
+    assert_so(rt, at, "there are as many grants", are_many);
+    let tells = matches!(told(alloc, &after.books, &after.grants), Some((true, _, _)));
+    assert_so(rt, at, "the run tells of a loss", tells);
+}
+
+/// Asserts that this is shown.
+fn assert_shown(rt: &impl Abort, alloc: Global, at: At<'_>, after: &After, shown: Shown) {
+    let Some(one) = after.books.first() else {
+        fail_at(rt, at, "there is no book");
+    };
+    match shown {
+        Shown::Books(ended) => assert_ended(rt, at.0, &after.books, ended),
+        Shown::Fault(number, fault) => {
+            let came = end_of(&after.books, number.wrapping_sub(1));
+            let is_right = matches!(came, Some((Some(stop), _)) if stop == fault);
+            assert_so(rt, at, "the node has this fault", is_right);
+        }
+        Shown::Sent(place, lost) => assert_same(rt, at, &is_lost(one, place), &Some(lost)),
+        Shown::OneLoss => assert_one_loss(rt, alloc, at, one, &after.books),
+        Shown::Held => {
+            let due = Some(entry(rt, 1, 1, Mode::Exclusive, 1));
+            assert_same(rt, at, &one.holder(&r()), &due);
+        }
+        Shown::Granted(client, seq) => {
+            let entry = entry(rt, 1, client, Mode::Exclusive, seq);
+            assert_same(rt, at, &after.answer, &Some(Ok(Grant { entry })));
+        }
+        Shown::Refused(fault) => assert_same(rt, at, &after.answer, &Some(Err(fault))),
+        Shown::OneQueued => {
+            let due = Some((false, 1, 0));
+            assert_same(rt, at, &told(alloc, &after.books, &[]), &due);
+        }
+        Shown::LostAfter(least) => assert_lost_after(rt, alloc, at, after, least),
+    }
+}
+
+/// Asserts that all of these are shown.
+pub fn assert_all_shown(rt: &impl Abort, alloc: Global, words: &str, after: &After, all: &[Shown]) {
+    for place in 0..all.len() {
+        assert_shown(
+            rt,
+            alloc,
+            At(words, "what is shown at", place),
+            after,
+            all[place],
+        );
+    }
+}
+
+/// Returns what there is after the steps.
+pub fn after_all(alloc: Global, all: Cluster) -> After {
+    After {
+        answer: all.answer.into_inner(),
+        grants: all.grants.into_inner(),
+        books: books_of(alloc, all.sites),
+    }
+}

@@ -1,0 +1,147 @@
+//! Scripts that threads run.
+use crate::cluster_asserting::{assert_prints, assert_same};
+use crate::cluster_values::Counting;
+use crate::thread_scripts::endings::{End, assert_ends};
+use crate::thread_scripts::letter_scripts::Does::{Locks, Shares, Unlocks};
+use crate::thread_scripts::letter_scripts::{Client, Does, LOCKS_R, READS_R, TWO_WRITERS, USES_R};
+use ra_cluster::{ClusterError, OpenGate, Stop};
+use std::process::Abort;
+use std::sync::Wait;
+use std::sync::atomic::Ordering;
+use std::thread::Threads;
+use test_support::{At, assert_words};
+
+/// What the only client does, also in a few words, how the script ends, and how often the node steps.
+struct Alone(&'static str, &'static [Does], End, u64);
+
+/// Asserts that the scripts of all rows end so.
+fn assert_alone<R: AllocGlobal + Threads + Wait + Abort + Sync>(rt: &R, rows: &[Alone]) {
+    for Alone(words, ops, end, steps) in rows {
+        let gate = Counting::open();
+        let at = At(words, "the run of row", 0);
+        assert_ends(rt, at, 1, &[Client(1, ops)], &gate, *end);
+        assert_same(rt, at, &gate.steps.load(Ordering::SeqCst), steps);
+    }
+}
+
+/// A client locks a name below the one that it holds.
+const FALLING: &[Does] = &[Locks(b'b'), Locks(b'a'), Unlocks(b'a'), Unlocks(b'b')];
+
+/// It does so after it unlocked the lower one.
+const FALLING_LATER: &[Does] = &[Locks(b'a'), Unlocks(b'a'), Locks(b'b'), Shares(b'a')];
+
+/// It unlocks one of two names.
+const ONE_OF_TWO: &[Does] = &[Locks(b'a'), Locks(b'b'), Unlocks(b'b')];
+
+/// Scripts that are refused before any step.
+const REFUSED: &[Alone] = &[
+    Alone("falling", FALLING, End::Fails(ClusterError::OutOfOrder), 0),
+    Alone(
+        "falling later",
+        FALLING_LATER,
+        End::Fails(ClusterError::OutOfOrder),
+        0,
+    ),
+    Alone("kept", LOCKS_R, End::Fails(ClusterError::Unreleased), 0),
+    Alone(
+        "one of two is kept",
+        ONE_OF_TWO,
+        End::Fails(ClusterError::Unreleased),
+        0,
+    ),
+];
+
+#[test]
+fn names_out_of_order_or_kept_are_refused_before_any_step(rt: HostRuntime) {
+    assert_alone(&rt, REFUSED);
+}
+
+/// A client locks and unlocks one name after the other.
+const ONE_BY_ONE: &[Does] = &[Locks(b'b'), Unlocks(b'b'), Locks(b'a'), Unlocks(b'a')];
+
+/// A client holds two names at a time.
+const OVERLAPPING: &[Does] = &[
+    Locks(b'a'),
+    Locks(b'b'),
+    Unlocks(b'a'),
+    Locks(b'c'),
+    Unlocks(b'c'),
+    Unlocks(b'b'),
+];
+
+/// The node steps once for each operation.
+const IN_ORDER: &[Alone] = &[
+    Alone("one by one", ONE_BY_ONE, End::Done(2, 0), 4),
+    Alone("overlapping", OVERLAPPING, End::Done(3, 0), 6),
+];
+
+#[test]
+fn names_in_order_are_taken_and_given_back(rt: HostRuntime) {
+    assert_alone(&rt, IN_ORDER);
+}
+
+/// Where the tests are that have no row.
+const RUN: At<'static> = At("clients of several nodes", "the run of row", 0);
+
+#[test]
+fn two_writers_of_three_nodes(rt: HostRuntime) {
+    let end = End::Done(2, 8);
+    assert_ends(&rt, RUN, 3, TWO_WRITERS, &OpenGate, end);
+}
+
+#[test]
+fn no_clients_do_nothing(rt: HostRuntime) {
+    assert_ends(&rt, RUN, 64, &[], &OpenGate, End::Done(0, 0));
+}
+
+/// A client holds `a` exclusively and `b` shared at the same time.
+const USES_TWO: &[Does] = &[Locks(b'a'), Shares(b'b'), Unlocks(b'a'), Unlocks(b'b')];
+
+/// Twelve clients at four nodes in turn. Every third one, from the first on, uses two names; the others read `r`.
+const TWELVE: &[Client] = &[
+    Client(1, USES_TWO),
+    Client(2, READS_R),
+    Client(3, READS_R),
+    Client(4, USES_TWO),
+    Client(1, READS_R),
+    Client(2, READS_R),
+    Client(3, USES_TWO),
+    Client(4, READS_R),
+    Client(1, READS_R),
+    Client(2, USES_TWO),
+    Client(3, READS_R),
+    Client(4, READS_R),
+];
+
+#[test]
+fn many_clients_of_many_nodes(rt: HostRuntime) {
+    // 4 clients with two locks and 8 with one, and 6 messages for each lock.
+    assert_ends(&rt, RUN, 4, TWELVE, &OpenGate, End::Done(16, 96));
+}
+
+/// Returns a writer for each of 64 nodes.
+fn writers_of_64_nodes() -> [Client; 64] {
+    let mut clients = [Client(0, USES_R); 64];
+    let mut node: u16 = 0;
+    for client in &mut clients {
+        node = node.wrapping_add(1);
+        client.0 = node;
+    }
+    clients
+}
+
+#[test]
+fn as_many_nodes_and_clients_as_there_may_be(rt: HostRuntime) {
+    // Each of the 64 requests sends a REQUEST to each of the 63 other nodes, and gets a REPLY from it.
+    let clients = writers_of_64_nodes();
+    assert_ends(&rt, RUN, 64, &clients, &OpenGate, End::Done(64, 8064));
+}
+
+/// Why a node was stopped is not printed.
+const FAULTS: &[(ClusterError, &str)] = &[(ClusterError::Fault(Stop::Gate), "Fault")];
+
+#[test]
+fn cluster_faults_are_printed_as_their_words(rt: HostRuntime) {
+    assert_prints(&rt, FAULTS);
+    assert_words!(&rt; ClusterError: OutOfOrder Unreleased Settle PlanUnmet Lost UnderWay Memory);
+}

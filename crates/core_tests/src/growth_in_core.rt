@@ -1,0 +1,4 @@
+//! What calls answer and change if a growth of memory is refused.
+pub mod growth_of_automata;
+pub mod growth_of_bags;
+pub mod growth_of_nodes;

@@ -1,0 +1,8 @@
+//! Names, stamps, frames, bags of messages and lock tables.
+pub mod bags;
+pub mod changed_bytes;
+pub mod costs;
+pub mod first_faults;
+pub mod lock_tables;
+pub mod read_frames;
+pub mod stamps;

@@ -1,0 +1,301 @@
+ghost use Rattle.ra_stamp.specs.NodeId.{IsNodeNumber};
+
+use crate::core_asserting::{assert_prints, assert_row, assert_same};
+use ra_stamp::{
+    Entry, Mark, Marks, Memory, Message, Messages, Mode, Name, NameError, NodeId, Stamp, conflicts,
+};
+use std::alloc::Global;
+use std::cmp::Ordering;
+use std::process::Abort;
+use test_support::{At, Modes, PAIRS, id, r};
+
+/// Returns a REQUEST from node 1 to node 2.
+fn request(name: Name, seq: u64) -> Message {
+    Message::Request {
+        from: id(1),
+        to: id(2),
+        name,
+        mode: Mode::Exclusive,
+        seq,
+    }
+}
+
+/// Returns the stamp of a node's request.
+fn stamp(seq: u64, of: u16) -> Stamp
+    requires { IsNodeNumber of }
+{
+    Stamp { seq, node: id(of) }
+}
+
+#[test]
+fn nodes_are_numbered_from_one_to_sixty_four(rt: HostRuntime) {
+    for number in 0..=65 {
+        let found = match NodeId::new(number) {
+            Some(node) => node.get(),
+            None => 0,
+        };
+        let expected = if number == 65 { 0 } else { number };
+        assert_row(&rt, usize::from(number), &found, &expected);
+    }
+}
+
+/// Bytes, and why they are no name, or `None` if they are one.
+struct Named(&'static [u8], Option<NameError>);
+
+const NAMED: &[Named] = &[
+    Named(b"AZaz09_-.", None),
+    Named(b"nnnnnnnnnnnnnnnnnnnnnnnnnnnnnnnn", None),
+    Named(
+        b"nnnnnnnnnnnnnnnnnnnnnnnnnnnnnnnnn",
+        Some(NameError::TooLong),
+    ),
+    Named(b"", Some(NameError::Empty)),
+    Named(b"a b", Some(NameError::BadByte)),
+    Named(b"a/b", Some(NameError::BadByte)),
+    Named(b"a:b", Some(NameError::BadByte)),
+    Named(b"a@b", Some(NameError::BadByte)),
+    Named(b"a[b", Some(NameError::BadByte)),
+    Named(b"a`b", Some(NameError::BadByte)),
+    Named(b"a{b", Some(NameError::BadByte)),
+    Named(b"\xc3\xa4", Some(NameError::BadByte)),
+];
+
+#[test]
+fn names_have_one_to_thirty_two_letters_digits_and_three_signs(rt: HostRuntime) {
+    for row in 0..NAMED.len() {
+        match Name::new(NAMED[row].0) {
+            Ok(name) => {
+                assert_row(&rt, row, &None, &NAMED[row].1);
+                assert_row(&rt, row, &name.bytes(), &NAMED[row].0);
+            }
+            Err(fault) => assert_row(&rt, row, &Some(fault), &NAMED[row].1),
+        }
+    }
+}
+
+/// Pairs of names, and how they are ordered.
+const NAMES: &[(&[u8], &[u8], Ordering)] = &[
+    (b"a", b"ab", Ordering::Less),
+    (b"ab", b"b", Ordering::Less),
+    (b"b", b"B", Ordering::Greater),
+    (b"a", b"a", Ordering::Equal),
+];
+
+#[test]
+fn names_are_ordered_by_their_bytes(rt: HostRuntime) {
+    for row in 0..NAMES.len() {
+        match (Name::new(NAMES[row].0), Name::new(NAMES[row].1)) {
+            (Ok(one), Ok(other)) => assert_row(&rt, row, &one.cmp(&other), &NAMES[row].2),
+            _ => panic!(rt; "there is no such name"),
+        }
+    }
+}
+
+#[test]
+fn nine_pairs_of_modes_go_together(rt: HostRuntime) {
+    for Modes(label, held, wanted, together) in PAIRS {
+        assert_same(
+            &rt,
+            At(label, "row", 0),
+            &!conflicts(*held, *wanted),
+            together,
+        );
+    }
+}
+
+#[test]
+fn modes_print_their_words(rt: HostRuntime) {
+    const WORDS: &[(Mode, &str)] = &[
+        (Mode::Shared, "S"),
+        (Mode::Exclusive, "X"),
+        (Mode::IntentShared, "IS"),
+        (Mode::IntentExclusive, "IX"),
+        (Mode::SharedIntentExclusive, "SIX"),
+    ];
+    assert_prints(&rt, WORDS);
+}
+
+/// Asserts that two stamps are ordered so. The label says which.
+fn assert_ordered(rt: &impl Abort, label: &str, one: &Stamp, other: &Stamp, order: Ordering) {
+    assert_same(rt, At(label, "row", 0), &one.cmp(other), &order);
+}
+
+#[test]
+fn equal_numbers_go_to_the_lower_node(rt: HostRuntime) {
+    let (one, other) = (stamp(1, 64), stamp(2, 1));
+    let (of_1, of_2, of_3) = (stamp(1, 1), stamp(1, 2), stamp(7, 3));
+    assert_ordered(
+        &rt,
+        "1 of node 1 and 1 of node 2",
+        &of_1,
+        &of_2,
+        Ordering::Less,
+    );
+    assert_ordered(
+        &rt,
+        "1 of node 64 and 2 of node 1",
+        &one,
+        &other,
+        Ordering::Less,
+    );
+    assert_ordered(
+        &rt,
+        "2 of node 1 and 1 of node 64",
+        &other,
+        &one,
+        Ordering::Greater,
+    );
+    assert_ordered(
+        &rt,
+        "7 of node 3 and itself",
+        &of_3,
+        &stamp(7, 3),
+        Ordering::Equal,
+    );
+}
+
+/// Asserts that a message has these parts.
+fn assert_parts(rt: &impl Abort, row: usize, message: &Message, ends: [u16; 2], seq: u64) {
+    assert_row(rt, row, &[message.from().get(), message.to().get()], &ends);
+    assert_row(rt, row, &message.name(), &r());
+    assert_row(rt, row, &message.seq(), &seq);
+}
+
+#[test]
+fn messages_of_both_kinds_tell_their_parts(rt: HostRuntime) {
+    let reply = Message::Reply {
+        from: id(3),
+        to: id(64),
+        name: r(),
+        seq: 9,
+    };
+    assert_parts(&rt, 0, &request(r(), 4), [1, 2], 4);
+    assert_parts(&rt, 1, &reply, [3, 64], 9);
+}
+
+/// Adds the request with this number to a list.
+fn adds(rt: &impl Abort, messages: &mut Messages, seq: u64) {
+    assert_same(
+        rt,
+        At("adds", "number", 0),
+        &messages.push(request(r(), seq)),
+        &Ok(()),
+    );
+}
+
+/// Asserts that a list has the requests with these numbers, in this order, and nothing after them.
+fn assert_listed(rt: &impl Abort, messages: &Messages, numbers: &[u64]) {
+    for place in 0..numbers.len() {
+        let expected = Some(request(r(), numbers[place]));
+        assert_row(rt, place, &messages.at(place as u64), &expected);
+    }
+    let count = numbers.len() as u64;
+    assert_row(rt, numbers.len(), &messages.len(), &count);
+    assert_row(rt, numbers.len(), &messages.at(count), &None);
+    assert_row(rt, numbers.len(), &messages.at(u64::MAX), &None);
+}
+
+#[test]
+fn messages_are_listed_in_order(rt: HostRuntime) {
+    let mut messages = Messages::new(rt.alloc());
+    assert_listed(&rt, &messages, &[]);
+    adds(&rt, &mut messages, 1);
+    adds(&rt, &mut messages, 2);
+    adds(&rt, &mut messages, 1);
+    assert_listed(&rt, &messages, &[1, 2, 1]);
+}
+
+/// The list keeps its message.
+#[test]
+fn more_room_than_there_is_is_refused(rt: HostRuntime) {
+    let mut messages = Messages::new(rt.alloc());
+    adds(&rt, &mut messages, 1);
+    assert_row(&rt, 0, &messages.reserve(u64::MAX), &Err(Memory));
+    assert_listed(&rt, &messages, &[1]);
+}
+
+/// Adds a mark to a list, after room was made for this many.
+fn adds_mark(rt: &impl Abort, marks: &mut Marks, room: u64, mark: Mark) {
+    assert_row(rt, 0, &marks.reserve(room), &Ok(()));
+    assert_row(rt, 0, &marks.push(mark), &Ok(()));
+}
+
+/// Asserts that a list has these marks, in this order, and nothing after them.
+fn assert_marks(rt: &impl Abort, marks: &Marks, expected: &[Mark]) {
+    for place in 0..expected.len() {
+        assert_row(rt, place, &marks.at(place as u64), &Some(expected[place]));
+    }
+    let count = expected.len() as u64;
+    assert_row(rt, expected.len(), &marks.at(count), &None);
+}
+
+/// Returns the three marks of an entry.
+fn marks_of(entry: &Entry) -> [Mark; 3] {
+    [
+        Mark::Requested(*entry),
+        Mark::Entered(*entry),
+        Mark::Left(*entry),
+    ]
+}
+
+#[test]
+fn marks_are_listed_in_order(rt: HostRuntime) {
+    let all = marks_of(&entry(r(), Mode::Shared));
+    let mut marks = Marks::new(rt.alloc());
+    assert_marks(&rt, &marks, &[]);
+    adds_mark(&rt, &mut marks, 2, all[0]);
+    adds_mark(&rt, &mut marks, 0, all[1]);
+    adds_mark(&rt, &mut marks, 0, all[2]);
+    assert_marks(&rt, &marks, &all);
+}
+
+const NAME_FAULTS: &[(NameError, &str)] = &[
+    (NameError::Empty, "Empty"),
+    (NameError::TooLong, "TooLong"),
+    (NameError::BadByte, "BadByte"),
+];
+
+#[test]
+fn faults_print_their_names(rt: HostRuntime) {
+    assert_prints(&rt, &[(Memory, "Memory")]);
+    assert_prints(&rt, NAME_FAULTS);
+}
+
+/// Returns the entry of a request of client 7 at node 2 for the name.
+fn entry(name: Name, mode: Mode) -> Entry {
+    Entry {
+        name,
+        stamp: stamp(3, 2),
+        client: 7,
+        mode,
+    }
+}
+
+/// Returns whether a name prints so by itself, for a programmer, and to the right of eight places.
+fn name_prints(alloc: Global, name: Name, line: &str) -> bool {
+    match format!(in alloc; "{name} {name:?} {name:>8}") {
+        Ok(text) => text.as_str() == line,
+        Err(_) => false,
+    }
+}
+
+/// Asserts that a name prints so, and the marks of two entries for it, one exclusive and one shared.
+fn assert_named(rt: &(impl Abort + AllocGlobal), name: Name) {
+    let so = name_prints(rt.alloc(), name, "disk-1 disk-1   disk-1");
+    let at = At("the name prints as disk-1 disk-1   disk-1", "row", 0);
+    assert_same(rt, at, &so, &true);
+    let requested = Mark::Requested(entry(name, Mode::Exclusive));
+    assert_prints(rt, &[(requested, "request 2 7 disk-1 X 3")]);
+    let entered = Mark::Entered(entry(name, Mode::Shared));
+    assert_prints(rt, &[(entered, "enter 2 7 disk-1 S 3")]);
+    let left = Mark::Left(entry(name, Mode::Exclusive));
+    assert_prints(rt, &[(left, "leave 2 7 disk-1 X 3")]);
+}
+
+#[test]
+fn names_and_marks_print_as_text(rt: HostRuntime) {
+    match Name::new(b"disk-1") {
+        Ok(name) => assert_named(&rt, name),
+        Err(fault) => assert_row(&rt, 0, &Some(fault), &None),
+    }
+}

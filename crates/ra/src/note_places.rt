@@ -1,0 +1,93 @@
+//! The place in what was read that a note is about.
+use ra_cli::{AnswerError, Refusal, Remark, RunScriptError};
+use ra_cluster::ClusterError;
+use ra_explain::{LineCause, Unanswered, digits_note, frame_note, line_note, order_note};
+use ra_notes::{
+    PlaceNote, cause_in, cause_text, mark_cause_text, perform_place, text_in, unanswered_place,
+    unfinished_place, unsettled_note,
+};
+use ra_script::explain_script;
+use ra_task::Command;
+use std::alloc::Global;
+
+/// What a note is made of, besides what came of the command.
+#[derive(Clone, Copy)]
+pub struct NoteSource<'a> {
+    /// The words of the command line, of which notes quote options.
+    pub words: &'a [String],
+    pub asked: &'a Command<'a>,
+    /// What was read, or `None` if there was no memory for it.
+    pub seen: Option<&'a [u8]>,
+    /// A text that was to be drawn or settled and is not of its kind, and otherwise no text.
+    pub drawn: &'a [u8],
+    /// Of many seeds, the last one that was tried.
+    pub last_seed: Option<u64>,
+}
+
+/// Returns what is said of a script that threads do not run.
+fn run_place(alloc: Global, script: &[u8], why: RunScriptError) -> PlaceNote {
+    match why {
+        RunScriptError::Script(_) => explain_script(alloc, script),
+        RunScriptError::Cluster(ClusterError::OutOfOrder | ClusterError::Unreleased) => {
+            order_note(alloc, script)
+        }
+        _ => Ok(None),
+    }
+}
+
+/// Returns what is said of a frame that is not answered.
+fn answer_place(alloc: Global, words: &[String], input: &[u8], why: AnswerError) -> PlaceNote {
+    match why {
+        AnswerError::Frame(fault) => frame_note(alloc, input, fault),
+        AnswerError::Line | AnswerError::Hex => digits_note(alloc, input),
+        AnswerError::WrongNode => unanswered_place(alloc, words, input, Unanswered::WrongNode),
+        AnswerError::Stranger => unanswered_place(alloc, words, input, Unanswered::Stranger),
+        AnswerError::ClockFull => unanswered_place(alloc, words, input, Unanswered::ClockFull),
+        _ => Ok(None),
+    }
+}
+
+/// Returns what is said of a remark that is about what was read.
+fn place_in(alloc: Global, source: &NoteSource<'_>, bytes: &[u8], remark: &Remark) -> PlaceNote {
+    match *remark {
+        Remark::Refused(Refusal::Perform(why)) => perform_place(
+            alloc,
+            source.asked.choices(),
+            bytes,
+            why,
+        ),
+        Remark::Refused(Refusal::Cluster(why)) => run_place(alloc, bytes, why),
+        Remark::Refused(Refusal::Answer(why)) => answer_place(alloc, source.words, bytes, why),
+        Remark::Unfinished => unfinished_place(alloc, source.asked, bytes, source.last_seed),
+        _ => Ok(None),
+    }
+}
+
+/// Returns what there is to say of the place of what a remark is about, or `None`.
+pub fn place_of(alloc: Global, source: &NoteSource<'_>, remark: &Remark) -> Option<String> {
+    let said = match *remark {
+        Remark::NoTrace { line, cause, due } => {
+            let why = cause_in(alloc, source.drawn, cause, due);
+            line_note(
+                alloc,
+                text_in(source.seen, source.drawn)?,
+                line,
+                why,
+                cause_text(cause),
+            )
+        }
+        Remark::NoLog { line, cause } => {
+            let why = LineCause::Marks(cause);
+            line_note(
+                alloc,
+                text_in(source.seen, source.drawn)?,
+                line,
+                why,
+                mark_cause_text(cause),
+            )
+        }
+        Remark::Unsettled { line, cause } => unsettled_note(alloc, source.drawn, line, cause),
+        _ => place_in(alloc, source, source.seen?, remark),
+    };
+    said.unwrap_or(None)
+}

@@ -1,0 +1,74 @@
+//! What `ra` does, with notes for a person.
+ghost use Rattle.std.specs.Prelude.{◌≡◌, ◌≢◌, ◌⊎◌, ◌++◌, List, ℕ, [], map, string_bytes};
+ghost use Rattle.std.specs.Io.KnownBytes.{Appends};
+ghost use Rattle.ra_cli.specs.Refusals.{command_word, refused_line};
+ghost use Rattle.ra_cli.specs.Statuses.{Serves};
+
+use crate::note_places::NoteSource;
+use crate::user_notes::write_notes;
+use ra_cli::{CommandFault, do_command, refuse_words};
+use ra_notes::{RecordingReader, SeedProgress, SeenWriter, write_output_note, write_words_note};
+use ra_task::command_of;
+use std::alloc::Global;
+use std::io::{BufRead, Write};
+use std::sync::Wait;
+use std::thread::Threads;
+
+/// Does as [`refuse_words`], and then writes a line for a person to `notes`. It writes another if `writer` failed, unless that
+/// is a pipe that is no longer read. That `notes` fails changes nothing else.
+pub fn refuse_words_with_note<W: Write, N: Write>(
+    writer: &mut SeenWriter<W>,
+    fault: CommandFault,
+    notes: &mut N,
+) -> u8
+    ensures { ((result ≡ 2) × Appends (W.contents writer.old.inner) (W.contents writer.new.inner) (refused_line (command_word fault)))
+        ⊎ ((result ≡ 1) × (prefix : List ℕ) × (rest : List ℕ) × (refused_line (command_word fault) ≡ prefix ++ rest) × (rest ≢ [])
+        × Appends (W.contents writer.old.inner) (W.contents writer.new.inner) prefix) }
+{
+    let status = refuse_words(writer, fault);
+    write_words_note(fault, notes);
+    write_output_note(writer.fault(), notes);
+    status
+}
+
+/// Does as [`serve`], and then writes lines for a person to `notes`:
+///
+/// - If something was refused, a text is no trace, a log is no mark log, books do not settle, or a run ended with something left
+///   to do, a line says what is wrong, where in what was read, and what would be right. Of a run that was shrunk, it is about the
+///   shorter one, and another line says by how much.
+/// - If a text is a trace or a mark log, a line says what is left at its end, if anything is, or that a log has no mark.
+/// - There is a line for each option that has no effect, if the policy `listed` has no choices, if a finished run leaves names
+///   locked, and for the seed of a run that was found.
+/// - There is a line if `writer` failed, unless that is a pipe that is no longer read.
+///
+/// While many seeds take long, it writes there how far it is. Each line begins with `ra: `. Nothing of it goes to `writer`, and
+/// it is left out if memory or `notes` fails, which changes nothing else. To find the place in a script it is read once more. To
+/// find which client waits for which it is run once more, and shrunk once more if it was. For the mark that is due, a trace that was to be drawn is checked once
+/// more.
+pub fn serve_with_notes<T: Threads + Wait + Sync, R: BufRead, W: Write, N: Write>(
+    rt: &T,
+    alloc: Global,
+    words: &[String],
+    reader: &mut RecordingReader<R>,
+    writer: &mut SeenWriter<W>,
+    notes: &mut N,
+) -> u8
+    // What is promised of the status, the reader and the writer is the same, whatever becomes of the note.
+    ensures { Serves (map string_bytes words.now) (R.remaining reader.old.inner) (R.remaining reader.new.inner)
+        (W.contents writer.old.inner) (W.contents writer.new.inner) (reader.new ≡ reader.old) result }
+{
+    let asked = command_of(alloc, words);
+    let mut progress = SeedProgress::new(alloc, notes);
+    let mut text = Vec::new(alloc);
+    let outcome = do_command(rt, alloc, &asked, reader, writer, &mut text, &mut progress);
+    let source = NoteSource {
+        words,
+        asked: &asked,
+        last_seed: progress.last(),
+        seen: reader.seen().bytes(),
+        drawn: &text,
+    };
+    write_notes(alloc, &source, &outcome, notes);
+    write_output_note(writer.fault(), notes);
+    outcome.status
+}

@@ -1,0 +1,126 @@
+//! The note that tells the user what came of a command: one line, which begins with `ra: `.
+use crate::note_places::{NoteSource, place_of};
+use ra_cli::{AnswerError, Outcome, Refusal, Remark, RunScriptError, UNFINISHED};
+use ra_notes::{
+    BOOKS_TOO_LONG, NO_BOOK, NO_INPUT, NO_SEED_DONE, NO_WORD, SEEDS_LEFT, UNEXPLAINED, cause_text,
+    cluster_text, mark_cause_text, of_check, of_choices, of_command, of_drawing, of_end,
+    of_performance, range_note, text_cause_text, write_hints, write_shrunk_notes,
+};
+use ra_task::{NO_MEMORY, Said, text_of};
+use std::alloc::Global;
+use std::io::Write;
+
+/// Writes the note on what came of a command, and another on a run that was shrunk. If nothing was refused, it adds a line for each
+/// option that has no effect, and one for the seed that was found. It ignores a failure of the writer.
+pub fn write_notes<N: Write>(
+    alloc: Global,
+    source: &NoteSource<'_>,
+    outcome: &Outcome,
+    notes: &mut N,
+) {
+    match &outcome.remark {
+        Some(Remark::Unfinished) if source.asked.shrinks() => {
+            write_shrunk_notes(alloc, source.asked, source.seen, source.last_seed, notes);
+        }
+        Some(remark) => said_of(alloc, source, remark).write(notes),
+        None => {}
+    }
+    if outcome.ran_to_end() {
+        let is_done = outcome.status != UNFINISHED;
+        write_hints(
+            alloc,
+            source.words,
+            source.asked,
+            source.seen,
+            is_done,
+            source.last_seed,
+            notes,
+        );
+    }
+}
+
+/// Returns what there is to say about a remark: what is known about its place in the input, and otherwise its cause.
+fn said_of(alloc: Global, source: &NoteSource<'_>, remark: &Remark) -> Said {
+    match place_of(alloc, source, remark) {
+        Some(text) => Said::Note(text),
+        None => cause_of(alloc, source, remark),
+    }
+}
+
+/// Returns what there is to say about the cause of a remark.
+fn cause_of(alloc: Global, source: &NoteSource<'_>, remark: &Remark) -> Said {
+    match remark {
+        Remark::Refused(refusal) => refusal_of(alloc, source, *refusal),
+        Remark::Unfinished => Said::Text(UNEXPLAINED),
+        Remark::SomeUnfinished => Said::Text(SEEDS_LEFT),
+        Remark::NoneFinished => Said::Text(NO_SEED_DONE),
+        Remark::Ends { sent } => of_end(alloc, source.seen, *sent),
+        Remark::NoTrace { line, cause, .. } => Said::Line {
+            line: *line,
+            text: cause_text(*cause),
+        },
+        Remark::NoLog { line, cause } => Said::Line {
+            line: *line,
+            text: mark_cause_text(*cause),
+        },
+        Remark::NoBook => Said::Line {
+            line: 1,
+            text: NO_BOOK,
+        },
+        Remark::Unread => Said::Text(NO_INPUT),
+        Remark::Unsettled { line, cause, .. } => Said::Line {
+            line: *line,
+            text: text_cause_text(*cause),
+        },
+        Remark::TooManyBooks => Said::Text(BOOKS_TOO_LONG),
+    }
+}
+
+/// Returns what there is to say about a refusal, nothing if the writer failed, since a refusal does not say how.
+fn refusal_of(alloc: Global, source: &NoteSource<'_>, refusal: Refusal) -> Said {
+    match refusal {
+        Refusal::Command(why) => of_command(alloc, source.words, why),
+        Refusal::Answer(why) => of_answer(alloc, source.words, why),
+        Refusal::Choices(why) => of_choices(alloc, source.asked.choices(), why),
+        Refusal::Perform(why) => of_performance(why),
+        Refusal::Check(why) => of_check(why),
+        Refusal::Draw(why) => of_drawing(alloc, source.words, why),
+        Refusal::Cluster(why) => of_run(why),
+    }
+}
+
+/// Returns what there is to say about a frame that is not answered.
+fn of_answer(alloc: Global, words: &[String], why: AnswerError) -> Said {
+    match why {
+        AnswerError::BadCount => range_note(alloc, words, "--nodes", "64"),
+        AnswerError::BadNode => {
+            range_note(
+                alloc,
+                words,
+                "--node",
+                text_of(words, "--nodes").unwrap_or(""),
+            )
+        }
+        AnswerError::Read => Said::Text(NO_INPUT),
+        AnswerError::Memory => Said::Text(NO_MEMORY),
+        AnswerError::Write => Said::Nothing,
+        AnswerError::Line
+        | AnswerError::Hex
+        | AnswerError::Frame(_)
+        | AnswerError::WrongNode
+        | AnswerError::Stranger
+        | AnswerError::ClockFull => Said::Text(UNEXPLAINED),
+    }
+}
+
+/// Returns what there is to say about a script that is not run by threads, or not under many seeds.
+fn of_run(why: RunScriptError) -> Said {
+    match why {
+        RunScriptError::Read => Said::Text(NO_INPUT),
+        RunScriptError::Script(_) => Said::Text(UNEXPLAINED),
+        RunScriptError::Cluster(fault) => Said::Text(cluster_text(fault)),
+        RunScriptError::Choice => Said::Text(NO_WORD),
+        RunScriptError::Memory => Said::Text(NO_MEMORY),
+        RunScriptError::Write => Said::Nothing,
+    }
+}

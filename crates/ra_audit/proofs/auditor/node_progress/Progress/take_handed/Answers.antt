@@ -1,0 +1,56 @@
+use Rattle.std.proofs.Common.{◌≡◌, ℕ, List, [], ◌++◌, Result, Err, ap, sym, ◌∙◌, subst, inr}
+use Rattle.std.proofs.lemmas.Result.{err_from_is_err_and}
+use Rattle.std.proofs.lemmas.List.{append-nil}
+use Rattle.ra_cluster.specs.declared.site.take_error.TakeError.{TakeError}
+use Rattle.ra_cluster.specs.Handing.{IsHandedOver}
+use Rattle.ra_history.specs.History.{clock_of}
+use Rattle.ra_audit.specs.Audit.{ProgressState, TakesOver, handed_over}
+use Rattle.ra_audit.specs.AuditKeeping.{LossState}
+use Rattle.ra_audit.proofs.AuditRounds.{refuses_kept, took_kept, took_no_more, asked_after, turn_or_memory}
+use Rattle.ra_audit.proofs.auditor.node_progress.Progress.take_handed.Goals as goal
+
+pub returns-in_err-take_kept-clause-takes : goal.returns-in_err-take_kept-clause-takes
+returns-in_err-take_kept-clause-takes r c =
+    let p = err_from_is_err_and c.from_residual.result c.from_residual.ensures.1 in
+    let is : c.from_residual.result ≡ Err c.in_err-take_kept.field-0.0 = p.1 ∙ ap (λ (e : TakeError). Err e) p.2 in (
+      [],
+      subst (λ (a : Result (Unit {0}) TakeError). TakesOver c.args.self.now c.take_kept.new.self [] a) (sym is)
+          (refuses_kept c.args.self.now c.take_kept.new.self c.in_err-take_kept.field-0.0 c.in_err-take_kept.ensures.err c.in_err-take_kept.ensures.not_next
+          c.in_err-take_kept.ensures.memory c.in_err-take_kept.ensures.others),
+      sym (append-nil c.args.losses.now.losing),
+    )
+
+pub returns-in_err-take_noted-clause-takes : goal.returns-in_err-take_noted-clause-takes
+returns-in_err-take_noted-clause-takes r c =
+    let p = err_from_is_err_and c.from_residual-in_err-take_noted.result c.from_residual-in_err-take_noted.ensures.1 in (
+      [],
+      subst (λ (a : Result (Unit {0}) TakeError). TakesOver c.args.self.now c.take_kept.new.self [] a) (sym p.1)
+          (took_no_more c.args.self.now c.take_kept.new.self c.in_ok-take_kept.ensures.ok p.0 (inr p.2)),
+      ap (λ (l : LossState). l.losing) c.in_err-take_noted.ensures.err ∙ sym (append-nil c.args.losses.now.losing),
+    )
+
+pub returns-in-Ok-clause-takes : goal.returns-in-Ok-clause-takes
+returns-in-Ok-clause-takes r c = (
+  c.in-Ok.handed.lost.items,
+  took_kept c.args.self.now c.take_kept.new.self c.in_ok-take_kept.ensures.ok c.accept.new.self c.in-Ok.handed.lost.items c.accept.result c.accept.ensures.takes,
+  c.accept.ensures.losing ∙ ap (λ (l : LossState). l.losing ++ c.in-Ok.handed.lost.items) c.in_ok-take_noted.ensures.ok,
+)
+
+pub returns-in-Err-clause-takes : goal.returns-in-Err-clause-takes
+returns-in-Err-clause-takes r c = (
+  [],
+  took_no_more c.args.self.now c.take_kept.new.self c.in_ok-take_kept.ensures.ok c.in-Err.refused (turn_or_memory c.in-Err.refused c.in-Err.ensures.others.0 c.in-Err.ensures.others.1),
+  ap (λ (l : LossState). l.losing) c.in_ok-take_noted.ensures.ok ∙ sym (append-nil c.args.losses.now.losing),
+)
+
+-- the site was asked after the clock of what was taken
+pub accept-requires-clause-handing : goal.accept-requires-clause-handing
+accept-requires-clause-handing r c =
+    let p = c.args.self.now in
+    let q = c.take_kept.new.self in
+    let is = c.in_ok-take_kept.ensures.ok in
+    let events = c.in-Ok.handed.events.items in
+    let lost = c.in-Ok.handed.lost.items in
+    let node : c.args.site.now ≡ q.node = c.requires ∙ sym (ap (λ (x : ProgressState). x.node) is) in
+    subst (λ (n : ℕ). IsHandedOver n (clock_of (handed_over q)) events lost) node
+    (subst (λ (k : ℕ). IsHandedOver c.args.site.now k events lost) (asked_after p q is c.latest.result c.latest.ensures) c.in-Ok.ensures.handed)

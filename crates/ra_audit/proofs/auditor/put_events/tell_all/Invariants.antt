@@ -1,0 +1,6 @@
+use Rattle.std.proofs.Common.{◌≡◌, ◌++◌, take}
+use Rattle.ra_audit.proofs.auditor.put_events.tell_all.Given as goal
+
+-- the marks so far were told
+abbrev pub invariant-loop-mark : goal.invariant-loop-mark
+invariant-loop-mark g l = g.O.MarkObserver.told l.observer ≡ g.O.MarkObserver.told l.fn.observer ++ take l.mark-index l.marks

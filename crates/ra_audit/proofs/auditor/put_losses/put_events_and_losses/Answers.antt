@@ -1,0 +1,55 @@
+use Rattle.std.proofs.Common.{ap, sym, subst, ◌∙◌}
+use Rattle.std.specs.Prelude.{All}
+use Rattle.ra_audit.specs.Audit.{HasLost, PutsLosses, WasSentIn}
+use Rattle.ra_audit.specs.AuditKeeping.{LossState}
+use Rattle.ra_audit.proofs.AuditSteps.{advances_then}
+use Rattle.ra_audit.proofs.AuditLosses.{puts_none}
+use Rattle.ra_audit.proofs.Tracking.{lost_still}
+use Rattle.ra_audit.proofs.auditor.put_losses.put_events_and_losses.Goals as goal
+
+pub put_losses-requires : goal.put_losses-requires
+put_losses-requires g c = record {
+  audited = c.in_ok-put_all.ensures.advances.audited;
+  lost =
+      subst (λ (l : LossState). HasLost c.put_all.new.world.moves l.lost) (sym c.in_ok-take_noted.ensures.ok)
+      (c.in_ok-put_all.ensures.unlost ∙ c.requires.lost);
+  taken = ap (λ (l : LossState). l.noted) c.in_ok-take_noted.ensures.ok;
+  tracked = c.in_ok-put_all.ensures.tracked;
+  sent =
+      subst (λ (l : LossState). All (WasSentIn c.put_all.new.nodes c.put_all.new.world.moves) l.lost) (sym c.in_ok-take_noted.ensures.ok)
+      (lost_still c.args.nodes.now c.put_all.new.nodes c.args.world.now.moves c.put_all.new.world.moves c.args.losses.now.lost c.in_ok-put_all.ensures.stay c.requires.sent);
+}
+
+pub returns-in_err-put_all-clause-losses : goal.returns-in_err-put_all-clause-losses
+returns-in_err-put_all-clause-losses g c = puts_none c.put_all.new.nodes c.args.losses.now.losing c.args.losses.now.lost
+
+pub returns-in_err-put_all-clause-lost : goal.returns-in_err-put_all-clause-lost
+returns-in_err-put_all-clause-lost g c = c.in_err-put_all.ensures.unlost ∙ c.requires.lost
+
+pub returns-in_err-take_noted-clause-losses : goal.returns-in_err-take_noted-clause-losses
+returns-in_err-take_noted-clause-losses g c =
+    let old = c.args.losses.now in
+    subst (λ (l : LossState). PutsLosses c.put_all.new.nodes old.losing old.lost l.losing l.lost) (sym c.in_err-take_noted.ensures.err)
+    (puts_none c.put_all.new.nodes old.losing old.lost)
+
+pub returns-in_err-take_noted-clause-lost : goal.returns-in_err-take_noted-clause-lost
+returns-in_err-take_noted-clause-lost g c =
+    subst (λ (l : LossState). HasLost c.put_all.new.world.moves l.lost) (sym c.in_err-take_noted.ensures.err)
+    (c.in_ok-put_all.ensures.unlost ∙ c.requires.lost)
+
+pub returns-clause-advances : goal.returns-clause-advances
+returns-clause-advances g c = advances_then _ _ _ _ _ _ _ _ _ c.in_ok-put_all.ensures.advances (c.put_losses.ensures.advances (g.O.MarkObserver.told c.put_all.new.observer))
+
+pub returns-clause-losses : goal.returns-clause-losses
+returns-clause-losses g c =
+    let new = c.put_losses.new.losses in
+    subst (λ (l : LossState). PutsLosses c.put_all.new.nodes l.losing l.lost new.losing new.lost) c.in_ok-take_noted.ensures.ok c.put_losses.ensures.losses
+
+pub returns-in_err-put_all-clause-sent : goal.returns-in_err-put_all-clause-sent
+returns-in_err-put_all-clause-sent g c =
+    lost_still c.args.nodes.now c.put_all.new.nodes c.args.world.now.moves c.put_all.new.world.moves c.args.losses.now.lost c.in_err-put_all.ensures.stay c.requires.sent
+
+pub returns-in_err-take_noted-clause-sent : goal.returns-in_err-take_noted-clause-sent
+returns-in_err-take_noted-clause-sent g c =
+    subst (λ (l : LossState). All (WasSentIn c.put_all.new.nodes c.put_all.new.world.moves) l.lost) (sym c.in_err-take_noted.ensures.err)
+    (lost_still c.args.nodes.now c.put_all.new.nodes c.args.world.now.moves c.put_all.new.world.moves c.args.losses.now.lost c.in_ok-put_all.ensures.stay c.requires.sent)

@@ -1,7 +1,0 @@
-use Rattle.std.proofs.Common.{◌≡◌, take}
-use Rattle.ra_audit.specs.Audit.{clocks_taken}
-use Rattle.ra_audit.proofs.never_sent.clocks_of.Given as goal
-
--- those of the nodes so far
-abbrev pub invariant-loop-progress : goal.invariant-loop-progress
-invariant-loop-progress l = l.clocks.items ≡ clocks_taken (take l.progress-index l.nodes)

@@ -1,0 +1,59 @@
+//! Whether all that the books of a closed cluster say is in the run of an auditor.
+ghost use Rattle.std.specs.Prelude.{◌≡◌, ◌≢◌, ◌↔◌, ℕ, length, IsErrOf, IfSome, IsNone, OnOk};
+ghost use Rattle.ra_audit.specs.Audit.{IsAllIn, AreAllIn, IsBehind};
+
+use crate::BehindError;
+use crate::auditor::node_progress::Progress;
+use ra_cluster::Book;
+use ra_stamp::NodeId;
+
+/// Tells whether all of the history of each of these books is in the run. The cost is linear in the number of nodes.
+///
+/// # Errors
+///
+/// The first that holds:
+///
+/// 1. `OtherCount`: there are more or fewer books than nodes.
+/// 2. `Behind`: the first node of whose book not all is in the run.
+pub fn check_all(nodes: &[Progress], books: &[Book]) -> Result<(), BehindError>
+    ensures ok { OnOk result (AreAllIn nodes.now books.now) }
+    ensures other_count { IsErrOf result BehindError.OtherCount ↔ (length books.now ≢ length nodes.now) }
+    ensures behind { (node : ℕ) → IsErrOf result (BehindError.Behind node) → IsBehind nodes.now books.now node }
+{
+    if books.len() != nodes.len() {
+        return Err(BehindError::OtherCount);
+    }
+    match first_behind(nodes, books) {
+        Some(node) => Err(BehindError::Behind(node)),
+        None => Ok(()),
+    }
+}
+
+/// Returns the first node of whose book not all is in the run, or `None` if all of each is.
+fn first_behind(nodes: &[Progress], books: &[Book]) -> Option<NodeId>
+    requires { length books.now ≡ length nodes.now }
+    ensures all { IsNone result → AreAllIn nodes.now books.now }
+    ensures behind { IfSome result (IsBehind nodes.now books.now) }
+{
+    for place in 0..nodes.len() {
+        if let Some(node) = behind_of(&nodes[place], &books[place]) {
+            return Some(node);
+        }
+    }
+    None
+}
+
+/// Returns the node if not all of the history of this book is in the run, by the clock of the last event.
+fn behind_of(progress: &Progress, book: &Book) -> Option<NodeId>
+    ensures all { IsNone result → IsAllIn progress.now book.now }
+    ensures behind { IfSome result (λ node. (node ≡ progress.now.node) × (IsAllIn progress.now book.now → ⊥)) }
+{
+    let node = progress.node();
+    if book.me() != node {
+        return Some(node);
+    }
+    if book.clock() != progress.clock() {
+        return Some(node);
+    }
+    None
+}

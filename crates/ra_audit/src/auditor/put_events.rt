@@ -1,0 +1,187 @@
+//! Events of running nodes that are put into one run of the cluster.
+ghost use Rattle.std.specs.Prelude.{◌≡◌, ◌≢◌, ◌↔◌, ◌++◌, ◌<◌, ℕ, length, map, slice_index_or, sum_by, IsTrue, IsErrOf, OnOk, MatchOption};
+ghost use Rattle.std.specs.List.{AllWithin, range_with_len};
+ghost use Rattle.ra_frame.specs.declared.frame.Frame.{Frame};
+ghost use Rattle.ra_world.specs.Traffic.{lost_by};
+ghost use Rattle.ra_audit.specs.Audit.{ProgressState, IsAudited, IsReached, IsDue, IsReady, NoneIsReady, IsMisfit, Advances};
+ghost use Rattle.ra_audit.specs.AuditKeeping.{IsTracked, StaySent};
+
+use crate::audit_laws::messages_of_runs_are_known;
+use crate::auditor::flights::Flights;
+use crate::auditor::node_progress::Progress;
+use crate::{AuditError, AuditFault, MarkObserver};
+use ra_cluster::{BookEvent, BookKind};
+use ra_frame::Frame;
+use ra_history::step_of;
+use ra_stamp::Mark;
+use ra_world::{MarklessWorld, StepError};
+use std::alloc::Global;
+
+/// Puts each event that can be put into the run, and tells the observer the marks. Each turn looks at the nodes from the
+/// one of the turn before on, so that it mostly looks at that one alone. If none from there on can go on, it looks at all.
+///
+/// # Errors
+///
+/// Whichever comes first; what was put before stays.
+///
+/// 1. `Fault`: an event that is due does not fit the run.
+/// 2. `Memory`.
+pub fn put_all<O: MarkObserver>(
+    alloc: Global,
+    world: &mut MarklessWorld,
+    nodes: &mut [Progress],
+    flights: &mut Flights,
+    observer: &mut O,
+) -> Result<(), AuditError>
+    requires audited { IsAudited world.old nodes.old }
+    requires tracked { IsTracked nodes.old world.old.moves flights.old }
+    ensures tracked { IsTracked nodes.new world.new.moves flights.new }
+    ensures stay { StaySent nodes.old world.old.moves nodes.new world.new.moves }
+    ensures advances { Advances world.old nodes.old (O.told observer.old) world.new nodes.new (O.told observer.new) }
+    ensures unlost { lost_by world.new.moves ≡ lost_by world.old.moves }
+    ensures ok { OnOk result (NoneIsReady nodes.new) }
+    ensures fault { (fault : AuditFault) → IsErrOf result (AuditError.Fault fault) → IsMisfit world.new nodes.new fault }
+    ensures not_lost { (frame : Frame) → IsErrOf result (AuditError.NotLost frame) → ⊥ }
+{
+    let mut near = 0;
+    while let Some(place) = ready_near(nodes, near) {
+        put_next(alloc, world, nodes, flights, place, observer)?;
+        near = place;
+    }
+    Ok(())
+}
+
+/// Puts the next event of the node at this place into the run, and tells the observer its marks.
+///
+/// # Errors
+///
+/// Nothing has changed in the run:
+///
+/// 1. `Memory`, which may also come in place of a `Fault`.
+/// 2. `Fault`: it does not fit the run.
+fn put_next<O: MarkObserver>(
+    alloc: Global,
+    world: &mut MarklessWorld,
+    nodes: &mut [Progress],
+    flights: &mut Flights,
+    place: usize,
+    observer: &mut O,
+) -> Result<(), AuditError>
+    requires audited { IsAudited world.old nodes.old }
+    requires tracked { IsTracked nodes.old world.old.moves flights.old }
+    requires within { place < length nodes.old }
+    requires ready { (d : ProgressState) → IsReady nodes.old (slice_index_or nodes.old place d) }
+    ensures advances { Advances world.old nodes.old (O.told observer.old) world.new nodes.new (O.told observer.new) }
+    ensures unlost { lost_by world.new.moves ≡ lost_by world.old.moves }
+    ensures tracked { IsTracked nodes.new world.new.moves flights.new }
+    ensures stay { StaySent nodes.old world.old.moves nodes.new world.new.moves }
+    ensures fewer { OnOk result (sum_by (λ p. length p.waiting) nodes.new < sum_by (λ p. length p.waiting) nodes.old) }
+    ensures fault { (fault : AuditFault) → IsErrOf result (AuditError.Fault fault) → IsMisfit world.new nodes.new fault }
+    ensures not_lost { (frame : Frame) → IsErrOf result (AuditError.NotLost frame) → ⊥ }
+{
+    messages_of_runs_are_known();
+    flights.note_last(alloc)?;
+    let progress = &mut nodes[place];
+    let Some(event) = progress.next() else {
+        unreachable!()
+    };
+    let node = progress.node();
+    // A frame whose clock is not that of the event that sent it was never sent.
+    if !flights.has_frame_of(&event.kind) {
+        return Err(AuditError::Fault(AuditFault { node, event }));
+    }
+    let step = step_of(node, &event.kind);
+    match world.step(alloc, &step) {
+        Ok(outcome) => {
+            progress.put();
+            tell_all(observer, outcome.marks.as_slice());
+            flights.go_on(&event, outcome.sends);
+            Ok(())
+        }
+        Err(refused) => Err(error_of(refused, AuditFault { node, event })),
+    }
+}
+
+/// Returns why an event is not put, if its step is refused: memory ran out, or it does not fit.
+fn error_of(refused: StepError, fault: AuditFault) -> AuditError
+    ensures memory { refused ≡ StepError.Memory → result ≡ AuditError.Memory }
+    ensures fault { refused ≢ StepError.Memory → result ≡ AuditError.Fault fault }
+    ensures not_lost { (frame : Frame) → result ≡ AuditError.NotLost frame → ⊥ }
+{
+    match refused {
+        StepError::Memory => AuditError::Memory,
+        StepError::NoNode | StepError::NotUnderWay | StepError::Node(_) => AuditError::Fault(fault),
+    }
+}
+
+/// Tells an observer marks in their order.
+fn tell_all<O: MarkObserver>(observer: &mut O, marks: &[Mark])
+    ensures { O.told observer.new ≡ O.told observer.old ++ marks.now }
+{
+    for mark in marks {
+        observer.tell(mark);
+    }
+}
+
+/// Returns the place of a node whose next event can be put, the first one from this place on, and then from the first node
+/// on. Returns `None` if there is none.
+fn ready_near(nodes: &[Progress], near: usize) -> Option<usize>
+    requires { (count : ℕ) × (map (λ p. p.node) nodes.now ≡ range_with_len 1 count) }
+    ensures { MatchOption result (NoneIsReady nodes.now) (λ place. (place < length nodes.now)
+        × ((d : ProgressState) → IsReady nodes.now (slice_index_or nodes.now place d))) }
+{
+    if let Some(place) = ready_from(nodes, near) {
+        return Some(place);
+    }
+    ready_from(nodes, 0)
+}
+
+/// Returns the first place from this one on of a node whose next event can be put.
+fn ready_from(nodes: &[Progress], start: usize) -> Option<usize>
+    requires { (count : ℕ) × (map (λ p. p.node) nodes.now ≡ range_with_len 1 count) }
+    ensures { MatchOption result (AllWithin (λ p. IsReady nodes.now p → ⊥) nodes.now start (length nodes.now))
+        (λ place. (place < length nodes.now)
+        × ((d : ProgressState) → IsReady nodes.now (slice_index_or nodes.now place d))) }
+{
+    for place in start..nodes.len() {
+        if is_ready(nodes, &nodes[place]) {
+            return Some(place);
+        }
+    }
+    None
+}
+
+/// Returns whether the next event of a node can be put.
+fn is_ready(nodes: &[Progress], progress: &Progress) -> bool
+    requires { (count : ℕ) × (map (λ p. p.node) nodes.now ≡ range_with_len 1 count) }
+    ensures { IsTrue result ↔ IsReady nodes.now progress.now }
+{
+    match progress.next() {
+        Some(event) => is_due(nodes, &event.kind),
+        None => false,
+    }
+}
+
+/// Returns whether an event can be put: whether the run has come to the frame, if it is one that came.
+fn is_due(nodes: &[Progress], kind: &BookKind) -> bool
+    requires { (count : ℕ) × (map (λ p. p.node) nodes.now ≡ range_with_len 1 count) }
+    ensures { IsTrue result ↔ IsDue nodes.now kind.now }
+{
+    match kind {
+        BookKind::Got(frame) => is_reached(nodes, frame),
+        BookKind::Asked { .. } | BookKind::Gave { .. } => true,
+    }
+}
+
+/// Returns whether the run has come to a frame: whether all events of its sender up to its clock are in the run.
+pub fn is_reached(nodes: &[Progress], frame: &Frame) -> bool
+    requires { (count : ℕ) × (map (λ p. p.node) nodes.now ≡ range_with_len 1 count) }
+    ensures { IsTrue result ↔ IsReached nodes.now frame.now }
+{
+    // Nodes are counted from 1.
+    let sender = usize::from(frame.message.from().get());
+    match nodes.get(sender - 1) {
+        Some(progress) => frame.clock <= progress.clock(),
+        None => true,
+    }
+}

@@ -1,0 +1,112 @@
+//! The REPLYs that a node has deferred.
+ghost use Rattle.std.specs.Prelude.{◌≡◌, ℕ, ◌+◌, ◌≤◌, ◌++◌, map, IsOk, IfOk, OnOk};
+ghost use Rattle.std.specs.FinMap as finmap;
+ghost use Rattle.ra_automaton.specs.NodeSet.{Deferred, nobody_of};
+
+use crate::node_set::{has_bit, with_bit};
+use crate::sends::node;
+use ra_stamp::{Member, Memory, Message, Messages, Name, NodeId};
+use std::alloc::Global;
+use std::marker::Model;
+
+/// The nodes whose REPLYs are deferred, each with the number of its request. Contracts see them as a map, with how many
+/// nodes there is room for: all, or none. Nearly all resources that a node has met are idle, and an idle node defers
+/// nothing, so it has no room.
+#[derive(Drop)]
+pub struct Deferrals {
+    /// A node is deferred if its bit is set: bit i - 1 is that of node i.
+    nodes: u64,
+    /// The number with which node i is deferred, at place i - 1. It means nothing if the node is not deferred.
+    numbers: Vec<u64>,
+}
+
+impl Model for Deferrals {
+    ghost use Rattle.ra_automaton.specs.NodeSet.{Deferred, deferred_code};
+
+    ghost Value = { Deferred };
+
+    ghost coded = { deferred_code };
+
+    ghost use Rattle.ra_automaton.specs.Deferrals.{deferred_of, IsKeptDeferred};
+
+    ghost view = { deferred_of };
+
+    ghost invariant = { IsKeptDeferred };
+}
+
+impl Deferrals {
+    /// Makes those of a node that defers nobody and has no room. It does not allocate.
+    #[inline(always)]
+    pub fn none(alloc: Global) -> Deferrals
+        ensures { result ≡ nobody_of 0 }
+    {
+        Deferrals {
+            nodes: 0,
+            numbers: Vec::new(alloc),
+        }
+    }
+
+    /// Makes those of a member that defers nobody, with room for each node of its cluster.
+    ///
+    /// # Errors
+    ///
+    /// `Memory`: memory ran out.
+    pub fn with_room(alloc: Global, member: Member) -> Result<Deferrals, Memory>
+        ensures { IfOk result (λ made. made ≡ nobody_of member.nodes) }
+    {
+        let numbers = vec![in alloc; 0; usize::from(member.nodes())]?;
+        Ok(Deferrals { nodes: 0, numbers })
+    }
+
+    /// Returns the number with which a node is deferred, or `None` if it is not.
+    #[inline(always)]
+    pub fn get(&self, node: NodeId) -> Option<u64>
+        ensures { result ≡ finmap.get self.now.numbers node }
+    {
+        if has_bit(self.nodes, node) {
+            Some(self.numbers[node.place()])
+        } else {
+            None
+        }
+    }
+
+    /// Defers a node with a number.
+    #[inline(always)]
+    pub fn insert(&mut self, node: NodeId, number: u64)
+        requires { node ≤ self.old.room }
+        ensures { self.new ≡ record self.old { numbers = finmap.insert self.old.numbers node number } }
+    {
+        self.nodes = with_bit(self.nodes, node);
+        self.numbers[node.place()] = number;
+    }
+
+    /// Forgets who is deferred, and keeps the room.
+    #[inline(always)]
+    pub fn clear(&mut self)
+        ensures { self.new ≡ nobody_of self.old.room }
+    {
+        self.nodes = 0;
+    }
+
+    /// Adds a REPLY to each deferred node, in ascending order. After an error some may have been added. It does not
+    /// allocate if the list has as much room as this.
+    pub fn push_replies(&self, sends: &mut Messages, me: NodeId, name: Name) -> Result<(), Memory>
+        ensures ok { OnOk result (sends.new.items ≡ sends.old.items
+            ++ map (λ entry. Message.Reply me entry.0 name entry.1) (finmap.entries self.now.numbers)) }
+        ensures succeeds { self.now.room ≤ sends.old.spare → IsOk result }
+        ensures spare { self.now.room ≤ sends.old.spare → sends.old.spare ≤ sends.new.spare + self.now.room }
+    {
+        for place in 0..self.numbers.len() {
+            let to = node(place as u16 + 1);
+            if has_bit(self.nodes, to) {
+                sends.push(Message::Reply {
+                    from: me,
+                    to,
+                    name,
+                    seq: self.numbers[place],
+                })?;
+            }
+        }
+        Ok(())
+    }
+}

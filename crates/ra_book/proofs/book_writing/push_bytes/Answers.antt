@@ -1,0 +1,11 @@
+use Rattle.std.proofs.Common.{◌≡◌, rules, subst, sym, List, ℕ}
+use Rattle.std.specs.Str.{IsUtf8}
+use Rattle.hex.specs.Hex.{encode_lower}
+use Rattle.ra_book.proofs.WrittenLines.{digits_are_utf8}
+use Rattle.ra_book.proofs.book_writing.push_bytes.Goals as goal
+
+pub unwrap-requires-2 : goal.unwrap-requires-2
+unwrap-requires-2 c =
+    let written : c.encode_to_slice.new.output ≡ encode_lower c.args.bytes.now = search rules in
+    let text : IsUtf8 c.encode_to_slice.new.output = subst IsUtf8 (sym written) (digits_are_utf8 c.args.bytes.now) in
+    search (rules, text)

@@ -1,7 +1,0 @@
-use Rattle.ra_book.proofs.Last.{opened_book}
-use Rattle.ra_book.proofs.gathering.opened.Goals as goal
-
-pub returns : goal.returns
-returns c =
-    let first = c.args.first.now in
-    opened_book first.node first.nodes first.start c.get.result c.new.result c.ok.result c.ok.ensures.value c.get.ensures.value c.new.ensures.ok c.new.ensures.history

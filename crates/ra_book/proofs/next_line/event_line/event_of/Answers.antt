@@ -1,0 +1,23 @@
+use Rattle.std.proofs.Common.{codes}
+use Rattle.ra_trace.proofs.Cuts.{behind-only}
+use Rattle.ra_book.proofs.Forms.{no_words}
+use Rattle.ra_book.proofs.next_line.event_line.event_of.Goals as goal
+
+pub returns-in-Some-clause-read : goal.returns-in-Some-clause-read
+returns-in-Some-clause-read c =
+    c.receive_line.ensures.read c.args.line.now (behind-only (codes "receive ") c.args.line.now c.in-Some.digits.now (rw c.in-Some.is at c.behind.ensures))
+    c.requires
+
+pub returns-in-Some-behind-clause-read : goal.returns-in-Some-behind-clause-read
+returns-in-Some-behind-clause-read c =
+    c.ask_line.ensures.read c.args.line.now (behind-only (codes "ask ") c.args.line.now c.in-Some-behind.rest.now (rw c.in-Some-behind.is at c.behind-2.ensures))
+    c.requires
+
+pub returns-in-Some-behind-2-clause-read : goal.returns-in-Some-behind-2-clause-read
+returns-in-Some-behind-2-clause-read c =
+    c.release_line.ensures.read c.args.line.now
+    (behind-only (codes "release ") c.args.line.now c.in-Some-behind-2.rest.now (rw c.in-Some-behind-2.is at c.behind-3.ensures)) c.requires
+
+pub returns-in-None-clause-read : goal.returns-in-None-clause-read
+returns-in-None-clause-read c =
+    no_words c.args.line.now (rw c.in_default.is at c.behind.ensures) (rw c.in_default-behind.is at c.behind-2.ensures) (rw c.in-None.is at c.behind-3.ensures)

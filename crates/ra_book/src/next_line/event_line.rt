@@ -1,0 +1,143 @@
+//! A line of a book as the event that it is.
+ghost use Rattle.std.specs.Prelude.{◌≡◌, ◌≤◌, ◌/◌, ◌++◌, ℕ, List, true, false, length, codes, IfOk, IfErr, MatchResult, Some};
+ghost use Rattle.ra_frame.specs.declared.error.FrameError.{FrameError};
+ghost use Rattle.ra_frame.specs.FrameText.{IsFrameText};
+ghost use Rattle.ra_frame.specs.Faults.{first_fault};
+ghost use Rattle.ra_frame.specs.Fits.{Fits};
+ghost use Rattle.ra_book.specs.BookText.{IsEvent, IsUnread, HasBytes, IsFrameOf, IsNoFrame};
+ghost use Rattle.ra_book.specs.Timed.{CanCome};
+ghost use Rattle.ra_book.specs.declared.answering.line_refusal.Refusal.{Refusal};
+
+use crate::Refusal;
+use crate::next_line::book_fields::{ask_of, release_of};
+use ra_frame::{Frame, decode};
+use ra_history::BookKind;
+use ra_trace::behind;
+
+/// The most bytes that a line has, without its line feed.
+pub const MAX_LINE: usize = 256;
+
+/// The most bytes that the digits of a line stand for.
+const MAX_BYTES: usize = MAX_LINE / 2;
+
+/// Returns the event that client, name and mode are, after `ask `. It does not allocate.
+///
+/// # Errors
+///
+/// `Line`: they are not that.
+fn ask_line(rest: &[u8]) -> Result<BookKind, Refusal>
+    ensures read { (line : List ℕ) → line ≡ codes "ask " ++ rest.now → length line ≤ 256
+        → MatchResult result (IsEvent line) (IsUnread line) }
+    ensures can_come { IfOk result CanCome }
+{
+    match ask_of(rest) {
+        Some(kind) => Ok(kind),
+        None => Err(Refusal::Line),
+    }
+}
+
+/// Returns the event that client and name are, after `release `. It does not allocate.
+///
+/// # Errors
+///
+/// `Line`: they are not that.
+fn release_line(rest: &[u8]) -> Result<BookKind, Refusal>
+    ensures read { (line : List ℕ) → line ≡ codes "release " ++ rest.now → length line ≤ 256
+        → MatchResult result (IsEvent line) (IsUnread line) }
+    ensures can_come { IfOk result CanCome }
+{
+    match release_of(rest) {
+        Some(kind) => Ok(kind),
+        None => Err(Refusal::Line),
+    }
+}
+
+/// Puts the bytes that digits stand for into room for half as many, and returns whether there are any. It does not allocate.
+fn are_bytes(digits: &[u8], bytes: &mut [u8]) -> bool
+    requires { length digits.now / 2 ≡ length bytes.old }
+    ensures some { result ≡ true → HasBytes digits.now bytes.new }
+    ensures none { result ≡ false → (others : List ℕ) → HasBytes digits.now others → ⊥ }
+{
+    hex::decode_to_slice(digits, bytes).is_ok()
+}
+
+/// Returns the frame that bytes are the text of. It does not allocate.
+///
+/// # Errors
+///
+/// `Frame`: they are no frame, with the fault that [`decode`] names.
+fn frame_in(bytes: &[u8]) -> Result<Frame, Refusal>
+    ensures frame { IfOk result (IsFrameText bytes.now) }
+    ensures fits { IfOk result Fits }
+    ensures refused { IfErr result (λ why. (fault : FrameError) × (why ≡ Refusal.Frame fault) × (first_fault bytes.now ≡ Some fault)) }
+{
+    match decode(bytes) {
+        Ok(frame) => Ok(frame),
+        Err(fault) => Err(Refusal::Frame(fault)),
+    }
+}
+
+/// Returns the frame whose text digits stand for. It does not allocate.
+///
+/// # Errors
+///
+/// The first that holds:
+///
+/// 1. `Hex`: they are an odd number, or not hexadecimal.
+/// 2. `Frame`: the bytes are no frame, with the fault that [`decode`] names.
+fn frame_of(digits: &[u8]) -> Result<Frame, Refusal>
+    requires { length digits.now ≤ 256 }
+    ensures read { MatchResult result (IsFrameOf digits.now) (IsNoFrame digits.now) }
+    ensures fits { IfOk result Fits }
+{
+    let mut room = [0; MAX_BYTES];
+    let bytes = &mut room[..digits.len() / 2];
+    if are_bytes(digits, bytes) {
+        frame_in(bytes)
+    } else {
+        Err(Refusal::Hex)
+    }
+}
+
+/// Returns the event that digits are, after `receive `. It does not allocate.
+///
+/// # Errors
+///
+/// Those of `frame_of`.
+fn receive_line(digits: &[u8]) -> Result<BookKind, Refusal>
+    requires { length digits.now ≤ 256 }
+    ensures read { (line : List ℕ) → line ≡ codes "receive " ++ digits.now → length line ≤ 256
+        → MatchResult result (IsEvent line) (IsUnread line) }
+    ensures can_come { IfOk result CanCome }
+{
+    match frame_of(digits) {
+        Ok(frame) => Ok(BookKind::Got(frame)),
+        Err(why) => Err(why),
+    }
+}
+
+/// Returns the event that a line of at most 256 bytes is, without its line feed. It does not allocate, and the cost is linear in the line.
+///
+/// # Errors
+///
+/// The first that holds:
+///
+/// 1. `Line`: it has none of the forms of lines.
+/// 2. `Hex`: the digits are an odd number, or not hexadecimal.
+/// 3. `Frame`: the bytes are no frame, with the fault that [`decode`] names.
+pub fn event_of(line: &[u8]) -> Result<BookKind, Refusal>
+    requires { length line.now ≤ 256 }
+    ensures read { MatchResult result (IsEvent line.now) (IsUnread line.now) }
+    ensures can_come { IfOk result CanCome }
+{
+    if let Some(digits) = behind(b"receive ", line) {
+        return receive_line(digits);
+    }
+    if let Some(rest) = behind(b"ask ", line) {
+        return ask_line(rest);
+    }
+    match behind(b"release ", line) {
+        Some(rest) => release_line(rest),
+        None => Err(Refusal::Line),
+    }
+}

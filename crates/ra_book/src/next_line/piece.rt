@@ -1,0 +1,184 @@
+//! Some bytes of the input.
+ghost use Rattle.std.specs.Prelude.{◌≡◌, ◌∷◌, [], true, false, IfOk, IfSome, IsNone, OnOk, OnErr};
+ghost use Rattle.std.specs.Io.KnownBytes.{Consumes, IsAtEnd};
+ghost use Rattle.ra_book.specs.Input.{KeepsShown, TakesShown, TakesPiece};
+
+use crate::next_line::kept_line::Line;
+use ra_world::cut;
+use std::io::{BufRead, Read};
+
+/// What was taken.
+#[derive(Clone, Copy)]
+pub enum Piece {
+    /// Bytes of a line that goes on.
+    Part,
+    /// The last bytes of a line, and its line feed.
+    Over,
+    /// Nothing: the input is at its end.
+    End,
+}
+
+/// That the reader failed.
+#[derive(Clone, Copy)]
+pub struct ReadFailed;
+
+/// What is known of a reader: whether it shows nothing more, so that to ask it may mean to wait, and whether it failed. Only
+/// this file asks the reader, and so only it changes this.
+#[derive(Clone, Copy)]
+pub struct Reading {
+    is_drained: bool,
+    failed: bool,
+}
+
+impl Reading {
+    /// Makes that of a reader that was not asked yet.
+    pub fn new() -> Reading
+        ensures { result.failed ≡ false }
+    {
+        Reading {
+            is_drained: true,
+            failed: false,
+        }
+    }
+
+    /// Returns whether the reader shows nothing more.
+    pub fn is_drained(&self) -> bool
+        ensures { result ≡ self.now.is_drained }
+    {
+        self.is_drained
+    }
+}
+
+/// What is taken of the bytes that a reader shows.
+#[derive(Clone, Copy)]
+pub struct Taken {
+    /// How many they are.
+    pub count: usize,
+    /// Whether the last of them is a line feed.
+    pub is_over: bool,
+    /// Whether they are all that is shown.
+    pub is_all: bool,
+}
+
+/// Adds to a line what is shown of it, and returns how many bytes that takes.
+fn keep_shown(shown: &[u8], line: &mut Line) -> Taken
+    ensures { KeepsShown shown.now line.old line.new result }
+{
+    let (part, after) = cut(shown, b'\n');
+    line.push(part);
+    match after {
+        Some(rest) => Taken {
+            count: part.len() + 1,
+            is_over: true,
+            is_all: rest.is_empty(),
+        },
+        None => Taken {
+            count: part.len(),
+            is_over: false,
+            is_all: true,
+        },
+    }
+}
+
+/// Reads the next byte, or `None` at the end. It does not allocate.
+///
+/// # Errors
+///
+/// `ReadFailed`: the reader failed. It is not tried again.
+fn next_byte<R: Read>(reader: &mut R) -> Result<Option<u8>, ReadFailed>
+    ensures some { IfOk result (λ came. IfSome came (λ byte. Consumes (R.remaining reader.old) (R.remaining reader.new) (byte ∷ []))) }
+    ensures none { IfOk result (λ came. IsNone came
+        → Consumes (R.remaining reader.old) (R.remaining reader.new) [] × IsAtEnd (R.remaining reader.new)) }
+    ensures untaken { OnErr result (Consumes (R.remaining reader.old) (R.remaining reader.new) []) }
+{
+    let mut byte = [0; 1];
+    match reader.read(&mut byte) {
+        Ok(0) => Ok(None),
+        Ok(_) => Ok(Some(byte[0])),
+        Err(_) => Err(ReadFailed),
+    }
+}
+
+/// Takes one byte from a reader that shows none. By the contract of `BufRead`, a reader that shows nothing need not be at its
+/// end; one that gives nothing is.
+///
+/// # Errors
+///
+/// `ReadFailed`: the reader failed. It is not tried again.
+fn take_byte<R: Read>(reader: &mut R, line: &mut Line) -> Result<Piece, ReadFailed>
+    ensures { TakesPiece (R.remaining reader.old) (R.remaining reader.new) line.old line.new result }
+{
+    let Some(byte) = next_byte(reader)? else {
+        return Ok(Piece::End);
+    };
+    if byte == b'\n' {
+        return Ok(Piece::Over);
+    }
+    line.push(&[byte]);
+    Ok(Piece::Part)
+}
+
+/// Takes what a reader shows of a line.
+///
+/// # Errors
+///
+/// `ReadFailed`: the reader failed. It is not tried again.
+fn take_shown<B: BufRead>(reader: &mut B, line: &mut Line) -> Result<Taken, ReadFailed>
+    ensures { TakesShown (B.remaining reader.old) (B.remaining reader.new) line.old line.new result }
+{
+    let shown = match reader.fill_buf() {
+        Ok(shown) => shown,
+        Err(_) => return Err(ReadFailed),
+    };
+    let taken = keep_shown(shown, line);
+    reader.consume(taken.count);
+    Ok(taken)
+}
+
+/// Takes some bytes of a line, or finds that the input is at its end, and says in `is_drained` whether the reader shows
+/// nothing more.
+///
+/// # Errors
+///
+/// `ReadFailed`: the reader failed. It is not tried again.
+fn take_some<B: BufRead>(
+    reader: &mut B,
+    line: &mut Line,
+    is_drained: &mut bool,
+) -> Result<Piece, ReadFailed>
+    ensures { TakesPiece (B.remaining reader.old) (B.remaining reader.new) line.old line.new result }
+{
+    let taken = take_shown(reader, line)?;
+    *is_drained = taken.is_all;
+    if taken.is_over {
+        Ok(Piece::Over)
+    } else if taken.count > 0 {
+        Ok(Piece::Part)
+    } else {
+        take_byte(reader, line)
+    }
+}
+
+/// Takes some bytes of a line, or finds that the input is at its end. The reader did not fail yet. It does not allocate.
+///
+/// # Errors
+///
+/// `ReadFailed`: the reader failed. It is not tried again.
+pub fn take_piece<B: BufRead>(
+    reader: &mut B,
+    line: &mut Line,
+    reading: &mut Reading,
+) -> Result<Piece, ReadFailed>
+    requires { reading.old.failed ≡ false }
+    ensures takes { TakesPiece (B.remaining reader.old) (B.remaining reader.new) line.old line.new result }
+    ensures unfailed { OnOk result (reading.new.failed ≡ false) }
+    ensures failed { OnErr result (reading.new.failed ≡ true) }
+{
+    match take_some(reader, line, &mut reading.is_drained) {
+        Ok(piece) => Ok(piece),
+        Err(why) => {
+            reading.failed = true;
+            Err(why)
+        }
+    }
+}

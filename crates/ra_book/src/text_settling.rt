@@ -1,0 +1,239 @@
+pub mod arranging;
+pub mod came;
+pub mod gathering;
+pub mod happening;
+pub mod read_books;
+pub mod searching;
+pub mod settle_error;
+
+ghost use Rattle.std.specs.Prelude.{◌≡◌, ◌⊎◌, ◌∷◌, ◌++◌, [], ℕ, Bool, false, List, All, IfErr, IfOk, IfSome, IsErrOf, IsOkUnless, MatchResult, OnOk};
+ghost use Rattle.ra_history.specs.Book.{BookState};
+ghost use Rattle.ra_history.specs.Settled.{HasUnsent, IsCluster};
+ghost use Rattle.ra_book.specs.Texts.{IsRead};
+ghost use Rattle.ra_book.specs.Gathering.{HasGathered, IsGathered, IsMadeOf, IsTwiceBy, IsUnfit};
+ghost use Rattle.ra_book.specs.Verdicts.{HasFittingBooks, IsRunBy, IsSettledBy, IsSettledText, IsUnsettled, IsWrong};
+ghost use Rattle.ra_book.specs.declared.text_settling.settle_error.TextCause.{TextCause};
+
+use crate::settle_laws::each_text_of_books_has_one_verdict;
+use crate::text_settling::arranging::{Unarranged, all_arranged};
+use crate::text_settling::came::Came;
+use crate::text_settling::gathering::Gathered;
+use crate::text_settling::read_books::read_books;
+use crate::text_settling::searching::{first_again, first_unsent};
+use crate::{SettleTextError, TextCause};
+use ra_history::{Book, SettleError, Settled, settle, settle_with_copies};
+use std::alloc::Global;
+
+/// The one run into which the books of a text settle.
+#[derive(Drop)]
+pub struct SettledText {
+    /// How many nodes there are.
+    pub nodes: u16,
+    /// The number with which each resource begins.
+    pub start: u64,
+    /// The steps of the run, and what came of them.
+    pub settled: Settled,
+}
+
+/// Returns why books do not settle to which a frame came that was not sent: the first line of the text by which one came.
+fn unsent(books: &mut [Book], came: &[Came]) -> SettleTextError
+    requires cluster { IsCluster books.old }
+    requires each { All IsRead books.old }
+    ensures { (repeats : Bool) → IsUnfit repeats books.old came.now result }
+{
+    match first_unsent(books, came) {
+        Some(line) => SettleTextError::Invalid {
+            line,
+            cause: TextCause::NotSent,
+        },
+        // It never comes to this, as all that came is in `came`.
+        None => SettleTextError::Memory,
+    }
+}
+
+/// Returns why books do not settle to which a message came twice, but no frame that was not sent: the first line of the text by
+/// which one came again.
+fn again(alloc: Global, came: &[Came]) -> SettleTextError
+    ensures { (books : List BookState) → (HasUnsent books → ⊥) → IsUnfit false books came.now result }
+{
+    match first_again(alloc, came) {
+        Ok(Some(line)) => SettleTextError::Invalid {
+            line,
+            cause: TextCause::Twice,
+        },
+        // It never comes to `Ok(None)`, as all that came is in `came`.
+        Ok(None) | Err(_) => SettleTextError::Memory,
+    }
+}
+
+/// Settles the books of a cluster, with copies if messages may come again.
+///
+/// # Errors
+///
+/// `NotSent`; `Twice`, if no message may; `Memory`.
+fn settle_by(alloc: Global, books: &[Book], repeats: bool) -> Result<Settled, SettleError>
+    requires cluster { IsCluster books.now }
+    requires each { All IsRead books.now }
+    ensures { MatchResult result (IsRunBy repeats books.now) (IsTwiceBy repeats books.now) }
+{
+    if repeats {
+        settle_with_copies(alloc, books)
+    } else {
+        settle(alloc, books, &[])
+    }
+}
+
+/// Settles the books of a cluster, with what came to them in the order of the text. It may flag their frames as lost.
+///
+/// # Errors
+///
+/// `Invalid` with `NotSent` or `Twice`, at the first such line. `Memory`.
+fn settle_ordered(
+    alloc: Global,
+    books: &mut [Book],
+    came: &[Came],
+    repeats: bool,
+) -> Result<SettledText, SettleTextError>
+    requires cluster { IsCluster books.old }
+    requires each { All IsRead books.old }
+    ensures { MatchResult result (IsSettledBy repeats books.old) (IsUnfit repeats books.old came.now) }
+{
+    match settle_by(alloc, books, repeats) {
+        Ok(settled) => {
+            let first = &books[0];
+            Ok(SettledText {
+                nodes: first.nodes(),
+                start: first.start(),
+                settled,
+            })
+        }
+        Err(SettleError::NotSent) => Err(unsent(books, came)),
+        Err(SettleError::Twice) => Err(again(alloc, came)),
+        Err(_) => Err(SettleTextError::Memory),
+    }
+}
+
+/// Settles the books that were gathered from a text, in which the line after the last one would have this number, with what came to
+/// them. They are borrowed, so that each is dropped in one place only.
+///
+/// # Errors
+///
+/// Those of `settle_gathered`.
+fn settle_books(
+    alloc: Global,
+    books: &mut Vec<Book>,
+    nodes: usize,
+    came: &[Came],
+    next: u64,
+    repeats: bool,
+) -> Result<SettledText, SettleTextError>
+    requires { (gathered : Gathered) × IsMadeOf gathered books.old.items nodes came.now
+        × ((lines : List (List ℕ)) × IsGathered lines gathered) }
+    ensures { (text : List ℕ) (gathered : Gathered) → IsMadeOf gathered books.old.items nodes came.now
+        → HasGathered text gathered next → MatchResult result (IsSettledText repeats text) (IsUnsettled repeats text) }
+{
+    match all_arranged(alloc, books, nodes) {
+        Ok(ordered) => {
+            let mut ordered = ordered;
+            settle_ordered(alloc, ordered.as_mut_slice(), came, repeats)
+        }
+        Err(Unarranged::Missing) => Err(SettleTextError::Invalid {
+            line: next,
+            cause: TextCause::Books,
+        }),
+        Err(Unarranged::Memory) => Err(SettleTextError::Memory),
+    }
+}
+
+/// Puts the last book after those before it, or returns `None` if memory runs out.
+fn with_last(earlier: Vec<Book>, last: Book) -> Option<Vec<Book>>
+    ensures { IfSome result (λ books. books.items ≡ earlier.items ++ last ∷ []) }
+{
+    let mut books = earlier;
+    if books.reserve(1).is_err() {
+        return None;
+    }
+    books.push_reserved(last);
+    Some(books)
+}
+
+/// Settles the books that were gathered from a text, in which the line after the last one would have this number.
+///
+/// # Errors
+///
+/// `Invalid` with `Books` at this line: the book of a node is missing. Then those of `settle_ordered`.
+fn settle_gathered(
+    alloc: Global,
+    gathered: Gathered,
+    next: u64,
+    repeats: bool,
+) -> Result<SettledText, SettleTextError>
+    requires { (lines : List (List ℕ)) × IsGathered lines gathered }
+    ensures { (text : List ℕ) → HasGathered text gathered next
+        → MatchResult result (IsSettledText repeats text) (IsUnsettled repeats text) }
+{
+    let Gathered {
+        earlier,
+        last,
+        came,
+    } = gathered;
+    let nodes = usize::from(last.nodes());
+    match with_last(earlier, last) {
+        Some(books) => {
+            let mut books = books;
+            settle_books(alloc, &mut books, nodes, came.as_slice(), next, repeats)
+        }
+        None => Err(SettleTextError::Memory),
+    }
+}
+
+/// Reads the books of all nodes, and settles them.
+///
+/// # Errors
+///
+/// Those of [`settle_text`].
+fn settle_lines(alloc: Global, text: &[u8], repeats: bool) -> Result<SettledText, SettleTextError>
+    ensures { MatchResult result (IsSettledText repeats text.now) (IsUnsettled repeats text.now) }
+{
+    match read_books(alloc, text) {
+        Ok((gathered, next)) => settle_gathered(alloc, gathered, next, repeats),
+        Err(fault) => Err(fault),
+    }
+}
+
+/// Reads the books of all nodes, one after the other in one text, and settles them into one run. Each begins with its first line,
+/// and they may be in any order of the nodes. A last line without a line feed is passed over. With `repeats` a message may come
+/// more than once: a frame that comes n times is repeated n - 1 times in the run, as [`settle_with_copies`] says.
+///
+/// It keeps the books, and the frames that came with the numbers of their lines, so that memory is linear in the text. With n
+/// lines the cost is that of the events at their nodes, and of [`settle`], which is n log n at most. If memory for an index is
+/// lacking, to look for `Twice` takes quadratic time.
+///
+/// # Errors
+///
+/// The first that holds:
+///
+/// 1. `Invalid` with `Line`, `Books` or `Refused`, at the first wrong line. Without a line it is `Line` at line 1.
+/// 2. `Invalid` with `Books`, at the number of lines plus 1: the book of a node is missing.
+/// 3. `Invalid` with `NotSent`, at the first line by which a frame comes that is not among those that its sender's book sent with
+///    its clock.
+/// 4. `Invalid` with `Twice`, without `repeats`, at the first line by which a message comes that came by an earlier line.
+/// 5. `Memory`, which may come before any of them.
+pub fn settle_text(
+    alloc: Global,
+    text: &[u8],
+    repeats: bool,
+) -> Result<SettledText, SettleTextError>
+    // The books are those of a cluster, and this is their one run, with the main theorem. Without `repeats` they fit together.
+    ensures settled { IfOk result (IsSettledText repeats text.now) }
+    // A refusal comes only for its cause, at its line.
+    ensures refused { IfErr result (IsUnsettled repeats text.now) }
+    // It is Ok exactly if the books fit, and if a cause holds, its refusal comes, except that `Memory` may come instead.
+    ensures fit { OnOk result (HasFittingBooks repeats text.now) }
+    ensures settles { HasFittingBooks repeats text.now → IsOkUnless result SettleTextError.Memory }
+    ensures found { (line : ℕ) (cause : TextCause) → IsWrong repeats text.now line cause
+        → IsErrOf result (SettleTextError.Invalid line cause) ⊎ IsErrOf result SettleTextError.Memory }
+{
+    each_text_of_books_has_one_verdict();
+    settle_lines(alloc, text, repeats)
+}

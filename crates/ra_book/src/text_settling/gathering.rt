@@ -1,0 +1,143 @@
+//! The books of a text, as they are gathered line by line.
+ghost use Rattle.std.specs.Prelude.{◌≡◌, ◌↔◌, ◌≤◌, ℕ, List, All, length, IfSome, IsTrue, MatchBool};
+ghost use Rattle.std.specs.List.{Any};
+ghost use Rattle.ra_book.specs.BookText.{IsFirst};
+ghost use Rattle.ra_history.specs.Book.{HasHistory, opening_book};
+ghost use Rattle.ra_book.specs.Texts.{IsBeside};
+ghost use Rattle.ra_book.specs.Gathering.{TakesEvent, TakesFirst, TakesLine, books_of};
+
+use crate::text_settling::came::{CameList, note};
+use crate::text_settling::happening::happen;
+use crate::{First, MAX_LINE, Refusal, TextCause, event_of};
+use ra_history::{Book, BookError};
+use std::alloc::Global;
+use std::mem::replace;
+
+/// The books that were read so far, in the order of the text, and what came to their nodes.
+#[derive(Drop)]
+pub struct Gathered {
+    /// Those before the last one.
+    pub earlier: Vec<Book>,
+    /// The one whose lines are read.
+    pub last: Book,
+    pub came: CameList,
+}
+
+/// Why a line is not taken.
+#[derive(Clone, Copy)]
+pub enum LineFault {
+    /// It is wrong, for this cause.
+    Wrong(TextCause),
+    /// Memory ran out.
+    Memory,
+}
+
+/// Makes the book that this first line begins, or returns `None` if memory runs out.
+pub fn opened(alloc: Global, first: &First) -> Option<Book>
+    ensures { IfSome result (λ book. (book ≡ opening_book first.now.node first.now.nodes first.now.start) × HasHistory book) }
+{
+    // It is one of the nodes, so that only memory can be lacking.
+    Book::new(alloc, first.node, first.nodes.get(), first.start).ok()
+}
+
+/// Returns whether a book is of another node than this first line, of as many nodes and from the same start. It does not
+/// allocate.
+fn is_beside(book: &Book, first: &First) -> bool
+    ensures { IsTrue result ↔ IsBeside first.now.node first.now.nodes first.now.start book.now }
+{
+    book.me() != first.node && book.nodes() == first.nodes.get() && book.start() == first.start
+}
+
+/// Returns whether each of the books is beside this first line. It does not allocate.
+fn are_beside(books: &[Book], first: &First) -> bool
+    ensures { MatchBool result (All (IsBeside first.now.node first.now.nodes first.now.start) books.now)
+        (Any (λ book. IsBeside first.now.node first.now.nodes first.now.start book → ⊥) books.now) }
+{
+    for book in books {
+        if !is_beside(book, first) {
+            return false;
+        }
+    }
+    true
+}
+
+impl Gathered {
+    /// Returns whether each of the books is beside this first line. It does not allocate.
+    fn is_beside(&self, first: &First) -> bool
+        ensures { MatchBool result (All (IsBeside first.now.node first.now.nodes first.now.start) (books_of self.now))
+            (Any (λ book. IsBeside first.now.node first.now.nodes first.now.start book → ⊥) (books_of self.now)) }
+    {
+        if is_beside(&self.last, first) {
+            are_beside(&self.earlier, first)
+        } else {
+            false
+        }
+    }
+
+    /// Begins a book.
+    ///
+    /// # Errors
+    ///
+    /// `Wrong` with `Books`: its node has a book already, or the number of nodes or the start is another one. `Memory`.
+    fn open(&mut self, alloc: Global, first: &First) -> Result<(), LineFault>
+        ensures { (line : List ℕ) → IsFirst line first.now.node first.now.nodes first.now.start
+            → TakesFirst self.old line self.new result }
+    {
+        if !self.is_beside(first) {
+            return Err(LineFault::Wrong(TextCause::Books));
+        }
+        if self.earlier.reserve(1).is_err() {
+            return Err(LineFault::Memory);
+        }
+        let Some(book) = opened(alloc, first) else {
+            return Err(LineFault::Memory);
+        };
+        let earlier = replace(&mut self.last, book);
+        self.earlier.push_reserved(earlier);
+        Ok(())
+    }
+
+    /// Takes a line that is no first line.
+    ///
+    /// # Errors
+    ///
+    /// `Wrong` with `Line`: it has none of the forms of lines. `Wrong` with `Refused`: its digits are no frame, or the node of
+    /// the last book does not take the event. `Memory`.
+    fn take_event(&mut self, alloc: Global, number: u64, line: &[u8]) -> Result<(), LineFault>
+        requires { length line.now ≤ 256 }
+        ensures { ((node nodes start : ℕ) → IsFirst line.now node nodes start → ⊥)
+            → TakesEvent self.old number line.now self.new result }
+    {
+        let kind = match event_of(line) {
+            Ok(kind) => kind,
+            Err(Refusal::Line) => return Err(LineFault::Wrong(TextCause::Line)),
+            Err(_) => return Err(LineFault::Wrong(TextCause::Refused)),
+        };
+        match happen(alloc, &mut self.last, &kind) {
+            Ok(()) => match note(&mut self.came, number, &kind) {
+                Ok(()) => Ok(()),
+                Err(_) => Err(LineFault::Memory),
+            },
+            Err(BookError::Memory) => Err(LineFault::Memory),
+            Err(_) => Err(LineFault::Wrong(TextCause::Refused)),
+        }
+    }
+
+    /// Takes the line of this number, which comes after those so far. The cost is that of the event at its node, and at a first
+    /// line linear in the number of books.
+    ///
+    /// # Errors
+    ///
+    /// `Wrong`: the line is wrong, with the cause. `Memory`.
+    pub fn take_line(&mut self, alloc: Global, number: u64, line: &[u8]) -> Result<(), LineFault>
+        ensures { TakesLine self.old number line.now self.new result }
+    {
+        if line.len() > MAX_LINE {
+            return Err(LineFault::Wrong(TextCause::Line));
+        }
+        match First::parse(line) {
+            Some(first) => self.open(alloc, &first),
+            None => self.take_event(alloc, number, line),
+        }
+    }
+}

@@ -1,0 +1,71 @@
+//! An event of a text at the book of its node.
+ghost use Rattle.ra_history.specs.declared.book.event.BookKind.{BookKind};
+ghost use Rattle.ra_frame.specs.Fits.{Fits};
+ghost use Rattle.ra_book.specs.Timed.{CanCome};
+ghost use Rattle.ra_book.specs.Gathering.{Comes};
+
+use ra_frame::{Frame, encoded, round_trip};
+use ra_history::{Book, BookError, BookKind};
+use ra_stamp::{Mode, Name};
+use std::alloc::Global;
+
+/// A client asks.
+///
+/// # Errors
+///
+/// Those of [`Book::ask`].
+fn ask(alloc: Global, book: &mut Book, client: u32, name: Name, mode: Mode) -> Result<(), BookError>
+    ensures { Comes book.old (BookKind.Asked client name mode) book.new result }
+{
+    if let Err(why) = book.ask(alloc, client, name, mode) {
+        return Err(why);
+    }
+    Ok(())
+}
+
+/// A client leaves.
+///
+/// # Errors
+///
+/// Those of [`Book::leave`].
+fn leave(alloc: Global, book: &mut Book, client: u32, name: Name) -> Result<(), BookError>
+    ensures { Comes book.old (BookKind.Gave client name) book.new result }
+{
+    if let Err(why) = book.leave(alloc, client, name) {
+        return Err(why);
+    }
+    Ok(())
+}
+
+/// A frame comes.
+///
+/// # Errors
+///
+/// Those of [`Book::receive`].
+fn receive(alloc: Global, book: &mut Book, frame: &Frame) -> Result<(), BookError>
+    requires { Fits frame.now }
+    ensures { Comes book.old (BookKind.Got frame.now) book.new result }
+{
+    round_trip();
+    let bytes = encoded(frame);
+    if let Err(why) = book.receive(alloc, bytes.as_slice()) {
+        return Err(why);
+    }
+    Ok(())
+}
+
+/// Makes an event happen at the node of a book, and keeps it there. The cost is that of the book's call.
+///
+/// # Errors
+///
+/// Those of the book's call. The book is as before.
+pub fn happen(alloc: Global, book: &mut Book, kind: &BookKind) -> Result<(), BookError>
+    requires { CanCome kind.now }
+    ensures { Comes book.old kind.now book.new result }
+{
+    match kind {
+        BookKind::Asked { client, name, mode } => ask(alloc, book, *client, *name, *mode),
+        BookKind::Gave { client, name } => leave(alloc, book, *client, *name),
+        BookKind::Got(frame) => receive(alloc, book, frame),
+    }
+}

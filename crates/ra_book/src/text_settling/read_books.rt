@@ -1,0 +1,119 @@
+//! A text of books that is read line by line.
+ghost use Rattle.std.specs.Prelude.{◌≡◌, ◌∷◌, [], ℕ, true, List, MatchOption, MatchResult};
+ghost use Rattle.ra_book.specs.BookText.{IsFirst};
+ghost use Rattle.ra_book.specs.Texts.{Begins};
+ghost use Rattle.ra_book.specs.Gathering.{HasBegun, HasGathered, IsGathered, IsNoBeginning};
+ghost use Rattle.ra_book.specs.Verdicts.{IsUnsettled, IsWrong};
+ghost use Rattle.ra_book.specs.declared.text_settling.settle_error.TextCause.{TextCause};
+ghost use Rattle.ra_book.specs.declared.text_settling.gathering.LineFault.{LineFault};
+
+use crate::text_settling::came::CameList;
+use crate::text_settling::gathering::{Gathered, LineFault, opened};
+use crate::{First, MAX_LINE, SettleTextError, TextCause};
+use ra_world::cut;
+use std::alloc::Global;
+
+/// Returns what the first line of a text says, or `None` if it is not that of a book.
+fn first_in(line: &[u8]) -> Option<First>
+    ensures { MatchOption result ((node nodes start : ℕ) → IsFirst line.now node nodes start → ⊥)
+        (λ first. IsFirst line.now first.node first.nodes first.start) }
+{
+    if line.len() > MAX_LINE {
+        return None;
+    }
+    First::parse(line)
+}
+
+/// Begins with the first line of a text.
+///
+/// # Errors
+///
+/// `Invalid` at line 1 with `Line`: it is not that of a book. `Memory`.
+fn begin(alloc: Global, line: &[u8]) -> Result<Gathered, SettleTextError>
+    ensures { MatchResult result (HasBegun line.now) (IsNoBeginning line.now) }
+{
+    let Some(first) = first_in(line) else {
+        return Err(SettleTextError::Invalid {
+            line: 1,
+            cause: TextCause::Line,
+        });
+    };
+    match opened(alloc, &first) {
+        Some(last) => Ok(Gathered {
+            earlier: Vec::new(alloc),
+            last,
+            came: CameList::new(alloc),
+        }),
+        None => Err(SettleTextError::Memory),
+    }
+}
+
+/// Returns why reading ends at the line of this number.
+fn fault_at(number: u64, fault: LineFault) -> SettleTextError
+    ensures { (text : List ℕ) → ((why : TextCause) → fault ≡ LineFault.Wrong why → IsWrong true text number why)
+        → IsUnsettled true text result }
+{
+    match fault {
+        LineFault::Wrong(cause) => SettleTextError::Invalid {
+            line: number,
+            cause,
+        },
+        LineFault::Memory => SettleTextError::Memory,
+    }
+}
+
+/// Reads the lines after the first one, and returns the number that the line after the last one would have.
+///
+/// # Errors
+///
+/// `Invalid` at the first wrong line, with `Line`, `Books` or `Refused`. `Memory`.
+fn read_lines(alloc: Global, gathered: &mut Gathered, text: &[u8]) -> Result<u64, SettleTextError>
+    ensures { (whole first : List ℕ) → Begins whole (first ∷ []) text.now → IsGathered (first ∷ []) gathered.old
+        → MatchResult result (HasGathered whole gathered.new) (IsUnsettled true whole) }
+{
+    let mut rest = text;
+    for turn in 0..text.len() {
+        let (line, after) = cut(rest, b'\n');
+        let number = turn as u64 + 2;
+        let Some(behind) = after else {
+            return Ok(number);
+        };
+        match gathered.take_line(alloc, number, line) {
+            Ok(()) => {}
+            Err(fault) => return Err(fault_at(number, fault)),
+        }
+        rest = behind;
+    }
+    // Nothing is left: each line took a byte or more.
+    Ok(text.len() as u64 + 2)
+}
+
+/// Reads a text of books. Returns what was gathered, and the number that the line after the last one would have. A last line
+/// without a line feed is passed over. The cost is that of the events at their nodes, and linear in the text.
+///
+/// # Errors
+///
+/// The first that holds:
+///
+/// 1. `Invalid` at line 1 with `Line`: no line begins the text.
+/// 2. `Invalid` at the first wrong line, with `Line`, `Books` or `Refused`.
+/// 3. `Memory`, which may come before it.
+pub fn read_books(alloc: Global, text: &[u8]) -> Result<(Gathered, u64), SettleTextError>
+    ensures { MatchResult result (λ read. HasGathered text.now read.0 read.1) (IsUnsettled true text.now) }
+{
+    let (line, after) = cut(text, b'\n');
+    let Some(rest) = after else {
+        return Err(SettleTextError::Invalid {
+            line: 1,
+            cause: TextCause::Line,
+        });
+    };
+    let mut gathered = match begin(alloc, line) {
+        Ok(gathered) => gathered,
+        Err(fault) => return Err(fault),
+    };
+    match read_lines(alloc, &mut gathered, rest) {
+        Ok(next) => Ok((gathered, next)),
+        Err(fault) => Err(fault),
+    }
+}

@@ -1,6 +1,0 @@
-use Rattle.std.proofs.Common.{take}
-use Rattle.ra_cli.specs.Answer.{AreLines}
-use Rattle.ra_cli.proofs.answering.lines_of.Given as goal
-
-abbrev pub invariant-loop-message : goal.invariant-loop-message
-invariant-loop-message l = AreLines l.clock (take l.message-index l.message-items) l.text.items

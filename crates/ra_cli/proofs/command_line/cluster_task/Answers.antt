@@ -1,4 +1,0 @@
-use Rattle.ra_cli.proofs.command_line.cluster_task.Goals as goal
-
-pub returns-clause-marks : goal.returns-clause-marks
-returns-clause-marks c = c.in_ok-printed.ensures

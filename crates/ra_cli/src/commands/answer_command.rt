@@ -1,0 +1,262 @@
+ghost use Rattle.std.specs.Prelude.{◌≡◌, ◌≢◌, ◌<◌, ◌≤◌, ◌⊎◌, List, ℕ, ◌∷◌, [], ◌++◌, length, Ok, Some, All, OnOk, IfOk, IfErr, OnErr, IfSome, IsErrOf};
+ghost use Rattle.std.specs.Io.KnownBytes.{Consumes, Appends};
+ghost use Rattle.hex.specs.Hex.{decode_of, encode_lower};
+ghost use Rattle.ra_frame.specs.Fits.{Fits};
+ghost use Rattle.ra_frame.specs.FrameText.{IsWrittenText};
+ghost use Rattle.ra_cli.specs.Answer.{Carries, IsMember, IsUnwanted, Reacts, AreLines, IsAnswered, Refuses};
+ghost use Rattle.ra_cli.specs.AnswerCall.{ComesTo};
+ghost use Rattle.ra_automaton.specs.State.{IsForNode};
+
+use crate::AnswerError;
+use crate::input_line::{MAX_LINE, line_of};
+use hex::FromHexError;
+use ra_automaton::{Automaton, Reaction, ReceiveError};
+use ra_frame::{Frame, decode, encode};
+use ra_stamp::{Memory, Message, Messages, NodeId};
+use ra_world::{read_up_to, write_out};
+use std::alloc::Global;
+use std::io::{Read, Write};
+
+/// Returns the node, if there are that many nodes and it is one of them. It does not allocate.
+///
+/// # Errors
+///
+/// The first that holds:
+///
+/// 1. `BadCount`: there are not 1 to 64 nodes.
+/// 2. `BadNode`: the node is not 1 to `nodes`.
+fn member(node: u16, nodes: u16) -> Result<NodeId, AnswerError>
+    ensures ok { IfOk result (λ me. (me ≡ node) × IsMember node nodes) }
+    ensures err { IfErr result (λ fault. (input : List ℕ) → Refuses node nodes input fault) }
+    ensures early { IfErr result (λ fault.
+        (fault ≡ AnswerError.BadCount) ⊎ (fault ≡ AnswerError.BadNode)) }
+{
+    if NodeId::new(nodes).is_none() {
+        return Err(AnswerError::BadCount);
+    }
+    match NodeId::new(node) {
+        Some(me) if node <= nodes => Ok(me),
+        _ => Err(AnswerError::BadNode),
+    }
+}
+
+/// Returns the bytes that hexadecimal digits stand for.
+///
+/// # Errors
+///
+/// `Hex`: they are no even number of hexadecimal digits. `Memory`, which may come before it: there is none for the
+/// bytes.
+fn bytes_of(alloc: Global, digits: &[u8]) -> Result<Vec<u8>, AnswerError>
+    ensures ok { IfOk result (λ bytes. decode_of digits.now ≡ Ok bytes.items) }
+    ensures err { IfErr result (λ fault. (fault ≡ AnswerError.Memory)
+        ⊎ ((fault ≡ AnswerError.Hex) × ((bytes : List ℕ) → decode_of digits.now ≡ Ok bytes → ⊥))) }
+{
+    match hex::decode(alloc, digits) {
+        Ok(bytes) => Ok(bytes),
+        Err(FromHexError::OutOfMemory) => Err(AnswerError::Memory),
+        Err(_) => Err(AnswerError::Hex),
+    }
+}
+
+/// Returns the frame that the input carries.
+///
+/// # Errors
+///
+/// The first that holds, except that `Memory` may come before `Hex` and `Frame`:
+///
+/// 1. `Line`: the input is no line.
+/// 2. `Hex`: the line is no even number of hexadecimal digits.
+/// 3. `Frame`: the bytes are no frame.
+/// 4. `Memory`: there is none for the bytes.
+fn frame_in(alloc: Global, input: &[u8]) -> Result<Frame, AnswerError>
+    ensures ok { IfOk result (Carries input.now) }
+    ensures fits { IfOk result Fits }
+    ensures err { IfErr result (λ fault.
+        (node nodes : ℕ) → IsMember node nodes → Refuses node nodes input.now fault) }
+    ensures early { IfErr result (λ fault. fault ≢ AnswerError.Write) }
+    ensures unread { IsErrOf result AnswerError.Read → ⊥ }
+{
+    let Some(digits) = line_of(input) else {
+        return Err(AnswerError::Line);
+    };
+    let bytes = bytes_of(alloc, digits)?;
+    let frame = decode(&bytes)?;
+    Ok(frame)
+}
+
+/// Adds digits and a line feed to the text.
+///
+/// # Errors
+///
+/// `Memory`: a prefix of the line may be there.
+fn push_digits(text: &mut Vec<u8>, digits: &[u8]) -> Result<(), Memory>
+    ensures { OnOk result (text.new.items ≡ text.old.items ++ (digits.now ++ 10 ∷ [])) }
+{
+    text.extend_from_slice(digits)?;
+    text.push(b'\n')?;
+    Ok(())
+}
+
+/// Adds a frame's line to the text.
+///
+/// # Errors
+///
+/// `Memory`: a prefix of the line may be there.
+fn push_line(alloc: Global, text: &mut Vec<u8>, frame: &Frame) -> Result<(), Memory>
+    requires { Fits frame.now }
+    ensures ok { OnOk result ((bytes : List ℕ) × IsWrittenText bytes frame.now
+        × (text.new.items ≡ text.old.items ++ (encode_lower bytes ++ 10 ∷ []))) }
+{
+    let bytes = encode(alloc, frame)?;
+    let digits = hex::encode(alloc, &bytes)?;
+    push_digits(text, digits.as_bytes())
+}
+
+/// Returns the lines of the frames of messages that are sent at a clock, in time linear in their number.
+///
+/// # Errors
+///
+/// `Memory`: there is none for the lines.
+fn lines_of(alloc: Global, clock: u64, sends: &Messages) -> Result<Vec<u8>, Memory>
+    requires { All (λ message. Fits (record { clock = clock; message = message })) sends.now.items }
+    ensures ok { IfOk result (λ text. AreLines clock sends.now.items text.items) }
+{
+    let mut text = Vec::new(alloc);
+    for &message in sends.as_slice() {
+        push_line(alloc, &mut text, &Frame { clock, message })?;
+    }
+    Ok(text)
+}
+
+/// Returns what an idle node does when a message comes.
+///
+/// # Errors
+///
+/// The first that holds:
+///
+/// 1. `WrongNode`: the message is for another node.
+/// 2. `Stranger`: its sender is the node itself, or there is no such node.
+/// 3. `Memory`: there is none for the node, before it looks at the message, or for what it sends.
+fn reaction_to(
+    alloc: Global,
+    me: NodeId,
+    nodes: u16,
+    message: &Message,
+) -> Result<Reaction, AnswerError>
+    requires { IsMember me nodes }
+    ensures ok { IfOk result (λ reaction. Reacts me nodes message.now reaction.sends.items reaction.entered) }
+    ensures addressed { OnOk result (IsForNode me nodes message.now) }
+    ensures err { IfErr result (IsUnwanted me nodes message.now) }
+{
+    let opened = Automaton::new(alloc, me, nodes, message.name(), 0);
+    let Ok(mut automaton) = opened else {
+        return Err(AnswerError::Memory);
+    };
+    match automaton.receive(alloc, message) {
+        Ok(reaction) => Ok(reaction),
+        Err(ReceiveError::WrongNode) => Err(AnswerError::WrongNode),
+        Err(ReceiveError::Stranger) => Err(AnswerError::Stranger),
+        Err(ReceiveError::Memory) => Err(AnswerError::Memory),
+    }
+}
+
+/// Returns the text with which an idle node answers an input.
+///
+/// # Errors
+///
+/// Those of `frame_in` and `reaction_to`, and then `ClockFull`, if the node's clock would pass 2^62, and `Memory`.
+fn answer_to(alloc: Global, me: NodeId, nodes: u16, input: &[u8]) -> Result<Vec<u8>, AnswerError>
+    requires { IsMember me nodes }
+    ensures ok { IfOk result (λ output. IsAnswered me nodes input.now output.items) }
+    ensures err { IfErr result (Refuses me nodes input.now) }
+    ensures early { IfErr result (λ fault. fault ≢ AnswerError.Write) }
+    ensures unread { IsErrOf result AnswerError.Read → ⊥ }
+{
+    let frame = frame_in(alloc, input)?;
+    let reaction = reaction_to(alloc, me, nodes, &frame.message)?;
+    if frame.clock == Frame::MAX_CLOCK {
+        return Err(AnswerError::ClockFull);
+    }
+    Ok(lines_of(alloc, frame.clock + 1, &reaction.sends)?)
+}
+
+/// Reads one line and writes the answer to it, as `answer` does. Its clause is one relation, of which the clauses of `answer` are parts:
+/// each way out is looked at once then.
+///
+/// # Errors
+///
+/// Those of `answer`.
+fn answer_line<R: Read, W: Write>(
+    alloc: Global,
+    node: u16,
+    nodes: u16,
+    reader: &mut R,
+    writer: &mut W,
+) -> Result<(), AnswerError>
+    ensures { ComesTo node nodes (R.remaining reader.old) (R.remaining reader.new) (W.contents writer.old)
+        (W.contents writer.new) (reader.new ≡ reader.old) (writer.new ≡ writer.old) result }
+{
+    let me = member(node, nodes)?;
+    let input = read_up_to(alloc, reader, MAX_LINE + 2)?;
+    let output = answer_to(alloc, me, nodes, &input)?;
+    write_out(writer, &output)?;
+    Ok(())
+}
+
+/// Reads one line, a frame of version 1 or 2 in hexadecimal digits, and writes the frames that an idle node sends when it
+/// receives that frame, in version 2, in lower case, a line each. The node is number `node` of `nodes`, it has met no
+/// number before, and its clock was 0. It takes at most 258 bytes from the reader, and no read or write that failed is
+/// tried again.
+///
+/// # Errors
+///
+/// The first that holds, except that `Memory` may come before any that is after `BadNode`:
+///
+/// 1. `BadCount`: there are not 1 to 64 nodes.
+/// 2. `BadNode`: the node is not 1 to `nodes`.
+/// 3. `Read`: the reader failed, before its end and before it gave 258 bytes.
+/// 4. `Line`: more than 256 bytes come before a line feed, or bytes after it.
+/// 5. `Hex`: the line is no even number of hexadecimal digits.
+/// 6. `Frame`: the bytes are no frame.
+/// 7. `WrongNode`: the message is for another node.
+/// 8. `Stranger`: the sender is the node itself, or there is no such node.
+/// 9. `ClockFull`: the node's clock would pass 2^62.
+/// 10. `Memory`: memory ran out.
+/// 11. `Write`: the writer failed or took nothing, with bytes left to write. A prefix of the text was written.
+///
+/// After each of the others the writer is as before, and after `BadCount` and `BadNode` the reader is too.
+pub fn answer<R: Read, W: Write>(
+    alloc: Global,
+    node: u16,
+    nodes: u16,
+    reader: &mut R,
+    writer: &mut W,
+) -> Result<(), AnswerError>
+    // What is read is a line of digits to its end, and what is written is the answer to it and nothing else.
+    ensures ok { OnOk result (IfSome (R.remaining reader.old) (λ input. (output : List ℕ)
+        × IsAnswered node nodes input output
+        × Consumes (R.remaining reader.old) (R.remaining reader.new) input
+        × Appends (W.contents writer.old) (W.contents writer.new) output)) }
+
+    ensures refused { IfErr result (λ fault.
+        IfSome (R.remaining reader.old) (λ input. Refuses node nodes input fault)) }
+    // If the reader tells nothing of its input, a refusal still has a cause, and the node is one of the nodes.
+    ensures cause { IfErr result (λ fault. (input : List ℕ) × Refuses node nodes input fault) }
+    ensures member { OnOk result (IsMember node nodes) }
+
+    ensures untouched { IfErr result (λ fault.
+        (fault ≡ AnswerError.BadCount) ⊎ (fault ≡ AnswerError.BadNode) → reader.new ≡ reader.old) }
+    ensures unwritten { IfErr result (λ fault. fault ≢ AnswerError.Write → writer.new ≡ writer.old) }
+    // A fault of the writer comes only with something left to write.
+    ensures prefix { IsErrOf result AnswerError.Write → IfSome (R.remaining reader.old) (λ input.
+        (prefix : List ℕ) × (rest : List ℕ) × IsAnswered node nodes input (prefix ++ rest) × (rest ≢ [])
+        × Appends (W.contents writer.old) (W.contents writer.new) prefix) }
+
+    // A fault of the reader comes only before it gave all that may be taken.
+    ensures failed { IsErrOf result AnswerError.Read → (taken : List ℕ) × (length taken < 258)
+        × Consumes (R.remaining reader.old) (R.remaining reader.new) taken }
+    ensures at_most { (taken : List ℕ) × (length taken ≤ 258)
+        × Consumes (R.remaining reader.old) (R.remaining reader.new) taken }
+{
+    answer_line(alloc, node, nodes, reader, writer)
+}

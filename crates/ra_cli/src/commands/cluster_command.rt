@@ -1,0 +1,170 @@
+//! A script that threads run, from its text to what is printed of the run.
+ghost use Rattle.std.specs.Prelude.{◌≡◌, ◌≢◌, ◌<◌, ◌≤◌, ◌++◌, List, ℕ, [], Ok, length, map, IfOk, IfErr, OnOk, IfSome, IsErrOf, string_bytes};
+ghost use Rattle.std.specs.Io.KnownBytes.{Consumes, Appends};
+ghost use Rattle.ra_world.specs.Run.{IsRun};
+ghost use Rattle.ra_world.specs.Traffic.{Move};
+ghost use Rattle.ra_trace.specs.TraceText.{IsTrace};
+ghost use Rattle.ra_script.specs.ScriptText.{script_of};
+ghost use Rattle.ra_cluster.specs.declared.cluster.cluster_run.ClusterError.{ClusterError};
+ghost use Rattle.ra_cli.specs.ClusterRun.{AreWrittenBooks, IsClusterRun, RunsCluster, RefusesRun, SaysRun, SaysScript, of_cluster};
+
+use crate::error::RunScriptError;
+use ra_book::push_book;
+use ra_cluster::{Book, ClusterError, OpenGate, Recorded, Settled, record_cluster};
+use ra_schedule::Script;
+use ra_script::read_script;
+use ra_stamp::Memory;
+use ra_task::ClusterOutput;
+use ra_trace::trace_text;
+use ra_world::{read_up_to, report_text, runs_are_determined, write_out};
+use std::alloc::Global;
+use std::io::{Read, Write};
+use std::sync::Wait;
+use std::thread::Threads;
+
+/// The most bytes that are read: one more than a script may have.
+const MAX_INPUT: usize = 65_537;
+
+/// Reads the text of a script.
+///
+/// # Errors
+///
+/// The first two and `Memory` of `run_script`.
+pub fn script_from<R: Read>(alloc: Global, reader: &mut R) -> Result<Script, RunScriptError>
+    ensures ok { IfOk result (λ script. IfSome (R.remaining reader.old) (λ input.
+        (script_of input ≡ Ok script) × Consumes (R.remaining reader.old) (R.remaining reader.new) input)) }
+    // If the reader tells nothing of its input, there still is one of which this holds.
+    ensures read { IfOk result (λ script. (input : List ℕ) × (script_of input ≡ Ok script)) }
+    ensures refused { IfErr result (λ fault.
+        IfSome (R.remaining reader.old) (λ input. RefusesRun input fault)) }
+    ensures early { IfErr result (λ fault. fault ≢ RunScriptError.Write) }
+    ensures unrun { IfErr result (λ fault. (why : ClusterError) → fault ≢ RunScriptError.Cluster why) }
+    ensures failed { IsErrOf result RunScriptError.Read → (taken : List ℕ) × (length taken < 65537)
+        × Consumes (R.remaining reader.old) (R.remaining reader.new) taken }
+    ensures at_most { (taken : List ℕ) × (length taken ≤ 65537)
+        × Consumes (R.remaining reader.old) (R.remaining reader.new) taken }
+{
+    let text = read_up_to(alloc, reader, MAX_INPUT)?;
+    let script = read_script(alloc, &text)?;
+    Ok(script)
+}
+
+/// Returns the trace of the run into which the books of this many nodes settled. The steps are made once more for it.
+///
+/// # Errors
+///
+/// `Memory`: memory ran out.
+fn trace_of(alloc: Global, nodes: u16, settled: &Settled) -> Result<String, Memory>
+    ensures { IfOk result (λ text. (moves : List Move) → map (λ move. move.step) moves ≡ settled.now.steps.items
+        → IsRun nodes 0 moves → IsTrace nodes 0 moves (string_bytes text)) }
+{
+    runs_are_determined();
+    // The steps are a run, so only `Memory` can come.
+    match trace_text(alloc, nodes, 0, &settled.steps) {
+        Ok(text) => Ok(text),
+        Err(_) => Err(Memory),
+    }
+}
+
+/// Returns the text of books that threads recorded, one after the other.
+///
+/// # Errors
+///
+/// `Memory`: memory ran out.
+fn books_text(alloc: Global, books: &[Book]) -> Result<String, Memory>
+    ensures { IfOk result (λ text. AreWrittenBooks books.now (string_bytes text)) }
+{
+    let mut text = String::new(alloc);
+    for book in books {
+        // A book takes only frames that fit, so only `Memory` can come.
+        let Ok(()) = push_book(&mut text, book) else {
+            return Err(Memory);
+        };
+    }
+    Ok(text)
+}
+
+/// Returns what is printed of what threads recorded at this many nodes.
+///
+/// # Errors
+///
+/// `Memory`: memory ran out.
+fn recorded_text(
+    alloc: Global,
+    printed: ClusterOutput,
+    nodes: u16,
+    recorded: &Recorded,
+) -> Result<String, Memory>
+    ensures { IfOk result (λ text. (moves : List Move) → map (λ move. move.step) moves ≡ recorded.now.settled.steps.items
+        → IsRun nodes 0 moves
+        → SaysRun printed nodes recorded.now.books.items moves recorded.now.settled.report (string_bytes text)) }
+{
+    match printed {
+        ClusterOutput::Lines => report_text(alloc, &recorded.settled.report),
+        ClusterOutput::Trace => trace_of(alloc, nodes, &recorded.settled),
+        ClusterOutput::Books => books_text(alloc, &recorded.books),
+    }
+}
+
+/// Runs a script by threads, and returns what is printed of the one run into which the books of the nodes settle. It waits for
+/// the threads that it starts, and nothing bounds how long.
+///
+/// # Errors
+///
+/// Those of [`record_cluster`].
+fn text_of_run<T: Threads + Wait + Sync>(
+    rt: &T,
+    alloc: Global,
+    printed: ClusterOutput,
+    script: &Script,
+) -> Result<String, ClusterError>
+    ensures ok { IfOk result (λ text. SaysScript printed script.now (string_bytes text)) }
+    ensures err { IfErr result (λ why. (input : List ℕ) → script_of input ≡ Ok script.now → RefusesRun input (of_cluster why)) }
+{
+    let recorded = record_cluster(rt, alloc, script, &OpenGate)?;
+    let text = recorded_text(alloc, printed, script.nodes(), &recorded)?;
+    Ok(text)
+}
+
+/// Reads the text of a script, runs it by threads, and writes what is printed of the one run into which the books of the nodes
+/// settle: the lines of its report, its trace, or these books. It takes at most 65,537 bytes from the reader, and no read or
+/// write that failed is tried again. It waits for the threads that it starts, and nothing bounds how long.
+///
+/// # Errors
+///
+/// The first that holds, except that `Memory` may come before any:
+///
+/// 1. `Read`: the reader failed, before its end and before it gave 65,537 bytes.
+/// 2. `Script`: the input is no script.
+/// 3. `Cluster`: threads may not run the script, for which no thread was started, or did not bring it to its end.
+/// 4. `Memory`: memory ran out.
+/// 5. `Write`: the writer failed or took nothing, with bytes left to write. A prefix of the text was written.
+///
+/// After each of the others the writer is as before.
+pub fn run_script<T: Threads + Wait + Sync, R: Read, W: Write>(
+    rt: &T,
+    alloc: Global,
+    printed: ClusterOutput,
+    reader: &mut R,
+    writer: &mut W,
+) -> Result<(), RunScriptError>
+    // What is read is a script to its end, and what is written is what came of it and nothing else.
+    ensures ok { OnOk result (RunsCluster printed (R.remaining reader.old) (R.remaining reader.new)
+        (W.contents writer.old) (W.contents writer.new)) }
+    ensures refused { IfErr result (λ fault.
+        IfSome (R.remaining reader.old) (λ input. RefusesRun input fault)) }
+    ensures unwritten { IfErr result (λ fault. fault ≢ RunScriptError.Write → writer.new ≡ writer.old) }
+    ensures prefix { IsErrOf result RunScriptError.Write → IfSome (R.remaining reader.old) (λ input.
+        (prefix rest : List ℕ) × IsClusterRun printed input (prefix ++ rest) × (rest ≢ [])
+        × Appends (W.contents writer.old) (W.contents writer.new) prefix) }
+    // A fault of the reader comes only before it gave all that may be taken.
+    ensures failed { IsErrOf result RunScriptError.Read → (taken : List ℕ) × (length taken < 65537)
+        × Consumes (R.remaining reader.old) (R.remaining reader.new) taken }
+    ensures at_most { (taken : List ℕ) × (length taken ≤ 65537)
+        × Consumes (R.remaining reader.old) (R.remaining reader.new) taken }
+{
+    let script = script_from(alloc, reader)?;
+    let text = text_of_run(rt, alloc, printed, &script)?;
+    write_out(writer, text.as_bytes())?;
+    Ok(())
+}

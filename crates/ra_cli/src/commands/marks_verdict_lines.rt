@@ -1,0 +1,53 @@
+//! The lines of a verdict on a mark log.
+ghost use Rattle.std.specs.Prelude.{◌≡◌, ◌++◌, string_bytes, IfOk, OnOk};
+ghost use Rattle.ra_cli.specs.Checks as spec;
+
+use crate::commands::verdict_lines::{push_invalid, push_valid};
+use ra_stamp::Memory;
+use ra_trace::{MarkCause, MarksVerdict};
+use std::alloc::Global;
+
+/// Returns the word of a cause. It does not allocate.
+fn word_of(cause: MarkCause) -> &'static str
+    ensures { result.now ≡ spec.mark_cause_word cause }
+{
+    match cause {
+        MarkCause::Line => "Line",
+        MarkCause::NodeBusy => "NodeBusy",
+        MarkCause::NotAbove => "NotAbove",
+        MarkCause::NotWaiting => "NotWaiting",
+        MarkCause::Held => "Held",
+        MarkCause::Earlier => "Earlier",
+        MarkCause::NotHeld => "NotHeld",
+    }
+}
+
+/// Adds the lines of a verdict.
+///
+/// # Errors
+///
+/// `Memory`: there is none for them. A prefix of them may have been added.
+fn push_verdict(text: &mut String, verdict: &MarksVerdict) -> Result<(), Memory>
+    ensures { OnOk result (string_bytes text.new ≡ string_bytes text.old ++ spec.marks_verdict_text verdict.now) }
+{
+    match *verdict {
+        MarksVerdict::Valid { requests, grants } => {
+            push_valid(text, u128::from(requests), "grants", u128::from(grants))
+        }
+        MarksVerdict::Invalid { line, cause } => push_invalid(text, line, word_of(cause)),
+    }
+}
+
+/// Returns the lines of a verdict on a mark log: that its marks are a run of the lock table, and how many requests and grants there
+/// are, or its first wrong line and why.
+///
+/// # Errors
+///
+/// `Memory`: there is none for the text.
+pub fn marks_verdict_text(alloc: Global, verdict: &MarksVerdict) -> Result<String, Memory>
+    ensures { IfOk result (λ text. string_bytes text ≡ spec.marks_verdict_text verdict.now) }
+{
+    let mut text = String::new(alloc);
+    push_verdict(&mut text, verdict)?;
+    Ok(text)
+}

@@ -1,0 +1,159 @@
+//! The command `settle`.
+ghost use Rattle.std.specs.Prelude.{◌≡◌, List, ℕ, string_bytes, IfOk};
+ghost use Rattle.ra_book.specs.Verdicts.{IsSettledText, IsWrong};
+ghost use Rattle.ra_task.specs.declared.settle_words.SettleOutput.{SettleOutput};
+ghost use Rattle.ra_task.specs.declared.settle_words.SettleTask.{SettleTask};
+ghost use Rattle.ra_cli.specs.SettleRun as spec;
+ghost use Rattle.ra_cli.specs.SettleRun.{Prints, RefusesInput, ServesSettle, TellsSettled, unsettled_line};
+
+use crate::command_outcome::{Outcome, Remark, UNFINISHED};
+use crate::commands::verdict_lines::push_invalid;
+use crate::refusal_lines::Refusal;
+use crate::serving::{DONE, refuse, written};
+use ra_book::{SettleTextError, SettledText, TextCause, settle_text};
+use ra_stamp::Memory;
+use ra_task::{SettleOutput, SettleTask};
+use ra_trace::{TraceError, trace_text};
+use ra_world::{ReadFault, read_up_to, report_text};
+use std::alloc::Global;
+use std::io::{Read, Write};
+
+/// The most bytes that a text of books may have.
+const MAX_TEXT: usize = 1 << 30;
+
+/// Returns the word for why a text does not settle. It does not allocate.
+fn word_of(cause: TextCause) -> &'static str
+    ensures { result.now ≡ spec.text_cause_word cause }
+{
+    match cause {
+        TextCause::Line => "Line",
+        TextCause::Books => "Books",
+        TextCause::Refused => "Refused",
+        TextCause::NotSent => "NotSent",
+        TextCause::Twice => "Twice",
+    }
+}
+
+/// Returns the line for a text that does not settle.
+///
+/// # Errors
+///
+/// `Memory`: there is none for it.
+fn unsettled_text(alloc: Global, line: u64, cause: TextCause) -> Result<String, Memory>
+    ensures { IfOk result (λ text. string_bytes text ≡ unsettled_line line cause) }
+{
+    let mut text = String::new(alloc);
+    push_invalid(&mut text, line, word_of(cause))?;
+    Ok(text)
+}
+
+/// Returns the trace of a settled run. The steps are made once more for it.
+///
+/// # Errors
+///
+/// `Memory`: memory ran out.
+fn trace_of(alloc: Global, text: &SettledText) -> Result<String, Memory>
+    ensures { IfOk result (λ output. Prints SettleOutput.Trace text.now (string_bytes output)) }
+{
+    // The steps are a run, so only `Memory` can come.
+    match trace_text(alloc, text.nodes, text.start, &text.settled.steps) {
+        Ok(output) => Ok(output),
+        Err(_) => Err(Memory),
+    }
+}
+
+/// Returns the lines of the report of a settled run, or its trace.
+///
+/// # Errors
+///
+/// `Memory`: memory ran out.
+fn run_text(alloc: Global, printed: SettleOutput, text: &SettledText) -> Result<String, Memory>
+    ensures { IfOk result (λ output. Prints printed text.now (string_bytes output)) }
+{
+    match printed {
+        SettleOutput::Lines => report_text(alloc, &text.settled.report),
+        SettleOutput::Trace => trace_of(alloc, text),
+    }
+}
+
+/// Prints that memory ran out.
+fn refuse_memory<W: Write>(writer: &mut W) -> Outcome
+    ensures { (asked : SettleTask) (input : List ℕ)
+        → TellsSettled asked input (W.contents writer.old) (W.contents writer.new) result.status }
+{
+    refuse(writer, Refusal::Check(TraceError::Memory))
+}
+
+/// Prints the settled run of a text.
+fn show<W: Write>(alloc: Global, asked: SettleTask, text: &SettledText, writer: &mut W) -> Outcome
+    ensures { (input : List ℕ) → IsSettledText asked.repeats input text.now
+        → TellsSettled asked input (W.contents writer.old) (W.contents writer.new) result.status }
+{
+    match run_text(alloc, asked.printed, text) {
+        Ok(output) => Outcome::new(written(writer, output.as_bytes(), DONE), None),
+        Err(_) => refuse_memory(writer),
+    }
+}
+
+/// Prints the line of a text that does not settle.
+fn contradict<W: Write>(alloc: Global, line: u64, cause: TextCause, writer: &mut W) -> Outcome
+    ensures { (asked : SettleTask) (input : List ℕ) → IsWrong asked.repeats input line cause
+        → TellsSettled asked input (W.contents writer.old) (W.contents writer.new) result.status }
+{
+    match unsettled_text(alloc, line, cause) {
+        Ok(text) => {
+            let status = written(writer, text.as_bytes(), UNFINISHED);
+            Outcome::judged(status, Some(Remark::Unsettled { line, cause }))
+        }
+        Err(_) => refuse_memory(writer),
+    }
+}
+
+/// Settles the books of a text, and prints what comes of it.
+fn settle_input<W: Write>(alloc: Global, asked: SettleTask, input: &[u8], writer: &mut W) -> Outcome
+    ensures { TellsSettled asked input.now (W.contents writer.old) (W.contents writer.new) result.status }
+{
+    match settle_text(alloc, input, asked.repeats) {
+        Ok(text) => show(alloc, asked, &text, writer),
+        Err(SettleTextError::Invalid { line, cause }) => contradict(alloc, line, cause, writer),
+        Err(SettleTextError::Memory) => refuse_memory(writer),
+    }
+}
+
+/// Prints that the reader failed, or gave more than a text may have, or that memory ran out, and returns what came of it.
+fn refuse_input<W: Write>(writer: &mut W, fault: TraceError) -> Outcome
+    ensures { RefusesInput fault (W.contents writer.old) (W.contents writer.new) result.status }
+{
+    let outcome = refuse(writer, Refusal::Check(fault));
+    match fault {
+        TraceError::Limit => Outcome::new(outcome.status, Some(Remark::TooManyBooks)),
+        TraceError::Read | TraceError::Memory => outcome,
+    }
+}
+
+/// Reads the books of all nodes, one after the other in one text, and prints the report of the run into which they settle as
+/// asked, or its trace, with status 0. If they do not settle, it prints the line that is wrong, and the cause, with status 3. The status is 2 if
+/// the text has more than 1,073,741,824 bytes or memory ran out, and 1 if the reader or the writer failed. A text that has no more
+/// bytes is left in `text`.
+pub fn settle_books<R: Read, W: Write>(
+    alloc: Global,
+    asked: SettleTask,
+    reader: &mut R,
+    writer: &mut W,
+    text: &mut Vec<u8>,
+) -> Outcome
+    ensures { ServesSettle asked (R.remaining reader.old) (R.remaining reader.new)
+        (W.contents writer.old) (W.contents writer.new) result.status }
+{
+    let input = match read_up_to(alloc, reader, MAX_TEXT + 1) {
+        Ok(input) => input,
+        Err(ReadFault::Read) => return refuse_input(writer, TraceError::Read),
+        Err(ReadFault::Memory) => return refuse_input(writer, TraceError::Memory),
+    };
+    if input.len() > MAX_TEXT {
+        return refuse_input(writer, TraceError::Limit);
+    }
+    let outcome = settle_input(alloc, asked, &input, writer);
+    *text = input;
+    outcome
+}

@@ -1,0 +1,174 @@
+//! A script under many seeds, from its text to the lines of what came of it.
+ghost use Rattle.std.specs.Prelude.{◌≡◌, ◌≢◌, ◌<◌, ◌≤◌, ◌++◌, ◌↔◌, List, ℕ, [], Bool, Ok, codes, length, string_bytes, IsTrue, IfOk, IfErr, IfSome, IsErrOf};
+ghost use Rattle.std.specs.Io.KnownBytes.{Consumes, Appends};
+ghost use Rattle.ra_script.specs.Finding.{IsFirstUnwritten};
+ghost use Rattle.ra_script.specs.ScriptText.{script_of};
+ghost use Rattle.ra_cli.specs.Surveyed.{AllFinished, FoundHasNoWords, IsFound, IsSurveyed, IsTold, RefusesSurvey, SurveysBy};
+ghost use Rattle.ra_cli.specs.Surveyed as spec;
+
+use crate::commands::cluster_command::script_from;
+use crate::commands::survey_text::survey_text;
+use crate::error::RunScriptError;
+use ra_schedule::{Ending, Faults, Observer, Script, SeedRange, Survey, survey};
+use ra_script::{ChoicesError, MAX_TURNS, Printed, find_run};
+use ra_stamp::Memory;
+use ra_task::Search;
+use ra_world::write_out;
+use std::alloc::Global;
+use std::io::{Read, Write};
+
+/// Returns whether each seed's run is finished. It does not allocate.
+fn all_finished(survey: &Survey) -> bool
+    ensures { IsTrue result ↔ AllFinished survey.now }
+{
+    survey.stuck.is_none() && survey.limit.is_none()
+}
+
+/// Drives a cluster through a script under each seed, and returns the lines of what came of them, and whether each run is finished.
+///
+/// # Errors
+///
+/// `Memory`: memory ran out.
+fn counted_of<O: Observer>(
+    alloc: Global,
+    script: &Script,
+    faults: Option<Faults>,
+    first: u64,
+    last: u64,
+    observer: &mut O,
+) -> Result<Printed, Memory>
+    ensures { (input : List ℕ) → script_of input ≡ Ok script.now
+        → IfOk result (λ told. IsSurveyed faults first last input (string_bytes told.text) told.finished) }
+{
+    let seeds = SeedRange { first, last };
+    let counted = survey(alloc, script, faults, seeds, MAX_TURNS, observer)?;
+    let text = survey_text(alloc, &counted)?;
+    Ok(Printed {
+        text,
+        finished: all_finished(&counted),
+    })
+}
+
+/// Returns the line that says that no run came to the end that was looked for.
+fn none_line(alloc: Global) -> Result<String, Memory>
+    ensures { IfOk result (λ text. string_bytes text ≡ codes "none\n") }
+{
+    let text = String::from_str(alloc, "none\n")?;
+    Ok(text)
+}
+
+/// Returns what is to be printed of the run by the first seed by which a script comes to the end that is looked for, and whether
+/// that run is finished. If there is no such run, returns a line that says so, and whether that is as it should be.
+///
+/// # Errors
+///
+/// The first that holds, except that `Memory` may come before the other:
+///
+/// 1. `Choice`: the choices are to be printed, and a message is repeated, for which there is no word.
+/// 2. `Memory`: memory ran out.
+fn found_of<O: Observer>(
+    alloc: Global,
+    script: &Script,
+    faults: Option<Faults>,
+    search: Search,
+    first: u64,
+    last: u64,
+    observer: &mut O,
+) -> Result<Printed, ChoicesError>
+    ensures ok { (input : List ℕ) → script_of input ≡ Ok script.now
+        → IfOk result (λ told. IsFound faults search first last input (string_bytes told.text) told.finished) }
+    ensures wordless { (input : List ℕ) → script_of input ≡ Ok script.now → IsErrOf result ChoicesError.Choice
+        → IsFirstUnwritten search.format faults search.ending first last input }
+{
+    let Search { ending, format } = search;
+    let seeds = SeedRange { first, last };
+    if let Some(found) = find_run(alloc, script, faults, ending, seeds, format, observer)? {
+        return Ok(found);
+    }
+    let text = none_line(alloc)?;
+    Ok(Printed {
+        text,
+        finished: none_found_is_success(ending),
+    })
+}
+
+/// Returns whether it is as it should be that no run came to an end. It does not allocate.
+fn none_found_is_success(ending: Ending) -> bool
+    ensures { result ≡ spec.none_found_is_success ending }
+{
+    matches!(ending, Ending::Stuck)
+}
+
+/// Returns what is told of a script's runs under seeds.
+///
+/// # Errors
+///
+/// Those of `found_of`.
+fn told_of<O: Observer>(
+    alloc: Global,
+    script: &Script,
+    faults: Option<Faults>,
+    find: Option<Search>,
+    first: u64,
+    last: u64,
+    observer: &mut O,
+) -> Result<Printed, ChoicesError>
+    ensures ok { (input : List ℕ) → script_of input ≡ Ok script.now
+        → IfOk result (λ told. IsTold faults find first last input (string_bytes told.text) told.finished) }
+    ensures wordless { (input : List ℕ) → script_of input ≡ Ok script.now → IsErrOf result ChoicesError.Choice
+        → FoundHasNoWords faults find first last input }
+{
+    let Some(search) = find else {
+        let counted = counted_of(alloc, script, faults, first, last, observer)?;
+        return Ok(counted);
+    };
+    found_of(alloc, script, faults, search, first, last, observer)
+}
+
+/// Reads the text of a script, and drives a cluster through it by chance, with faults or without, under each seed from the first
+/// to the last, both of them included, each in at most 16,777,216 turns. Writes what came of them, and returns whether each run
+/// is finished. If an end is looked for, it goes up to the first seed whose run comes to it, writes its trace or its choices, and
+/// returns whether that run is finished. If there is no such run, it writes `none`, and returns whether it is runs that are stuck
+/// that were looked for. The observer is told of each seed. It takes at most 65,537 bytes from the reader, and no read or write
+/// that failed is tried again.
+///
+/// # Errors
+///
+/// The first that holds, except that `Memory` may come before any:
+///
+/// 1. `Read`: the reader failed, before its end and before it gave 65,537 bytes.
+/// 2. `Script`: the input is no script.
+/// 3. `Choice`: choices are to be written, and a message is repeated, for which there is no word.
+/// 4. `Memory`: memory ran out.
+/// 5. `Write`: the writer failed or took nothing, with bytes left to write. A prefix of the text was written.
+///
+/// After each of the others the writer is as before.
+pub fn survey_script<R: Read, W: Write, O: Observer>(
+    alloc: Global,
+    faults: Option<Faults>,
+    find: Option<Search>,
+    first: u64,
+    last: u64,
+    reader: &mut R,
+    writer: &mut W,
+    observer: &mut O,
+) -> Result<bool, RunScriptError>
+    ensures ok { IfOk result (SurveysBy faults find first last (R.remaining reader.old) (R.remaining reader.new)
+        (W.contents writer.old) (W.contents writer.new)) }
+    ensures refused { IfErr result (λ fault.
+        IfSome (R.remaining reader.old) (λ input. RefusesSurvey faults find first last input fault)) }
+    ensures unwritten { IfErr result (λ fault. fault ≢ RunScriptError.Write → writer.new ≡ writer.old) }
+    ensures prefix { IsErrOf result RunScriptError.Write → IfSome (R.remaining reader.old) (λ input.
+        (prefix rest : List ℕ) × (finished : Bool) × IsTold faults find first last input (prefix ++ rest) finished × (rest ≢ [])
+        × Appends (W.contents writer.old) (W.contents writer.new) prefix) }
+    // A fault of the reader comes only before it gave all that may be taken.
+    ensures failed { IsErrOf result RunScriptError.Read → (taken : List ℕ) × (length taken < 65537)
+        × Consumes (R.remaining reader.old) (R.remaining reader.new) taken }
+    ensures at_most { (taken : List ℕ) × (length taken ≤ 65537)
+        × Consumes (R.remaining reader.old) (R.remaining reader.new) taken }
+{
+    let script = script_from(alloc, reader)?;
+    let told = told_of(alloc, &script, faults, find, first, last, observer)?;
+    write_out(writer, told.text.as_bytes())?;
+    Ok(told.finished)
+}

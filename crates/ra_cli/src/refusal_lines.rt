@@ -1,0 +1,198 @@
+//! The line that is printed of each refusal, as a constant: so it is printed whatever is lacking. The words are here and where
+//! each error says how it prints, since no contract says what a derived `Display` writes.
+ghost use Rattle.std.specs.Prelude.{◌≡◌};
+ghost use Rattle.ra_cli.specs.Refusals as spec;
+
+use crate::AnswerError;
+use crate::error::RunScriptError;
+use ra_cluster::ClusterError;
+use ra_draw::DrawError;
+use ra_frame::FrameError;
+use ra_schedule::DriveError;
+use ra_script::{ChoicesError, PerformError, ScriptError};
+use ra_task::CommandFault;
+use ra_trace::TraceError;
+
+/// Why a command was not done.
+#[derive(Clone, Copy)]
+pub enum Refusal {
+    Command(CommandFault),
+    Answer(AnswerError),
+    Choices(ChoicesError),
+    Perform(PerformError),
+    Check(TraceError),
+    Draw(DrawError),
+    Cluster(RunScriptError),
+}
+
+/// Returns the line of a refusal: `refused` and its word. It does not allocate.
+pub fn line_of(refusal: Refusal) -> &'static str
+    ensures { result.now ≡ spec.refused_line (spec.word_of refusal) }
+{
+    match refusal {
+        Refusal::Command(why) => command_line(why),
+        Refusal::Answer(why) => answer_line(why),
+        Refusal::Choices(why) => choices_line(why),
+        Refusal::Perform(why) => perform_line(why),
+        Refusal::Check(why) => trace_line(why),
+        Refusal::Draw(why) => draw_line(why),
+        Refusal::Cluster(why) => run_line(why),
+    }
+}
+
+/// Returns the line that says why a text is no frame. It does not allocate.
+fn frame_line(fault: FrameError) -> &'static str
+    ensures { result.now ≡ spec.refused_line (spec.frame_word fault) }
+{
+    match fault {
+        FrameError::Short => "refused Short\n",
+        FrameError::Version => "refused Version\n",
+        FrameError::Kind => "refused Kind\n",
+        FrameError::From => "refused From\n",
+        FrameError::To => "refused To\n",
+        FrameError::SameNode => "refused SameNode\n",
+        FrameError::Mode => "refused Mode\n",
+        FrameError::Seq => "refused Seq\n",
+        FrameError::Clock => "refused Clock\n",
+        FrameError::NameLength => "refused NameLength\n",
+        FrameError::NameByte => "refused NameByte\n",
+        FrameError::Trailing => "refused Trailing\n",
+    }
+}
+
+/// Returns the line that says why a text is no script. It does not allocate.
+fn script_line(fault: ScriptError) -> &'static str
+    ensures { result.now ≡ spec.refused_line (spec.script_word fault) }
+{
+    match fault {
+        ScriptError::Toml => "refused Toml\n",
+        ScriptError::Shape => "refused Shape\n",
+        ScriptError::Nodes => "refused Nodes\n",
+        ScriptError::Clients => "refused Clients\n",
+        ScriptError::Op => "refused Op\n",
+        ScriptError::NotHeld => "refused NotHeld\n",
+        ScriptError::AlreadyHeld => "refused AlreadyHeld\n",
+        ScriptError::Limit => "refused Limit\n",
+        ScriptError::Memory => "refused Memory\n",
+    }
+}
+
+/// Returns the line that says why a policy can't go on. It does not allocate.
+fn drive_line(fault: DriveError) -> &'static str
+    ensures { result.now ≡ spec.refused_line (spec.drive_word fault) }
+{
+    match fault {
+        DriveError::TurnLimit => "refused TurnLimit\n",
+        DriveError::BadPlace => "refused BadPlace\n",
+        DriveError::NotEnabled => "refused NotEnabled\n",
+        DriveError::Memory => "refused Memory\n",
+    }
+}
+
+/// Returns the line that says why threads did not bring a script to its end. It does not allocate.
+fn cluster_line(fault: ClusterError) -> &'static str
+    ensures { result.now ≡ spec.refused_line (spec.cluster_word fault) }
+{
+    match fault {
+        ClusterError::OutOfOrder => "refused OutOfOrder\n",
+        ClusterError::Unreleased => "refused Unreleased\n",
+        ClusterError::Fault(_) => "refused Fault\n",
+        ClusterError::Settle => "refused Settle\n",
+        ClusterError::PlanUnmet => "refused PlanUnmet\n",
+        ClusterError::Lost => "refused Lost\n",
+        ClusterError::UnderWay => "refused UnderWay\n",
+        ClusterError::Memory => "refused Memory\n",
+    }
+}
+
+/// Returns the line that says why words ask for nothing. It does not allocate.
+fn command_line(fault: CommandFault) -> &'static str
+    ensures { result.now ≡ spec.refused_line (spec.command_word fault) }
+{
+    match fault {
+        CommandFault::Usage => "refused Usage\n",
+        CommandFault::Memory => "refused Memory\n",
+    }
+}
+
+/// Returns the line that says why a frame is not answered. It does not allocate.
+fn answer_line(fault: AnswerError) -> &'static str
+    ensures { result.now ≡ spec.refused_line (spec.answer_word fault) }
+{
+    match fault {
+        AnswerError::BadCount => "refused BadCount\n",
+        AnswerError::BadNode => "refused BadNode\n",
+        AnswerError::Read => "refused Read\n",
+        AnswerError::Line => "refused Line\n",
+        AnswerError::Hex => "refused Hex\n",
+        AnswerError::Frame(why) => frame_line(why),
+        AnswerError::WrongNode => "refused WrongNode\n",
+        AnswerError::Stranger => "refused Stranger\n",
+        AnswerError::ClockFull => "refused ClockFull\n",
+        AnswerError::Memory => "refused Memory\n",
+        AnswerError::Write => "refused Write\n",
+    }
+}
+
+/// Returns the line that says why a text is no list of choices. It does not allocate.
+fn choices_line(fault: ChoicesError) -> &'static str
+    ensures { result.now ≡ spec.refused_line (spec.choices_word fault) }
+{
+    match fault {
+        ChoicesError::Choice => "refused Choice\n",
+        ChoicesError::Memory => "refused Memory\n",
+    }
+}
+
+/// Returns the line that says why a script is not performed. It does not allocate.
+fn perform_line(fault: PerformError) -> &'static str
+    ensures { result.now ≡ spec.refused_line (spec.perform_word fault) }
+{
+    match fault {
+        PerformError::Read => "refused Read\n",
+        PerformError::Script(why) => script_line(why),
+        PerformError::Drive(why) => drive_line(why),
+        PerformError::Choice => "refused Choice\n",
+        PerformError::Memory => "refused Memory\n",
+        PerformError::Write => "refused Write\n",
+    }
+}
+
+/// Returns the line that says why a text has no verdict. It does not allocate.
+fn trace_line(fault: TraceError) -> &'static str
+    ensures { result.now ≡ spec.refused_line (spec.trace_word fault) }
+{
+    match fault {
+        TraceError::Read => "refused Read\n",
+        TraceError::Limit => "refused Limit\n",
+        TraceError::Memory => "refused Memory\n",
+    }
+}
+
+/// Returns the line that says why an input is not drawn. It does not allocate.
+fn draw_line(fault: DrawError) -> &'static str
+    ensures { result.now ≡ spec.refused_line (spec.draw_word fault) }
+{
+    match fault {
+        DrawError::Read => "refused Read\n",
+        DrawError::Limit => "refused Limit\n",
+        DrawError::NoLines { .. } => "refused NoLines\n",
+        DrawError::TooLong => "refused TooLong\n",
+        DrawError::Memory => "refused Memory\n",
+        DrawError::Write => "refused Write\n",
+    }
+}
+
+/// Returns the line that says why a script is not run by threads, or not under many seeds. It does not allocate.
+fn run_line(fault: RunScriptError) -> &'static str
+    ensures { result.now ≡ spec.refused_line (spec.run_word fault) }
+{
+    match fault {
+        RunScriptError::Read => "refused Read\n",
+        RunScriptError::Script(why) => script_line(why),
+        RunScriptError::Cluster(why) => cluster_line(why),
+        RunScriptError::Choice => "refused Choice\n",
+        RunScriptError::Memory => "refused Memory\n",
+        RunScriptError::Write => "refused Write\n",
+    }
+}

@@ -1,0 +1,121 @@
+//! The threads of a cluster that does a script.
+use crate::site::stop_causes::stop_of;
+use crate::{CallError, Cluster, Gate, Grant, SiteError, Stop};
+use ra_schedule::{Op, Script};
+use ra_stamp::NodeId;
+use std::alloc::Global;
+use std::sync::{Mutex, Wait};
+use std::thread;
+use std::thread::Threads;
+
+/// A script that threads do, and what they share.
+#[derive(Drop)]
+pub struct ScriptRun<'a, G> {
+    /// What the clients do.
+    pub script: &'a Script,
+    /// The nodes at which they do it. Its gate is shown each step and each client that is inside.
+    pub cluster: &'a Cluster<G>,
+    /// What the clients were granted, in any order.
+    pub grants: &'a Mutex<Vec<Grant>>,
+}
+
+/// Runs a thread for each node and one for each client. Returns when the clients' threads and then the nodes' threads have
+/// ended. The grants are kept. [`settle_script`](crate::settle_script) tells what came of it, once the cluster is closed.
+///
+/// A client whose node is stopped ends. If a thread cannot be started, or a client's call is refused for another cause, the
+/// cluster is stopped. A client does nothing if the cluster does not have its node. Nothing bounds how long the threads
+/// wait; a script that [`run_cluster`](crate::run_cluster) refuses may keep them waiting forever. The cost is that of a
+/// thread for each node and each client, and of the calls of the sites.
+pub fn run_threads<R: Threads + Wait + Sync, G: Gate + Drop>(
+    rt: &R,
+    alloc: Global,
+    run: &ScriptRun<'_, G>,
+) {
+    run.cluster
+        .run(rt, alloc, move || run_clients(rt, alloc, run));
+}
+
+/// Runs a thread for each client, and returns once they have ended.
+fn run_clients<R: Threads + Wait + Sync, G: Gate + Drop>(
+    rt: &R,
+    alloc: Global,
+    run: &ScriptRun<'_, G>,
+) {
+    thread::scope(thread::scope_env(), rt, move |clients| {
+        for client in 1..=run.script.clients() {
+            let started = clients.spawn(move || run_client(rt, alloc, run, client));
+            if started.is_err() {
+                run.cluster.stop(rt, Stop::Spawn);
+            }
+        }
+    })
+}
+
+/// Does the operations of a client one after the other, until one is refused. A refusal stops the cluster, unless the
+/// client's node is stopped already.
+fn run_client<R: Wait, G: Gate + Drop>(rt: &R, alloc: Global, run: &ScriptRun<'_, G>, client: u32) {
+    let Some(node) = run.script.node_of(client) else {
+        return;
+    };
+    let count = run.script.ops_of(client).unwrap_or(0);
+    for place in 0..count {
+        let Some(op) = run.script.op(client, place) else {
+            return;
+        };
+        if let Err(refused) = do_op(rt, alloc, run, node, client, op) {
+            stop_after(rt, run.cluster, refused);
+            return;
+        }
+    }
+}
+
+/// Stops the cluster after a client's call was refused, unless the client's node is stopped already or does not exist.
+fn stop_after<R: Wait, G: Gate + Drop>(rt: &R, cluster: &Cluster<G>, refused: CallError) {
+    if let CallError::Site(refused) = refused {
+        if let Some(stop) = stop_of(refused) {
+            cluster.stop(rt, stop);
+        }
+    }
+}
+
+/// Does one operation of a client at its node.
+///
+/// # Errors
+///
+/// Those of the cluster's call, and `Stopped` if the cluster was stopped after a grant.
+fn do_op<R: Wait, G: Gate + Drop>(
+    rt: &R,
+    alloc: Global,
+    run: &ScriptRun<'_, G>,
+    node: NodeId,
+    client: u32,
+    op: Op,
+) -> Result<(), CallError> {
+    match op {
+        Op::Lock(name, mode) => {
+            let grant = run.cluster.lock(rt, alloc, node, client, name, mode)?;
+            if let Some(stop) = keep_grant(rt, grant, run) {
+                run.cluster.stop(rt, stop);
+                return Err(CallError::Site(SiteError::Stopped(stop)));
+            }
+            Ok(())
+        }
+        Op::Unlock(name) => run.cluster.unlock(rt, alloc, node, client, name),
+    }
+}
+
+/// Keeps a grant, and shows it to the gate. Returns why the cluster is to be stopped, or `None` if it goes on.
+fn keep_grant<R: Wait, G: Gate + Drop>(
+    rt: &R,
+    grant: Grant,
+    run: &ScriptRun<'_, G>,
+) -> Option<Stop> {
+    if run.grants.lock(rt).push(grant).is_err() {
+        return Some(Stop::Memory);
+    }
+    if run.cluster.gate().inside(&grant.entry) {
+        None
+    } else {
+        Some(Stop::Gate)
+    }
+}

@@ -1,0 +1,45 @@
+ghost use Rattle.std.specs.Prelude.{◌≡◌};
+ghost use Rattle.ra_cluster.specs.declared.site.take_error.TakeError.TheVariants as take;
+
+use ra_stamp::Memory;
+use std::alloc::{AllocError, AllocFailed};
+use thiserror::Error;
+
+/// Why an auditor did not take events of a node.
+#[derive(Clone, Copy, Debug, PartialEq, Eq, Error)]
+#[error("{:?}", self)]
+pub enum TakeError {
+    /// The cluster has no such node.
+    NoNode,
+    /// The last event of the node that was taken is another one.
+    OutOfTurn,
+    /// The events can't be the next ones of the node: a clock does not follow the one before, or a frame is for
+    /// another node.
+    NotNext,
+    /// Memory ran out.
+    Memory,
+}
+
+impl From<Memory> for TakeError {
+    ghost from_gives = { λ _ e. e ≡ take.Memory };
+
+    fn from(_refused: Memory) -> TakeError {
+        TakeError::Memory
+    }
+}
+
+impl From<AllocError> for TakeError {
+    ghost from_gives = { λ _ e. e ≡ take.Memory };
+
+    fn from(_refused: AllocError) -> TakeError {
+        TakeError::Memory
+    }
+}
+
+impl<T: Drop> From<AllocFailed<T>> for TakeError {
+    ghost from_gives = { λ _ e. e ≡ take.Memory };
+
+    fn from(_refused: AllocFailed<T>) -> TakeError {
+        TakeError::Memory
+    }
+}

@@ -1,0 +1,98 @@
+//! The lane of a node, and the columns of bars beside it.
+use crate::layout::sizes::{COLUMN_WIDTH, LANE_MARGIN};
+use indexmap::IndexMap;
+use ra_stamp::Memory;
+use std::alloc::Global;
+
+/// A column of bars, all of one client.
+#[derive(Clone, Copy)]
+pub struct Column {
+    pub client: u32,
+    /// The row down to which there are bars.
+    end: u32,
+    /// The next column of this client, if it has more.
+    next: Option<u32>,
+}
+
+/// A node.
+#[derive(Drop)]
+pub struct NodeLane {
+    /// How far to the right it is.
+    pub x: u64,
+    /// The columns of bars beside it, the nearest to it first.
+    pub columns: Vec<Column>,
+    /// Which of them is the first one of each client.
+    firsts: IndexMap<u32, u32>,
+}
+
+impl NodeLane {
+    /// Makes one without columns, which has no place yet.
+    pub fn new(alloc: Global) -> NodeLane {
+        NodeLane {
+            x: 0,
+            columns: Vec::new(alloc),
+            firsts: IndexMap::new(alloc),
+        }
+    }
+
+    /// Returns the first column of a client that is free for a bar from this row on, and that it is free. If none is, it returns the
+    /// last one, and that it is not. If the client has no column, it returns `None`.
+    fn find(&self, client: u32, first: u32) -> Option<(u32, bool)> {
+        let mut place = *self.firsts.get(&client)?;
+        for _column in 0..self.columns.len() {
+            let column = self.columns.get(place as usize)?;
+            if column.end <= first {
+                return Some((place, true));
+            }
+            let Some(next) = column.next else {
+                break;
+            };
+            place = next;
+        }
+        Some((place, false))
+    }
+
+    /// Notes that a client has one column more, after this one if it had any.
+    fn note_place(&mut self, client: u32, before: Option<u32>, place: u32) -> Result<(), Memory> {
+        if let Some(before) = before {
+            if let Some(column) = self.columns.get_mut(before as usize) {
+                column.next = Some(place);
+            }
+        } else {
+            self.firsts.insert(client, place)?;
+        }
+        Ok(())
+    }
+
+    /// Takes a column for a bar of this client over these rows, and returns which.
+    pub fn take(&mut self, client: u32, first: u32, last: u32) -> Result<u32, Memory> {
+        let before = match self.find(client, first) {
+            Some((place, true)) => {
+                if let Some(column) = self.columns.get_mut(place as usize) {
+                    column.end = last;
+                }
+                return Ok(place);
+            }
+            Some((place, false)) => Some(place),
+            None => None,
+        };
+        let place = short(self.columns.len());
+        self.columns.push(Column {
+            client,
+            end: last,
+            next: None,
+        })?;
+        self.note_place(client, before, place)?;
+        Ok(place)
+    }
+
+    /// Returns how wide its bars are, with what is between them and it.
+    pub fn gutter(&self) -> u64 {
+        u64::from(short(self.columns.len())) * COLUMN_WIDTH + LANE_MARGIN
+    }
+}
+
+/// Returns a place as a short number: a trace has no more bytes.
+pub fn short(place: usize) -> u32 {
+    u32::try_from(place).unwrap_or(u32::MAX)
+}

@@ -1,0 +1,142 @@
+//! The picture of a run.
+ghost use Rattle.std.specs.Prelude.{◌≡◌, ◌++◌, IfOk, OnOk};
+ghost use Rattle.ra_draw.specs.Drawing.{IsPicture};
+
+mod deferral_shapes;
+mod layers;
+mod legend;
+mod lock_bars;
+mod message_shapes;
+mod svg_writer;
+mod wording;
+
+use crate::layout::Layout;
+use crate::part::Part;
+use crate::timeline::Timeline;
+use layers::Layers;
+use legend::{LEGEND, LOOKS};
+use ra_stamp::Memory;
+use std::alloc::Global;
+use svg_writer::Piece::{Number, Text};
+use svg_writer::SvgWriter;
+use wording::ending_of;
+
+/// What the headline counts of the whole run.
+#[derive(Clone, Copy)]
+pub struct Totals {
+    pub requests: u128,
+    /// What else is counted: messages of a trace, or grants of a mark log.
+    pub counted: &'static str,
+    pub count: u128,
+}
+
+/// Adds which lines are drawn if they are not all.
+fn put_part(svg: &mut SvgWriter, part: Part) {
+    if part.from > 1 {
+        svg.write(", from line $", &[Number(part.from)]);
+    }
+    if part.to < u64::MAX {
+        svg.write(", to line $", &[Number(part.to)]);
+    }
+}
+
+/// Adds what is drawn: how many nodes there are, the totals, and which lines if they are not all.
+fn put_headline(svg: &mut SvgWriter, nodes: u16, totals: &Totals, part: Part) {
+    let (nodes, requests, count) = (
+        u64::from(nodes),
+        short(totals.requests),
+        short(totals.count),
+    );
+    svg.write(
+        "$ node$, $ request$, $ $$",
+        &[
+            Number(nodes),
+            Text(ending_of(nodes)),
+            Number(requests),
+            Text(ending_of(requests)),
+            Number(count),
+            Text(totals.counted),
+            Text(ending_of(count)),
+        ],
+    );
+    put_part(svg, part);
+}
+
+/// Adds the size of the picture, its title, how shapes look, and the legend.
+fn put_head(svg: &mut SvgWriter, layout: &Layout, totals: &Totals, part: Part) {
+    let (width, height) = (layout.width(), layout.height());
+    svg.write(
+        " width=\"$\" height=\"$\" viewBox=\"0 0 $ $\">\n<title>",
+        &[Number(width), Number(height), Number(width), Number(height)],
+    );
+    put_headline(svg, layout.nodes, totals, part);
+    svg.put(b"</title>\n");
+    svg.put(LOOKS.as_bytes());
+    svg.write(
+        "<rect width=\"$\" height=\"$\" fill=\"#fff\"/>\n<text x=\"16\" y=\"30\" class=\"headline\">",
+        &[Number(width), Number(height)],
+    );
+    put_headline(svg, layout.nodes, totals, part);
+    svg.put(b"</text>\n");
+    svg.put(LEGEND.as_bytes());
+}
+
+/// Returns a number of a text, which has far fewer bytes than the greatest `u64`.
+fn short(count: u128) -> u64 {
+    if count < 1 << 64 {
+        count as u64
+    } else {
+        u64::MAX
+    }
+}
+
+/// Draws what was followed of a text, the attributes of the picture first, or nothing if memory ran out.
+fn draw_timeline(
+    alloc: Global,
+    layers: &mut Layers,
+    timeline: &Timeline,
+    followed: Result<(), Memory>,
+    totals: &Totals,
+    part: Part,
+) {
+    let mut layout = Layout::new(alloc, timeline);
+    if followed.is_ok() && layout.fill(alloc, &timeline.spans.all).is_ok() {
+        put_head(&mut layers.shapes, &layout, totals, part);
+        layers.draw(&layout, timeline);
+    } else {
+        layers.shapes.run_out();
+    }
+}
+
+/// Draws the part of a text that is a trace or a mark log with these totals.
+// The page is a function of its own, since two values that own memory in one make it many times as expensive to prove.
+fn draw_part(alloc: Global, layers: &mut Layers, text: &[u8], part: Part, totals: &Totals) {
+    let mut timeline = Timeline::new(alloc);
+    let followed = timeline.follow(alloc, text, part);
+    draw_timeline(alloc, layers, &timeline, followed, totals, part);
+}
+
+/// Adds a text.
+fn push(text: &mut Vec<u8>, more: &[u8]) -> Result<(), Memory>
+    ensures { OnOk result (text.new.items ≡ text.old.items ++ more.now) }
+{
+    text.extend_from_slice(more)?;
+    Ok(())
+}
+
+/// Returns the picture of a part of a text that has these totals.
+pub fn picture_of(alloc: Global, text: &[u8], part: Part, totals: Totals) -> Result<Vec<u8>, Memory>
+    ensures { IfOk result (λ picture. IsPicture picture.items) }
+{
+    let mut layers = Layers::new(alloc);
+    draw_part(alloc, &mut layers, text, part, &totals);
+    let inner = layers.finish()?;
+    let mut picture = Vec::new(alloc);
+    push(
+        &mut picture,
+        "<svg xmlns=\"http://www.w3.org/2000/svg\"".as_bytes(),
+    )?;
+    push(&mut picture, &inner)?;
+    push(&mut picture, "</svg>\n".as_bytes())?;
+    Ok(picture)
+}

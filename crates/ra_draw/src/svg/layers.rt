@@ -1,0 +1,197 @@
+//! The shapes of a picture, and their labels: the lanes, what is on each row, and what the other files of this folder draw.
+use crate::layout::sizes::{CLIENTS_Y, COLUMN_WIDTH, LANES_TOP, NODES_Y, ROW_NUMBERS_X};
+use crate::layout::{Layout, Point};
+use crate::svg::svg_writer::Piece::{Node, Number, Short, Text, Whole};
+use crate::svg::svg_writer::SvgWriter;
+use crate::svg::wording::mode_text;
+use crate::timeline::{ClientAct, LockKey, Timeline};
+use ra_stamp::{Memory, NodeId};
+use ra_world::mode_word;
+use std::alloc::Global;
+
+/// The two layers of a picture: the shapes, and the labels, which are in front of them all.
+#[derive(Drop)]
+pub struct Layers {
+    pub shapes: SvgWriter,
+    pub labels: SvgWriter,
+}
+
+impl Layers {
+    /// Makes empty ones.
+    pub fn new(alloc: Global) -> Layers {
+        Layers {
+            shapes: SvgWriter::new(alloc),
+            labels: SvgWriter::new(alloc),
+        }
+    }
+
+    /// Begins a line, to the quotation mark of its class.
+    pub fn begin_line(&mut self, from: Point, to: Point) {
+        self.shapes.write(
+            "<line x1=\"$\" y1=\"$\" x2=\"$\" y2=\"$\" class=\"",
+            &[Number(from.x), Number(from.y), Number(to.x), Number(to.y)],
+        );
+    }
+
+    /// Begins a label, to the quotation mark of its class.
+    pub fn begin_text(&mut self, x: u64, y: u64) {
+        self.labels
+            .write("<text x=\"$\" y=\"$\" class=\"", &[Number(x), Number(y)]);
+    }
+
+    /// Begins a shape of a client: what it does, and the name.
+    pub fn begin_act(&mut self, key: &LockKey, what: &'static str) {
+        self.shapes.write(
+            "<g><title>client $ at node $ $ $",
+            &[
+                Number(u64::from(key.client)),
+                Node(key.node),
+                Text(what),
+                Whole(&key.name),
+            ],
+        );
+    }
+
+    /// Draws the line of a lane, with this class.
+    fn draw_lane(&mut self, layout: &Layout, x: u64, class: &'static str) {
+        let y = layout.bottom();
+        self.begin_line(Point { x, y: LANES_TOP }, Point { x, y });
+        self.shapes.write("$\"/></g>\n", &[Text(class)]);
+    }
+
+    /// Names a node this far down.
+    fn name_node(&mut self, layout: &Layout, node: NodeId, y: u64) {
+        let word = if layout.is_wide() { "node " } else { "" };
+        self.begin_text(layout.x(node), y);
+        self.labels
+            .write("node\">$$</text>\n", &[Text(word), Node(node)]);
+    }
+
+    /// Names the clients of the columns of a node, if their numbers are short.
+    fn name_clients(&mut self, layout: &Layout, node: NodeId) {
+        let mut place = 0;
+        for column in layout.columns(node) {
+            let client = u64::from(column.client);
+            if client < 1000 {
+                let left = layout.column_x(node, place);
+                self.begin_text(left.saturating_add(COLUMN_WIDTH / 2), CLIENTS_Y);
+                self.labels.write("client\">c$</text>\n", &[Number(client)]);
+            }
+            place = u32::saturating_add(place, 1);
+        }
+    }
+
+    /// Draws the lane of a node, and names it, again and again in a long picture, and the clients of its columns.
+    fn draw_node(&mut self, layout: &Layout, node: NodeId) {
+        self.shapes.write("<g><title>node $</title>", &[Node(node)]);
+        self.draw_lane(layout, layout.x(node), "lane");
+        self.name_node(layout, node, NODES_Y);
+        self.name_clients(layout, node);
+        for band in 0..layout.bands() {
+            self.name_node(layout, node, layout.band_y(band));
+        }
+    }
+
+    /// Draws the lane from which copies come.
+    fn draw_copies_lane(&mut self, layout: &Layout) {
+        let x = layout.copies_x();
+        self.shapes.put(b"<g><title>copies</title>");
+        self.draw_lane(layout, x, "copies");
+        self.begin_text(x, NODES_Y);
+        self.labels.put(b"node\">copies</text>\n");
+    }
+
+    /// Draws the lanes.
+    fn draw_lanes(&mut self, layout: &Layout) {
+        for number in 0..layout.nodes {
+            if let Some(node) = NodeId::new(number + 1) {
+                self.draw_node(layout, node);
+            }
+        }
+        if layout.has_copies {
+            self.draw_copies_lane(layout);
+        }
+    }
+
+    /// Ends the words of what a client does, and draws a dot, and beneath it a larger one that is not seen, so that a pointer hits it
+    /// easily.
+    fn draw_dot(&mut self, place: Point, class: &'static str) {
+        self.shapes.write(
+            "</title><circle cx=\"$\" cy=\"$\" r=\"10\" class=\"touch\"/><circle cx=\"$\" cy=\"$\" r=\"4\" class=\"$\"/></g>\n",
+            &[
+                Number(place.x),
+                Number(place.y),
+                Number(place.x),
+                Number(place.y),
+                Text(class),
+            ],
+        );
+    }
+
+    /// Draws a dot where a client asks or leaves, and labels it.
+    fn draw_act(&mut self, layout: &Layout, act: &ClientAct, row: u32) {
+        let place = layout.at(act.key.node, row);
+        let (what, word, class) = match act.mode {
+            Some(_) => ("asks for", "asks", "ask"),
+            None => ("leaves", "leaves", "leave"),
+        };
+        self.begin_act(&act.key, what);
+        if let Some(mode) = act.mode {
+            self.shapes.write(", $", &[Text(mode_text(mode))]);
+        }
+        self.draw_dot(place, class);
+        self.begin_text(place.x.saturating_add(8), place.y.saturating_sub(4));
+        self.labels.write(
+            "label to-right\">$ $",
+            &[Text(word), Short(&act.key.name, layout.cut)],
+        );
+        if let Some(mode) = act.mode {
+            self.labels.write(" $", &[Text(mode_word(mode))]);
+        }
+        self.labels.put(b"</text>\n");
+    }
+
+    /// Begins the label to the left of a row.
+    fn begin_row(&mut self, layout: &Layout, row: u32) {
+        self.begin_text(ROW_NUMBERS_X, layout.y(row).saturating_add(4));
+        self.labels.put(b"row\">");
+    }
+
+    /// Draws the number of each row, and what a client does on it, and says where the rows of messages under way at the end begin.
+    fn draw_rows(&mut self, layout: &Layout, timeline: &Timeline) {
+        let mut number = 0;
+        for row in &timeline.rows {
+            number = u32::saturating_add(number, 1);
+            self.begin_row(layout, number);
+            self.labels.write("$</text>\n", &[Number(row.line)]);
+            if let Some(act) = &row.act {
+                self.draw_act(layout, act, number);
+            }
+        }
+        if timeline.paths.still_under_way > 0 {
+            let (row, _) = layout.under_way_row(0);
+            self.begin_row(layout, row);
+            self.labels.put(b"end</text>\n");
+        }
+    }
+
+    /// Draws all that there is on the page.
+    pub fn draw(&mut self, layout: &Layout, timeline: &Timeline) {
+        self.draw_lanes(layout);
+        for bar in &layout.bars {
+            self.draw_lock_bar(layout, bar);
+        }
+        self.draw_deferrals(layout, &timeline.deferrals.all);
+        for path in &timeline.paths.drawn {
+            self.draw_path(layout, path);
+        }
+        self.draw_rows(layout, timeline);
+    }
+
+    /// Returns the shapes, and the labels after them.
+    pub fn finish(self) -> Result<Vec<u8>, Memory> {
+        let Layers { mut shapes, labels } = self;
+        shapes.append(&labels);
+        shapes.finish()
+    }
+}

@@ -1,0 +1,101 @@
+//! How the text of a picture is written.
+use crate::layout::NameCut;
+use itoa::Buffer;
+use ra_stamp::{Memory, Name, NodeId};
+use ra_world::cut;
+use std::alloc::Global;
+
+/// What is put in a place of a pattern.
+#[derive(Clone, Copy)]
+pub enum Piece<'a> {
+    Number(u64),
+    Node(NodeId),
+    Text(&'a str),
+    Whole(&'a Name),
+    /// A name without what is left out.
+    Short(&'a Name, NameCut),
+}
+
+/// A text that is written from its start to its end. If memory runs out nothing more is written, and `finish` says so: so what is
+/// written with it gives no error of its own.
+///
+/// No text that is written has a letter that XML reads otherwise: words are those of this crate, names have letters, digits, `_`,
+/// `-` and `.`, and everything else is a number.
+#[derive(Drop)]
+pub struct SvgWriter {
+    text: Vec<u8>,
+    is_out: bool,
+}
+
+impl SvgWriter {
+    /// Begins a text.
+    pub fn new(alloc: Global) -> SvgWriter {
+        SvgWriter {
+            text: Vec::new(alloc),
+            is_out: false,
+        }
+    }
+
+    /// Adds these bytes.
+    pub fn put(&mut self, bytes: &[u8]) {
+        if !self.is_out {
+            self.is_out = self.text.extend_from_slice(bytes).is_err();
+        }
+    }
+
+    /// Adds a number.
+    fn put_number(&mut self, number: u64) {
+        self.put(Buffer::new().format(number).as_bytes());
+    }
+
+    /// Adds a name, with dots in place of what is left out.
+    fn put_short(&mut self, name: &[u8], cut: NameCut) {
+        if cut.before > 0 {
+            self.put(b"..");
+        }
+        self.put(cut.shown(name));
+        if cut.after > 0 {
+            self.put(b"..");
+        }
+    }
+
+    /// Adds a piece.
+    fn put_piece(&mut self, piece: &Piece) {
+        match piece {
+            Piece::Number(number) => self.put_number(*number),
+            Piece::Node(node) => self.put_number(u64::from(node.get())),
+            Piece::Text(text) => self.put(text.as_bytes()),
+            Piece::Whole(name) => self.put(name.bytes()),
+            Piece::Short(name, cut) => self.put_short(name.bytes(), *cut),
+        }
+    }
+
+    /// Adds a pattern, in which these pieces take the places of `$`.
+    pub fn write(&mut self, pattern: &str, pieces: &[Piece]) {
+        let mut rest = pattern.as_bytes();
+        for piece in pieces {
+            let (before, after) = cut(rest, b'$');
+            self.put(before);
+            self.put_piece(piece);
+            rest = after.unwrap_or(b"");
+        }
+        self.put(rest);
+    }
+
+    /// Adds what another writer wrote.
+    pub fn append(&mut self, other: &SvgWriter) {
+        self.put(&other.text);
+        self.is_out = self.is_out || other.is_out;
+    }
+
+    /// Writes nothing more, since memory ran out.
+    pub fn run_out(&mut self) {
+        self.is_out = true;
+    }
+
+    /// Returns the text.
+    pub fn finish(self) -> Result<Vec<u8>, Memory> {
+        let SvgWriter { text, is_out } = self;
+        if is_out { Err(Memory) } else { Ok(text) }
+    }
+}

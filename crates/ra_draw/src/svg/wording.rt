@@ -1,0 +1,32 @@
+//! What shapes say in words.
+use crate::timeline::PathStart;
+use ra_stamp::{Message, Mode};
+
+/// Returns a mode in words.
+pub fn mode_text(mode: Mode) -> &'static str {
+    match mode {
+        Mode::Shared => "shared",
+        Mode::Exclusive => "exclusive",
+        Mode::IntentShared => "intent shared",
+        Mode::IntentExclusive => "intent exclusive",
+        Mode::SharedIntentExclusive => "shared and intent exclusive",
+    }
+}
+
+/// Returns the kind of a message.
+pub fn kind_of(message: &Message) -> &'static str {
+    match message {
+        Message::Request { .. } => "request",
+        Message::Reply { .. } => "reply",
+    }
+}
+
+/// Returns the ending of a word for this many things.
+pub fn ending_of(count: u64) -> &'static str {
+    if count == 1 { "" } else { "s" }
+}
+
+/// Returns how a message came under way.
+pub fn start_word(start: PathStart) -> &'static str {
+    if start.copied { "repeated" } else { "sent" }
+}

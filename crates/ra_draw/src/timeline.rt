@@ -1,0 +1,301 @@
+//! What happens in the part of a text that is drawn. For a trace, a world of its own makes the steps again: the text has no line for
+//! a message that is sent, and only the nodes know which ones a step sends.
+mod deferral;
+mod lock_span;
+mod message_path;
+mod moment;
+
+use crate::part::Part;
+pub use deferral::{Deferral, Deferrals};
+pub use lock_span::{LockKey, LockSpan, LockSpans};
+pub use message_path::{Fate, MessagePath, MessagePaths, PathStart, UnderWayPlace};
+pub use moment::Moment;
+use ra_stamp::{Mark, Memory, Message, Mode};
+use ra_trace::Line;
+use ra_world::{MarklessWorld, Step, cut};
+use std::alloc::Global;
+
+/// The most marks of a step: a client leaves, and the next one of its node gets a number and enters.
+const MOST_MARKS: u32 = 3;
+
+/// What a client does by a step: it asks for a name in a mode, or leaves it.
+#[derive(Clone, Copy)]
+pub struct ClientAct {
+    pub key: LockKey,
+    /// The mode in which it asks.
+    pub mode: Option<Mode>,
+}
+
+/// The line of a step, and what a client does by it, if anything.
+#[derive(Clone, Copy)]
+pub struct Row {
+    pub line: u64,
+    pub act: Option<ClientAct>,
+}
+
+/// Returns what a client does by a step.
+fn act_of(step: &Step) -> Option<ClientAct> {
+    match *step {
+        Step::Ask {
+            node,
+            client,
+            name,
+            mode,
+        } => Some(ClientAct {
+            key: LockKey { node, client, name },
+            mode: Some(mode),
+        }),
+        Step::Leave { node, client, name } => Some(ClientAct {
+            key: LockKey { node, client, name },
+            mode: None,
+        }),
+        _ => None,
+    }
+}
+
+/// Returns what a client does by a mark of a log: to be granted a name is shown by its bar alone.
+fn act_of_mark(mark: &Mark) -> Option<ClientAct> {
+    let key = LockKey::of(mark);
+    match mark {
+        Mark::Requested(entry) => Some(ClientAct {
+            key,
+            mode: Some(entry.mode),
+        }),
+        Mark::Entered(_) => None,
+        Mark::Left(_) => Some(ClientAct { key, mode: None }),
+    }
+}
+
+/// Returns the number of nodes and that with which each resource begins, if this is the first line of a trace.
+fn opening_of(line: &Line) -> Option<(u16, u64)> {
+    match line {
+        Line::First { nodes, start, .. } => Some((nodes.get(), *start)),
+        Line::Stepped(_) | Line::Marked(_) | Line::Last => None,
+    }
+}
+
+/// Returns a world for the run of a trace with this first line, or `None` if it is that of a mark log.
+fn world_of(alloc: Global, first: &[u8]) -> Result<Option<MarklessWorld>, Memory> {
+    let Some(line) = Line::parse(first) else {
+        return Ok(None);
+    };
+    let Some((nodes, start)) = opening_of(&line) else {
+        return Ok(None);
+    };
+    match MarklessWorld::new(alloc, nodes, start) {
+        Ok(world) => Ok(Some(world)),
+        // A trace has 1 to 64 nodes, so memory ran out.
+        Err(_) => Err(Memory),
+    }
+}
+
+/// What is drawn of a run, as far as it was followed.
+#[derive(Drop)]
+pub struct Timeline {
+    /// The nodes of a trace, or those of a log up to the highest one that it names in or before the part, at least one.
+    pub nodes: u16,
+    /// The moment of the last step, or of the last mark of a log.
+    now: Moment,
+    /// Those of the part, in order.
+    pub rows: Vec<Row>,
+    pub paths: MessagePaths,
+    pub deferrals: Deferrals,
+    pub spans: LockSpans,
+}
+
+impl Timeline {
+    /// Makes that of a text of which nothing was followed yet.
+    pub fn new(alloc: Global) -> Timeline {
+        Timeline {
+            nodes: 1,
+            now: Moment { line: 0, row: 0 },
+            rows: Vec::new(alloc),
+            paths: MessagePaths::new(alloc),
+            deferrals: Deferrals::new(alloc),
+            spans: LockSpans::new(alloc),
+        }
+    }
+
+    /// Begins the line of a step or of a mark of a log, with a row if it is in the part. The lock span of a client that asks begins.
+    fn begin(&mut self, line: u64, act: &Option<ClientAct>, is_drawn: bool) -> Result<(), Memory> {
+        self.now.line = line;
+        if is_drawn {
+            self.now.row = self.now.row.saturating_add(1);
+            self.rows.push(Row { line, act: *act })?;
+        }
+        if let Some(
+            ClientAct {
+                key,
+                mode: Some(mode),
+            },
+        ) = act
+        {
+            self.spans.ask(key, *mode, self.now)?;
+        }
+        Ok(())
+    }
+
+    /// Notes what a step does with the message that it takes.
+    fn note_message(&mut self, alloc: Global, step: &Step) -> Result<(), Memory> {
+        let moment = self.now;
+        match step {
+            Step::Deliver(message) => self.paths.end(message, Fate::Delivered(moment)),
+            Step::Lose(message) => self.paths.end(message, Fate::Lost(moment)),
+            Step::Repeat(message) => {
+                let start = PathStart {
+                    moment,
+                    copied: true,
+                };
+                self.paths.begin(alloc, message, start)
+            }
+            Step::Ask { .. } | Step::Leave { .. } => Ok(()),
+        }
+    }
+
+    /// Notes the messages that a step sends.
+    fn note_sends(&mut self, alloc: Global, sends: &[Message]) -> Result<(), Memory> {
+        let start = PathStart {
+            moment: self.now,
+            copied: false,
+        };
+        for message in sends {
+            self.paths.begin(alloc, message, start)?;
+        }
+        Ok(())
+    }
+
+    /// Notes that a REQUEST that was delivered is deferred.
+    fn note_deferral(&mut self, request: &Message) -> Result<(), Memory> {
+        if self.now.row > 0 {
+            self.paths.defer_last();
+        }
+        self.deferrals.begin(request, self.now)
+    }
+
+    /// Notes which deferral a step begins, and which ones it ends. A delivered REQUEST without a REPLY is deferred, and a client
+    /// that leaves sends what was deferred.
+    fn note_deferrals(&mut self, step: &Step, sends: &[Message]) -> Result<(), Memory> {
+        match step {
+            Step::Deliver(message) => {
+                if let Message::Request { .. } = message
+                    && sends.is_empty()
+                {
+                    self.note_deferral(message)?;
+                }
+            }
+            Step::Leave { .. } => {
+                for message in sends {
+                    if let Message::Reply { .. } = message {
+                        self.deferrals.end(message, self.now);
+                    }
+                }
+            }
+            _ => {}
+        }
+        Ok(())
+    }
+
+    /// Notes what a step sends, and the deferrals that it begins and ends.
+    fn note_outcome(
+        &mut self,
+        alloc: Global,
+        step: &Step,
+        sends: &[Message],
+    ) -> Result<(), Memory> {
+        self.note_deferrals(step, sends)?;
+        self.note_sends(alloc, sends)
+    }
+
+    /// Makes a step of a trace, and notes what it takes and what it sends.
+    fn make_step(
+        &mut self,
+        alloc: Global,
+        world: &mut Option<MarklessWorld>,
+        step: &Step,
+    ) -> Result<(), Memory> {
+        self.note_message(alloc, step)?;
+        let Some(world) = world else {
+            return Ok(());
+        };
+        match world.step(alloc, step) {
+            Ok(outcome) => self.note_outcome(alloc, step, outcome.sends.as_slice()),
+            // No step of a trace is refused, so memory ran out.
+            Err(_) => Err(Memory),
+        }
+    }
+
+    /// Takes a line, which is drawn or comes before the lines that are. Only in a mark log, which has no world, a mark has a row.
+    fn take(
+        &mut self,
+        alloc: Global,
+        world: &mut Option<MarklessWorld>,
+        number: u64,
+        line: &Line,
+        is_drawn: bool,
+    ) -> Result<(), Memory> {
+        match line {
+            Line::First { nodes, .. } => self.nodes = nodes.get(),
+            Line::Stepped(step) => {
+                self.begin(number, &act_of(step), is_drawn)?;
+                self.make_step(alloc, world, step)?;
+            }
+            Line::Marked(mark) => {
+                if world.is_none() {
+                    self.begin(number, &act_of_mark(mark), is_drawn)?;
+                    self.nodes = self.nodes.max(LockKey::of(mark).node.get());
+                }
+                self.spans.take(mark, self.now);
+            }
+            Line::Last => {}
+        }
+        Ok(())
+    }
+
+    /// Takes the marks at the start of what follows the part of a trace: they are of its last step, which has at most this many.
+    fn take_last_marks(&mut self, following: &[u8]) {
+        let mut rest = following;
+        for _mark in 0..MOST_MARKS {
+            let (text, Some(after)) = cut(rest, b'\n') else {
+                return;
+            };
+            let Some(Line::Marked(mark)) = Line::parse(text) else {
+                return;
+            };
+            self.spans.take(&mark, self.now);
+            rest = after;
+        }
+    }
+
+    /// Takes the lines of a text, to the last one of the part.
+    fn take_lines(
+        &mut self,
+        alloc: Global,
+        world: &mut Option<MarklessWorld>,
+        text: &[u8],
+        part: Part,
+    ) -> Result<(), Memory> {
+        let mut rest = text;
+        for before in 0..part.to {
+            // The last line ends with a line feed, too.
+            let (text, Some(after)) = cut(rest, b'\n') else {
+                break;
+            };
+            rest = after;
+            if let Some(line) = Line::parse(text) {
+                let number = before + 1;
+                self.take(alloc, world, number, &line, number >= part.from)?;
+            }
+        }
+        if world.is_some() {
+            self.take_last_marks(rest);
+        }
+        self.paths.close()
+    }
+
+    /// Follows a trace or a mark log from its beginning to the end of the part.
+    pub fn follow(&mut self, alloc: Global, text: &[u8], part: Part) -> Result<(), Memory> {
+        let (first, _) = cut(text, b'\n');
+        let mut world = world_of(alloc, first)?;
+        self.take_lines(alloc, &mut world, text, part)
+    }
+}

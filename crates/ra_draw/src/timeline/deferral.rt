@@ -1,0 +1,84 @@
+//! Which REQUESTs are deferred, and the REPLYs that become of them.
+use crate::timeline::Moment;
+use indexmap::IndexMap;
+use ra_stamp::{Memory, Message, Name, NodeId};
+use std::alloc::Global;
+
+/// A REPLY that a node owes to another.
+#[derive(Clone, Copy, PartialEq, Eq, Hash)]
+struct OwedReply {
+    from: NodeId,
+    to: NodeId,
+    name: Name,
+}
+
+/// A deferral: the REQUEST, when it came, and when the REPLY was sent or a later REQUEST took its place, as far as the run goes.
+#[derive(Clone, Copy)]
+pub struct Deferral {
+    pub request: Message,
+    pub came: Moment,
+    pub ended: Option<Moment>,
+}
+
+impl Deferral {
+    /// Returns whether it is not over before the part that is drawn.
+    pub fn is_drawn(&self) -> bool {
+        match self.ended {
+            Some(ended) => ended.row > 0,
+            None => true,
+        }
+    }
+}
+
+/// All deferrals, in the order in which they began, and the places of those that are not over.
+#[derive(Drop)]
+pub struct Deferrals {
+    pub all: Vec<Deferral>,
+    open: IndexMap<OwedReply, usize>,
+}
+
+impl Deferrals {
+    /// Makes those of a run in which nothing has happened yet.
+    pub fn new(alloc: Global) -> Deferrals {
+        Deferrals {
+            all: Vec::new(alloc),
+            open: IndexMap::new(alloc),
+        }
+    }
+
+    /// Ends the deferral of a REPLY that is owed, if there is one.
+    fn end_owed(&mut self, owed: &OwedReply, ended: Moment) {
+        if let Some(place) = self.open.swap_remove(owed) {
+            if let Some(deferral) = self.all.get_mut(place) {
+                deferral.ended = Some(ended);
+            }
+        }
+    }
+
+    /// Notes that a REQUEST is deferred. An earlier one of the same node for the same name ends with it, since one REPLY answers both.
+    pub fn begin(&mut self, request: &Message, came: Moment) -> Result<(), Memory> {
+        let owed = OwedReply {
+            from: request.to(),
+            to: request.from(),
+            name: request.name(),
+        };
+        self.end_owed(&owed, came);
+        self.open.insert(owed, self.all.len())?;
+        self.all.push(Deferral {
+            request: *request,
+            came,
+            ended: None,
+        })?;
+        Ok(())
+    }
+
+    /// Notes that a deferred REPLY is sent.
+    pub fn end(&mut self, reply: &Message, sent: Moment) {
+        let owed = OwedReply {
+            from: reply.from(),
+            to: reply.to(),
+            name: reply.name(),
+        };
+        self.end_owed(&owed, sent);
+    }
+}

@@ -1,0 +1,88 @@
+//! How long clients wait for locks and hold them.
+use crate::timeline::Moment;
+use indexmap::IndexMap;
+use ra_stamp::{Mark, Memory, Mode, Name, NodeId};
+use std::alloc::Global;
+
+/// A client at a node, and a name that it asks for.
+#[derive(Clone, Copy, PartialEq, Eq, Hash)]
+pub struct LockKey {
+    pub node: NodeId,
+    pub client: u32,
+    pub name: Name,
+}
+
+impl LockKey {
+    /// Returns that of a mark.
+    pub fn of(mark: &Mark) -> LockKey {
+        match mark {
+            Mark::Requested(entry) | Mark::Entered(entry) | Mark::Left(entry) => LockKey {
+                node: entry.stamp.node,
+                client: entry.client,
+                name: entry.name,
+            },
+        }
+    }
+}
+
+/// A client asks for a name, gets a number for its request, is granted the name and gives it back, as far as the run goes.
+#[derive(Clone, Copy)]
+pub struct LockSpan {
+    pub key: LockKey,
+    pub mode: Mode,
+    pub asked: Moment,
+    /// When its request got a number: until then the client is queued.
+    pub requested: Option<Moment>,
+    pub entered: Option<Moment>,
+    pub left: Option<Moment>,
+}
+
+/// All lock spans, in the order in which they were asked for, and the places of those that are not over.
+#[derive(Drop)]
+pub struct LockSpans {
+    pub all: Vec<LockSpan>,
+    open: IndexMap<LockKey, usize>,
+}
+
+impl LockSpans {
+    /// Makes those of a run in which nothing has happened yet.
+    pub fn new(alloc: Global) -> LockSpans {
+        LockSpans {
+            all: Vec::new(alloc),
+            open: IndexMap::new(alloc),
+        }
+    }
+
+    /// Notes that a client asks.
+    pub fn ask(&mut self, key: &LockKey, mode: Mode, asked: Moment) -> Result<(), Memory> {
+        self.open.insert(*key, self.all.len())?;
+        self.all.push(LockSpan {
+            key: *key,
+            mode,
+            asked,
+            requested: None,
+            entered: None,
+            left: None,
+        })?;
+        Ok(())
+    }
+
+    /// Notes what becomes of a client that asked: its request gets a number, it is granted the name, or it gives the name back.
+    pub fn take(&mut self, mark: &Mark, now: Moment) {
+        let key = LockKey::of(mark);
+        let Some(place) = self.open.get(&key) else {
+            return;
+        };
+        let Some(span) = self.all.get_mut(*place) else {
+            return;
+        };
+        match mark {
+            Mark::Requested(_) => span.requested = Some(now),
+            Mark::Entered(_) => span.entered = Some(now),
+            Mark::Left(_) => {
+                span.left = Some(now);
+                self.open.swap_remove(&key);
+            }
+        }
+    }
+}

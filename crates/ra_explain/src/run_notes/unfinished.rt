@@ -1,0 +1,156 @@
+//! Which clients wait for which others at the end of a run.
+use crate::run_notes::client_end::{ClientEnd, RunEnd};
+use crate::script_notes::script_text::{run_of, script_in};
+use crate::trace_notes::open_request::{OpenRequest, want_text};
+use ra_schedule::{Policy, Script};
+use ra_stamp::{Entry, Memory, Name, NodeId};
+use ra_world::Note;
+use std::alloc::Global;
+
+/// The most clients that are described.
+const MAX_CLIENTS: u64 = 4;
+
+/// The most requests that are named as blocking one request.
+const MAX_BLOCKERS: u64 = 3;
+
+/// Adds that a request is in the way.
+fn push_blocker(note: &mut Note, ending: &RunEnd<'_>, request: &OpenRequest) {
+    note.client(request.entry.client);
+    if request.holds() {
+        if let ClientEnd::Done = ending.client_end(request.entry.client) {
+            note.push(", which has finished,");
+        }
+        note.push(" holds it");
+    } else {
+        note.push(" asked earlier");
+    }
+    note.mode(request.entry.mode);
+}
+
+/// Adds what blocks a request.
+fn push_blockers(note: &mut Note, ending: &RunEnd<'_>, entry: &Entry) {
+    let mut count = 0;
+    for request in &ending.requests {
+        if request.blocks(entry) {
+            if count < MAX_BLOCKERS {
+                note.push(if count == 0 { ": " } else { ", " });
+                push_blocker(note, ending, request);
+            }
+            count = u64::saturating_add(count, 1);
+        }
+    }
+    note.push_more(" and ", count, MAX_BLOCKERS);
+    if count == 0 {
+        note.push(want_text(ending.report.under_way, ending.report.lost));
+    }
+}
+
+/// Returns the request of a node that waits for or holds a name, if there is one.
+fn first_at(requests: &[OpenRequest], node: NodeId, name: &Name) -> Option<OpenRequest> {
+    for request in requests {
+        if request.is_at(node, name) {
+            return Some(*request);
+        }
+    }
+    None
+}
+
+/// Adds the client that is ahead of the clients of this node queued for a name.
+fn push_first(note: &mut Note, requests: &[OpenRequest], node: NodeId, name: &Name) {
+    let Some(first) = first_at(requests, node, name) else {
+        return;
+    };
+    note.push(" after ");
+    note.client(first.entry.client);
+    note.push(if first.holds() {
+        ", which holds it"
+    } else {
+        ", which waits for it"
+    });
+    note.mode(first.entry.mode);
+}
+
+/// Adds the state of a client that has something left to do.
+fn push_client(note: &mut Note, ending: &RunEnd<'_>, client: u32, client_end: &ClientEnd) {
+    let Some(node) = ending.script.node_of(client) else {
+        return;
+    };
+    note.client(client);
+    note.push(" at node ");
+    note.number(u64::from(node.get()));
+    client_end.push(note);
+    match client_end {
+        ClientEnd::Waits(entry) => push_blockers(note, ending, entry),
+        ClientEnd::Queued { name, .. } => push_first(note, &ending.requests, node, name),
+        ClientEnd::Done | ClientEnd::Idle(_) => {}
+    }
+}
+
+/// Returns whether a client has something left to do, and waits or is queued as told.
+fn is_left(client_end: &ClientEnd, waits: bool) -> bool {
+    match client_end {
+        ClientEnd::Waits(_) | ClientEnd::Queued { .. } => waits,
+        ClientEnd::Idle(_) => !waits,
+        ClientEnd::Done => false,
+    }
+}
+
+/// Adds the clients with something left to do that wait or are queued, or those that do not, after this many others. Returns how many
+/// clients have something left to do so far.
+fn push_clients(note: &mut Note, ending: &RunEnd<'_>, waits: bool, before: u64) -> u64 {
+    let mut count = before;
+    for place in 0..ending.script.clients() {
+        let client = place + 1;
+        let client_end = ending.client_end(client);
+        if !is_left(&client_end, waits) {
+            continue;
+        }
+        if count < MAX_CLIENTS {
+            note.push(if count == 0 { "" } else { "; " });
+            push_client(note, ending, client, &client_end);
+        }
+        count = u64::saturating_add(count, 1);
+    }
+    count
+}
+
+/// Adds what is left to do at the end of a run, first for those that wait or are queued.
+fn push_ending(note: &mut Note, ending: &RunEnd<'_>) {
+    note.push("the run did not finish: ");
+    let waiting = push_clients(note, ending, true, 0);
+    let count = push_clients(note, ending, false, waiting);
+    note.push_more("; and ", count, MAX_CLIENTS);
+    if count == 0 {
+        note.push("all operations are done, but messages are under way");
+    }
+}
+
+/// Adds what is left to do when a policy has driven a script.
+pub fn push_run(alloc: Global, note: &mut Note, script: &Script, policy: &Policy) {
+    let Some(summary) = run_of(alloc, note, script, policy) else {
+        return;
+    };
+    if !summary.finished {
+        let ending = RunEnd::new(alloc, note, script, policy, &summary.report);
+        push_ending(note, &ending);
+    }
+}
+
+/// Returns a note on what is left to do when a policy has driven the script in a text. For each client that waits or is
+/// queued, the note says for what, and which clients are in its way; other clients come after these. Returns `None` if the run is
+/// finished or refused. It costs as much as the run.
+///
+/// # Errors
+///
+/// `Memory`: memory ran out.
+pub fn unfinished_note(
+    alloc: Global,
+    script: &[u8],
+    policy: &Policy,
+) -> Result<Option<String>, Memory> {
+    let mut note = Note::new(alloc);
+    if let Some(script) = script_in(alloc, &mut note, script) {
+        push_run(alloc, &mut note, &script, policy);
+    }
+    note.finish()
+}

@@ -1,0 +1,133 @@
+//! Which choice of a list can't be made in a script.
+use crate::run_notes::client_end::RunEnd;
+use crate::script_notes::script_text::{run_of, script_in};
+use ra_schedule::{Choice, Choices, Policy, Script};
+use ra_script::{ChoicesError, read_choices};
+use ra_stamp::Memory;
+use ra_world::Note;
+use std::alloc::Global;
+
+/// Returns the policy of the first `count` choices.
+fn first_of(alloc: Global, note: &mut Note, choices: &Choices, count: u64) -> Policy {
+    let mut first = Choices::new(alloc);
+    for place in 0..count {
+        if let Some(choice) = choices.at(place) {
+            let pushed = first.push(choice);
+            note.refuse_if(pushed.is_err());
+        }
+    }
+    Policy::Listed(first)
+}
+
+/// Returns how many of the first choices can be made. It searches by halves, so the number of runs of the script is
+/// logarithmic in the number of choices. To follow the choices step by step would be to write the driver twice.
+fn makeable(alloc: Global, note: &mut Note, script: &Script, choices: &Choices) -> u64 {
+    let (mut low, mut high) = (0, choices.len());
+    for _turn in 0..u64::BITS {
+        if low < high {
+            let middle = low + (high - low) / 2;
+            let policy = first_of(alloc, note, choices, middle + 1);
+            if run_of(alloc, note, script, &policy).is_some() {
+                low = middle + 1;
+            } else {
+                high = middle;
+            }
+        }
+    }
+    low
+}
+
+/// Adds a choice as it is written.
+fn push_choice(note: &mut Note, choice: Choice) {
+    let (letter, number) = match choice {
+        Choice::Client(client) => ("c", u64::from(client)),
+        Choice::Message(place) => ("m", place),
+        Choice::Lost(place) => ("l", place),
+        Choice::Repeated(place) => ("r", place),
+    };
+    note.push(letter);
+    note.number(number);
+}
+
+/// Adds why the choice of a client can't be made.
+fn push_client(note: &mut Note, ending: &RunEnd<'_>, client: u32) {
+    let clients = ending.script.clients();
+    if client >= 1 && client <= clients {
+        note.client(client);
+        ending.client_end(client).push(note);
+        note.push(" at that point");
+    } else if clients == 1 {
+        note.push("the script has only client 1");
+    } else {
+        note.push("the script has clients 1 to ");
+        note.number(u64::from(clients));
+    }
+}
+
+/// Adds how many messages are under way, and which places they have.
+fn push_messages(note: &mut Note, count: u64) {
+    match count {
+        0 => note.push("no message is under way at that point"),
+        1 => note.push("one message is under way at that point, at place 0"),
+        _ => {
+            note.number(count);
+            note.push(" messages are under way at that point, at places 0 to ");
+            note.number(count - 1);
+            note.push(" in the order of sending");
+        }
+    }
+}
+
+/// Adds why a choice can't be made after a run that ends so.
+fn push_cause(note: &mut Note, ending: &RunEnd<'_>, choice: Choice) {
+    match choice {
+        Choice::Client(client) => push_client(note, ending, client),
+        _ => push_messages(
+            note,
+            u64::try_from(ending.report.under_way).unwrap_or(u64::MAX),
+        ),
+    }
+}
+
+/// Adds which choice can't be made, and why.
+fn push_choice_at(alloc: Global, note: &mut Note, script: &Script, choices: &Choices, place: u64) {
+    let Some(choice) = choices.at(place) else {
+        return;
+    };
+    note.push("choice ");
+    note.number(place.saturating_add(1));
+    note.push(" of --choices, ");
+    push_choice(note, choice);
+    note.push(", is not possible: ");
+    let policy = first_of(alloc, note, choices, place);
+    if let Some(summary) = run_of(alloc, note, script, &policy) {
+        let ending = RunEnd::new(alloc, note, script, &policy, &summary.report);
+        push_cause(note, &ending, choice);
+    }
+}
+
+/// Adds what is said about the choices of a text.
+fn push_choices(alloc: Global, note: &mut Note, script: &Script, choices: &str) {
+    match read_choices(alloc, choices) {
+        Ok(choices) => {
+            let place = makeable(alloc, note, script, &choices);
+            push_choice_at(alloc, note, script, &choices, place);
+        }
+        Err(fault) => note.refuse_if(fault == ChoicesError::Memory),
+    }
+}
+
+/// Returns what is said about the first of these choices, written as for `--choices`, that can't be made in the script
+/// of a text, or `None` if there is no such choice. The cost is that of some runs of the script: their number is
+/// logarithmic in the number of choices.
+///
+/// # Errors
+///
+/// `Memory`: memory ran out.
+pub fn choices_note(alloc: Global, script: &[u8], choices: &str) -> Result<Option<String>, Memory> {
+    let mut note = Note::new(alloc);
+    if let Some(script) = script_in(alloc, &mut note, script) {
+        push_choices(alloc, &mut note, &script, choices);
+    }
+    note.finish()
+}

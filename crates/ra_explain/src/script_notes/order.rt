@@ -1,0 +1,81 @@
+//! Why threads may not run a script, and where in the script the reason is.
+use crate::script_notes::client_locks::{ClientLocks, Lock};
+use crate::script_notes::script_text::script_in;
+use ra_schedule::Script;
+use ra_stamp::Memory;
+use ra_world::Note;
+use std::alloc::Global;
+
+/// Adds which operation of a client locks which name.
+fn push_lock(note: &mut Note, client: u32, lock: &Lock) {
+    note.client(client);
+    note.push(", operation ");
+    note.number(lock.place.saturating_add(1));
+    note.push(": locks ");
+    note.name(&lock.name);
+}
+
+/// Adds where a client locks a name while it holds that name or a greater one, and returns whether it does.
+fn says_order(note: &mut Note, client: u32, held: &ClientLocks) -> bool {
+    let Some((lock, other)) = &held.out_of_order else {
+        return false;
+    };
+    push_lock(note, client, lock);
+    note.push(" while holding ");
+    note.name(&other.name);
+    note.push(
+        ", which does not sort before it, so clients could deadlock: lock names in ascending byte order, or run the script with ra sim",
+    );
+    true
+}
+
+/// Adds which name a client still holds at its end, and returns whether it holds one.
+fn says_kept(note: &mut Note, client: u32, held: &ClientLocks) -> bool {
+    let Some(lock) = held.locks.first() else {
+        return false;
+    };
+    push_lock(note, client, lock);
+    note.push(
+        " and never unlocks it, so others could wait for it forever: unlock the name, or run the script with ra sim",
+    );
+    true
+}
+
+/// Adds what is wrong with the order in which the clients of a script lock names, and returns whether anything is.
+fn says_any_order(alloc: Global, note: &mut Note, script: &Script) -> bool {
+    for place in 0..script.clients() {
+        let held = ClientLocks::at_end(alloc, note, script, place + 1);
+        if says_order(note, place + 1, &held) {
+            return true;
+        }
+    }
+    false
+}
+
+/// Adds which name is still held at the end by the first client that holds one.
+fn push_any_kept(alloc: Global, note: &mut Note, script: &Script) {
+    for place in 0..script.clients() {
+        let held = ClientLocks::at_end(alloc, note, script, place + 1);
+        if says_kept(note, place + 1, &held) {
+            return;
+        }
+    }
+}
+
+/// Returns a note on the first operation in a script that locks a name while its client holds that name or a greater
+/// one. If no operation does, the note is on the first operation that locks a name its client never unlocks. Returns
+/// `None` if there is neither. The cost is the number of a client's operations times the number of names that it holds
+/// at once.
+///
+/// # Errors
+///
+/// `Memory`: memory ran out.
+pub fn order_note(alloc: Global, script: &[u8]) -> Result<Option<String>, Memory> {
+    let mut note = Note::new(alloc);
+    if let Some(script) = script_in(alloc, &mut note, script) {
+        if !says_any_order(alloc, &mut note, &script) {
+            push_any_kept(alloc, &mut note, &script);
+        }
+    }
+    note.finish()
+}

@@ -1,0 +1,68 @@
+//! Which names a script leaves locked.
+use crate::script_notes::client_locks::{ClientLocks, Lock};
+use crate::script_notes::script_text::script_in;
+use ra_schedule::Script;
+use ra_stamp::Memory;
+use ra_world::Note;
+use std::alloc::Global;
+
+/// The most clients that a note names, and the most names of each.
+const MOST: u64 = 4;
+
+/// Adds the names that a client holds at its end, after this many other clients that hold names. Returns how many
+/// clients hold names so far.
+fn push_kept(alloc: Global, note: &mut Note, script: &Script, client: u32, clients: u64) -> u64 {
+    let held = ClientLocks::at_end(alloc, note, script, client);
+    let mut names = 0;
+    for lock in &held.locks {
+        if clients < MOST && names < MOST {
+            push_lock(note, client, lock, clients, names);
+        }
+        names = u64::saturating_add(names, 1);
+    }
+    if clients < MOST {
+        note.push_more(" and ", names, MOST);
+    }
+    clients.saturating_add(names.min(1))
+}
+
+/// Adds a name that a client holds, after this many other clients and this many other names of this one.
+fn push_lock(note: &mut Note, client: u32, lock: &Lock, clients: u64, names: u64) {
+    if names > 0 {
+        note.push(", ");
+    } else {
+        note.push(if clients > 0 {
+            "; "
+        } else {
+            "the run finished with names still locked: "
+        });
+        note.client(client);
+        note.push(" holds ");
+    }
+    note.name(&lock.name);
+    note.mode(lock.mode);
+}
+
+/// Adds which clients hold names at their ends.
+fn push_holders(alloc: Global, note: &mut Note, script: &Script) {
+    let mut clients = 0;
+    for place in 0..script.clients() {
+        clients = push_kept(alloc, note, script, place + 1, clients);
+    }
+    note.push_more("; and ", clients, MOST);
+}
+
+/// Returns which names the clients of the script of a text hold at their ends, or `None` if they hold none. It is meant
+/// for a finished run. The cost is linear in the text, plus, for each client, the number of its operations times the
+/// number of names that it holds at once.
+///
+/// # Errors
+///
+/// `Memory`: memory ran out.
+pub fn script_end_note(alloc: Global, script: &[u8]) -> Result<Option<String>, Memory> {
+    let mut note = Note::new(alloc);
+    if let Some(script) = script_in(alloc, &mut note, script) {
+        push_holders(alloc, &mut note, &script);
+    }
+    note.finish()
+}

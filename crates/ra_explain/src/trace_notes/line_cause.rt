@@ -1,0 +1,69 @@
+//! What is in the first wrong line of a trace or of a mark log.
+use crate::trace_notes::due::push_due;
+use crate::trace_notes::line_text::{push_mark_text, push_trace_text};
+use crate::trace_notes::not_under_way::push_not_under_way;
+use crate::trace_notes::obstacle::push_obstacle;
+use crate::trace_notes::refused_step::push_refused;
+use crate::trace_notes::text_line::TextLine;
+use ra_stamp::{Mark, Memory};
+use ra_trace::{Cause, MarkCause};
+use ra_world::Note;
+use std::alloc::Global;
+
+/// Why a line is wrong: of a trace, or of a mark log.
+#[derive(Clone, Copy, Debug)]
+pub enum LineCause {
+    Trace(Cause),
+    /// It is wrong for its marks: this mark is due, or none is.
+    Due(Option<Mark>),
+    Marks(MarkCause),
+}
+
+/// Adds which line it is, and the line itself.
+fn push_line(note: &mut Note, line: &TextLine<'_>) {
+    note.push("line ");
+    note.number(line.number);
+    if line.has_feed || !line.bytes.is_empty() {
+        note.push(", ");
+        note.quoted(line.bytes);
+    }
+    note.push(": ");
+}
+
+/// Adds why a line is wrong, which is `other` if nothing more precise is found.
+fn push_cause(alloc: Global, note: &mut Note, line: &TextLine<'_>, cause: LineCause, other: &str) {
+    match cause {
+        LineCause::Trace(Cause::Line) => push_trace_text(note, line, other),
+        LineCause::Trace(Cause::Marks) => note.push(other),
+        LineCause::Due(due) => push_due(alloc, note, line, &due),
+        LineCause::Trace(Cause::Refused) => push_refused(alloc, note, line, other),
+        LineCause::Trace(Cause::NotUnderWay) => push_not_under_way(alloc, note, line, other),
+        LineCause::Marks(MarkCause::Line) => push_mark_text(note, line, other),
+        LineCause::Trace(_) | LineCause::Marks(_) => {
+            push_obstacle(alloc, note, line, cause, other);
+        }
+    }
+}
+
+/// Returns what is said of the first wrong line of a trace or of a mark log, the one with the number `line`, counted from 1: which it
+/// is, the line itself, what is wrong with it, and what is in the way of a mark, which mark is due, whose REPLY a client still
+/// awaits, why a node refuses a step, or why a message is not under way. It is `other` in place of what is wrong if nothing more
+/// precise is found, or if there is no memory for what waits, is queued and holds before it. The text need go no further than
+/// that line. The cost is linear in the text up to there.
+///
+/// # Errors
+///
+/// `Memory`: memory ran out.
+pub fn line_note(
+    alloc: Global,
+    text: &[u8],
+    line: u64,
+    cause: LineCause,
+    other: &str,
+) -> Result<Option<String>, Memory> {
+    let mut note = Note::new(alloc);
+    let line = TextLine::at(text, line);
+    push_line(&mut note, &line);
+    push_cause(alloc, &mut note, &line, cause, other);
+    note.finish()
+}

@@ -1,0 +1,119 @@
+//! The texts for lines that do not belong in a trace or mark log, or that are out of place.
+use crate::hint::{AT_BOTH, AT_FIRST, AT_LATER, AT_MARKS, TAB, hint_at};
+use crate::trace_notes::line_fault::{push_fields, push_line_fault};
+use crate::trace_notes::line_form::{FIRST_FORMS, MARK_FORMS, STEP_FORMS, form_of};
+use crate::trace_notes::text_line::{MAX_LINE, TextLine};
+use ra_trace::Version;
+use ra_world::Note;
+
+/// The text for a later line that does not begin with any of the words of a trace.
+const WORDS: &str =
+    "expected a line that begins with ask, release, deliver, lose, repeat, request, enter or leave, or the last line, end";
+
+/// The text for the first line of a text that is not a trace.
+const NOT_FIRST: &str =
+    "expected trace 2 NODES START, or trace 1 NODES START in version 1, as the first line of a trace";
+
+/// The text for a first line that occurs again.
+const FIRST_AGAIN: &str = "only the first line of a trace may begin with trace";
+
+/// The text for a repeat in version 1.
+const NO_REPEATS: &str = "version 1 has no repeats";
+
+/// Returns the text for a line whose line feed was not read.
+fn unended_text(line: &[u8]) -> &'static str {
+    if line.is_empty() {
+        "the text ends before this line, but the last line of a trace must be end"
+    } else if line.len() < MAX_LINE {
+        "the text ends in this line, without a line feed"
+    } else {
+        "this line has no line feed in its first 128 bytes"
+    }
+}
+
+/// Returns the text for a line that does not end as lines must, or `None`.
+fn end_text(line: &TextLine<'_>) -> Option<&'static str> {
+    if !line.has_feed {
+        Some(unended_text(line.bytes))
+    } else if let [.., b'\r'] = line.bytes {
+        Some(
+            "this line ends with a carriage return and a line feed, but each line must end with a line feed alone",
+        )
+    } else {
+        None
+    }
+}
+
+/// Returns what is said of a line that has none of the words that it may begin with: that a tab does not separate fields if it has
+/// one, and otherwise `text`.
+fn unless_tab<'a>(line: &[u8], text: &'a str) -> &'a str {
+    if line.contains(&b'\t') { TAB } else { text }
+}
+
+/// Adds the text for a first line that does not begin a trace.
+fn push_first_line(note: &mut Note, text: &[u8]) {
+    if !push_line_fault(note, FIRST_FORMS, text, version_of(text)) {
+        note.push(hint_at(&[AT_BOTH, AT_FIRST], text).unwrap_or(NOT_FIRST));
+    }
+}
+
+/// Returns the version that the first line of a text names, or `None` if it does not name one.
+pub fn version_of(text: &[u8]) -> Option<Version> {
+    if text.starts_with(b"trace 1 ") {
+        Some(Version::One)
+    } else if text.starts_with(b"trace 2 ") {
+        Some(Version::Two)
+    } else {
+        None
+    }
+}
+
+/// Returns why a line may not follow the first line of a trace of this version, whatever its fields, or `None`.
+fn misplaced_text(text: &[u8], version: Option<Version>) -> Option<&'static str> {
+    if form_of(FIRST_FORMS, text).is_some() {
+        Some(FIRST_AGAIN)
+    } else if matches!(version, Some(Version::One)) && text.starts_with(b"repeat ") {
+        Some(NO_REPEATS)
+    } else {
+        None
+    }
+}
+
+/// Adds the text for a later line of a trace, or `other` if nothing is found.
+fn push_later_line(note: &mut Note, text: &[u8], version: Option<Version>, other: &str) {
+    if let Some(misplaced) = misplaced_text(text, version) {
+        note.push(misplaced);
+        return;
+    }
+    match form_of(MARK_FORMS, text).or(form_of(STEP_FORMS, text)) {
+        Some((form, fields)) => {
+            if !push_fields(note, form, fields, version) {
+                note.push(other);
+            }
+        }
+        None => note.push(unless_tab(text, hint_at(&[AT_LATER], text).unwrap_or(WORDS))),
+    }
+}
+
+/// Adds the text for a line that does not belong in a trace or is out of place, or `other` if nothing is found.
+pub fn push_trace_text(note: &mut Note, line: &TextLine<'_>, other: &str) {
+    if line.is_after_end {
+        note.push("nothing may follow end, the last line of a trace");
+    } else if let Some(text) = end_text(line) {
+        note.push(text);
+    } else if line.number == 1 {
+        push_first_line(note, line.bytes);
+    } else {
+        push_later_line(note, line.bytes, line.version(), other);
+    }
+}
+
+/// Adds the text for a line that is not a mark, or `other` if nothing is found.
+pub fn push_mark_text(note: &mut Note, line: &TextLine<'_>, other: &str) {
+    if let Some(text) = end_text(line) {
+        note.push(text);
+    } else if !push_line_fault(note, MARK_FORMS, line.bytes, Some(Version::Two)) {
+        let hint = hint_at(&[AT_BOTH, AT_MARKS], line.bytes);
+        note.push(hint.unwrap_or(unless_tab(line.bytes, other)));
+    }
+}

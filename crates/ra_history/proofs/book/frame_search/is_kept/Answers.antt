@@ -1,0 +1,29 @@
+use Rattle.std.proofs.Common.{sym, ◌∙◌, arith}
+use Rattle.std.proofs.lemmas.Bool.{false≢true}
+use Rattle.ra_history.proofs.FrameSearch.{none_kept_below, none_kept_more, stands_kept, none_kept_behind, none_kept}
+use Rattle.ra_history.proofs.Truth.{yes, no}
+use Rattle.ra_history.proofs.book.frame_search.is_kept.Goals as goal
+
+pub loop-place-init : goal.loop-place-init
+loop-place-init c = none_kept_below c.args.sent.now c.args.frame.now c.first_at-place.result c.first_at-place.ensures
+
+pub loop-place-preserved : goal.loop-place-preserved
+loop-place-preserved c =
+    none_kept_more c.args.sent.now c.args.frame.now c.loop-place.place c.index-sent-place.result c.loop-place-test.true c.index-sent-place.is c.loop-place.invariant
+    (λ same. false≢true (sym c.if-is_kept_of.false ∙ c.is_kept_of.ensures.1 same))
+
+pub returns-then-is_kept_at : goal.returns-then-is_kept_at
+returns-then-is_kept_at c = yes (c.is_kept_at.ensures c.if-is_kept_at.true)
+
+pub returns-then-is_kept_of : goal.returns-then-is_kept_of
+returns-then-is_kept_of c =
+    yes (stands_kept c.args.sent.now c.args.frame.now c.loop-place.place c.index-sent-place.result c.loop-place-test.true c.index-sent-place.is
+    (c.is_kept_of.ensures.0 c.if-is_kept_of.true))
+
+pub returns-then-frame-other : goal.returns-then-frame-other
+returns-then-frame-other c =
+    no (none_kept_behind c.args.sent.now c.args.frame.now c.loop-place.place c.index-sent-place.result c.loop-place-test.true c.index-sent-place.is c.loop-place.invariant c.requires
+    (omega arith))
+
+pub returns : goal.returns
+returns c = no (none_kept c.args.sent.now c.args.frame.now c.loop-place.place c.loop-place-test.false c.loop-place.invariant)

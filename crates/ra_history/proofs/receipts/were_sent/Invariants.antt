@@ -1,8 +1,0 @@
-use Rattle.std.proofs.Common.{take}
-use Rattle.std.specs.Prelude.{All}
-use Rattle.ra_history.specs.Settled.{WasSent, all_received}
-use Rattle.ra_history.proofs.receipts.were_sent.Given as goal
-
--- each of those that came by the books so far was sent
-abbrev pub invariant-loop-book : goal.invariant-loop-book
-invariant-loop-book l = All (λ f. WasSent l.books f) (all_received (take l.book-index l.books))

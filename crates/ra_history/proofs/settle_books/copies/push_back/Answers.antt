@@ -1,0 +1,50 @@
+use Rattle.std.proofs.Common.{◌≡◌, true, false, List, [], ◌∷◌, ◌++◌, reverse, sym, ap, ◌∙◌, subst}
+use Rattle.std.specs.BTreeSet as sorted
+use Rattle.ra_world.specs.declared.step.Step.{Step}
+use Rattle.ra_world.specs.declared.step.Step.TheVariants.{Repeat}
+use Rattle.ra_history.specs.declared.settle_books.order_keys.FrameKey.{FrameKey}
+use Rattle.ra_history.specs.EventMerge.{placed_at}
+use Rattle.ra_history.specs.Repeats.{AreWithCopies}
+use Rattle.ra_history.specs.Settled.{step_at}
+use Rattle.ra_history.proofs.KeyOrders.{frame_cmp}
+use Rattle.ra_history.proofs.KeySets.{when_new, when_old}
+use Rattle.ra_history.proofs.CopiesBack.{none_by, come_same, come_more, comes, comes_not, none_in_front, last_in_front, copy_in_front}
+use Rattle.ra_history.proofs.settle_books.copies.push_back.Goals as goal
+
+pub returns-in_default : goal.returns-in_default
+returns-in_default c placed has done =
+    let p = placed_at c.args.one.now in
+    let none = none_by p.event.kind c.in_default.not-Got in
+    let are = c.in_ok-push.ensures.items ∙ ap (λ (s : Step). c.args.back.now.items ++ s ∷ []) c.step_of.ensures in (
+      come_same c.args.later.now p placed none has,
+      subst (λ (ss : List Step). AreWithCopies (p ∷ placed) (reverse ss)) (sym are) (none_in_front p placed c.args.back.now.items none done),
+    )
+
+pub returns-then-branch : goal.returns-then-branch
+returns-then-branch c placed has done =
+    let p = placed_at c.args.one.now in
+    let old = c.args.later.now in
+    let f = c.in-Got.frame in
+    let is_new = subst (λ (k : FrameKey). sorted.contains frame_cmp old k ≡ false) c.frame_key.ensures (when_new _ _ c.in_ok-insert.ensures.added c.if-branch.true) in
+    let put = subst (λ (k : FrameKey). sorted.Updates frame_cmp old c.insert.new.self k true) c.frame_key.ensures c.in_ok-insert.ensures.updates in
+    let are = c.in_ok-push.ensures.items ∙ ap (λ (s : Step). c.args.back.now.items ++ s ∷ []) c.step_of.ensures in (
+      come_more old c.insert.new.self p placed f c.in-Got.is has put,
+      subst (λ (ss : List Step). AreWithCopies (p ∷ placed) (reverse ss)) (sym are)
+          (last_in_front p placed c.args.back.now.items f c.in-Got.is (comes_not old placed f has is_new) done),
+    )
+
+pub returns : goal.returns
+returns c placed has done =
+    let p = placed_at c.args.one.now in
+    let old = c.args.later.now in
+    let f = c.in-Got.frame in
+    let is_old = subst (λ (k : FrameKey). sorted.contains frame_cmp old k ≡ true) c.frame_key.ensures (when_old _ _ c.in_ok-insert.ensures.added c.if-branch.false) in
+    let put = subst (λ (k : FrameKey). sorted.Updates frame_cmp old c.insert.new.self k true) c.frame_key.ensures c.in_ok-insert.ensures.updates in
+    let one = c.in_ok-push.ensures.items ∙ ap (λ (s : Step). c.args.back.now.items ++ s ∷ []) c.step_of.ensures in
+    let are : c.push-2.new.self.items ≡ (c.args.back.now.items ++ step_at p.node p.event.kind ∷ []) ++ Repeat f.message ∷ [] =
+    c.in_ok-push-2.ensures.items ∙ ap (λ (ss : List Step). ss ++ Repeat f.message ∷ []) one
+    in (
+      come_more old c.insert.new.self p placed f c.in-Got.is has put,
+      subst (λ (ss : List Step). AreWithCopies (p ∷ placed) (reverse ss)) (sym are)
+          (copy_in_front p placed c.args.back.now.items f c.in-Got.is (comes old placed f has is_old) done),
+    )

@@ -1,0 +1,149 @@
+//! The room in a book's lists for what comes next: one event, and the leaves of the clients that wait, are queued or hold.
+ghost use Rattle.std.specs.Prelude.{◌≡◌, ◌+◌, ◌*◌, ◌≤◌, ◌^◌, [], length, vec_len, vec_capacity, IfOk};
+ghost use Rattle.ra_history.specs.Departures.{HasGrown, HasRoomMade, IsDeparture};
+ghost use Rattle.ra_history.specs.Keeping as spec;
+
+use crate::book::departure::Departure;
+use crate::{Events, Frames, Sent};
+use ra_stamp::{Memory, Message};
+use std::alloc::Global;
+
+/// Makes room for an ask at one of this many nodes, and for the leaves after it, among them that of the client that asks. Returns a list
+/// for the frames that the ask posts, and what the client's leave will need.
+///
+/// # Errors
+///
+/// `Memory`: memory ran out.
+pub fn room_to_ask(
+    alloc: Global,
+    nodes: u16,
+    events: &mut Events,
+    sent: &mut Vec<Sent>,
+    departures: &mut Vec<Departure>,
+) -> Result<(Frames, Departure), Memory>
+    ensures events { events.new.items ≡ events.old.items }
+    ensures sent { sent.new.items ≡ sent.old.items }
+    ensures departures { departures.new.items ≡ departures.old.items }
+    ensures grown { HasGrown events.old.spare events.new.spare (vec_len sent.old) (vec_len sent.new)
+        (vec_capacity sent.old) (vec_capacity sent.new) }
+    ensures room { IfOk result (λ made. HasRoomMade nodes nodes (length departures.old.items + 1) events.new.spare
+        (vec_len sent.new) (vec_capacity sent.new) made.0) }
+    ensures departure { IfOk result (λ made. IsDeparture nodes made.1) }
+    ensures place { IfOk result (λ _. vec_len departures.new + 1 ≤ vec_capacity departures.new) }
+{
+    let departure = departure_for(alloc, nodes, departures)?;
+    let leaves = departures.len() + 1;
+    let frames = make_room(alloc, nodes, events, sent, u64::from(nodes), leaves)?;
+    Ok((frames, departure))
+}
+
+/// Makes what a leave needs, and room for it among these.
+///
+/// # Errors
+///
+/// `Memory`: memory ran out.
+fn departure_for(
+    alloc: Global,
+    nodes: u16,
+    departures: &mut Vec<Departure>,
+) -> Result<Departure, Memory>
+    ensures same { departures.new.items ≡ departures.old.items }
+    ensures made { IfOk result (IsDeparture nodes) }
+    ensures room { IfOk result (λ _. vec_len departures.new + 1 ≤ vec_capacity departures.new) }
+{
+    if departures.reserve(1).is_err() {
+        return Err(Memory);
+    }
+    Departure::new(alloc, nodes)
+}
+
+/// Makes room for one more event that sends at most this many messages, and after it for this many leaves at one of this
+/// many nodes. Returns a list for the frames that the event posts.
+///
+/// # Errors
+///
+/// `Memory`: memory ran out.
+pub fn make_room(
+    alloc: Global,
+    nodes: u16,
+    events: &mut Events,
+    sent: &mut Vec<Sent>,
+    sends: u64,
+    leaves: usize,
+) -> Result<Frames, Memory>
+    requires leaves { leaves ≤ 2 ^ 63 }
+    ensures events { events.new.items ≡ events.old.items }
+    ensures sent { sent.new.items ≡ sent.old.items }
+    ensures grown { HasGrown events.old.spare events.new.spare (vec_len sent.old) (vec_len sent.new)
+        (vec_capacity sent.old) (vec_capacity sent.new) }
+    ensures room { IfOk result (λ frames. HasRoomMade nodes sends leaves events.new.spare (vec_len sent.new)
+        (vec_capacity sent.new) frames) }
+{
+    events.reserve(leaves as u64 + 1)?;
+    sent.reserve(most_sent(nodes, sends, leaves)?)?;
+    frames_for(alloc, sends)
+}
+
+/// Returns how many messages a node sends at most when this one comes.
+pub fn answers_to(message: &Message) -> u64
+    ensures { result ≡ spec.answers_to message.now }
+{
+    match message {
+        Message::Request { .. } => 1,
+        // A REPLY can only let a client enter.
+        Message::Reply { .. } => 0,
+    }
+}
+
+/// Makes an empty list of frames, with room for this many.
+///
+/// # Errors
+///
+/// `Memory`: memory ran out.
+fn frames_for(alloc: Global, sends: u64) -> Result<Frames, Memory>
+    ensures { IfOk result (λ frames. (frames.items ≡ []) × (sends ≤ frames.spare)) }
+{
+    let mut frames = Frames::new(alloc);
+    frames.reserve(sends)?;
+    Ok(frames)
+}
+
+/// Makes an empty list of events, with room for those of this many leaves.
+///
+/// # Errors
+///
+/// `Memory`: memory ran out.
+pub fn events_for(alloc: Global, leaves: usize) -> Result<Events, Memory>
+    ensures { IfOk result (λ events. (events.items ≡ []) × (leaves ≤ events.spare)) }
+{
+    let mut events = Events::new(alloc);
+    events.reserve(leaves as u64)?;
+    Ok(events)
+}
+
+/// Makes an empty list of sent frames, with room for those of this many leaves at one of this many nodes.
+///
+/// # Errors
+///
+/// `Memory`: memory ran out.
+pub fn sent_for(alloc: Global, nodes: u16, leaves: usize) -> Result<Vec<Sent>, Memory>
+    ensures items { IfOk result (λ sent. sent.items ≡ []) }
+    ensures len { IfOk result (λ sent. vec_len sent ≡ 0) }
+    ensures room { IfOk result (λ sent. leaves * (2 * nodes) ≤ vec_capacity sent) }
+{
+    let mut sent = Vec::new(alloc);
+    sent.reserve(most_sent(nodes, 0, leaves)?)?;
+    Ok(sent)
+}
+
+/// Returns how many frames are sent by an event that sends this many, and this many leaves after it, at most.
+///
+/// # Errors
+///
+/// `Memory`: no memory has room for this many.
+fn most_sent(nodes: u16, sends: u64, leaves: usize) -> Result<usize, Memory>
+    ensures { IfOk result (λ count. count ≡ sends + leaves * (2 * nodes)) }
+{
+    let later = leaves.checked_mul(2 * usize::from(nodes)).ok_or(Memory)?;
+    later.checked_add(sends as usize).ok_or(Memory)
+}

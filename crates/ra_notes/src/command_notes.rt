@@ -1,0 +1,144 @@
+//! What is said of a command that was not done, of words that cannot be read, and of output that failed.
+use crate::note_texts::{
+    NO_INPUT, NO_OUTPUT, NO_SPACE, NO_TEXT, NO_WORD, TOO_LONG, TOO_MANY_BYTES, TOO_MANY_TURNS,
+    UNEXPLAINED,
+};
+use crate::seen::seen_writer::OutputFault;
+use ra_draw::DrawError;
+use ra_explain::end_note;
+use ra_schedule::DriveError;
+use ra_script::{ChoicesError, PerformError};
+use ra_task::{CommandFault, NO_MEMORY, Said, is_choice, text_of, usage_note, write_line};
+use ra_trace::TraceError;
+use ra_world::Note;
+use std::alloc::Global;
+use std::io::Write;
+
+/// Writes the note on words that could not be read. It does not allocate, and ignores a failure of the writer.
+pub fn write_words_note<N: Write>(fault: CommandFault, notes: &mut N) {
+    let text = match fault {
+        CommandFault::Usage => NO_TEXT,
+        CommandFault::Memory => NO_MEMORY,
+    };
+    write_line(notes, text);
+}
+
+/// Writes the note on a fault of the output, if there was one. A pipe that is no longer read gets no note, since that
+/// is usual, for example with `| head`. It does not allocate, and ignores a failure of the writer.
+pub fn write_output_note<N: Write>(fault: Option<OutputFault>, notes: &mut N) {
+    match fault {
+        Some(OutputFault::Full) => write_line(notes, NO_SPACE),
+        Some(OutputFault::Other) => write_line(notes, NO_OUTPUT),
+        Some(OutputFault::Unread) | None => {}
+    }
+}
+
+/// Returns what there is to say about the end of a trace in which this many messages were sent, or of a mark log.
+pub fn of_end(alloc: Global, text: Option<&[u8]>, sent: u128) -> Said {
+    let Some(text) = text else {
+        return Said::Text(UNEXPLAINED);
+    };
+    match end_note(alloc, text, sent) {
+        Ok(Some(text)) => Said::Note(text),
+        Ok(None) => Said::Nothing,
+        // Without a note, nothing would seem to be left.
+        Err(_) => Said::Text(UNEXPLAINED),
+    }
+}
+
+/// Returns what there is to say about words for which there is no task.
+pub fn of_command(alloc: Global, words: &[String], why: CommandFault) -> Said {
+    match why {
+        CommandFault::Usage => usage_note(alloc, words),
+        CommandFault::Memory => Said::Text(NO_MEMORY),
+    }
+}
+
+/// Returns the note on an option whose number is not from 1 to `most`.
+pub fn range_note(alloc: Global, words: &[String], option: &str, most: &str) -> Said {
+    let mut note = Note::new(alloc);
+    note.push(option);
+    note.push(" is ");
+    note.push(text_of(words, option).unwrap_or(""));
+    note.push(": must be 1 to ");
+    note.push(most);
+    Said::of(note)
+}
+
+/// Returns what there is to say about a list of choices that is not one.
+pub fn of_choices(alloc: Global, choices: &str, why: ChoicesError) -> Said {
+    match why {
+        ChoicesError::Choice => { no_choice_note(alloc, first_no_choice(alloc, choices)) }
+        ChoicesError::Memory => Said::Text(NO_MEMORY),
+    }
+}
+
+/// Returns the note on a word that is not a choice.
+fn no_choice_note(alloc: Global, word: &str) -> Said {
+    let text = format!(in alloc;
+        "--choices: {word:?} is not a choice: expected c, m or l and a number of 1 to 9 digits without leading zeros, with one space between choices"
+    );
+    match text {
+        Ok(text) => Said::Note(text),
+        Err(_) => Said::Text(NO_MEMORY),
+    }
+}
+
+/// Returns the first word of a text that is not a choice, or an empty text if every word is one.
+fn first_no_choice(alloc: Global, text: &str) -> &str {
+    for word in text.split(' ') {
+        if !is_choice(alloc, word) {
+            return word;
+        }
+    }
+    ""
+}
+
+/// Returns what there is to say about a script that is not performed.
+pub fn of_performance(why: PerformError) -> Said {
+    match why {
+        PerformError::Read => Said::Text(NO_INPUT),
+        PerformError::Drive(DriveError::TurnLimit) => Said::Text(TOO_MANY_TURNS),
+        PerformError::Script(_) | PerformError::Drive(_) => Said::Text(UNEXPLAINED),
+        PerformError::Choice => Said::Text(NO_WORD),
+        PerformError::Memory => Said::Text(NO_MEMORY),
+        PerformError::Write => Said::Nothing,
+    }
+}
+
+/// Returns what there is to say about a text that has no verdict.
+pub fn of_check(why: TraceError) -> Said {
+    Said::Text(match why {
+        TraceError::Read => NO_INPUT,
+        TraceError::Limit => TOO_MANY_BYTES,
+        TraceError::Memory => NO_MEMORY,
+    })
+}
+
+/// Returns the note on a part that has none of this many lines.
+fn no_lines_note(alloc: Global, words: &[String], lines: u64) -> Said {
+    let mut note = Note::new(alloc);
+    match text_of(words, "--from") {
+        Some(from) => {
+            note.push("--from is ");
+            note.push(from);
+        }
+        None => note.push("there is nothing to draw"),
+    }
+    note.push(": standard input has ");
+    note.number(lines);
+    note.push(if lines == 1 { " line" } else { " lines" });
+    Said::of(note)
+}
+
+/// Returns what there is to say about an input that is not drawn.
+pub fn of_drawing(alloc: Global, words: &[String], why: DrawError) -> Said {
+    match why {
+        DrawError::Read => Said::Text(NO_INPUT),
+        DrawError::Limit => Said::Text(TOO_MANY_BYTES),
+        DrawError::NoLines { lines } => no_lines_note(alloc, words, lines),
+        DrawError::TooLong => Said::Text(TOO_LONG),
+        DrawError::Memory => Said::Text(NO_MEMORY),
+        DrawError::Write => Said::Nothing,
+    }
+}

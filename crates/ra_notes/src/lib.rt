@@ -1,0 +1,33 @@
+//! The notes that tell a person what came of a command, and the reader and the writer that remember what they need.
+#![tactic(auto)]
+
+mod command_notes;
+mod input_places;
+mod note_texts;
+mod refused_event;
+mod refused_notes;
+mod run_hints;
+mod seed_progress;
+mod seen;
+mod settle_notes;
+mod shrunk_notes;
+mod wrong_line;
+
+pub use command_notes::{
+    of_check, of_choices, of_command, of_drawing, of_end, of_performance, range_note,
+    write_output_note, write_words_note,
+};
+pub use input_places::{
+    PlaceNote, cause_in, perform_place, text_in, unanswered_place, unfinished_place,
+};
+pub use note_texts::{
+    BOOKS_TOO_LONG, NO_BOOK, NO_INPUT, NO_SEED_DONE, NO_WORD, SEEDS_LEFT, UNEXPLAINED, cause_text,
+    cluster_text, mark_cause_text, text_cause_text,
+};
+pub use run_hints::write_hints;
+pub use seed_progress::SeedProgress;
+pub use seen::end_reader::EndReader;
+pub use seen::seen_writer::{OutputFault, SeenWriter};
+pub use seen::{RecordingReader, Seen};
+pub use settle_notes::unsettled_note;
+pub use shrunk_notes::write_shrunk_notes;

@@ -1,0 +1,139 @@
+//! The texts of notes that depend on neither the words nor what the input says.
+use ra_book::TextCause;
+use ra_cluster::{ClusterError, Stop};
+use ra_task::NO_MEMORY;
+use ra_trace::{Cause, MarkCause};
+
+/// What is said if an explanation finds no memory. It is also said if an explanation finds nothing, which it never does.
+pub const UNEXPLAINED: &str = "standard output says what came of it; no memory is left to say more";
+
+/// What is said if the reader failed.
+pub const NO_INPUT: &str = "cannot read standard input";
+
+/// What is said if the writer failed.
+pub const NO_OUTPUT: &str = "cannot write to standard output";
+
+/// What is said if the writer failed because no space is left.
+pub const NO_SPACE: &str = "cannot write to standard output: no space left on device";
+
+/// What is said if a word of the command line is not a text.
+pub const NO_TEXT: &str = "a command-line argument is not valid UTF-8";
+
+/// What is said if the choices of the run are to be printed, and a message is repeated.
+pub const NO_WORD: &str = "the choices of this run cannot be written: one repeats a message";
+
+/// What is said if a trace or a mark log is too long.
+pub const TOO_MANY_BYTES: &str = "standard input has more than 16777216 bytes";
+
+/// What is said if a text of books is too long.
+pub const BOOKS_TOO_LONG: &str = "standard input has more than 1073741824 bytes";
+
+/// What is said if too many lines are to be drawn.
+pub const TOO_LONG: &str =
+    "standard input has more than 4096 lines to draw: choose a part with --from and --to";
+
+/// What is said of the first line of a book if it is not one.
+pub const NO_BOOK: &str =
+    "not the first line of a book: expected book 1 NODE NODES START, with NODE 1 to NODES, NODES 1 to 64 and START 0 to 2^64 - 1, separated by single spaces and ended by a line feed alone";
+
+/// What is said if a run goes on for too long.
+pub const TOO_MANY_TURNS: &str =
+    "the run is not over after 16777216 turns, the most that it may take";
+
+/// What is said if the runs of some seeds did not finish.
+pub const SEEDS_LEFT: &str =
+    "the runs of some seeds did not finish: use --seed and --trace to see one of them";
+
+/// What is said if a run that finishes was looked for, and no seed has one.
+pub const NO_SEED_DONE: &str = "no run finished: use --seed and --trace to see one of them";
+
+/// What is said if the threads of a cluster did what no script and no lack of memory or threads lets them do.
+const DEFECT: &str = "the threads did not record one run of the whole script: this is a bug in ra";
+
+/// Returns what is said about threads that did not bring a script to its end. For the two conditions that are checked before
+/// threads start, the place in the script is explained.
+pub fn cluster_text(fault: ClusterError) -> &'static str {
+    match fault {
+        ClusterError::OutOfOrder | ClusterError::Unreleased => UNEXPLAINED,
+        ClusterError::Fault(stop) => stop_text(stop),
+        ClusterError::Settle
+        | ClusterError::PlanUnmet
+        | ClusterError::Lost
+        | ClusterError::UnderWay => DEFECT,
+        ClusterError::Memory => NO_MEMORY,
+    }
+}
+
+/// Returns what is said about the cause for which a node was stopped. `run_cluster` does not tell which node it was.
+/// Memory and threads belong to the whole process, so it is chance which node runs out of them first.
+fn stop_text(stop: Stop) -> &'static str {
+    match stop {
+        // A node loses its inbox only after it was stopped or all clients are done, so a lack of memory is the first cause.
+        Stop::Memory | Stop::Send => "a node was stopped: out of memory",
+        Stop::Spawn => {
+            "a node was stopped: cannot start a thread (each node and each client needs one)"
+        }
+        Stop::Clock | Stop::Exhausted | Stop::Frame | Stop::Refused | Stop::Gate =>
+            "a node was stopped in a way that no script can cause: this is a bug in ra",
+    }
+}
+
+/// Returns what is said about the first wrong line of a text that is not a trace.
+pub fn cause_text(cause: Cause) -> &'static str {
+    match cause {
+        Cause::Line => {
+            "not a line that a trace may have here (see ra check --help); each line ends with a line feed alone, and the last line is end"
+        }
+        Cause::Refused => {
+            "the client may not ask or release here: the node does not exist, the client already waits, is queued or holds the name, it releases a name that it does not hold, or no number is left"
+        }
+        Cause::NotUnderWay =>
+            "this message is not under way: it was never sent, or was already delivered or lost",
+        Cause::Marks => {
+            "these are not the marks of the step: one is missing before this line, or this one does not belong here"
+        }
+        Cause::Table => {
+            "the lock table does not allow this mark: a conflicting request holds the name or came earlier, its own request does not wait or hold, its node already waits or holds, or its number is not above every number granted"
+        }
+    }
+}
+
+/// Returns what is said about the first wrong line of a log that is not a run of the lock table.
+pub fn mark_cause_text(cause: MarkCause) -> &'static str {
+    match cause {
+        MarkCause::Line => {
+            "not a mark: expected request, enter or leave and then NODE CLIENT NAME MODE SEQ, separated by single spaces and ended by a line feed alone"
+        }
+        MarkCause::NodeBusy => "the node of this request already waits for the name or holds it",
+        MarkCause::NotAbove => {
+            "the number of this request is not above every number granted for the name"
+        }
+        MarkCause::NotWaiting => "no such request waits for the name",
+        MarkCause::Held => "a conflicting request holds the name",
+        MarkCause::Earlier => {
+            "a conflicting request waits for the name with a lower number, or with the same number at a lower node"
+        }
+        MarkCause::NotHeld => "no such request holds the name",
+    }
+}
+
+/// Returns what is said about the line at which a text of books is wrong.
+pub fn text_cause_text(cause: TextCause) -> &'static str {
+    match cause {
+        TextCause::Line => {
+            "not a line of a book (see ra settle --help); each line ends with a line feed alone, and the text begins with the first line of a book"
+        }
+        TextCause::Books => {
+            "a node has two books, or books name different numbers of nodes or starts, or the book of a node is missing: expected one book of each node, with one NODES and one START"
+        }
+        TextCause::Refused => {
+            "the node of this book does not take this event: give the book to ra node to see why"
+        }
+        TextCause::NotSent => {
+            "its sender's book did not send this frame with this clock: expected one that ra node prints for that book"
+        }
+        TextCause::Twice => {
+            "this message came by an earlier line: expected each message once, unless --repeats is given"
+        }
+    }
+}

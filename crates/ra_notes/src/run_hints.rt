@@ -1,0 +1,79 @@
+//! Hints for the user when nothing was refused but something may surprise: options that have no effect, names that stay
+//! locked, and which seed was found.
+use ra_explain::script_end_note;
+use ra_schedule::Ending;
+use ra_task::{Command, Search, Task, write_line, write_unused_options};
+use std::alloc::Global;
+use std::io::Write;
+
+/// Writes which names the script leaves locked, if any, unless memory runs out. It ignores a failure of the writer.
+fn write_end<N: Write>(alloc: Global, script: Option<&[u8]>, notes: &mut N) {
+    if let Some(script) = script
+        && let Ok(Some(text)) = script_end_note(alloc, script)
+    {
+        write_line(notes, text.as_str());
+    }
+}
+
+/// Returns whether a run was found that ends as it should: a finished one if the command was done, and otherwise one that is stuck. It
+/// does not allocate.
+fn is_found(find: Option<Search>, is_done: bool) -> bool {
+    match find {
+        Some(
+            Search {
+                ending: Ending::Finished,
+                ..
+            },
+        ) => is_done,
+        Some(_) => !is_done,
+        None => false,
+    }
+}
+
+/// Writes which seed made the run that was found, and perhaps shrunk, unless memory runs out. It ignores a failure of the writer.
+fn write_seed<N: Write>(alloc: Global, shrinks: bool, seed: u64, notes: &mut N) {
+    let (run, options) = if shrinks {
+        ("the run that was shrunk", "--seeds, --find and --shrink")
+    } else {
+        ("this run", "--seeds and --find")
+    };
+    let text = format!(in alloc;
+        "{run} has seed {seed}: to make it again, use --seed {seed} in place of {options}"
+    );
+    if let Ok(text) = text {
+        write_line(notes, text.as_str());
+    }
+}
+
+/// Writes the hints on a command that was done, or ended with something left to do. With many seeds, `last_seed` is the last one that
+/// was tried. The words tell which options have no effect. It ignores a failure of the writer.
+pub fn write_hints<N: Write>(
+    alloc: Global,
+    words: &[String],
+    asked: &Command<'_>,
+    script: Option<&[u8]>,
+    is_done: bool,
+    last_seed: Option<u64>,
+    notes: &mut N,
+) {
+    let Command::Task(task) = asked else {
+        return;
+    };
+    match *task {
+        Task::Sim { .. } => {
+            write_unused_options(words, notes);
+            if is_done {
+                write_end(alloc, script, notes);
+            }
+        }
+        Task::Survey { find, .. } => {
+            write_unused_options(words, notes);
+            if let Some(seed) = last_seed
+                && is_found(find, is_done)
+            {
+                write_seed(alloc, asked.shrinks(), seed, notes);
+            }
+        }
+        _ => {}
+    }
+}

@@ -1,0 +1,77 @@
+//! What the user is told while many seeds take long.
+use ra_schedule::{Figures, Observer, SeedOutcome};
+use ra_task::write_line;
+use std::alloc::Global;
+use std::io::Write;
+
+/// The work after which a line is written, in turns. It takes some seconds; there is no clock to measure them.
+const WORK_OF_A_LINE: u64 = 1 << 23;
+
+/// The work of a run besides its turns, in turns.
+const WORK_OF_A_RUN: u64 = 16;
+
+/// What is known about the seeds that are done.
+#[derive(Drop)]
+pub struct SeedProgress<'a, N> {
+    alloc: Global,
+    notes: &'a mut N,
+    /// The work since the last line.
+    work: u64,
+    done: u64,
+    finished: u64,
+    /// The last seed that is done.
+    last: Option<u64>,
+}
+
+impl<'a, N: Write> SeedProgress<'a, N> {
+    /// Makes the progress of no seeds. It does not allocate.
+    pub fn new(alloc: Global, notes: &'a mut N) -> SeedProgress<'a, N> {
+        SeedProgress {
+            alloc,
+            notes,
+            work: 0,
+            done: 0,
+            finished: 0,
+            last: None,
+        }
+    }
+
+    /// Returns the last seed that is done, if any.
+    pub fn last(&self) -> Option<u64> {
+        self.last
+    }
+
+    /// Writes the progress so far, unless memory runs out. It ignores a failure of the writer.
+    fn write(&mut self, seed: u64) {
+        let SeedProgress { done, finished, .. } = self;
+        let text = format!(in self.alloc;
+            "{done} seeds done, up to seed {seed}: {finished} finished"
+        );
+        if let Ok(text) = text {
+            write_line(self.notes, text.as_str());
+        }
+    }
+}
+
+impl<'a, N: Write> Observer for SeedProgress<'a, N> {
+    fn ended(&mut self, seed: u64, outcome: SeedOutcome) {
+        let turns = match outcome {
+            SeedOutcome::Finished(Figures { turns, .. })
+            | SeedOutcome::Stuck(Figures { turns, .. }) => turns,
+            SeedOutcome::Limit => WORK_OF_A_LINE,
+        };
+        self.last = Some(seed);
+        self.done = self.done.saturating_add(1);
+        if let SeedOutcome::Finished(_) = outcome {
+            self.finished = self.finished.saturating_add(1);
+        }
+        self.work = self
+            .work
+            .saturating_add(turns)
+            .saturating_add(WORK_OF_A_RUN);
+        if self.work >= WORK_OF_A_LINE {
+            self.work = 0;
+            self.write(seed);
+        }
+    }
+}

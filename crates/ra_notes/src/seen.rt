@@ -1,0 +1,153 @@
+//! A reader that remembers what was read of it, so that it can be said where something is wrong.
+pub mod end_reader;
+pub mod seen_writer;
+
+ghost use Rattle.std.specs.Prelude.{◌≡◌};
+
+use std::alloc::Global;
+use std::io;
+use std::io::{BufRead, Read};
+
+/// What was read.
+#[derive(Drop)]
+pub struct Seen {
+    /// The first bytes that were read, and what the reader showed after them.
+    bytes: Vec<u8>,
+    /// The most bytes that are remembered.
+    most: usize,
+    /// How many bytes were read.
+    taken: usize,
+    /// Whether there was memory for the bytes.
+    is_whole: bool,
+}
+
+impl Seen {
+    /// The most bytes that are remembered of what is checked: as many as a text may have, and a line as far as it is read.
+    pub const MAX_TEXT: usize = 16_777_216 + 128;
+
+    /// The most bytes that are remembered of another input: as many as are read of a script.
+    pub const MAX_BYTES: usize = 65_537;
+
+    /// Makes that of a reader of which nothing was read, by a command with these words.
+    fn new(alloc: Global, words: &[String]) -> Seen {
+        let is_check = match words.get(1) {
+            Some(command) => command.as_str() == "check",
+            None => false,
+        };
+        Seen {
+            bytes: Vec::new(alloc),
+            most: if is_check {
+                Seen::MAX_TEXT
+            } else {
+                Seen::MAX_BYTES
+            },
+            taken: 0,
+            is_whole: true,
+        }
+    }
+
+    /// Returns the first bytes that were read, and what the reader showed after them. There are at most 16,777,344 by the command
+    /// `check`, so a text that it checks is whole, and 65,537 by another one. Returns `None` if memory ran out.
+    pub fn bytes(&self) -> Option<&[u8]> {
+        if self.is_whole {
+            Some(self.bytes.as_slice())
+        } else {
+            None
+        }
+    }
+
+    /// Remembers bytes after those that are known, as far as there is room.
+    fn keep(&mut self, more: &[u8]) {
+        let room = self.most.saturating_sub(self.bytes.len());
+        let kept = &more[..more.len().min(room)];
+        // What comes after bytes for which there was no memory would be at a wrong place.
+        self.is_whole = self.is_whole && self.bytes.extend_from_slice(kept).is_ok();
+    }
+
+    /// Returns how many bytes are known that were shown and not read yet.
+    #[inline(always)]
+    fn ahead(&self) -> usize {
+        self.bytes.len().saturating_sub(self.taken)
+    }
+
+    /// Returns whether all that was shown is read. Until then a reader with a buffer shows the same, as for most lines.
+    #[inline(always)]
+    fn is_all_read(&self) -> bool {
+        self.ahead() == 0
+    }
+
+    /// Remembers what is read next, as far as it was not shown before.
+    fn show(&mut self, next: &[u8]) {
+        let known = self.ahead();
+        if known < next.len() {
+            self.keep(&next[known..]);
+        }
+    }
+
+    /// Remembers that `count` bytes of what was shown are read.
+    #[inline(always)]
+    fn take(&mut self, count: usize) {
+        // A reader may show more than before, though nothing was read. Then some of these bytes are not known.
+        let is_known = count <= self.ahead() || self.bytes.len() >= self.most;
+        self.is_whole = self.is_whole && is_known;
+        self.taken = self.taken.saturating_add(count);
+    }
+}
+
+/// A reader that remembers what was read of it. What it gives is what the reader in it gives.
+#[derive(Drop)]
+pub struct RecordingReader<R> {
+    inner: R,
+    seen: Seen,
+}
+
+impl<R> RecordingReader<R> {
+    /// Makes one of a reader, for a command with these words, of which the first is the program's name. It does not allocate, and
+    /// reads that follow do so for what they remember, unless memory runs out.
+    pub fn new(alloc: Global, words: &[String], inner: R) -> RecordingReader<R>
+        ensures { result.inner ≡ inner }
+    {
+        RecordingReader {
+            inner,
+            seen: Seen::new(alloc, words),
+        }
+    }
+
+    /// Returns what was read.
+    pub fn seen(&self) -> &Seen {
+        &self.seen
+    }
+}
+
+impl<R: Read> Read for RecordingReader<R> {
+    ghost remaining = { λ reader. R.remaining reader.inner };
+
+    fn read(&mut self, buf: &mut [u8]) -> io::Result<usize> {
+        let count = self.inner.read(buf)?;
+        self.seen.show(&buf[..count]);
+        self.seen.take(count);
+        Ok(count)
+    }
+}
+
+impl<R: BufRead> BufRead for RecordingReader<R> {
+    ghost consumable_len = { λ reader. R.consumable_len reader.inner };
+
+    #[inline(always)]
+    fn fill_buf(&mut self) -> io::Result<&[u8]> {
+        if self.seen.is_all_read() {
+            let shown = self.inner.fill_buf()?;
+            self.seen.show(shown);
+            if shown.is_empty() {
+                return Ok(b"");
+            }
+        }
+        // It shows the same once more, so that it is clear that the result is lent by the reader in it.
+        self.inner.fill_buf()
+    }
+
+    fn consume(&mut self, amount: usize) {
+        self.seen.take(amount);
+        self.inner.consume(amount);
+    }
+}

@@ -1,0 +1,11 @@
+use Rattle.ra_schedule.proofs.LookedAt.{flag_set, flags_kept}
+use Rattle.ra_schedule.proofs.choice.enabled.Enabled.look_at.Goals as goal
+
+pub returns-then-client-clients-clause-this : goal.returns-then-client-clients-clause-this
+returns-then-client-clients-clause-this c k d within at =
+    flag_set c.args.script.now c.args.world.now.moves c.args.self.now.flags.items _ c.args.client k d c.is_some-on.result c.enabled_step.result c.is_some-on.ensures
+    c.enabled_step.ensures.some c.enabled_step.ensures.none c.set.ensures.flags within at
+
+pub returns-then-client-clients-clause-others : goal.returns-then-client-clients-clause-others
+returns-then-client-clients-clause-others c k d other =
+    flags_kept c.args.self.now.flags.items _ c.args.client k d c.is_some-on.result c.set.ensures.flags c.if-client-ge1.true other

@@ -1,0 +1,40 @@
+use Rattle.std.proofs.Common.{◌≡◌, ◌+◌, ◌<◌, [], length, sym, ◌∙◌, subst, arith, inl, inr}
+use Rattle.ra_schedule.specs.Enabled.{IsFlag, AreRosters}
+use Rattle.ra_schedule.proofs.NodesOfClients.{has_node}
+use Rattle.ra_schedule.proofs.choice.random_state.RandomState.note.Goals as goal
+
+pub returns-clause-draws : goal.returns-clause-draws
+returns-clause-draws c =
+    let before = c.requires.draws in
+    let script = c.args.script.now in
+    let moves = c.args.world.now.moves in
+    let old = c.args.self.now.enabled.flags.items in
+    let middle = c.look_at_all.new.self.flags.items in
+    let new = c.look_at_entered.new.self.flags.items in
+    let members = c.members_at-members.result.now in
+    let rosters : AreRosters script c.deref.result.now = subst (AreRosters script) (sym c.deref.ensures.value) before.rosters in
+    let len : length new ≡ length old = c.look_at_entered.ensures.alike ∙ c.look_at_all.ensures.alike in
+    record {
+      rosters = before.rosters;
+      flags = record {
+        length_is = len ∙ before.alike;
+        each = λ k d within.
+            let had : k < length old = omega (arith, within, len) in
+            elim (c.look_at_entered.ensures.flags k d (omega (arith, within, c.look_at_entered.ensures.alike))) [
+              | inl right ↦ right
+              | inr silent ↦
+                  subst (IsFlag script moves (k + 1)) (sym silent.0)
+                  (elim (c.look_at_all.ensures.flags k d had) [
+                    | inl right ↦ right
+                    | inr absent ↦
+                        subst (IsFlag script moves (k + 1)) (sym absent.0)
+                        (before.flags k d had
+                        (λ here.
+                        let (node, is) = has_node script k (omega (arith, had, before.alike)) in
+                        absent.1 (c.members_at-members.ensures (k + 1) node (c.node_at.ensures ∙ sym here ∙ is) (rosters (k + 1) node [] is)))
+                        silent.1)
+                  ])
+            ];
+      };
+      count = c.look_at_entered.ensures.count;
+    }

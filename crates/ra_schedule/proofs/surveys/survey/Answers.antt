@@ -1,0 +1,78 @@
+use Rattle.std.proofs.Common.{◌≡◌, ℕ, ◌+◌, Option, List, sym, ap, subst, arith}
+use Rattle.std.proofs.lemmas.Result.{err_from_is_err_and}
+use Rattle.ra_schedule.specs.Telling.{Told}
+use Rattle.ra_schedule.proofs.SurveySeeds.{none_yet, at_last, one_more_seed, all_seeds, no_seeds}
+use Rattle.ra_schedule.proofs.ToldSeeds.{ToldSoFar, told_none, told_more, tells_seeds, tells_some}
+use Rattle.ra_schedule.proofs.SurveyEnds.{seeds_finish}
+use Rattle.ra_schedule.proofs.surveys.survey.Goals as goal
+
+pub loop-seed-init : goal.loop-seed-init
+loop-seed-init g c = (
+  none_yet c.args.script.now c.args.faults c.args.limit c.args.seeds.first c.no_survey-survey.result (c.no_survey-survey.ensures c.args.seeds.first),
+  told_none c.args.script.now c.args.faults c.args.limit c.args.seeds.first (g.O.Observer.told c.args.observer.now),
+)
+
+pub loop-seed-preserved : goal.loop-seed-preserved
+loop-seed-preserved g c =
+    let (so, told) = c.loop-seed.invariant in (
+      one_more_seed c.args.script.now c.args.faults c.args.limit c.args.seeds.first c.loop-seed.seed c.loop-seed.survey c.with_outcome-survey.result c.in_ok-outcome.outcome so
+          c.in_ok-outcome.ensures.ok (c.with_outcome-survey.ensures c.args.seeds.first so.outcomes so.tallies so.seeds),
+      told_more c.args.script.now c.args.faults c.args.limit c.args.seeds.first c.loop-seed.seed _ _ _ c.in_ok-outcome.outcome told
+          c.in_ok-outcome.ensures.ok c.in_ok-outcome.ensures.told,
+    )
+
+pub returns-then-last-first-clause-ok : goal.returns-then-last-first-clause-ok
+returns-then-last-first-clause-ok g c =
+    no_seeds c.args.script.now c.args.faults c.args.limit c.args.seeds.first c.args.seeds.last c.no_survey.result c.if-last-first.true
+    (c.no_survey.ensures c.args.seeds.first)
+
+pub returns-then-last-first-clause-told : goal.returns-then-last-first-clause-told
+returns-then-last-first-clause-told g c =
+    tells_seeds c.args.script.now c.args.faults c.args.limit c.args.seeds.first c.args.seeds.first _ _ _
+    (told_none c.args.script.now c.args.faults c.args.limit c.args.seeds.first (g.O.Observer.told c.args.observer.now))
+    (omega (arith, c.if-last-first.true))
+
+pub returns-in_err-outcome-clause-err : goal.returns-in_err-outcome-clause-err
+returns-in_err-outcome-clause-err g c =
+    let p = err_from_is_err_and c.from_residual.result c.from_residual.ensures.1 in
+    let (before, told) = c.loop-seed.invariant in
+    rw p.1 (tells_some c.args.script.now c.args.faults c.args.limit c.args.seeds.first c.loop-seed.seed c.args.seeds.last _ _
+    (subst (λ (now : Option (List Told)). ToldSoFar c.args.script.now c.args.faults c.args.limit c.args.seeds.first c.loop-seed.seed (g.O.Observer.told c.args.observer.now) now)
+    (sym (ap g.O.Observer.told c.in_err-outcome.ensures.err)) told) (omega arith))
+
+pub returns-in_err-outcome-2-clause-err : goal.returns-in_err-outcome-2-clause-err
+returns-in_err-outcome-2-clause-err g c =
+    let p = err_from_is_err_and c.from_residual-in_err-outcome-2.result c.from_residual-in_err-outcome-2.ensures.1 in
+    let (before, told) = c.loop-seed.invariant in
+    rw p.1 (tells_some c.args.script.now c.args.faults c.args.limit c.args.seeds.first c.loop-seed.seed c.args.seeds.last _ _
+    (subst (λ (now : Option (List Told)). ToldSoFar c.args.script.now c.args.faults c.args.limit c.args.seeds.first c.loop-seed.seed (g.O.Observer.told c.args.observer.now) now)
+    (sym (ap g.O.Observer.told c.in_err-outcome-2.ensures.err)) told) (omega (arith, c.loop-seed.auto.seed-end (omega arith))))
+
+pub returns-clause-ok : goal.returns-clause-ok
+returns-clause-ok g c =
+    let (before, told) = c.loop-seed.invariant in
+    let so = at_last c.args.script.now c.args.faults c.args.limit c.args.seeds.first c.loop-seed.seed c.args.seeds.last c.loop-seed.survey before (omega (arith, c.loop-seed.auto.seed-end (omega arith))) in
+    all_seeds c.args.script.now c.args.faults c.args.limit c.args.seeds.first c.args.seeds.last c.with_outcome.result (omega arith)
+    (one_more_seed c.args.script.now c.args.faults c.args.limit c.args.seeds.first c.args.seeds.last c.loop-seed.survey c.with_outcome.result c.in_ok-outcome-2.outcome so
+    c.in_ok-outcome-2.ensures.ok (c.with_outcome.ensures c.args.seeds.first so.outcomes so.tallies so.seeds))
+
+pub returns-clause-told : goal.returns-clause-told
+returns-clause-told g c =
+    let (before, told) = c.loop-seed.invariant in
+    let is : c.loop-seed.seed ≡ c.args.seeds.last = omega (arith, c.loop-seed.auto.seed-end (omega arith)) in
+    let at = subst (λ (seed : ℕ). ToldSoFar c.args.script.now c.args.faults c.args.limit c.args.seeds.first seed (g.O.Observer.told c.args.observer.now) (g.O.Observer.told c.loop-seed.observer)) is told in
+    tells_seeds c.args.script.now c.args.faults c.args.limit c.args.seeds.first (c.args.seeds.last + 1) _ _ _
+    (told_more c.args.script.now c.args.faults c.args.limit c.args.seeds.first c.args.seeds.last _ _ _ c.in_ok-outcome-2.outcome at
+    c.in_ok-outcome-2.ensures.ok c.in_ok-outcome-2.ensures.told) (omega arith)
+
+pub returns-then-last-first-clause-waiting_ends : goal.returns-then-last-first-clause-waiting_ends
+returns-then-last-first-clause-waiting_ends g c =
+    let script = c.args.script.now in
+    seeds_finish c.endings_rest_on_nodes_and_runs.ensures.runs c.schedules_rest_on_runs.ensures script c.is_within_its_limits.ensures c.args.faults c.args.limit
+    c.args.seeds.first c.args.seeds.last c.no_survey.result
+    (no_seeds script c.args.faults c.args.limit c.args.seeds.first c.args.seeds.last c.no_survey.result c.if-last-first.true (c.no_survey.ensures c.args.seeds.first))
+
+pub returns-clause-waiting_ends : goal.returns-clause-waiting_ends
+returns-clause-waiting_ends g c =
+    seeds_finish c.endings_rest_on_nodes_and_runs.ensures.runs c.schedules_rest_on_runs.ensures c.args.script.now c.is_within_its_limits.ensures c.args.faults c.args.limit
+    c.args.seeds.first c.args.seeds.last c.with_outcome.result (returns-clause-ok g c)

@@ -1,0 +1,153 @@
+//! Which clients are enabled, kept from turn to turn.
+ghost use Rattle.std.specs.Prelude.{◌≡◌, ◌≢◌, ◌⊎◌, ◌+◌, ◌<◌, ◌≤◌, ℕ, Bool, if◌then◌else◌, All, Contains, length, slice_get, slice_set, slice_index_or, IfOk};
+ghost use Rattle.ra_schedule.specs.Schedule.{Enters};
+ghost use Rattle.ra_schedule.specs.Progress.{Tracks};
+ghost use Rattle.ra_schedule.specs.Enabled.{AreFlags, IsFlag, numbers_from};
+
+use crate::Script;
+use crate::choice::picking::enabled_step;
+use crate::driver::client_progress::Progress;
+use ra_stamp::{Mark, Memory};
+use ra_world::World;
+use std::alloc::Global;
+
+/// Which clients are enabled.
+#[derive(Drop)]
+pub struct Enabled {
+    /// For each client, in the order of the script, whether it is.
+    pub flags: Vec<bool>,
+    /// How many are.
+    pub count: u32,
+}
+
+impl Enabled {
+    /// Looks which clients are enabled.
+    ///
+    /// # Errors
+    ///
+    /// `Memory`: memory ran out.
+    pub fn of(
+        alloc: Global,
+        script: &Script,
+        world: &World,
+        clients: &[Progress],
+    ) -> Result<Enabled, Memory>
+        requires { Tracks script.now world.now clients.now }
+        ensures flags { IfOk result (λ enabled. AreFlags script.now world.now.moves enabled.flags.items) }
+        ensures count { IfOk result (λ enabled. enabled.count ≡ length (numbers_from 1 enabled.flags.items)) }
+    {
+        let mut flags = Vec::with_capacity(alloc, clients.len())?;
+        let mut count = 0;
+        for place in 0..script.clients() {
+            let on = enabled_step(script, world, place + 1, clients[place as usize]).is_some();
+            flags.push(on)?;
+            count += one_if(on);
+        }
+        Ok(Enabled { flags, count })
+    }
+
+    /// Returns the enabled client with this number, counted from 0 in the order of the script, or `None` past the last one.
+    pub fn at(&self, script: &Script, number: u32) -> Option<u32>
+        requires { length self.now.flags.items ≡ length script.now.clients }
+        ensures { result ≡ slice_get (numbers_from 1 self.now.flags.items) number }
+    {
+        let mut left = number;
+        for place in 0..script.clients() {
+            if !self.flags[place as usize] {
+                continue;
+            }
+            if left == 0 {
+                return Some(place + 1);
+            }
+            left -= 1;
+        }
+        None
+    }
+
+    /// Looks again whether these clients are enabled.
+    pub fn look_at_all(
+        &mut self,
+        script: &Script,
+        world: &World,
+        clients: &[Progress],
+        members: &[u32],
+    )
+        requires tracked { Tracks script.now world.now clients.now }
+        requires alike { length self.old.flags.items ≡ length script.now.clients }
+        requires count { self.old.count ≡ length (numbers_from 1 self.old.flags.items) }
+        ensures alike { length self.new.flags.items ≡ length self.old.flags.items }
+        ensures count { self.new.count ≡ length (numbers_from 1 self.new.flags.items) }
+        ensures flags { (k : ℕ) (d : Bool) → k < length self.old.flags.items
+            → IsFlag script.now world.now.moves (k + 1) (slice_index_or self.new.flags.items k d)
+            ⊎ ((slice_index_or self.new.flags.items k d ≡ slice_index_or self.old.flags.items k d)
+            × (Contains members.now (k + 1) → ⊥)) }
+    {
+        for member in members {
+            self.look_at(script, world, clients, *member);
+        }
+    }
+
+    /// Looks again whether the clients that entered by these marks are enabled.
+    pub fn look_at_entered(
+        &mut self,
+        script: &Script,
+        world: &World,
+        clients: &[Progress],
+        marks: &[Mark],
+    )
+        requires tracked { Tracks script.now world.now clients.now }
+        requires alike { length self.old.flags.items ≡ length script.now.clients }
+        requires count { self.old.count ≡ length (numbers_from 1 self.old.flags.items) }
+        ensures alike { length self.new.flags.items ≡ length self.old.flags.items }
+        ensures count { self.new.count ≡ length (numbers_from 1 self.new.flags.items) }
+        ensures flags { (k : ℕ) (d : Bool) → k < length self.old.flags.items
+            → IsFlag script.now world.now.moves (k + 1) (slice_index_or self.new.flags.items k d)
+            ⊎ ((slice_index_or self.new.flags.items k d ≡ slice_index_or self.old.flags.items k d)
+            × All (λ mark. Enters (k + 1) mark → ⊥) marks.now) }
+    {
+        for mark in marks {
+            if let Mark::Entered(entry) = mark {
+                self.look_at(script, world, clients, entry.client);
+            }
+        }
+    }
+
+    /// Looks again whether a client is enabled, if there is such a client.
+    fn look_at(&mut self, script: &Script, world: &World, clients: &[Progress], client: u32)
+        requires tracked { Tracks script.now world.now clients.now }
+        requires alike { length self.old.flags.items ≡ length script.now.clients }
+        requires count { self.old.count ≡ length (numbers_from 1 self.old.flags.items) }
+        ensures alike { length self.new.flags.items ≡ length self.old.flags.items }
+        ensures count { self.new.count ≡ length (numbers_from 1 self.new.flags.items) }
+        ensures this { (k : ℕ) (d : Bool) → k < length self.old.flags.items → k + 1 ≡ client
+            → IsFlag script.now world.now.moves (k + 1) (slice_index_or self.new.flags.items k d) }
+        ensures others { (k : ℕ) (d : Bool) → k + 1 ≢ client
+            → slice_index_or self.new.flags.items k d ≡ slice_index_or self.old.flags.items k d }
+    {
+        if 1 <= client && client <= script.clients() {
+            let place = client as usize - 1;
+            let on = enabled_step(script, world, client, clients[place]).is_some();
+            self.set(place, on);
+        }
+    }
+
+    /// Notes whether the client at this place is enabled.
+    fn set(&mut self, place: usize, on: bool)
+        requires within { place < length self.old.flags.items }
+        requires few { length self.old.flags.items ≤ 64 }
+        requires count { self.old.count ≡ length (numbers_from 1 self.old.flags.items) }
+        ensures flags { self.new.flags.items ≡ slice_set self.old.flags.items place on }
+        ensures count { self.new.count ≡ length (numbers_from 1 self.new.flags.items) }
+    {
+        let was = self.flags[place];
+        self.count = self.count + one_if(on) - one_if(was);
+        self.flags[place] = on;
+    }
+}
+
+/// Returns 1 for true, and otherwise 0.
+fn one_if(flag: bool) -> u32
+    ensures { result ≡ if flag then 1 else 0 }
+{
+    if flag { 1 } else { 0 }
+}

@@ -1,0 +1,107 @@
+//! What the random choice keeps from turn to turn.
+ghost use Rattle.std.specs.Prelude.{◌≡◌, IfOk, IfSome};
+ghost use Rattle.ra_schedule.specs.PolicyState.{AreDraws, AreDrawsElsewhere, generator_at, generator_in};
+ghost use Rattle.ra_schedule.specs.Progress.{Tracks};
+
+use crate::choice::enabled::Enabled;
+use crate::driver::client_progress::Progress;
+use crate::script::node_clients::{NodeClients, members_at, node_at, node_clients_of};
+use crate::{Policy, Script};
+use ra_stamp::{Mark, Memory};
+use ra_world::{Step, World};
+// As in Rust, the traits by which a generator is seeded and gives its words are in that crate.
+use rand_core::SeedableRng;
+use rand_pcg::Lcg128Xsl64;
+use std::alloc::Global;
+
+/// What the random choice is made by.
+#[derive(Drop)]
+pub struct RandomState {
+    /// The one generator of a run.
+    pub generator: Lcg128Xsl64,
+    /// The clients of each node.
+    pub rosters: Vec<NodeClients>,
+    /// Which clients are enabled.
+    pub enabled: Enabled,
+}
+
+impl RandomState {
+    /// Makes what the random choice begins with, or `None` if the policy has no seed: then nothing is kept, and no memory taken.
+    ///
+    /// # Errors
+    ///
+    /// `Memory`: memory ran out.
+    pub fn of(
+        alloc: Global,
+        policy: &Policy,
+        script: &Script,
+        world: &World,
+        clients: &[Progress],
+    ) -> Result<Option<RandomState>, Memory>
+        requires { Tracks script.now world.now clients.now }
+        ensures generator { IfOk result (λ draws. generator_in draws ≡ generator_at policy.now 0) }
+        ensures draws { IfOk result (λ draws. IfSome draws (AreDraws script.now world.now.moves)) }
+    {
+        let Some(generator) = generator_of(policy) else {
+            return Ok(None);
+        };
+        let rosters = node_clients_of(alloc, script)?;
+        let enabled = Enabled::of(alloc, script, world, clients)?;
+        Ok(Some(RandomState {
+            generator,
+            rosters,
+            enabled,
+        }))
+    }
+
+    /// Notes a step that was made with these marks. Only at its node something has changed, so that only the clients there are
+    /// looked at, and those that entered.
+    fn note(
+        &mut self,
+        script: &Script,
+        world: &World,
+        clients: &[Progress],
+        step: &Step,
+        marks: &[Mark],
+    )
+        requires tracked { Tracks script.now world.now clients.now }
+        requires draws { AreDrawsElsewhere step.now marks.now script.now world.now.moves self.old }
+        ensures generator { self.new.generator ≡ self.old.generator }
+        ensures draws { AreDraws script.now world.now.moves self.new }
+    {
+        let members = members_at(&self.rosters, node_at(step));
+        self.enabled.look_at_all(script, world, clients, members);
+        self.enabled.look_at_entered(script, world, clients, marks);
+    }
+}
+
+/// Notes a step that was made with these marks, if the choice is random.
+pub fn note_step_in(
+    draws: &mut Option<RandomState>,
+    script: &Script,
+    world: &World,
+    clients: &[Progress],
+    step: &Step,
+    marks: &[Mark],
+)
+    requires tracked { Tracks script.now world.now clients.now }
+    requires draws { IfSome draws.old (AreDrawsElsewhere step.now marks.now script.now world.now.moves) }
+    ensures generator { generator_in draws.new ≡ generator_in draws.old }
+    ensures draws { IfSome draws.new (AreDraws script.now world.now.moves) }
+{
+    if let Some(draws) = draws {
+        draws.note(script, world, clients, step, marks);
+    }
+}
+
+/// Returns the generator that a policy begins with, if it has one.
+fn generator_of(policy: &Policy) -> Option<Lcg128Xsl64>
+    ensures { result ≡ generator_at policy.now 0 }
+{
+    match policy {
+        Policy::Seeded(seed) | Policy::Faulty { seed, .. } => {
+            Some(Lcg128Xsl64::seed_from_u64(*seed))
+        }
+        _ => None,
+    }
+}

@@ -1,0 +1,145 @@
+//! How far the clients are.
+ghost use Rattle.std.specs.Prelude.{◌≡◌, ◌≢◌, ◌+◌, ◌<◌, ◌≤◌, ◌⊎◌, ◌||◌, ℕ, length, replicate, false, slice_index_or, IsTrue, IfOk};
+ghost use Rattle.ra_world.specs.Traffic.{Move};
+ghost use Rattle.ra_schedule.specs.Schedule.{Enters};
+ghost use Rattle.ra_schedule.specs.Progress.{IsAfterStep, IsAfterMarks, IsProgressAfter, OfEach, AreCountable, IsStuck, AreStuck, NoneEnters};
+
+use crate::Script;
+use ra_stamp::{Mark, Memory};
+use ra_world::Step;
+use std::alloc::Global;
+
+/// How far a client is in its list.
+#[derive(Clone, Copy)]
+pub struct Progress {
+    /// How many of its operations are done, the one that it waits for among them.
+    pub done: u64,
+    /// Whether it has asked and not entered since.
+    pub waiting: bool,
+}
+
+/// Makes the progress of clients that have done nothing yet.
+///
+/// # Errors
+///
+/// `Memory`: memory ran out.
+pub fn opening_progress(alloc: Global, clients: u32) -> Result<Vec<Progress>, Memory>
+    ensures { IfOk result (λ list. list.items ≡ replicate clients (record { done = 0; waiting = false })) }
+{
+    let mut list = Vec::with_capacity(alloc, clients as usize)?;
+    for _client in 0..clients {
+        list.push(Progress {
+            done: 0,
+            waiting: false,
+        })?;
+    }
+    Ok(list)
+}
+
+/// Returns whether the client does not wait and has something left to do.
+fn is_free(script: &Script, client: u32, progress: Progress) -> bool
+    ensures { IsTrue result ⊎ IsStuck script.now client progress }
+{
+    !progress.waiting && script.op(client, progress.done).is_some()
+}
+
+/// Returns the place of the first client that does not wait and has something left to do, or the number of clients if there is
+/// none. There must be none before the place `first`.
+pub fn first_free(script: &Script, clients: &[Progress], first: u32) -> u32
+    requires alike { length clients.now ≡ length script.now.clients }
+    requires stuck { AreStuck script.now clients.now first }
+    ensures { AreStuck script.now clients.now result }
+{
+    for place in first..script.clients() {
+        if is_free(script, place + 1, clients[place as usize]) {
+            return place;
+        }
+    }
+    script.clients()
+}
+
+/// Returns the place `first`, or the one of a client before it that entered, such that nobody before it did.
+pub fn first_entered(marks: &[Mark], first: u32) -> u32
+    ensures not_past { result ≤ first }
+    ensures none { NoneEnters result marks.now }
+{
+    let mut place = first;
+    for mark in marks {
+        place = place.min(place_entered(mark, place));
+    }
+    place
+}
+
+/// Returns the place of the client that entered by the mark, or `first` if it says so of nobody.
+fn place_entered(mark: &Mark, first: u32) -> u32
+    ensures { (k : ℕ) → k < result → Enters (k + 1) mark.now → ⊥ }
+{
+    match mark {
+        Mark::Entered(entry) => entry.client.saturating_sub(1),
+        Mark::Requested(_) | Mark::Left(_) => first,
+    }
+}
+
+/// Moves a client on by one operation, after which it waits if this is an ask.
+fn advance(list: &mut [Progress], client: u32, asks: bool)
+    requires { AreCountable list.old }
+    ensures others { (k : ℕ) (d : Progress) → k + 1 ≢ client
+        → slice_index_or list.new k d ≡ slice_index_or list.old k d }
+    ensures this { (k : ℕ) (d : Progress) → k < length list.old → k + 1 ≡ client
+        → slice_index_or list.new k d ≡ record {
+          done = (slice_index_or list.old k d).done + 1;
+          waiting = asks || (slice_index_or list.old k d).waiting;
+        } }
+{
+    let number = client as usize;
+    if 1 <= number && number <= list.len() {
+        let progress = &mut list[number - 1];
+        progress.done += 1;
+        progress.waiting = asks || progress.waiting;
+    }
+}
+
+/// Notes a step: its client moves on.
+fn note_step(list: &mut [Progress], step: &Step)
+    requires { AreCountable list.old }
+    ensures { OfEach (λ client old new. IsAfterStep client step.now old new) list.old list.new }
+{
+    match *step {
+        Step::Ask { client, .. } => advance(list, client, true),
+        Step::Leave { client, .. } => advance(list, client, false),
+        Step::Deliver(_) | Step::Lose(_) | Step::Repeat(_) => {}
+    }
+}
+
+/// Notes that a client entered.
+fn stop_waiting(list: &mut [Progress], client: u32)
+    ensures others { (k : ℕ) (d : Progress) → k + 1 ≢ client
+        → slice_index_or list.new k d ≡ slice_index_or list.old k d }
+    ensures this { (k : ℕ) (d : Progress) → k < length list.old → k + 1 ≡ client
+        → slice_index_or list.new k d ≡ record (slice_index_or list.old k d) { waiting = false } }
+{
+    let number = client as usize;
+    if 1 <= number && number <= list.len() {
+        list[number - 1].waiting = false;
+    }
+}
+
+/// Notes marks: a client that entered waits no longer.
+fn note_marks(list: &mut [Progress], marks: &[Mark])
+    ensures { OfEach (λ client old new. IsAfterMarks client marks.now old new) list.old list.new }
+{
+    for mark in marks {
+        if let Mark::Entered(entry) = mark {
+            stop_waiting(list, entry.client);
+        }
+    }
+}
+
+/// Notes a step and its marks.
+pub fn note_move(list: &mut [Progress], step: &Step, marks: &[Mark])
+    requires { AreCountable list.old }
+    ensures { (move : Move) → move.step ≡ step.now → move.marks ≡ marks.now → OfEach (IsProgressAfter move) list.old list.new }
+{
+    note_step(list, step);
+    note_marks(list, marks);
+}

@@ -1,0 +1,173 @@
+//! What a client is at after the steps so far.
+ghost use Rattle.std.specs.Prelude.{◌≡◌, ◌++◌, List, length, IfSome, IsNone, string_bytes, OnOk, IfOk};
+ghost use Rattle.ra_world.specs.Traffic.{Move};
+ghost use Rattle.ra_schedule.specs.Schedule.{Asks, IsWaiting, steps_of};
+ghost use Rattle.ra_schedule.specs.Progress.{IsAskedIn, IsProgress, IsWaitingAt, Tracks};
+ghost use Rattle.ra_schedule.specs.StateText as spec;
+
+use crate::choice::picking::enabled_step;
+use crate::driver::client_progress::Progress;
+use crate::{Op, Script};
+use ra_stamp::{Memory, Mode, Name, NodeId};
+use ra_world::{Step, World, mode_word, push_field, push_number, text_of};
+use std::alloc::Global;
+
+/// What a client is at.
+#[derive(Clone, Copy)]
+pub enum ClientState {
+    /// It has nothing left to do.
+    Done,
+    /// It waits for a name in a mode, for which it asked in the step with this number, counted from 1.
+    Waits(Name, Mode, u64),
+    /// This is its next operation, and whether it is enabled.
+    Next(Op, bool),
+}
+
+/// Returns what a client asks for in a step, which has this number, or `None` if it does not ask.
+fn asked_in(step: &Step, client: u32, number: u64) -> Option<ClientState>
+    ensures some { IfSome result (IsAskedIn step.now client number) }
+    ensures none { IsNone result → Asks client step.now → ⊥ }
+{
+    match *step {
+        Step::Ask {
+            client: asker,
+            name,
+            mode,
+            ..
+        } if asker == client => Some(ClientState::Waits(name, mode, number)),
+        _ => None,
+    }
+}
+
+/// Returns what a client waits for, and since when: its last ask among these steps. The cost is linear in the number of steps after
+/// it.
+fn waits_since(steps: &[Step], client: u32) -> ClientState
+    ensures { (moves : List Move) → steps.now ≡ steps_of moves → IsWaiting client moves
+        → IsWaitingAt client moves result }
+{
+    let mut rest = steps;
+    while let Some((last, before)) = rest.split_last() {
+        if let Some(asked) = asked_in(last, client, rest.len() as u64) {
+            return asked;
+        }
+        rest = before;
+    }
+    // A client that waits has asked.
+    ClientState::Done
+}
+
+/// Returns what a client is at, which has come this far.
+fn state_of(
+    script: &Script,
+    world: &World,
+    steps: &[Step],
+    client: u32,
+    progress: Progress,
+) -> ClientState
+    requires count { world.now.count ≡ script.now.nodes }
+    requires start { world.now.start ≡ 0 }
+    requires progress { IsProgress client world.now.moves progress }
+    requires steps { steps.now ≡ steps_of world.now.moves }
+    ensures { spec.IsAt script.now world.now.moves client result }
+{
+    if progress.waiting {
+        return waits_since(steps, client);
+    }
+    match script.op(client, progress.done) {
+        None => ClientState::Done,
+        Some(op) => {
+            let enabled = enabled_step(script, world, client, progress).is_some();
+            ClientState::Next(op, enabled)
+        }
+    }
+}
+
+/// Adds an operation in words.
+fn push_op(text: &mut String, op: Op) -> Result<(), Memory>
+    ensures { OnOk result (string_bytes text.new ≡ string_bytes text.old ++ spec.op_fields op) }
+{
+    match op {
+        Op::Lock(name, mode) => {
+            push_field(text, "lock")?;
+            push_field(text, text_of(&name))?;
+            push_field(text, mode_word(mode))
+        }
+        Op::Unlock(name) => {
+            push_field(text, "unlock")?;
+            push_field(text, text_of(&name))
+        }
+    }
+}
+
+/// Returns the word for whether an operation is enabled.
+fn enabled_word(enabled: bool) -> &'static str
+    ensures { result.now ≡ spec.enabled_word enabled }
+{
+    if enabled { "enabled" } else { "blocked" }
+}
+
+/// Adds what a client is at, in words.
+fn push_state(text: &mut String, state: ClientState) -> Result<(), Memory>
+    ensures { OnOk result (string_bytes text.new ≡ string_bytes text.old ++ spec.state_fields state) }
+{
+    match state {
+        ClientState::Done => push_field(text, "done"),
+        ClientState::Waits(name, mode, number) => {
+            push_field(text, "waits")?;
+            push_field(text, text_of(&name))?;
+            push_field(text, mode_word(mode))?;
+            push_number(text, number)
+        }
+        ClientState::Next(op, enabled) => {
+            push_field(text, "next")?;
+            push_op(text, op)?;
+            push_field(text, enabled_word(enabled))
+        }
+    }
+}
+
+/// Adds the line of a client of a node.
+fn push_client_line(
+    text: &mut String,
+    client: u32,
+    node: NodeId,
+    state: ClientState,
+) -> Result<(), Memory>
+    ensures { OnOk result (string_bytes text.new ≡ string_bytes text.old ++ spec.client_line client node state) }
+{
+    text.push_str("client")?;
+    push_number(text, client)?;
+    push_number(text, node.get())?;
+    push_state(text, state)?;
+    text.push_str("\n")?;
+    Ok(())
+}
+
+/// Returns the lines of the clients after these steps, in order.
+///
+/// # Errors
+///
+/// `Memory`: there is none for them.
+pub fn client_lines(
+    alloc: Global,
+    script: &Script,
+    world: &World,
+    steps: &[Step],
+    clients: &[Progress],
+) -> Result<String, Memory>
+    requires tracked { Tracks script.now world.now clients.now }
+    requires steps { steps.now ≡ steps_of world.now.moves }
+    ensures { IfOk result (λ text.
+        spec.AreClientLines script.now world.now.moves (length script.now.clients) (string_bytes text)) }
+{
+    let mut text = String::new(alloc);
+    for place in 0..script.clients() {
+        let client = place + 1;
+        let Some(node) = script.node_of(client) else {
+            unreachable!()
+        };
+        let state = state_of(script, world, steps, client, clients[place as usize]);
+        push_client_line(&mut text, client, node, state)?;
+    }
+    Ok(text)
+}

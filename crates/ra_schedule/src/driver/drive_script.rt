@@ -1,0 +1,211 @@
+ghost use Rattle.std.specs.Prelude.{◌≡◌, ◌↔◌, ℕ, Bool, length, IsTrue};
+ghost use Rattle.ra_schedule.specs.declared.choice.Policy.{Policy};
+ghost use Rattle.ra_schedule.specs.Progress.{Tracks, AreDone};
+ghost use Rattle.ra_schedule.specs.Drive.{Drives, IsWholeRun, IsRecording, IsSummary};
+ghost use Rattle.ra_schedule.specs.Driving.{Records, IsThrough};
+
+use crate::driver::Driver;
+use crate::driver::begun::is_stuck;
+use crate::driver::client_progress::Progress;
+use crate::finishing::endings_rest_on_nodes_and_runs;
+use crate::laws::schedules_rest_on_runs;
+use crate::{Choices, DriveError, Policy, Script};
+use ra_stamp::Memory;
+use ra_world::{Report, Steps, World};
+use std::alloc::Global;
+
+/// What a policy made of a script.
+#[derive(Debug, Drop)]
+pub struct Recording {
+    /// All steps, in order.
+    pub steps: Steps,
+    /// The choices that the policy made, one for each step. As [`Policy::Listed`] they make the same run again.
+    pub choices: Choices,
+    /// What came of the steps.
+    pub report: Report,
+    /// Whether every operation is done, and nothing waits, is queued or under way.
+    pub finished: bool,
+}
+
+/// What a policy made of a script, except for its steps and choices.
+#[derive(Debug, Drop)]
+pub struct Summary {
+    /// How many steps there were, one at each turn.
+    pub turns: u64,
+    /// What came of the steps.
+    pub report: Report,
+    /// Whether every operation is done, and nothing waits, is queued or under way.
+    pub finished: bool,
+}
+
+/// A cluster that a policy has driven through a script until no choice was left, and how far the clients are.
+#[derive(Drop)]
+pub struct DrivenCluster {
+    pub world: World,
+    pub driver: Driver,
+}
+
+/// What a driver made of a script, with the steps and choices if they were to be recorded.
+#[derive(Drop)]
+pub struct Driven {
+    pub steps: Steps,
+    pub choices: Choices,
+    pub turns: u64,
+    pub report: Report,
+    pub finished: bool,
+    /// Whether the run is stuck.
+    pub stuck: bool,
+}
+
+/// Drives a cluster through a script, from numbers that begin at 0. At each turn the policy makes a choice, and what it stands
+/// for is done, until no choice is left. A turn costs time linear in the number of clients, on average, and that of
+/// `World::step_near`. Whether a client may ask takes time linear in the queue of the name that it asks for, if there was no
+/// memory to know the clients of a long one. The steps and choices take memory linear in the number of turns.
+///
+/// # Errors
+///
+/// The first that holds, at each turn:
+///
+/// 1. `TurnLimit`: a choice is left after `limit` turns, also one that can't be made.
+/// 2. `BadPlace`: the choice names a client or a message that does not exist.
+/// 3. `NotEnabled`: it names a client that has nothing left to do, waits, or would be refused.
+/// 4. `Memory`: memory ran out.
+pub fn drive(
+    alloc: Global,
+    script: &Script,
+    policy: &Policy,
+    limit: u64,
+) -> Result<Recording, DriveError>
+    ensures { Drives script.now policy.now limit (IsRecording script.now policy.now limit) result }
+{
+    let cluster = drive_through(alloc, script, policy, limit, true)?;
+    let Driven {
+        steps,
+        choices,
+        report,
+        finished,
+        ..
+    } = driven_of(script, cluster);
+    Ok(Recording {
+        steps,
+        choices,
+        report,
+        finished,
+    })
+}
+
+/// Does as [`drive`], and keeps no steps and no choices. So it takes less time, and memory only for the world and for what it
+/// reports.
+///
+/// # Errors
+///
+/// Those of `drive`.
+pub fn summarize(
+    alloc: Global,
+    script: &Script,
+    policy: &Policy,
+    limit: u64,
+) -> Result<Summary, DriveError>
+    ensures { Drives script.now policy.now limit (IsSummary script.now policy.now limit) result }
+{
+    let cluster = drive_through(alloc, script, policy, limit, false)?;
+    let Driven {
+        turns,
+        report,
+        finished,
+        ..
+    } = driven_of(script, cluster);
+    Ok(Summary {
+        turns,
+        report,
+        finished,
+    })
+}
+
+/// Drives a cluster through a script, and records the steps and choices, or none.
+///
+/// # Errors
+///
+/// Those of `drive`.
+pub fn drive_through(
+    alloc: Global,
+    script: &Script,
+    policy: &Policy,
+    limit: u64,
+    records: bool,
+) -> Result<DrivenCluster, DriveError>
+    ensures { Drives script.now policy.now limit (IsThrough script.now policy.now limit records) result }
+{
+    schedules_rest_on_runs();
+    endings_rest_on_nodes_and_runs();
+    let Ok(mut world) = World::new(alloc, script.nodes(), 0) else {
+        return Err(DriveError::Memory);
+    };
+    let mut driver = match Driver::open(alloc, script, policy, &world, records) {
+        Ok(driver) => driver,
+        Err(Memory) => return Err(refused(world, DriveError::Memory)),
+    };
+    match driver.finish(alloc, script, policy, &mut world, limit) {
+        Ok(()) => Ok(DrivenCluster { world, driver }),
+        Err(fault) => Err(refused(world, fault)),
+    }
+}
+
+/// Gives a world back, and returns why it was not driven to an end.
+fn refused(world: World, fault: DriveError) -> DriveError
+    ensures { result ≡ fault }
+{
+    // A report owns little that is to be given back, and a world much.
+    let _report = world.into_report();
+    fault
+}
+
+/// Returns what a policy made of a script. It takes no memory.
+pub fn driven_of(script: &Script, cluster: DrivenCluster) -> Driven
+    requires { Tracks script.now cluster.world cluster.driver.clients.items }
+    ensures run { (policy : Policy) (limit : ℕ) (records : Bool) → IsThrough script.now policy limit records cluster
+        → IsWholeRun script.now policy limit cluster.world.moves result.report result.finished }
+    ensures made { (policy : Policy) (limit : ℕ) (records : Bool) → IsThrough script.now policy limit records cluster
+        → Records script.now policy limit records result }
+{
+    endings_rest_on_nodes_and_runs();
+    let DrivenCluster { world, driver } = cluster;
+    let Driver {
+        clients,
+        steps,
+        choices,
+        ..
+    } = driver;
+    let stuck = is_stuck(script, &world, &clients);
+    let turns = world.steps();
+    let report = world.into_report();
+    let finished = has_nothing_left(&report) && are_done(script, &clients);
+    Driven {
+        steps,
+        choices,
+        turns,
+        report,
+        finished,
+        stuck,
+    }
+}
+
+/// Returns whether nothing waits, is queued or under way.
+fn has_nothing_left(report: &Report) -> bool
+    ensures { IsTrue result ↔ ((report.now.waiting ≡ 0) × (report.now.queued ≡ 0) × (report.now.under_way ≡ 0)) }
+{
+    report.waiting == 0 && report.queued == 0 && report.under_way == 0
+}
+
+/// Returns whether each client has done all that it has to do.
+fn are_done(script: &Script, clients: &[Progress]) -> bool
+    requires { length clients.now ≡ length script.now.clients }
+    ensures { IsTrue result ↔ AreDone script.now clients.now }
+{
+    for place in 0..script.clients() {
+        if script.ops_of(place + 1) != Some(clients[place as usize].done) {
+            return false;
+        }
+    }
+    true
+}

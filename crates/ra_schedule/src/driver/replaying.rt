@@ -1,0 +1,217 @@
+//! A run that does again what the steps of another one did, as far as it can.
+ghost use Rattle.std.specs.Prelude.{◌≡◌, ◌+◌, ◌<◌, ◌≤◌, ◌^◌, ◌⊎◌, ◌↔◌, [], ℕ, length, IsTrue, IsNone, IfOk, IfSome, OnOk};
+ghost use Rattle.ra_schedule.specs.declared.choice.Choice.{Choice};
+ghost use Rattle.ra_schedule.specs.Shrinking as spec;
+ghost use Rattle.ra_schedule.specs.Shrinking.{ComesOf, GoesOnOldest, IsAlikeAt, IsFirstAlike, IsFor, IsQuiet, IsStuckRun, Redone, Replays};
+ghost use Rattle.ra_schedule.specs.Replaying.{IsReplay, MadeIfPossible};
+
+use crate::choice::picking::with_meaning;
+use crate::driver::Driver;
+use crate::driver::begun::{is_stuck, oldest};
+use crate::laws::schedules_rest_on_runs;
+use crate::{Choice, Script};
+use ra_stamp::{Memory, Message, equal_is_same};
+use ra_world::{Step, World};
+use std::alloc::Global;
+
+/// Returns the message without its number.
+fn unnumbered(message: &Message) -> Message
+    ensures { result ≡ spec.unnumbered message.now }
+{
+    match *message {
+        Message::Request {
+            from,
+            to,
+            name,
+            mode,
+            ..
+        } => Message::Request {
+            from,
+            to,
+            name,
+            mode,
+            seq: 0,
+        },
+        Message::Reply { from, to, name, .. } => Message::Reply {
+            from,
+            to,
+            name,
+            seq: 0,
+        },
+    }
+}
+
+/// Returns whether the messages differ at most in their numbers.
+fn are_alike(one: &Message, other: &Message) -> bool
+    ensures { IsTrue result ↔ (spec.unnumbered one.now ≡ spec.unnumbered other.now) }
+{
+    equal_is_same();
+    let left = unnumbered(one);
+    let right = unnumbered(other);
+    left == right
+}
+
+/// Returns whether a message is under way at this place that differs from this one at most in its number.
+fn is_alike_at(world: &World, place: u64, message: &Message) -> bool
+    ensures { IsTrue result ↔ IsAlikeAt world.now.moves message.now place }
+{
+    schedules_rest_on_runs();
+    match world.message_at(place) {
+        Some(found) => are_alike(&found, message),
+        None => false,
+    }
+}
+
+/// Returns the place of the first message under way that differs from this one at most in its number, or `None`.
+fn place_like(world: &World, message: &Message) -> Option<u64>
+    ensures some { IfSome result (IsFirstAlike world.now.moves message.now) }
+    ensures none { IsNone result → (place : ℕ) → IsAlikeAt world.now.moves message.now place → ⊥ }
+{
+    schedules_rest_on_runs();
+    for place in 0..world.under_way() {
+        if is_alike_at(world, place, message) {
+            return Some(place);
+        }
+    }
+    None
+}
+
+/// Returns the choice by which a step is done again, whether it can be made now or not, or `None` if there is no such message.
+fn choice_for(world: &World, step: &Step) -> Option<Choice>
+    ensures some { IfSome result (IsFor world.now.moves step.now) }
+    ensures none { IsNone result → (choice : Choice) → IsFor world.now.moves step.now choice → ⊥ }
+{
+    match step {
+        Step::Ask { client, .. } | Step::Leave { client, .. } => Some(Choice::Client(*client)),
+        Step::Deliver(message) => Some(Choice::Message(place_like(world, message)?)),
+        Step::Lose(message) => Some(Choice::Lost(place_like(world, message)?)),
+        Step::Repeat(message) => Some(Choice::Repeated(place_like(world, message)?)),
+    }
+}
+
+/// Makes a choice, if it can be made.
+///
+/// # Errors
+///
+/// `Memory`: memory ran out.
+fn make(
+    alloc: Global,
+    script: &Script,
+    world: &mut World,
+    driver: &mut Driver,
+    choice: Choice,
+) -> Result<(), Memory>
+    requires replay { IsReplay script.now world.old driver.old }
+    requires countable { length world.old.moves + 1 < 2 ^ 64 }
+    ensures { OnOk result (IsReplay script.now world.new driver.new
+        × MadeIfPossible script.now choice world.old.moves world.new.moves) }
+{
+    let picked = with_meaning(script, world, &driver.clients, choice);
+    if let Err(_) = picked.meaning {
+        return Ok(());
+    }
+    match driver.take_step(alloc, script, world, &picked) {
+        Ok(()) => Ok(()),
+        Err(_) => Err(Memory),
+    }
+}
+
+/// Does what a step did, if it can be done now.
+///
+/// # Errors
+///
+/// `Memory`: memory ran out.
+fn redo(
+    alloc: Global,
+    script: &Script,
+    world: &mut World,
+    driver: &mut Driver,
+    step: &Step,
+) -> Result<(), Memory>
+    requires replay { IsReplay script.now world.old driver.old }
+    requires countable { length world.old.moves + 1 < 2 ^ 64 }
+    ensures { OnOk result (IsReplay script.now world.new driver.new
+        × Redone script.now step.now world.old.moves world.new.moves) }
+{
+    match choice_for(world, step) {
+        Some(choice) => make(alloc, script, world, driver, choice),
+        None => Ok(()),
+    }
+}
+
+/// Does what steps did, one after the other, as far as it can be done.
+///
+/// # Errors
+///
+/// `Memory`: memory ran out.
+fn redo_all(
+    alloc: Global,
+    script: &Script,
+    world: &mut World,
+    driver: &mut Driver,
+    steps: &[Step],
+) -> Result<(), Memory>
+    requires opened { world.old.moves ≡ [] }
+    requires replay { IsReplay script.now world.old driver.old }
+    ensures replay { OnOk result (IsReplay script.now world.new driver.new) }
+    ensures replays { OnOk result (Replays script.now [] steps.now world.new.moves) }
+{
+    for step in steps {
+        redo(alloc, script, world, driver, step)?;
+    }
+    Ok(())
+}
+
+/// Goes on with the oldest choice of those that have begun, until no such choice is left, or there are this many steps.
+///
+/// # Errors
+///
+/// `Memory`: memory ran out.
+fn go_on(
+    alloc: Global,
+    script: &Script,
+    world: &mut World,
+    driver: &mut Driver,
+    limit: u64,
+) -> Result<(), Memory>
+    requires { IsReplay script.now world.old driver.old }
+    ensures replay { OnOk result (IsReplay script.now world.new driver.new) }
+    ensures goes_on { OnOk result (GoesOnOldest script.now world.old.moves world.new.moves) }
+    ensures ends { OnOk result ((limit ≤ length world.new.moves) ⊎ IsQuiet script.now world.new.moves) }
+{
+    for _turn in world.steps()..limit {
+        let Some(choice) = oldest(script, world, &driver.clients) else {
+            return Ok(());
+        };
+        make(alloc, script, world, driver, choice)?;
+    }
+    Ok(())
+}
+
+/// Does what steps did, as far as it can be done, and goes on with the oldest choice of those that have begun, until no such
+/// choice is left, or there are this many steps. Returns whether the run is stuck then, with fewer steps.
+///
+/// # Errors
+///
+/// `Memory`: memory ran out.
+pub fn replay(
+    alloc: Global,
+    script: &Script,
+    world: &mut World,
+    driver: &mut Driver,
+    steps: &[Step],
+    limit: u64,
+) -> Result<bool, Memory>
+    requires opened { world.old.moves ≡ [] }
+    requires replay { IsReplay script.now world.old driver.old }
+    ensures replay { OnOk result (IsReplay script.now world.new driver.new) }
+    ensures comes { OnOk result (ComesOf script.now steps.now limit world.new.moves) }
+    ensures shorter { IfOk result (λ is. IsTrue is ↔ ((length world.new.moves < limit) × IsStuckRun script.now world.new.moves)) }
+{
+    redo_all(alloc, script, world, driver, steps)?;
+    go_on(alloc, script, world, driver, limit)?;
+    if world.steps() >= limit {
+        return Ok(false);
+    }
+    Ok(is_stuck(script, world, &driver.clients))
+}

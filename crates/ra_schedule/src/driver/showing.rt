@@ -1,0 +1,78 @@
+//! The state at the end of what a policy makes of a script.
+ghost use Rattle.std.specs.Prelude.{◌≡◌, Ok, string_bytes, IfOk, IfErr};
+ghost use Rattle.ra_schedule.specs.declared.error.DriveError.{DriveError};
+ghost use Rattle.ra_schedule.specs.Drive.{Drives};
+ghost use Rattle.ra_schedule.specs.Progress.{Tracks};
+ghost use Rattle.ra_schedule.specs.Schedule.{steps_of};
+ghost use Rattle.ra_schedule.specs.StateText.{IsShown, ShowsState};
+
+use crate::driver::client_state::client_lines;
+use crate::driver::drive_script::{Driven, DrivenCluster, drive_through, driven_of};
+use crate::script::script_names::names_of;
+use crate::{DriveError, Policy, Script};
+use ra_stamp::Memory;
+use std::alloc::Global;
+
+/// The state at the end of what a policy made of a script.
+#[derive(Debug, Drop)]
+pub struct Shown {
+    /// The lines of the state.
+    pub text: String,
+    /// Whether every operation is done, and nothing waits, is queued or under way.
+    pub finished: bool,
+}
+
+/// Drives a cluster through a script, as [`drive`](crate::drive) does, and returns the lines of the state at the end. Beyond that
+/// it costs what `World::state_text` does for the names of the script, and for each client that waits a look at the steps since its
+/// ask.
+///
+/// # Errors
+///
+/// Those of `drive`.
+pub fn show(
+    alloc: Global,
+    script: &Script,
+    policy: &Policy,
+    limit: u64,
+) -> Result<Shown, DriveError>
+    ensures { Drives script.now policy.now limit (IsShown script.now policy.now limit) result }
+{
+    let cluster = drive_through(alloc, script, policy, limit, true)?;
+    let text = text_of(alloc, script, &cluster);
+    shown_of(text, driven_of(script, cluster))
+}
+
+/// Returns the lines of the state to which a driver has come that recorded its steps.
+///
+/// # Errors
+///
+/// `Memory`: there is none for them.
+fn text_of(alloc: Global, script: &Script, cluster: &DrivenCluster) -> Result<String, Memory>
+    requires tracked { Tracks script.now cluster.now.world cluster.now.driver.clients.items }
+    requires steps { cluster.now.driver.steps.items ≡ steps_of cluster.now.world.moves }
+    ensures { IfOk result (λ text. ShowsState script.now cluster.now.world.moves (string_bytes text)) }
+{
+    let DrivenCluster { world, driver } = cluster;
+    let names = names_of(alloc, script)?;
+    let steps = driver.steps.as_slice();
+    let clients = client_lines(alloc, script, world, steps, &driver.clients)?;
+    world.state_text(alloc, &names, clients.as_str())
+}
+
+/// Returns the lines of a state with what else is told of the run.
+///
+/// # Errors
+///
+/// `Memory`: there are no lines.
+fn shown_of(text: Result<String, Memory>, driven: Driven) -> Result<Shown, DriveError>
+    ensures ok { IfOk result (λ shown. (text ≡ Ok shown.text) × (shown.finished ≡ driven.finished)) }
+    ensures err { IfErr result (λ fault. fault ≡ DriveError.Memory) }
+{
+    match text {
+        Ok(text) => Ok(Shown {
+            text,
+            finished: driven.finished,
+        }),
+        Err(Memory) => Err(DriveError::Memory),
+    }
+}

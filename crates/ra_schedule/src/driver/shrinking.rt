@@ -1,0 +1,285 @@
+//! A run that is stuck, made shorter step by step.
+ghost use Rattle.std.specs.Prelude.{◌≡◌, ◌++◌, ◌<◌, ◌≤◌, ℕ, List, [], length, take, drop, Ok, true, false, IfOk, OnOk, MatchOption};
+ghost use Rattle.ra_world.specs.Run.{IsRun};
+ghost use Rattle.ra_world.specs.Traffic.{Move};
+ghost use Rattle.ra_schedule.specs.Drive.{Drives};
+ghost use Rattle.ra_schedule.specs.Shrinking.{IsShrunk, IsInVain, IsLeast, IsLeastOf, cut};
+ghost use Rattle.ra_schedule.specs.Shrinking as spec;
+ghost use Rattle.ra_schedule.specs.Replaying.{IsStuckList, IsShorter, AreInVain, IsFoundIn};
+
+use crate::driver::Driver;
+use crate::driver::drive_script::{Driven, drive_through, driven_of};
+use crate::driver::replaying::replay;
+use crate::{Choices, DriveError, Policy, Script};
+use ra_stamp::Memory;
+use ra_world::{Step, Steps, World};
+use std::alloc::Global;
+
+/// What a run is shrunk to.
+#[derive(Debug, Drop)]
+pub struct Shrunk {
+    /// The least list of choices that was found, or `None` if the run is not stuck.
+    pub choices: Option<Choices>,
+    /// Whether the run that is shrunk is finished: every operation is done, and nothing waits, is queued or under way.
+    pub finished: bool,
+}
+
+/// The steps of a run, and the choices that stand for them.
+#[derive(Drop)]
+struct Listed {
+    steps: Steps,
+    choices: Choices,
+}
+
+/// A shorter run that is stuck, and the place of the step that was left out.
+#[derive(Drop)]
+struct Found {
+    list: Listed,
+    place: usize,
+}
+
+/// Returns the client of a step, if it is one of a client.
+fn client_of(step: &Step) -> Option<u32>
+    ensures { result ≡ spec.client_of step.now }
+{
+    match step {
+        Step::Ask { client, .. } | Step::Leave { client, .. } => Some(*client),
+        Step::Deliver(_) | Step::Lose(_) | Step::Repeat(_) => None,
+    }
+}
+
+/// Returns whether both are steps of one client.
+fn are_of_one_client(one: &Step, other: &Step) -> bool
+    ensures { result ≡ spec.are_of_one_client one.now other.now }
+{
+    let Some(client) = client_of(one) else {
+        return false;
+    };
+    match client_of(other) {
+        Some(another) => client == another,
+        None => false,
+    }
+}
+
+/// Adds the steps before a place.
+///
+/// # Errors
+///
+/// `Memory`: memory ran out.
+fn add_before(list: &mut Steps, steps: &[Step], place: usize) -> Result<(), Memory>
+    requires { place ≤ length steps.now }
+    ensures { OnOk result (list.new.items ≡ list.old.items ++ take place steps.now) }
+{
+    for earlier in 0..place {
+        list.push(steps[earlier])?;
+    }
+    Ok(())
+}
+
+/// Adds the steps after a place that are not of the same client as the one there.
+///
+/// # Errors
+///
+/// `Memory`: memory ran out.
+fn add_others(list: &mut Steps, steps: &[Step], place: usize) -> Result<(), Memory>
+    requires { place < length steps.now }
+    ensures { OnOk result (list.new.items ≡ list.old.items ++ spec.without_first (drop place steps.now)) }
+{
+    for later in place + 1..steps.len() {
+        if !are_of_one_client(&steps[place], &steps[later]) {
+            list.push(steps[later])?;
+        }
+    }
+    Ok(())
+}
+
+/// Returns the steps without the one at a place and, if that is of a client, without the later ones of this client.
+///
+/// # Errors
+///
+/// `Memory`: memory ran out.
+fn cut_of(alloc: Global, steps: &[Step], place: usize) -> Result<Steps, Memory>
+    requires { place < length steps.now }
+    ensures { IfOk result (λ left. left.items ≡ cut steps.now place) }
+{
+    let mut left = Steps::new(alloc);
+    add_before(&mut left, steps, place)?;
+    add_others(&mut left, steps, place)?;
+    Ok(left)
+}
+
+/// Returns a list if it is to be kept.
+///
+/// # Errors
+///
+/// `Memory`: memory ran out before that was known.
+fn list_if(keeps: Result<bool, Memory>, list: Listed) -> Result<Option<Listed>, Memory>
+    ensures { IfOk result (λ found. MatchOption found (keeps ≡ Ok false) (λ kept. (keeps ≡ Ok true) × (kept ≡ list))) }
+{
+    match keeps {
+        Ok(true) => Ok(Some(list)),
+        Ok(false) => Ok(None),
+        Err(fault) => Err(fault),
+    }
+}
+
+/// Replays steps in a cluster in which nothing has happened yet, and returns the run if it is stuck and has fewer steps than the limit.
+///
+/// # Errors
+///
+/// `Memory`: memory ran out.
+fn replay_in(
+    alloc: Global,
+    script: &Script,
+    steps: &[Step],
+    limit: u64,
+    world: &mut World,
+) -> Result<Option<Listed>, Memory>
+    requires run { IsRun world.old.count world.old.start world.old.moves }
+    requires opened { world.old ≡ record { count = script.now.nodes; start = 0; moves = [] } }
+    ensures { IfOk result (λ found. MatchOption found (IsInVain script.now steps.now limit) (IsShorter script.now steps.now limit)) }
+{
+    let mut driver = Driver::open(alloc, script, &Policy::Oldest, world, true)?;
+    let is_shorter = replay(alloc, script, world, &mut driver, steps, limit);
+    // It is taken apart before any exit, since it owns much that is to be given back at each.
+    let Driver { steps, choices, .. } = driver;
+    list_if(is_shorter, Listed { steps, choices })
+}
+
+/// Replays steps without the one at a place, and returns the run if it is stuck and has fewer steps than there were.
+///
+/// # Errors
+///
+/// `Memory`: memory ran out.
+fn try_without(
+    alloc: Global,
+    script: &Script,
+    steps: &[Step],
+    place: usize,
+) -> Result<Option<Listed>, Memory>
+    requires { place < length steps.now }
+    ensures { IfOk result (λ found. MatchOption found (IsInVain script.now (cut steps.now place) (length steps.now))
+        (IsShorter script.now (cut steps.now place) (length steps.now))) }
+{
+    let left = cut_of(alloc, steps, place)?;
+    let Ok(mut world) = World::new(alloc, script.nodes(), 0) else {
+        return Err(Memory);
+    };
+    let found = replay_in(
+        alloc,
+        script,
+        left.as_slice(),
+        steps.len() as u64,
+        &mut world,
+    );
+    // It is not returned. But a report owns little that is to be given back at this exit, and a world much.
+    let _report = world.into_report();
+    found
+}
+
+/// Returns a shorter run that is stuck, the first one that is found if one step after the other is left out, from one place up to
+/// another, or `None`.
+///
+/// # Errors
+///
+/// `Memory`: memory ran out.
+fn shorter_between(
+    alloc: Global,
+    script: &Script,
+    steps: &[Step],
+    from: usize,
+    to: usize,
+) -> Result<Option<Found>, Memory>
+    requires { to ≤ length steps.now }
+    ensures { IfOk result (λ found. MatchOption found (AreInVain script.now steps.now from to) (IsFoundIn script.now steps.now)) }
+{
+    for place in from..to {
+        if let Some(list) = try_without(alloc, script, steps, place)? {
+            return Ok(Some(Found { list, place }));
+        }
+    }
+    Ok(None)
+}
+
+/// Returns a shorter run that is stuck, the first one that is found if one step after the other is left out, those from a place on
+/// and then those before it, or `None`.
+///
+/// # Errors
+///
+/// `Memory`: memory ran out.
+fn shorter(
+    alloc: Global,
+    script: &Script,
+    steps: &[Step],
+    first: usize,
+) -> Result<Option<Found>, Memory>
+    ensures { IfOk result (λ found. MatchOption found (IsLeast script.now steps.now) (IsFoundIn script.now steps.now)) }
+{
+    let start = first.min(steps.len());
+    match shorter_between(alloc, script, steps, start, steps.len())? {
+        Some(found) => Ok(Some(found)),
+        None => shorter_between(alloc, script, steps, 0, start),
+    }
+}
+
+/// Makes a run that is stuck shorter as long as a step can be left out. After a step that was left out, those that follow it are
+/// next: what could not be left out before it is likely to be needed still. The list is lent, so that it need not be given back at
+/// each exit.
+///
+/// # Errors
+///
+/// `Memory`: memory ran out.
+fn shorten(alloc: Global, script: &Script, list: &mut Listed) -> Result<(), Memory>
+    ensures { (moves : List Move) → IsStuckList script.now moves list.old → OnOk result (IsLeastOf script.now moves list.new.choices) }
+{
+    let mut first = 0;
+    while let Some(found) = shorter(alloc, script, list.steps.as_slice(), first)? {
+        first = found.place;
+        *list = found.list;
+    }
+    Ok(())
+}
+
+/// Drives a cluster through a script by a policy, as `drive` does, and shrinks the run if it is stuck. It is if no client that has
+/// begun is enabled and nothing is under way, but some client waits. Clients that have not begun do not count.
+///
+/// One step after the other is left out, from the first one on. If it is of a client, the later steps of this client are left out,
+/// too. The others are done again in their order, each if it can be then, and after them the oldest choices of clients that have
+/// begun. If this run is stuck and has fewer steps, it takes the place of the one before, and the step that is at the same place now
+/// is the next to be left out. After the last step comes the first one again, until each step of one run was left out in vain. This
+/// does not mean that there is no shorter list.
+///
+/// For a run of n steps, at most n(n + 1) / 2 runs are made, each of at most n steps. It takes memory linear in n.
+///
+/// # Errors
+///
+/// Those of `drive`. `Memory` may also come later.
+pub fn shrink(
+    alloc: Global,
+    script: &Script,
+    policy: &Policy,
+    limit: u64,
+) -> Result<Shrunk, DriveError>
+    ensures { Drives script.now policy.now limit (IsShrunk script.now policy.now limit) result }
+{
+    let cluster = drive_through(alloc, script, policy, limit, true)?;
+    let Driven {
+        steps,
+        choices,
+        finished,
+        stuck,
+        ..
+    } = driven_of(script, cluster);
+    if !stuck {
+        return Ok(Shrunk {
+            choices: None,
+            finished,
+        });
+    }
+    let mut list = Listed { steps, choices };
+    shorten(alloc, script, &mut list)?;
+    Ok(Shrunk {
+        choices: Some(list.choices),
+        finished,
+    })
+}

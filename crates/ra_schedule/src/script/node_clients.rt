@@ -1,0 +1,92 @@
+//! The clients of each node.
+ghost use Rattle.std.specs.Prelude.{◌≡◌, ◌-◌, ℕ, [], Some, Contains, slice_index_or, IfOk, IsTrue};
+ghost use Rattle.ra_schedule.specs.Enabled.{AreRosters, node_at, node_of};
+
+use crate::Script;
+use ra_stamp::{Memory, NodeId};
+use ra_world::Step;
+use std::alloc::Global;
+use std::marker::Model;
+
+/// The clients of a node, by their numbers.
+#[derive(Drop)]
+pub struct NodeClients {
+    pub members: Vec<u32>,
+}
+
+impl Model for NodeClients {
+    ghost use Rattle.std.specs.Prelude.{List, ℕ};
+
+    ghost Value = { List ℕ };
+
+    ghost view = { λ r. r.members.items };
+}
+
+/// Makes the roster of the node with this number.
+///
+/// # Errors
+///
+/// `Memory`: memory ran out.
+fn roster_of(alloc: Global, script: &Script, node: u16) -> Result<NodeClients, Memory>
+    ensures { IfOk result (λ roster. (client : ℕ) → node_of script.now client ≡ Some node → Contains roster client) }
+{
+    let mut members = Vec::new(alloc);
+    for place in 0..script.clients() {
+        let client = place + 1;
+        if is_at(script, client, node) {
+            members.push(client)?;
+        }
+    }
+    Ok(NodeClients { members })
+}
+
+/// Returns whether the client with this number is at the node.
+fn is_at(script: &Script, client: u32, node: u16) -> bool
+    ensures { node_of script.now client ≡ Some node → IsTrue result }
+{
+    match script.node_of(client) {
+        Some(own) => own.get() == node,
+        None => false,
+    }
+}
+
+/// Makes the rosters of all nodes, in the order of their numbers.
+///
+/// # Errors
+///
+/// `Memory`: memory ran out.
+pub fn node_clients_of(alloc: Global, script: &Script) -> Result<Vec<NodeClients>, Memory>
+    ensures { IfOk result (λ rosters. AreRosters script.now rosters.items) }
+{
+    let mut rosters = Vec::with_capacity(alloc, usize::from(script.nodes()))?;
+    for place in 0..script.nodes() {
+        let roster = roster_of(alloc, script, place + 1)?;
+        rosters.push(roster)?;
+    }
+    Ok(rosters)
+}
+
+/// Returns the clients of a node, or none if there is no such node.
+pub fn members_at(rosters: &[NodeClients], node: Option<NodeId>) -> &[u32]
+    ensures { (client number : ℕ) → node ≡ Some number → Contains (slice_index_or rosters.now (number - 1) []) client
+        → Contains result.now client }
+{
+    match node {
+        Some(node) if usize::from(node.get()) <= rosters.len() => {
+            let roster = &rosters[usize::from(node.get()) - 1];
+            &roster.members
+        }
+        _ => &[],
+    }
+}
+
+/// Returns the node at which a step happens, or `None` if it is a loss or a repeat.
+pub fn node_at(step: &Step) -> Option<NodeId>
+    ensures { result ≡ node_at step.now }
+{
+    match step {
+        Step::Ask { node, .. } | Step::Leave { node, .. } => Some(*node),
+        Step::Deliver(message) => Some(message.to()),
+        Step::Lose(_) | Step::Repeat(_) => None,
+    }
+}

@@ -1,0 +1,120 @@
+//! A script under many seeds.
+pub mod first_seed;
+pub mod observer;
+pub mod seed_outcomes;
+pub mod seed_range;
+
+ghost use Rattle.std.specs.Prelude.{◌≡◌, ◌+◌, ◌-◌, ℕ, List, [], ◌∷◌, IfOk, OnOk, OnErr};
+ghost use Rattle.ra_schedule.specs.Survey.{IsOutcome, IsSurvey, SeedsFinish};
+ghost use Rattle.ra_schedule.specs.Telling.{Tells, TellsSeeds, TellsSomeSeeds};
+ghost use Rattle.ra_schedule.specs.Survey as spec;
+
+use crate::finishing::endings_rest_on_nodes_and_runs;
+use crate::laws::schedules_rest_on_runs;
+use crate::surveys::observer::Observer;
+use crate::surveys::seed_outcomes::{Figures, SeedOutcome, Survey, no_survey, with_outcome};
+use crate::{DriveError, Faults, Policy, Script, SeedRange, summarize};
+use ra_stamp::Memory;
+use std::alloc::Global;
+
+/// Returns chance by a seed, with faults or without. It does not allocate.
+pub fn chance(faults: Option<Faults>, seed: u64) -> Policy
+    ensures { result ≡ spec.chance faults seed }
+{
+    match faults {
+        None => Policy::Seeded(seed),
+        Some(faults) => Policy::Faulty { seed, faults },
+    }
+}
+
+/// Returns what comes of a script under a policy, within `limit` turns.
+///
+/// # Errors
+///
+/// `Memory`: memory ran out.
+pub fn outcome_of(
+    alloc: Global,
+    script: &Script,
+    policy: &Policy,
+    limit: u64,
+) -> Result<SeedOutcome, Memory>
+    ensures { IfOk result (IsOutcome script.now policy.now limit) }
+{
+    match summarize(alloc, script, policy, limit) {
+        Ok(summary) => {
+            let figures = Figures {
+                turns: summary.turns,
+                messages: summary.report.sent,
+            };
+            Ok(if summary.finished {
+                SeedOutcome::Finished(figures)
+            } else {
+                SeedOutcome::Stuck(figures)
+            })
+        }
+        Err(DriveError::TurnLimit) => Ok(SeedOutcome::Limit),
+        // Chance takes only choices that can be made.
+        Err(_) => Err(Memory),
+    }
+}
+
+/// Returns what comes of a script by chance under a seed, within `limit` turns, and tells it to an observer.
+///
+/// # Errors
+///
+/// `Memory`: then nothing is told.
+pub fn outcome_by<O: Observer>(
+    alloc: Global,
+    script: &Script,
+    faults: &Option<Faults>,
+    seed: u64,
+    limit: u64,
+    observer: &mut O,
+) -> Result<SeedOutcome, Memory>
+    ensures ok { IfOk result (IsOutcome script.now (spec.chance faults.now seed) limit) }
+    ensures told { IfOk result (λ outcome.
+        Tells (O.told observer.old) (O.told observer.new) (record { seed = seed; outcome = outcome } ∷ [])) }
+    ensures err { OnErr result (observer.new ≡ observer.old) }
+{
+    let outcome = outcome_of(alloc, script, &chance(*faults, seed), limit)?;
+    observer.ended(seed, outcome);
+    Ok(outcome)
+}
+
+/// Drives a cluster through a script by chance, with faults or without, under each seed of a range, each within `limit` turns, and
+/// counts what came of them. The observer is told of each seed. It costs what [`summarize`] costs, for each seed, and keeps nothing
+/// of a run but its figures.
+///
+/// # Errors
+///
+/// `Memory`: memory ran out at some seed. The observer was told of those before it.
+pub fn survey<O: Observer>(
+    alloc: Global,
+    script: &Script,
+    faults: Option<Faults>,
+    seeds: SeedRange,
+    limit: u64,
+    observer: &mut O,
+) -> Result<Survey, Memory>
+    ensures ok { IfOk result (IsSurvey script.now faults limit seeds.first seeds.last) }
+    ensures waiting_ends { IfOk result (SeedsFinish script.now faults limit seeds.first seeds.last) }
+    ensures told { OnOk result (TellsSeeds script.now faults limit seeds.first (seeds.last + 1 - seeds.first)
+        (O.told observer.old) (O.told observer.new)) }
+    ensures err { OnErr result (TellsSomeSeeds script.now faults limit seeds.first seeds.last
+        (O.told observer.old) (O.told observer.new)) }
+{
+    schedules_rest_on_runs();
+    endings_rest_on_nodes_and_runs();
+    script.is_within_its_limits();
+    let SeedRange { first, last } = seeds;
+    if last < first {
+        return Ok(no_survey());
+    }
+    let mut survey = no_survey();
+    for seed in first..last {
+        let outcome = outcome_by(alloc, script, &faults, seed, limit, observer)?;
+        survey = with_outcome(survey, seed, outcome);
+    }
+    let outcome = outcome_by(alloc, script, &faults, last, limit, observer)?;
+    Ok(with_outcome(survey, last, outcome))
+}

@@ -1,0 +1,70 @@
+//! The first seed by which a script comes to an end that is looked for.
+ghost use Rattle.std.specs.Prelude.{◌≡◌, IfOk, OnErr};
+ghost use Rattle.ra_schedule.specs.Finding.{IsFirstSeed};
+ghost use Rattle.ra_schedule.specs.Finding as spec;
+ghost use Rattle.ra_schedule.specs.Telling.{TellsSeeds, TellsSomeSeeds, tried};
+
+use crate::surveys::observer::Observer;
+use crate::surveys::outcome_by;
+use crate::surveys::seed_outcomes::SeedOutcome;
+use crate::{Faults, Script, SeedRange};
+use ra_stamp::Memory;
+use std::alloc::Global;
+
+/// An end of a run that may be looked for.
+#[derive(Clone, Copy, Debug, PartialEq, Eq)]
+pub enum Ending {
+    /// Every operation is done, and nothing waits, is queued or under way.
+    Finished,
+    /// No choice was left before that.
+    Stuck,
+}
+
+/// Returns whether this came of a run that comes to such an end. It does not allocate.
+fn is_end(ending: Ending, outcome: SeedOutcome) -> bool
+    ensures { result ≡ spec.is_end ending outcome }
+{
+    match ending {
+        Ending::Finished => matches!(outcome, SeedOutcome::Finished(_)),
+        Ending::Stuck => matches!(outcome, SeedOutcome::Stuck(_)),
+    }
+}
+
+/// Looks for the least seed of a range by which a script comes to an end by chance, with faults or without, within `limit` turns. The
+/// observer is told of each seed up to that one. It costs what [`summarize`](crate::summarize) costs, for each of them.
+///
+/// # Errors
+///
+/// `Memory`: memory ran out at some seed. The observer was told of those before it.
+pub fn first_seed<O: Observer>(
+    alloc: Global,
+    script: &Script,
+    faults: Option<Faults>,
+    ending: Ending,
+    seeds: SeedRange,
+    limit: u64,
+    observer: &mut O,
+) -> Result<Option<u64>, Memory>
+    ensures ok { IfOk result (IsFirstSeed script.now faults limit ending seeds.first seeds.last) }
+    ensures told { IfOk result (λ found. TellsSeeds script.now faults limit seeds.first (tried seeds.first seeds.last found)
+        (O.told observer.old) (O.told observer.new)) }
+    ensures err { OnErr result (TellsSomeSeeds script.now faults limit seeds.first seeds.last
+        (O.told observer.old) (O.told observer.new)) }
+{
+    let SeedRange { first, last } = seeds;
+    if last < first {
+        return Ok(None);
+    }
+    for seed in first..last {
+        let outcome = outcome_by(alloc, script, &faults, seed, limit, observer)?;
+        if is_end(ending, outcome) {
+            return Ok(Some(seed));
+        }
+    }
+    let outcome = outcome_by(alloc, script, &faults, last, limit, observer)?;
+    Ok(if is_end(ending, outcome) {
+        Some(last)
+    } else {
+        None
+    })
+}

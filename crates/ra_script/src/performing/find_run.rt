@@ -1,0 +1,74 @@
+//! The first run of a script that comes to an end that is looked for.
+ghost use Rattle.std.specs.Prelude.{◌≡◌, ◌⊎◌, ℕ, List, Option, Some, Ok, IfOk, IsErrOf, OnOk, MatchOption, string_bytes};
+ghost use Rattle.ra_schedule.specs.Finding.{IsFirstSeed};
+ghost use Rattle.ra_schedule.specs.Telling.{TellsSeeds, TellsSomeSeeds, tried};
+ghost use Rattle.ra_script.specs.Finding.{IsFirstRun, IsFirstUnwritten, NoneEndsSo};
+ghost use Rattle.ra_script.specs.Performed.{turn_limit};
+ghost use Rattle.ra_script.specs.ScriptText.{script_of};
+
+use crate::performing::output_kind::OutputKind;
+use crate::performing::printed::Printed;
+use crate::performing::{MAX_TURNS, print_run};
+use crate::{ChoicesError, PerformError};
+use ra_schedule::{Ending, Faults, Observer, Script, SeedRange, chance, first_seed};
+use std::alloc::Global;
+
+/// Returns what is written in a format of the run of a script by the least seed of a range by which it comes to an end by chance, with
+/// faults or without, each in at most 16,777,216 turns. It is `None` if no seed brings the script to that end. The observer is told of each
+/// seed that is tried, the last of which made the run. The cost is that of the runs up to that one, and of
+/// [`perform_as`](crate::perform_as) for it.
+///
+/// # Errors
+///
+/// The first that holds, except that `Memory` may come before the other:
+///
+/// 1. `Choice`: the choices are to be written, and a message is repeated, for which there is no word. The observer was told of each seed
+///    up to that of the run.
+/// 2. `Memory`: memory ran out at some seed, and the observer was told of those before it; or for the text, and the observer was told of
+///    each seed up to that of the run.
+pub fn find_run<O: Observer>(
+    alloc: Global,
+    script: &Script,
+    faults: Option<Faults>,
+    ending: Ending,
+    seeds: SeedRange,
+    format: OutputKind,
+    observer: &mut O,
+) -> Result<Option<Printed>, ChoicesError>
+    ensures run { (input : List ℕ) → script_of input ≡ Ok script.now → IfOk result (λ found. MatchOption found
+        (NoneEndsSo faults ending seeds.first seeds.last input)
+        (λ printed. IsFirstRun format faults ending seeds.first seeds.last input (string_bytes printed.text) printed.finished)) }
+    ensures unwritten { (input : List ℕ) → script_of input ≡ Ok script.now → IsErrOf result ChoicesError.Choice
+        → IsFirstUnwritten format faults ending seeds.first seeds.last input }
+    ensures told { OnOk result ((found : Option ℕ) × IsFirstSeed script.now faults turn_limit ending seeds.first seeds.last found
+        × TellsSeeds script.now faults turn_limit seeds.first (tried seeds.first seeds.last found)
+        (O.told observer.old) (O.told observer.new)) }
+    ensures choice { IsErrOf result ChoicesError.Choice → (seed : ℕ)
+        × IsFirstSeed script.now faults turn_limit ending seeds.first seeds.last (Some seed)
+        × TellsSeeds script.now faults turn_limit seeds.first (tried seeds.first seeds.last (Some seed))
+        (O.told observer.old) (O.told observer.new) }
+    ensures memory { IsErrOf result ChoicesError.Memory
+        → TellsSomeSeeds script.now faults turn_limit seeds.first seeds.last (O.told observer.old) (O.told observer.new)
+        ⊎ ((seed : ℕ) × IsFirstSeed script.now faults turn_limit ending seeds.first seeds.last (Some seed)
+        × TellsSeeds script.now faults turn_limit seeds.first (tried seeds.first seeds.last (Some seed))
+        (O.told observer.old) (O.told observer.new)) }
+{
+    let again = copy_of(&faults);
+    let found = first_seed(alloc, script, faults, ending, seeds, MAX_TURNS, observer)?;
+    let Some(seed) = found else {
+        return Ok(None);
+    };
+    match print_run(alloc, format, &chance(again, seed), script) {
+        Ok(printed) => Ok(Some(printed)),
+        Err(PerformError::Choice) => Err(ChoicesError::Choice),
+        // By that seed it comes to an end, so only `Memory` can come.
+        Err(_) => Err(ChoicesError::Memory),
+    }
+}
+
+/// Returns the same faults, since the prover takes a value of another crate that is passed on as gone. It does not allocate.
+fn copy_of(faults: &Option<Faults>) -> Option<Faults>
+    ensures { result ≡ faults.now }
+{
+    *faults
+}

@@ -1,0 +1,108 @@
+//! Explains to a person why a document does not have the shape of a script. No clause covers what is said.
+use crate::ScriptError;
+use crate::script_reading::document::{array_at, client_of, integer_at};
+use ra_world::Note;
+use std::alloc::Global;
+use toml::value::Array;
+use toml::{Table, Value};
+
+/// What a script has.
+const SCRIPT: &str = "a script has nodes (an integer) and client (an array of tables)";
+
+/// What the table of a client has.
+const CLIENT: &str = "a client has node (an integer) and ops (an array of strings)";
+
+/// Returns the first key of a table that is neither of these two, if there is one. It does not allocate.
+fn unknown_key<'a>(table: &'a Table, first: &str, second: &str) -> Option<&'a str> {
+    for key in table.keys() {
+        let key = key.as_str();
+        if key != first && key != second {
+            return Some(key);
+        }
+    }
+    None
+}
+
+/// Says that a key is missing or its value has the wrong type, and what such a table has.
+fn say_wanting(note: &mut Note, table: &Table, key: &str, known: &str) {
+    note.push(key);
+    note.push(if table.get(key).is_some() {
+        " has the wrong type: "
+    } else {
+        " is missing: "
+    });
+    note.push(known);
+}
+
+/// Says what is wrong with a table that must have an integer and an array, or returns the array if nothing is wrong.
+fn array_in<'a>(
+    note: &mut Note,
+    table: &'a Table,
+    integer: &str,
+    array: &str,
+    known: &str,
+) -> Option<&'a Array> {
+    if let Some(key) = unknown_key(table, integer, array) {
+        note.push("unknown key ");
+        note.quoted_text(key);
+        note.push(": ");
+        note.push(known);
+        return None;
+    }
+    if integer_at(table, integer).is_none() {
+        say_wanting(note, table, integer, known);
+        return None;
+    }
+    let found = array_at(table, array);
+    if found.is_none() {
+        say_wanting(note, table, array, known);
+    }
+    found
+}
+
+/// Says which operation is the first that is not a string, if there is one.
+fn say_ops(note: &mut Note, ops: &Array) {
+    for (place, op) in ops.iter().enumerate() {
+        if op.as_str().is_none() {
+            note.push("operation ");
+            note.number(place + 1);
+            note.push(" is not a string: ");
+            note.push(CLIENT);
+            return;
+        }
+    }
+}
+
+/// Says what is wrong with the shape of a client.
+fn say_client(note: &mut Note, client: &Value) {
+    if let Some(table) = client.as_table() {
+        if let Some(ops) = array_in(note, table, "node", "ops", CLIENT) {
+            say_ops(note, ops);
+        }
+    } else {
+        note.push("not a table: ");
+        note.push(CLIENT);
+    }
+}
+
+/// Says what is wrong with the first client of the wrong shape, if there is one.
+fn say_clients(alloc: Global, note: &mut Note, clients: &Array) {
+    for (place, client) in clients.iter().enumerate() {
+        if let Err(fault) = client_of(alloc, client) {
+            note.refuse_if(fault == ScriptError::Memory);
+            note.push("client ");
+            note.number(place + 1);
+            note.push(": ");
+            say_client(note, client);
+            return;
+        }
+    }
+}
+
+/// Says what is wrong with the shape of a document, if anything is. It checks the document first, and then client by
+/// client.
+pub fn say_shape(alloc: Global, note: &mut Note, tree: &Table) {
+    if let Some(clients) = array_in(note, tree, "nodes", "client", SCRIPT) {
+        say_clients(alloc, note, clients);
+    }
+}

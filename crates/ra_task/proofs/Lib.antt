@@ -1,0 +1,4 @@
+mod Options
+mod Helping
+mod Faithful
+mod Settling

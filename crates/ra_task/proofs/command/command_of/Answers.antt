@@ -1,0 +1,34 @@
+use Rattle.std.proofs.Common.{map, string_bytes, sym, ◌∙◌}
+use Rattle.std.proofs.lemmas.Bool.{false≢true}
+use Rattle.ra_task.proofs.Settling.{none_asked}
+use Rattle.ra_task.proofs.command.command_of.Goals as goal
+
+pub returns-then-are_node_words : goal.returns-then-are_node_words
+returns-then-are_node_words c = c.are_node_words.ensures.0 c.if-are_node_words.true
+
+pub returns-in-Some : goal.returns-in-Some
+returns-in-Some c = c.in-Some.ensures
+
+pub returns-in-Ok : goal.returns-in-Ok
+returns-in-Ok c = (
+  record {
+    no_node = λ are. false≢true (sym c.if-are_node_words.false ∙ c.are_node_words.ensures.1 are);
+    no_books = none_asked (map string_bytes c.args.words.now) c.settle_words.result c.settle_words.ensures c.in_default.not-Some;
+  },
+  record {
+    help = c.in-Ok.ensures.help;
+    numbers = c.in-Ok.ensures.numbers;
+    marks = c.in-Ok.ensures.marks;
+    faithful = c.in-Ok.ensures.faithful;
+    choices = c.in-Ok.ensures.choices;
+  },
+)
+
+pub returns-in-Err : goal.returns-in-Err
+returns-in-Err c = (
+  record {
+    no_node = λ are. false≢true (sym c.if-are_node_words.false ∙ c.are_node_words.ensures.1 are);
+    no_books = none_asked (map string_bytes c.args.words.now) c.settle_words.result c.settle_words.ensures c.in_default.not-Some;
+  },
+  λ are. false≢true (c.in-Err.ensures.plain are),
+)

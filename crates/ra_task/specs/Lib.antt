@@ -1,0 +1,5 @@
+pub mod Words
+pub mod SettleWords
+pub mod Finishing
+pub mod Named
+pub mod Asked

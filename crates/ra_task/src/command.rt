@@ -1,0 +1,69 @@
+//! The command that words ask for.
+ghost use Rattle.std.specs.Prelude.{map, string_bytes};
+ghost use Rattle.ra_task.specs.Asked.{Asks};
+
+use crate::command_line::search::Search;
+use crate::command_line::{CommandFault, Task, parse};
+use crate::node_words::are_node_words;
+use crate::settle_words::{SettleTask, settle_words};
+use ra_script::OutputKind;
+use std::alloc::Global;
+
+/// What the words of a command line ask for.
+#[derive(Drop)]
+pub enum Command<'a> {
+    /// The command `node`.
+    Node,
+    /// The command `settle`, and how books are settled.
+    Settle(SettleTask),
+    /// Another command, or a text of help.
+    Task(Task<'a>),
+    /// Nothing, and why.
+    Unknown(CommandFault),
+}
+
+impl<'a> Command<'a> {
+    /// Returns what is printed of a run by `sim`, of one that is looked for if it looks for one, or `None` for another command.
+    fn printed(&self) -> Option<OutputKind> {
+        let Command::Task(task) = self else {
+            return None;
+        };
+        match *task {
+            Task::Sim { format, .. } => Some(format),
+            Task::Survey {
+                find: Some(Search { format, .. }),
+                ..
+            } => Some(format),
+            _ => None,
+        }
+    }
+
+    /// Returns whether a run is to be shrunk. It does not allocate.
+    pub fn shrinks(&self) -> bool {
+        matches!(self.printed(), Some(OutputKind::Shrunk))
+    }
+
+    /// Returns the text of the choices of `sim`, or no text. It does not allocate.
+    pub fn choices(&self) -> &str {
+        match self {
+            Command::Task(Task::Sim { choices, .. }) => choices,
+            _ => "",
+        }
+    }
+}
+
+/// Returns what the words ask for, of which the first is the program's name.
+pub fn command_of<'a>(alloc: Global, words: &'a [String]) -> Command<'a>
+    ensures { Asks (map string_bytes words.now) result }
+{
+    if are_node_words(words) {
+        return Command::Node;
+    }
+    if let Some(asked) = settle_words(words) {
+        return Command::Settle(asked);
+    }
+    match parse(alloc, words) {
+        Ok(task) => Command::Task(task),
+        Err(fault) => Command::Unknown(fault),
+    }
+}

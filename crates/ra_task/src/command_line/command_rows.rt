@@ -1,0 +1,125 @@
+//! The commands of `ra`, each a row of a table, so that the same few lines make them all.
+use crate::command_line::helps::{help_on, status_help, summary_help};
+use crate::command_line::option_rows::{options, options_of};
+use clap::Command;
+use std::alloc::{AllocError, Global};
+
+/// The version of the program, and the versions of the formats that it reads. After a release it is the next one with
+/// `-dev`, until that is released.
+const VERSION: &str = "0.2.0-dev (frames 1 and 2, traces 1 and 2)";
+
+/// Which command it is.
+#[derive(Clone, Copy)]
+pub enum CommandKind {
+    Answer,
+    Sim,
+    Cluster,
+    Check,
+    Draw,
+    Node,
+    Settle,
+}
+
+/// A command, its name, and what its help says first.
+#[derive(Clone, Copy)]
+struct CommandRow<'a> {
+    kind: CommandKind,
+    name: &'a str,
+    about: &'a str,
+}
+
+/// The commands, in the order of help.
+const COMMANDS: &[CommandRow] = &[
+    CommandRow {
+        kind: CommandKind::Answer,
+        name: "answer",
+        about: "Answer one frame, in hexadecimal digits, as an idle node would",
+    },
+    CommandRow {
+        kind: CommandKind::Sim,
+        name: "sim",
+        about: "Run a script in a simulated cluster: who asks, enters and leaves",
+    },
+    CommandRow {
+        kind: CommandKind::Cluster,
+        name: "cluster",
+        about: "Run a script in a cluster of threads: who asks, enters and leaves",
+    },
+    CommandRow {
+        kind: CommandKind::Check,
+        name: "check",
+        about: "Check the trace of a run, or the mark log of a lock service",
+    },
+    CommandRow {
+        kind: CommandKind::Draw,
+        name: "draw",
+        about: "Draw the trace of a run, or a mark log, as an SVG file",
+    },
+    CommandRow {
+        kind: CommandKind::Node,
+        name: "node",
+        about: "Be one node: read what happens at it, and answer line by line",
+    },
+    CommandRow {
+        kind: CommandKind::Settle,
+        name: "settle",
+        about: "Settle the books of all nodes into one run of the cluster",
+    },
+];
+
+/// Makes a command. The summary of its help has its options, and names --help.
+fn command_of<'a>(
+    alloc: Global,
+    row: &CommandRow<'a>,
+    is_summary: bool,
+) -> Result<Command<'a>, AllocError> {
+    let after = if is_summary {
+        summary_help()
+    } else {
+        help_on(row.kind)
+    };
+    let options = options(alloc, options_of(row.kind))?;
+    command_without_options(alloc, row, after).args(options)
+}
+
+/// Makes a command without its options. Its help ends with this text.
+fn command_without_options<'a>(
+    alloc: Global,
+    row: &CommandRow<'a>,
+    after: &'static str,
+) -> Command<'a> {
+    Command::new(alloc, row.name)
+        .about(row.about)
+        .after_help(after)
+        .disable_help_flag(true)
+}
+
+/// Makes the program with its version and its help.
+fn named_program<'a>(alloc: Global) -> Command<'a> {
+    Command::new(alloc, "ra")
+        .version(VERSION)
+        .about("Simulate, run, check and draw a lock cluster that works by messages alone")
+        .after_help(status_help())
+}
+
+/// Makes the program without its commands. A command line must name one.
+fn program<'a>(alloc: Global) -> Command<'a> {
+    named_program(alloc)
+        .disable_help_subcommand(true)
+        .subcommand_required(true)
+}
+
+/// Makes the commands, in the order of help.
+fn commands<'a>(alloc: Global, is_summary: bool) -> Result<Vec<Command<'a>>, AllocError> {
+    let mut commands = Vec::new(alloc);
+    for row in COMMANDS {
+        commands.push(command_of(alloc, row, is_summary)?)?;
+    }
+    Ok(commands)
+}
+
+/// Makes the command line that `ra` understands, with the whole help of each command or with its summary.
+pub fn command<'a>(alloc: Global, is_summary: bool) -> Result<Command<'a>, AllocError> {
+    let commands = commands(alloc, is_summary)?;
+    program(alloc).subcommands(commands)
+}

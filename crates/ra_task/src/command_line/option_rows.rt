@@ -1,0 +1,244 @@
+//! The options of the commands, each a row of a table, so that the same few lines make them all.
+use crate::command_line::command_rows::CommandKind;
+use clap::builder::ValueParser;
+use clap::{Arg, ArgAction};
+use std::alloc::{AllocError, Global};
+
+/// The words for the policies.
+const POLICIES: &[&str] = &["oldest", "newest", "seeded", "faulty", "listed"];
+
+/// The words for the ends of runs.
+const ENDINGS: &[&str] = &["finished", "stuck"];
+
+/// An option of a command: its name and help, what it takes, whether it is required, and its default, which help may
+/// leave out.
+#[derive(Clone, Copy)]
+pub struct OptionRow<'a> {
+    name: &'a str,
+    help: &'a str,
+    action: ArgAction,
+    parser: ValueParser<'a>,
+    is_required: bool,
+    defaults: &'a [&'a str],
+    hides_default: bool,
+}
+
+/// An option that takes nothing.
+const FLAG: OptionRow = OptionRow {
+    name: "",
+    help: "",
+    action: ArgAction::SetTrue,
+    parser: ValueParser::Bool,
+    is_required: false,
+    defaults: &[],
+    hides_default: false,
+};
+
+/// An option that takes a text.
+const TEXT: OptionRow = OptionRow {
+    action: ArgAction::Set,
+    parser: ValueParser::String,
+    ..FLAG
+};
+
+/// An option that takes a number of 16 bits, as the parser takes a `u16`.
+const SHORT: OptionRow = OptionRow {
+    parser: ValueParser::Signed(0, 65535),
+    ..TEXT
+};
+
+/// An option that takes a number of 64 bits.
+const LONG: OptionRow = OptionRow {
+    parser: ValueParser::Unsigned(0, 18446744073709551615),
+    ..TEXT
+};
+
+/// The options of the command `answer`.
+const ANSWER_OPTIONS: &[OptionRow] = &[
+    OptionRow {
+        name: "node",
+        help: "Answer as this node, 1 to the value of --nodes",
+        is_required: true,
+        ..SHORT
+    },
+    OptionRow {
+        name: "nodes",
+        help: "Set the number of nodes, 1 to 64",
+        is_required: true,
+        ..SHORT
+    },
+];
+
+/// The options of the command `sim`, in the order of help.
+const SIM_OPTIONS: &[OptionRow] = &[
+    OptionRow {
+        name: "policy",
+        help: "Choose each step by this policy",
+        parser: ValueParser::Names(POLICIES),
+        defaults: &["oldest"],
+        ..TEXT
+    },
+    OptionRow {
+        name: "seed",
+        help: "Set the random seed, 0 to 2^64 - 1",
+        defaults: &["0"],
+        ..LONG
+    },
+    OptionRow {
+        name: "lose",
+        help: "Lose 0 to 1000 of 1000 messages",
+        defaults: &["0"],
+        ..SHORT
+    },
+    OptionRow {
+        name: "repeat",
+        help: "Repeat 0 to 400 of 1000 messages",
+        defaults: &["0"],
+        ..SHORT
+    },
+    OptionRow {
+        name: "choices",
+        help: "Make these choices, under listed [default: none]",
+        defaults: &[""],
+        hides_default: true,
+        ..TEXT
+    },
+    OptionRow {
+        name: "seeds",
+        help: "Survey the seeds of a range, such as 1..1000",
+        ..TEXT
+    },
+    OptionRow {
+        name: "find",
+        help: "With --seeds, trace the first finished or stuck run",
+        parser: ValueParser::Names(ENDINGS),
+        ..TEXT
+    },
+    OptionRow {
+        name: "trace",
+        help: "Print the trace in place of marks and totals",
+        ..FLAG
+    },
+    OptionRow {
+        name: "as-choices",
+        help: "Print the choices in place of marks and totals",
+        ..FLAG
+    },
+    OptionRow {
+        name: "shrink",
+        help: "Print the choices of a shorter run that is stuck, too",
+        ..FLAG
+    },
+    OptionRow {
+        name: "state",
+        help: "Print the final state in place of marks and totals",
+        ..FLAG
+    },
+];
+
+/// The options of the command `cluster`.
+const CLUSTER_OPTIONS: &[OptionRow] = &[
+    OptionRow {
+        name: "trace",
+        help: "Print the trace in place of marks and totals",
+        ..FLAG
+    },
+    OptionRow {
+        name: "books",
+        help: "Print the books in place of marks and totals",
+        ..FLAG
+    },
+];
+
+/// The options of the command `settle`.
+const SETTLE_OPTIONS: &[OptionRow] = &[
+    OptionRow {
+        name: "repeats",
+        help: "Let frames come more than once",
+        ..FLAG
+    },
+    OptionRow {
+        name: "trace",
+        help: "Print the trace in place of marks and totals",
+        ..FLAG
+    },
+];
+
+/// The option of the command `check`.
+const CHECK_OPTIONS: &[OptionRow] = &[OptionRow {
+    name: "marks",
+    help: "Check the mark log of any lock service, not a trace",
+    ..FLAG
+}];
+
+/// The options of the command `draw`: what it reads, and the first and the last line of the part that is drawn.
+const DRAW_OPTIONS: &[OptionRow] = &[
+    OptionRow {
+        name: "marks",
+        help: "Draw the mark log of any lock service, not a trace",
+        ..FLAG
+    },
+    OptionRow {
+        name: "from",
+        help: "Draw from this line on, counted from 1",
+        defaults: &["1"],
+        ..LONG
+    },
+    OptionRow {
+        name: "to",
+        help: "Draw up to and including this line [default: the last]",
+        defaults: &["18446744073709551615"],
+        hides_default: true,
+        ..LONG
+    },
+];
+
+/// The option that each command has after its own.
+const HELP_OPTION: OptionRow = OptionRow {
+    name: "help",
+    help: "Print help, or a summary with -h",
+    action: ArgAction::Help,
+    ..FLAG
+};
+
+/// Returns the options of a command, in their order.
+pub fn options_of(kind: CommandKind) -> &'static [OptionRow<'static>] {
+    match kind {
+        CommandKind::Answer => ANSWER_OPTIONS,
+        CommandKind::Sim => SIM_OPTIONS,
+        CommandKind::Check => CHECK_OPTIONS,
+        CommandKind::Draw => DRAW_OPTIONS,
+        CommandKind::Cluster => CLUSTER_OPTIONS,
+        CommandKind::Settle => SETTLE_OPTIONS,
+        CommandKind::Node => &[],
+    }
+}
+
+/// Makes an option, with its name and its help.
+fn named<'a>(alloc: Global, row: &OptionRow<'a>) -> Arg<'a> {
+    Arg::new(alloc, row.name)
+        .long(row.name)
+        .help(row.help)
+        .hide_default_value(row.hides_default)
+        .hide_possible_values(true)
+}
+
+/// Makes an option. If it takes one of several words, the text below the options lists them, and its own help leaves
+/// them out.
+fn option_of<'a>(alloc: Global, row: &OptionRow<'a>) -> Arg<'a> {
+    named(alloc, row)
+        .action(row.action)
+        .value_parser(row.parser)
+        .required(row.is_required)
+        .default_values(row.defaults)
+}
+
+/// Makes the options of these rows, in their order, and after them the one for help.
+pub fn options<'a>(alloc: Global, rows: &[OptionRow<'a>]) -> Result<Vec<Arg<'a>>, AllocError> {
+    let mut options = Vec::new(alloc);
+    for row in rows {
+        options.push(option_of(alloc, row))?;
+    }
+    options.push(option_of(alloc, &HELP_OPTION).short('h'))?;
+    Ok(options)
+}

@@ -1,0 +1,401 @@
+//! What the parser says about words that are not a command line, on one line.
+use crate::command_line::command_rows::command;
+use crate::command_line::{PolicyName, format_of, policy_name, text_of};
+use crate::policy::is_choice;
+use crate::said::Said;
+use crate::unused_options::is_given;
+use crate::waiting::reads_input;
+use clap::error::ErrorKind;
+use clap::{ArgMatches, Command, Error as ParseError};
+use ra_world::Note;
+use std::alloc::Global;
+
+/// What is said about rates of faults that are out of range.
+const FAULTS_TEXT: &str =
+    "--repeat must be at most 400, and --lose and --repeat together at most 1000; see ra sim --help";
+
+/// What is said about seeds under a policy that draws none.
+const SEEDS_POLICY_TEXT: &str = "--seeds requires --policy seeded or faulty; see ra sim --help";
+
+/// What is said about seeds with an option that prints one run.
+const SEEDS_FORMAT_TEXT: &str =
+    "--seeds takes --trace, --as-choices or --shrink only with --find; see ra sim --help";
+
+/// What is said if an end is looked for without seeds.
+const FIND_TEXT: &str = "--find requires --seeds; see ra sim --help";
+
+/// What is said about choices that can't be printed.
+const AS_CHOICES_TEXT: &str =
+    "--as-choices cannot be used with --trace, nor with --policy faulty unless --repeat is 0; see ra sim --help";
+
+/// What is said about a run that can't be shrunk.
+const SHRINK_TEXT: &str =
+    "--shrink cannot be used with --trace, --as-choices or --state, nor with --policy faulty unless --repeat is 0; see ra sim --help";
+
+/// What is said about a run to be shrunk that is not stuck.
+const SHRINK_FIND_TEXT: &str = "--shrink cannot be used with --find finished; see ra sim --help";
+
+/// What is said about a state that can't be printed.
+const STATE_TEXT: &str =
+    "--state cannot be used with --trace, --as-choices, --shrink or --seeds; see ra sim --help";
+
+/// What is said about a part of a trace that has no lines.
+const PART_TEXT: &str = "--from must be at least 1, and at most --to; see ra draw --help";
+
+/// What is said if `cluster` is asked for two things.
+const CLUSTER_TEXT: &str = "--books cannot be used with --trace; see ra cluster --help";
+
+/// What is said if `node` has an argument that the parser passes over, which only `--` is.
+const NODE_TEXT: &str = "node takes no arguments; see ra node --help";
+
+/// What is said if `settle` has an argument that the parser passes over, which only `--` is.
+const SETTLE_TEXT: &str =
+    "settle takes no arguments but --repeats and --trace; see ra settle --help";
+
+/// What is said of the seeds that --seeds takes.
+const SEEDS_RANGE: &str = "A..B, such as 1..1000, with two numbers from 0 to 18446744073709551615";
+
+/// An option that takes a value, and which ones it takes.
+struct Range {
+    option: &'static str,
+    text: &'static str,
+}
+
+/// The options that take a value.
+const RANGES: &[Range] = &[
+    Range {
+        option: "--policy",
+        text: "oldest, newest, seeded, faulty or listed",
+    },
+    Range {
+        option: "--seed",
+        text: "0 to 18446744073709551615",
+    },
+    Range {
+        option: "--lose",
+        text: "0 to 1000, of 1000 messages",
+    },
+    Range {
+        option: "--repeat",
+        text: "0 to 400, of 1000 messages",
+    },
+    Range {
+        option: "--choices",
+        text: "choices with one space between them, each c, m or l and a number of 1 to 9 digits without leading zeros",
+    },
+    Range {
+        option: "--seeds",
+        text: SEEDS_RANGE,
+    },
+    Range {
+        option: "--find",
+        text: "finished or stuck",
+    },
+    Range {
+        option: "--nodes",
+        text: "1 to 64",
+    },
+    Range {
+        option: "--node",
+        text: "1 to the value of --nodes",
+    },
+    Range {
+        option: "--from",
+        text: "the number of a line, 1 or more",
+    },
+    Range {
+        option: "--to",
+        text: "the number of a line, at least that of --from",
+    },
+];
+
+/// Returns which values an option takes, or `None` if it takes none.
+fn range_of(option: &str) -> Option<&'static str> {
+    for range in RANGES {
+        if range.option == option {
+            return Some(range.text);
+        }
+    }
+    None
+}
+
+/// Returns whether the parser takes a word for an option, though it is none, such as a negative number.
+fn is_no_option(word: &str) -> bool {
+    match word.as_bytes() {
+        [b'-', next, ..] => !matches!(next, b'-' | b'h' | b'V'),
+        _ => false,
+    }
+}
+
+/// Returns the option that takes a value and is followed by a word that the parser takes for an option, and that word, or `None`.
+fn no_option_in(words: &[String]) -> Option<(&str, &str)> {
+    for place in 1..words.len() {
+        let option = words[place].as_str();
+        if range_of(option).is_some()
+            && let Some(next) = words.get(place + 1)
+            && is_no_option(next.as_str())
+        {
+            return Some((option, next.as_str()));
+        }
+    }
+    None
+}
+
+/// Returns what comes before the first occurrence of a mark in a text, and what follows it, or `None`. A call of it is cheaper
+/// to prove than one of `split_once`, which promises more.
+fn cut_at<'a>(text: &'a str, mark: &str) -> Option<(&'a str, &'a str)> {
+    text.split_once(mark)
+}
+
+/// Returns what the parser says between two marks, and what follows the second, or `None`.
+fn between<'a>(said: &'a str, first: &str, second: &str) -> Option<(&'a str, &'a str)> {
+    let (_, rest) = cut_at(said, first)?;
+    cut_at(rest, second)
+}
+
+/// Returns the option of which the parser says that its number is wrong, and that number, or `None`. It says why after a colon, and
+/// otherwise lists the words that an option takes, and the nearest one.
+fn wrong_number_in(said: &str) -> Option<(&str, &str)> {
+    let (value, rest) = between(said, "invalid value '", "' for '")?;
+    let (option, after) = cut_at(rest, " <")?;
+    cut_at(after, ">': ")?;
+    Some((option, value))
+}
+
+/// Adds the value of an option, and which ones it takes.
+fn push_range(note: &mut Note, option: &str, value: &str, text: &str) {
+    note.push(option);
+    note.push(" is ");
+    note.quoted_text(value);
+    note.push(": must be ");
+    note.push(text);
+}
+
+/// Adds which values an option takes if a wrong one is given, and returns whether one is.
+fn push_value(note: &mut Note, words: &[String], said: &str) -> bool {
+    let wrong = match no_option_in(words) {
+        Some(wrong) => Some(wrong),
+        None => wrong_number_in(said),
+    };
+    let Some((option, value)) = wrong else {
+        return false;
+    };
+    let Some(text) = range_of(option) else {
+        return false;
+    };
+    push_range(note, option, value, text);
+    true
+}
+
+/// Returns the command that the words name, or `None`.
+fn command_named(words: &[String]) -> Option<&str> {
+    let name = words.get(1)?.as_str();
+    if reads_input(name) { Some(name) } else { None }
+}
+
+/// Returns the word that the parser did not expect, if it is not an option.
+fn unexpected_in(said: &str) -> Option<&str> {
+    let (word, _) = between(said, "unexpected argument '", "' found")?;
+    if word.starts_with('-') {
+        None
+    } else {
+        Some(word)
+    }
+}
+
+/// Adds a line of what the parser says: a tip after a semicolon, and any other after a space.
+fn push_line(note: &mut Note, line: &str) {
+    let (joint, shown) = match line.strip_prefix("tip: ") {
+        Some(tip) => ("; ", tip),
+        None if note.is_empty() || line.is_empty() => ("", line),
+        None => (" ", line),
+    };
+    note.push(joint);
+    note.shown(shown);
+}
+
+/// Returns whether a line of what the parser says begins the usage, or what follows it.
+fn is_usage(line: &str) -> bool {
+    line.starts_with("Usage:") || line.starts_with("For more information")
+}
+
+/// Adds what the parser says, without the lines of the usage and what follows them.
+fn push_said(note: &mut Note, said: &str) {
+    let said = said.strip_prefix("error: ").unwrap_or(said);
+    for line in said.lines() {
+        if is_usage(line) {
+            return;
+        }
+        push_line(note, line.trim());
+    }
+}
+
+/// Adds what a word may be that the parser did not expect: one of the choices, which are one argument, or a file.
+fn push_unexpected(alloc: Global, note: &mut Note, words: &[String], name: &str, word: &str) {
+    if is_given(words, "--choices") && is_choice(alloc, word) {
+        note.push("; all choices are one argument: quote them, as in --choices \"c1 m0\"");
+    } else {
+        note.push("; to read a file, run ra ");
+        note.push(name);
+        note.push(" < ");
+        note.shown(word);
+    }
+}
+
+/// Adds where to read more.
+fn push_see(note: &mut Note, words: &[String]) {
+    note.push("; see ra ");
+    if let Some(name) = command_named(words) {
+        note.push(name);
+        note.push(" ");
+    }
+    note.push("--help");
+}
+
+/// Adds what is said about help options that share a word with others, and where to read more.
+fn push_help(note: &mut Note, words: &[String]) {
+    note.push("-h and -V must be arguments of their own");
+    push_see(note, words);
+}
+
+/// Adds what the parser says, or which numbers an option takes, and what an unexpected word may be.
+fn push_parsed(alloc: Global, note: &mut Note, words: &[String], said: &str) {
+    if push_value(note, words, said) {
+        return;
+    }
+    push_said(note, said);
+    if let Some(name) = command_named(words)
+        && let Some(word) = unexpected_in(said)
+    {
+        push_unexpected(alloc, note, words, name, word);
+    }
+}
+
+/// Adds what the parser says about the words with its error, and where to read more.
+fn push_error(alloc: Global, note: &mut Note, words: &[String], error: &ParseError) {
+    if matches!(
+        error.kind(),
+        ErrorKind::DisplayHelp | ErrorKind::DisplayVersion
+    ) {
+        push_help(note, words);
+        return;
+    }
+    match format!(in alloc; "{error}") {
+        Ok(said) => {
+            push_parsed(alloc, note, words, said.as_str());
+            push_see(note, words);
+        }
+        Err(_) => note.refuse_if(true),
+    }
+}
+
+/// Adds what is wrong with the text of `--seeds`.
+fn push_seeds(note: &mut Note, seeds: &str) {
+    if is_range(seeds) {
+        note.push("--seeds is ");
+        note.quoted_text(seeds);
+        note.push(": the first seed is above the last");
+    } else {
+        push_range(note, "--seeds", seeds, SEEDS_RANGE);
+    }
+    note.push("; see ra sim --help");
+}
+
+/// Returns whether a text is two seeds with two dots between them.
+fn is_range(seeds: &str) -> bool {
+    match cut_at(seeds, "..") {
+        Some((first, last)) => is_seed(first) && is_seed(last),
+        None => false,
+    }
+}
+
+/// Returns whether a text is a seed.
+fn is_seed(text: &str) -> bool {
+    let seed: Option<u64> = text.parse().ok();
+    seed.is_some()
+}
+
+/// Returns whether the trace or choices of one run are to be printed.
+fn prints_one_run(sim: &ArgMatches) -> bool {
+    sim.get_flag("trace") || sim.get_flag("as-choices") || sim.get_flag("shrink")
+}
+
+/// Adds what is wrong with words of the command `sim` that ask for many seeds.
+fn push_survey(note: &mut Note, words: &[String], policy: &PolicyName, sim: &ArgMatches) {
+    if !matches!(policy, PolicyName::Seeded(_) | PolicyName::Faulty { .. }) {
+        note.push(SEEDS_POLICY_TEXT);
+    } else if sim.get_flag("state") {
+        note.push(STATE_TEXT);
+    } else if prints_one_run(sim) && !is_given(words, "--find") {
+        note.push(SEEDS_FORMAT_TEXT);
+    } else if sim.get_flag("shrink") && text_of(words, "--find") == Some("finished") {
+        note.push(SHRINK_FIND_TEXT);
+    } else {
+        push_seeds(note, text_of(words, "--seeds").unwrap_or(""));
+    }
+}
+
+/// Adds what is wrong with words of the command `sim` that name this policy, the next cause after the policy.
+fn push_under(note: &mut Note, words: &[String], policy: &PolicyName, sim: &ArgMatches) {
+    if format_of(policy, words, sim).is_none() {
+        note.push(if sim.get_flag("state") {
+            STATE_TEXT
+        } else if sim.get_flag("shrink") {
+            SHRINK_TEXT
+        } else {
+            AS_CHOICES_TEXT
+        });
+    } else if is_given(words, "--seeds") {
+        push_survey(note, words, policy, sim);
+    } else {
+        note.push(FIND_TEXT);
+    }
+}
+
+/// Adds what is wrong with words of the command `sim` in which the parser finds nothing wrong. The causes are tried in
+/// the order in which a task is made from the words.
+fn push_unseen(note: &mut Note, words: &[String], sim: &ArgMatches) {
+    match policy_name(words, sim) {
+        Some(policy) => push_under(note, words, &policy, sim),
+        None => note.push(FAULTS_TEXT),
+    }
+}
+
+/// Adds what is wrong with words of a command in which the parser finds nothing wrong.
+fn push_unseen_of(note: &mut Note, words: &[String], command: &str, given: &ArgMatches) {
+    match command {
+        "draw" => note.push(PART_TEXT),
+        "cluster" => note.push(CLUSTER_TEXT),
+        "node" => note.push(NODE_TEXT),
+        "settle" => note.push(SETTLE_TEXT),
+        _ => push_unseen(note, words, given),
+    }
+}
+
+/// Adds what is wrong with words in which the parser finds nothing wrong, so the cause is something that it does not check.
+fn push_unchecked(note: &mut Note, words: &[String], matches: &ArgMatches) {
+    match matches.subcommand() {
+        Some((command, given)) => push_unseen_of(note, words, command, given),
+        None => push_help(note, words),
+    }
+}
+
+/// Adds what is wrong with the words.
+fn push_usage<'a>(alloc: Global, note: &mut Note, words: &'a [String], command: Command<'a>) {
+    match command.try_get_matches_from(words) {
+        Ok(matches) => push_unchecked(note, words, &matches),
+        Err(error) => push_error(alloc, note, words, &error),
+    }
+}
+
+/// Returns what there is to say about words that are not a command line of `ra`: what is wrong, the nearest word if the
+/// parser knows one, and where to read more. The parser is run again, so that the contract of `parse` need not mention
+/// notes.
+pub fn usage_note(alloc: Global, words: &[String]) -> Said {
+    let mut note = Note::new(alloc);
+    match command(alloc, false) {
+        Ok(command) => push_usage(alloc, &mut note, words, command),
+        Err(_) => note.refuse_if(true),
+    }
+    Said::of(note)
+}

@@ -1,0 +1,77 @@
+//! Options of `sim` that are given but have no effect.
+use crate::command_line::{choices_word, policy_word, text_of};
+use crate::said::write_line;
+use std::io::Write;
+
+/// An option that has an effect only under some policies.
+struct Limited {
+    option: &'static str,
+    policies: &'static [&'static str],
+    /// What is said if the policy is not one of these.
+    text: &'static str,
+}
+
+/// The options of `sim` that have an effect only under some policies.
+const LIMITED: &[Limited] = &[
+    Limited {
+        option: "--seed",
+        policies: &["seeded", "faulty"],
+        text: "--seed is ignored: only --policy seeded and faulty use it",
+    },
+    Limited {
+        option: "--lose",
+        policies: &["faulty"],
+        text: "--lose is ignored: only --policy faulty uses it",
+    },
+    Limited {
+        option: "--repeat",
+        policies: &["faulty"],
+        text: "--repeat is ignored: only --policy faulty uses it",
+    },
+    Limited {
+        option: "--choices",
+        policies: &["listed"],
+        text: "--choices is ignored: only --policy listed uses it",
+    },
+];
+
+/// Returns whether the words give an option a text. It does not allocate.
+pub fn is_given(words: &[String], option: &str) -> bool {
+    text_of(words, option).is_some()
+}
+
+/// Returns whether an option has an effect under a policy. It does not allocate.
+fn is_for(limited: &Limited, policy: &str) -> bool {
+    for &other in limited.policies {
+        if other == policy {
+            return true;
+        }
+    }
+    false
+}
+
+/// Writes a line for each option that is given but has no effect under the policy. It does not allocate, and ignores a
+/// failure of the writer.
+fn write_limits<N: Write>(words: &[String], options: &[Limited], policy: &str, notes: &mut N) {
+    for limited in options {
+        if is_given(words, limited.option) && !is_for(limited, policy) {
+            write_line(notes, limited.text);
+        }
+    }
+}
+
+/// Writes a line for each option of `sim` that is given but has no effect. It does not allocate, and ignores a failure
+/// of the writer.
+pub fn write_unused_options<N: Write>(words: &[String], notes: &mut N) {
+    let policy = policy_word(words);
+    write_limits(words, LIMITED, policy, notes);
+    if policy == "listed" && choices_word(words).is_empty() {
+        write_line(
+            notes,
+            "--policy listed has nothing to do: --choices is missing or empty",
+        );
+    }
+    if is_given(words, "--seeds") && is_given(words, "--seed") {
+        write_line(notes, "--seed is ignored: --seeds gives the seeds");
+    }
+}

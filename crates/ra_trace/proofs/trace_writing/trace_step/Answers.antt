@@ -1,0 +1,28 @@
+use Rattle.std.proofs.Common.{string_bytes, refl, ap, ◌∙◌, inl, inr}
+use Rattle.ra_trace.specs.Writing.{refusal_of_run}
+use Rattle.ra_world.proofs.Refusing.{memory_or_not}
+use Rattle.ra_trace.proofs.Traced.{traced_more, stops_by}
+use Rattle.ra_trace.proofs.trace_writing.trace_step.Goals as goal
+
+pub returns-in-Ok-push_move-clause-traced : goal.returns-in-Ok-push_move-clause-traced
+returns-in-Ok-push_move-clause-traced c n start steps inside is traced =
+    traced_more n start c.args.place steps c.args.step.now c.args.world.now c.step.new.self c.in-Ok.outcome.sends.items c.in-Ok.outcome.marks.items
+    (string_bytes c.args.text.now) (string_bytes c.push_move.new.text) traced inside is c.in-Ok.ensures.ok c.in-Ok.ensures.run
+    c.in-Ok-push_move.ensures.text c.in-Ok-push_move.ensures.fit
+
+pub returns-in-Err-clause-traced : goal.returns-in-Err-clause-traced
+returns-in-Err-clause-traced c n start steps inside is traced =
+    let law = c.prefixes_of_runs_are_runs.ensures in
+    stops_by law.steps law.step n start c.args.place steps c.args.step.now c.args.world.now (string_bytes c.args.text.now) c.in-Err.cause c.refusal_of.result
+    traced inside is (λ other. (c.in-Err.ensures.refused c.in-Err.cause other).0 refl) c.in-Err.ensures.allowed.1
+    (λ same. c.refusal_of.ensures ∙ ap refusal_of_run (c.at.ensures.memory same)) (λ other. c.refusal_of.ensures ∙ ap refusal_of_run (c.at.ensures.refused other))
+
+pub returns-in_default-clause-memory : goal.returns-in_default-clause-memory
+returns-in_default-clause-memory c is = c.in-Ok.ensures.allowed.0 tt
+
+pub returns-in-Err-clause-memory : goal.returns-in-Err-clause-memory
+returns-in-Err-clause-memory c is =
+    elim (memory_or_not c.in-Err.cause) [
+      | inl memory ↦ c.in-Err.ensures.allowed.0 memory
+      | inr other ↦ let refused = c.refusal_of.ensures ∙ ap refusal_of_run (c.at.ensures.refused other) in absurd cc
+    ]

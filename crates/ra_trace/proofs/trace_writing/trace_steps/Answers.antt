@@ -1,0 +1,21 @@
+use Rattle.std.proofs.Common.{◌≡◌, ◌<◌, ◌+◌, ℕ, List, Err, length, take, ap, subst}
+use Rattle.std.proofs.lemmas.Result.{err_from_is_err_and}
+use Rattle.ra_world.specs.declared.step.Step.{Step}
+use Rattle.ra_world.specs.Run.{WorldRun}
+use Rattle.ra_trace.specs.declared.error.WriteTraceError.TheVariants.{Memory}
+use Rattle.std.proofs.Common.{string_bytes}
+use Rattle.ra_trace.proofs.Traced.{goes_there}
+use Rattle.ra_trace.proofs.trace_writing.trace_steps.Goals as goal
+
+pub returns-in_err-trace_step-clause-memory : goal.returns-in_err-trace_step-clause-memory
+returns-in_err-trace_step-clause-memory c n start opened is =
+    let p = err_from_is_err_and c.from_residual.result c.from_residual.ensures.1 in
+    let ends = rw (p.1, p.2) at is in
+    let why : c.in_err-trace_step.field-0.0 ≡ Memory = cc in
+    let place = c.loop-place.place in
+    let items = c.as_slice-step-items.result.now in
+    let run : WorldRun n start (take (place + 1) items) =
+    goes_there c.prefixes_of_runs_are_runs.ensures.step n start place items c.step-item.result c.loop-place.world (string_bytes c.loop-place.text)
+    (c.loop-place.invariant n start opened) c.loop-place-test.true c.step-item.is (c.in_err-trace_step.ensures.memory (ap Err why)) in
+    subst (λ (steps : List Step). (k : ℕ) × (k < length steps) × WorldRun n start (take (k + 1) steps)) c.as_slice-step-items.ensures
+    (place, c.loop-place-test.true, run)

@@ -1,0 +1,75 @@
+use Rattle.std.proofs.Common.{◌≡◌, ◌≢◌, Result, Err, refl, sym, ap, ◌∙◌, subst, inl}
+use Rattle.std.specs.Io.KnownBytes.{Appends}
+use Rattle.std.proofs.lemmas.Result.{err_from_is_err_and, IfOk-from_err, MatchResult-from_err, IfErr-weaker, IfErr-at_err}
+use Rattle.ra_trace.specs.declared.error.WriteTraceError.{WriteTraceError}
+use Rattle.ra_trace.specs.declared.error.WriteTraceError.TheVariants.{Write}
+use Rattle.ra_trace.specs.TraceText.{IsTrace}
+use Rattle.ra_trace.proofs.Refusing.{passes, all_made, tells_unwritten, memory_or_writer, of_writer}
+use Rattle.ra_trace.proofs.trace_writing.write_trace.Goals as goal
+
+-- ---- No trace is made
+
+pub returns-in_err-text : goal.returns-in_err-text
+returns-in_err-text g c =
+    let result = c.from_residual.result in
+    let p = err_from_is_err_and result c.from_residual.ensures.1 in
+    let e = c.in_err-text.ensures in
+    let tells = passes c.args.nodes c.args.start c.args.steps.now.items result c.in_err-text.field-0.0 (p.1 ∙ ap Err p.2)
+    (record { bad_count = e.bad_count; refused = e.refused; never = e.never; memory = e.memory; allowed = e.allowed; early = e.early }) in
+    record {
+      ok = IfOk-from_err result _ c.from_residual.ensures.0;
+      bad_count = tells.bad_count;
+      refused = tells.refused;
+      never = tells.never;
+      memory = tells.memory;
+      allowed = λ number steps. IfErr-weaker result _ _ (λ fault same. inl same) (tells.allowed number steps);
+      unwritten = MatchResult-from_err result _ _ c.from_residual.ensures.0 (λ fault other. refl);
+      prefix = λ is. absurd (IfErr-at_err (λ fault. fault ≢ Write) is tells.early refl);
+    }
+
+-- ---- The trace is not written
+
+pub returns : goal.returns
+returns g c =
+    let n = c.args.nodes in
+    let start = c.args.start in
+    let steps = c.args.steps.now.items in
+    let (moves, made, trace) = c.in_ok-text.ensures.ok in
+    let result : Result (Unit {0}) WriteTraceError = Err Write in
+    let is : result ≡ Err Write = refl in
+    let tells = tells_unwritten n start steps result is trace.count in
+    record {
+      ok = tt;
+      bad_count = tells.0;
+      refused = tells.1;
+      never = tells.2;
+      memory = tells.3;
+      allowed = λ number steps. memory_or_writer n start c.args.steps.now.items result is;
+      unwritten = of_writer n start steps result is _;
+      prefix = λ _.
+          let (prefix, rest, whole, some, appends) = c.in-Err.ensures.err in
+          (moves, prefix, rest, made, subst (IsTrace n start moves) (sym c.as_bytes.ensures.value ∙ whole) trace, some, appends);
+    }
+
+-- ---- It is written
+
+pub returns-in-Ok : goal.returns-in-Ok
+returns-in-Ok g c =
+    let (moves, made, trace) = c.in_ok-text.ensures.ok in
+    let tells = all_made c.args.nodes c.args.start c.args.steps.now.items tt trace.count in
+    record {
+      ok = (
+        moves,
+        _,
+        made,
+        trace,
+        subst (Appends (g.W.Write.contents c.args.writer.now) (g.W.Write.contents c.write_out.new.writer)) c.as_bytes.ensures.value c.in-Ok.ensures.ok,
+      );
+      bad_count = tells.bad_count;
+      refused = tells.refused;
+      never = tells.never;
+      memory = tells.memory;
+      allowed = λ number steps. tt;
+      unwritten = tt;
+      prefix = λ is. absurd cc;
+    }

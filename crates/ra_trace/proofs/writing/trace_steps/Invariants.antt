@@ -1,8 +1,0 @@
-use Rattle.std.proofs.Common.{ℕ, [], take, string_bytes}
-use Rattle.ra_trace.specs.Writing.{HasTraced}
-use Rattle.ra_trace.proofs.writing.trace_steps.Given as goal
-
--- the steps so far, and their text
-abbrev pub invariant-loop-place : goal.invariant-loop-place
-invariant-loop-place l =
-    (n start : ℕ) → HasTraced n start [] l.fn.world (string_bytes l.fn.text) → HasTraced n start (take l.place l.step-items) l.world (string_bytes l.text)

@@ -1,0 +1,244 @@
+ghost use Rattle.std.specs.Prelude.{◌≡◌, ◌≤◌, ◌-◌, ℕ, List, Option, IfOk};
+ghost use Rattle.ra_trace.specs.Due.{TellsDue};
+ghost use Rattle.ra_trace.specs.declared.checker.Next.{Next};
+ghost use Rattle.ra_trace.specs.declared.checker.verdict.Cause.{Cause};
+ghost use Rattle.ra_trace.specs.declared.checker.verdict.Verdict.{Verdict};
+ghost use Rattle.ra_trace.specs.Along.{IsAlong, Opens, SomeTaken, Turns};
+ghost use Rattle.ra_trace.specs.Check.{ChecksTrace};
+ghost use Rattle.ra_trace.specs.Checking.{HasSameDue};
+ghost use Rattle.ra_trace.specs.NextLine.{EndsText};
+ghost use Rattle.ra_trace.specs.Reading.{Answers};
+
+use crate::checker::{Checker, Next};
+use crate::laws::{each_text_has_one_verdict, traces_rest_on_runs};
+use crate::line_source::byte_lines::is_at_end;
+use crate::line_source::{ByBytes, FromBuffer, LineSource};
+use crate::{Cause, TraceError, Verdict};
+use ra_stamp::Mark;
+use std::alloc::Global;
+use std::io::{BufRead, Read};
+
+/// The most bytes that a text may have.
+const MAX_TEXT: u64 = 16_777_216;
+
+/// Returns that this line is not one that may be there.
+fn wrong_at(line: u64) -> Verdict
+    ensures { result ≡ Verdict.Invalid line Cause.Line }
+{
+    Verdict::Invalid {
+        line,
+        cause: Cause::Line,
+    }
+}
+
+/// Returns the verdict after a right last line. A line after it would have this number, and the text may still have `left` bytes.
+///
+/// # Errors
+///
+/// `Read`, `Limit`.
+fn ending<R: Read>(
+    reader: &mut R,
+    checker: &Checker,
+    left: usize,
+    number: u64,
+) -> Result<Verdict, TraceError>
+    ensures { EndsText left (R.remaining reader.old) (R.remaining reader.new) checker.now number result }
+{
+    if is_at_end(reader, left)? {
+        Ok(checker.totals())
+    } else {
+        Ok(wrong_at(number))
+    }
+}
+
+/// Takes the first line, and answers the checker after it, or `None` if none comes that may begin a trace. `taken` becomes the
+/// number of its bytes.
+///
+/// # Errors
+///
+/// `Read`, `Limit`, `Memory`.
+fn take_first<R: Read, S: LineSource<R>>(
+    alloc: Global,
+    reader: &mut R,
+    taken: &mut usize,
+    limit: usize,
+) -> Result<Option<Checker>, TraceError>
+    ensures opened { Opens limit (R.remaining reader.old) (R.remaining reader.new) taken.new result }
+    ensures within { IfOk result (λ opened. taken.new ≤ limit) }
+{
+    match S::next_line(reader, taken, limit)? {
+        Some(line) => Checker::behind_first(alloc, &line),
+        None => Ok(None),
+    }
+}
+
+/// Reads the next line, has the checker take it, and says what it is. `taken` becomes the number of its bytes. The text may still
+/// have `left` bytes.
+///
+/// # Errors
+///
+/// `Read`, `Limit`, `Memory`.
+fn take_next<R: Read, S: LineSource<R>>(
+    alloc: Global,
+    reader: &mut R,
+    taken: &mut usize,
+    checker: &mut Checker,
+    left: usize,
+) -> Result<Next, TraceError>
+    ensures turned { (limit number : ℕ) (old : Option (List ℕ))
+        → IsAlong limit left old (R.remaining reader.old) checker.old number
+        → Turns limit left old (R.remaining reader.new) checker.new number taken.new result }
+    ensures some { IfOk result (λ next. SomeTaken left taken.new next) }
+    ensures due { IfOk result (λ next. (cause : Cause) → next ≡ Next.Wrong cause → HasSameDue checker.old checker.new) }
+{
+    traces_rest_on_runs();
+    match S::next_line(reader, taken, left)? {
+        Some(line) => checker.take(alloc, &line),
+        None => Ok(Next::Wrong(Cause::Line)),
+    }
+}
+
+/// Returns the verdict of a text whose first line has this many bytes, from the checker after that line. If a line is wrong for its
+/// marks, `due` becomes the mark that was due there.
+///
+/// # Errors
+///
+/// `Read`, `Limit`, `Memory`.
+fn verdict_behind<R: Read, S: LineSource<R>>(
+    alloc: Global,
+    reader: &mut R,
+    first: usize,
+    checker: &mut Checker,
+    limit: usize,
+    due: &mut Option<Mark>,
+) -> Result<Verdict, TraceError>
+    requires most { limit ≤ 16777216 }
+    requires within { first ≤ limit }
+    ensures answers { (old : Option (List ℕ))
+        → IsAlong limit (limit - first) old (R.remaining reader.old) checker.old 2
+        → Answers limit old (R.remaining reader.new) result }
+    ensures due { (old : Option (List ℕ))
+        → IsAlong limit (limit - first) old (R.remaining reader.old) checker.old 2
+        → TellsDue old result due.new }
+{
+    let mut left = limit - first;
+    let mut number = 2;
+    let mut taken = 0;
+    loop {
+        let next = take_next::<R, S>(alloc, reader, &mut taken, checker, left)?;
+        if let Next::Wrong(cause) = next {
+            *due = checker.due();
+            return Ok(Verdict::Invalid {
+                line: number,
+                cause,
+            });
+        }
+        number += 1;
+        left -= taken;
+        if let Next::Last = next {
+            return ending(reader, checker, left, number);
+        }
+    }
+}
+
+/// Checks a text as `check_within` does, and takes the bytes from the reader in the way of `S`. If a line is wrong for its marks,
+/// `due` becomes the mark that was due there.
+///
+/// # Errors
+///
+/// Those of `check_within`.
+fn check_by<R: Read, S: LineSource<R>>(
+    alloc: Global,
+    reader: &mut R,
+    limit: u64,
+    due: &mut Option<Mark>,
+) -> Result<Verdict, TraceError>
+    requires { limit ≤ 16777216 }
+    ensures checks { ChecksTrace limit (R.remaining reader.old) (R.remaining reader.new) result }
+    ensures due { TellsDue (R.remaining reader.old) result due.new }
+{
+    each_text_has_one_verdict();
+    traces_rest_on_runs();
+    let limit = limit as usize;
+    let mut taken = 0;
+    match take_first::<R, S>(alloc, reader, &mut taken, limit)? {
+        Some(mut checker) => {
+            let verdict = verdict_behind::<R, S>(alloc, reader, taken, &mut checker, limit, due);
+            // By a call, since to drop each of its parts here is long to prove.
+            drop(checker);
+            verdict
+        }
+        None => Ok(wrong_at(1)),
+    }
+}
+
+/// Checks the text of a trace of either version. Returns that it is the trace of a run, with the counts of requests and
+/// messages, or which line is the first wrong one, and why. In version 1, a line with a node above 16, with a mode other than
+/// `S` and `X`, or of a repeat is wrong.
+///
+/// It goes line by line, makes each step in a world of its own and each mark in a lock table, and believes neither. The
+/// verdict comes at the first wrong line. Nothing is read after its line feed or its 128th byte, since each line is shorter;
+/// after the last line of a trace, one byte is read. It keeps no more of the text than the present line. It reads at most
+/// `limit + 1` bytes, each by a read of its own, so a reader with a buffer is best; a byte past the limit is not looked at.
+/// No read that failed is tried again. The cost is linear in what is read, plus that of the steps and the marks, as
+/// `World::step` and `Table` say. To read a line takes no memory.
+///
+/// # Errors
+///
+/// If no verdict was reached before:
+///
+/// 1. `Read`: the reader failed.
+/// 2. `Limit`: the text has more than `limit` bytes.
+/// 3. `Memory`: memory ran out.
+pub fn check_within<R: Read>(
+    alloc: Global,
+    reader: &mut R,
+    limit: u64,
+) -> Result<Verdict, TraceError>
+    requires { limit ≤ 16777216 }
+    ensures { ChecksTrace limit (R.remaining reader.old) (R.remaining reader.new) result }
+{
+    check_by::<R, ByBytes>(alloc, reader, limit, &mut None)
+}
+
+/// Checks the text of a trace of at most 16,777,216 bytes, as `check_within` does.
+///
+/// # Errors
+///
+/// Those of `check_within`.
+pub fn check<R: Read>(alloc: Global, reader: &mut R) -> Result<Verdict, TraceError>
+    ensures { ChecksTrace 16777216 (R.remaining reader.old) (R.remaining reader.new) result }
+{
+    check_within(alloc, reader, MAX_TEXT)
+}
+
+/// Checks the text of a trace as `check` does, and takes from the buffer of the reader exactly what `check` reads. It looks
+/// through the buffer up to a line feed, and takes no byte after it. It is the faster of the two. If the text ends before
+/// its last line, the reader is asked once more by a read of one byte, after it showed nothing.
+///
+/// # Errors
+///
+/// Those of `check_within`.
+pub fn check_buffered<B: BufRead>(alloc: Global, reader: &mut B) -> Result<Verdict, TraceError>
+    ensures { ChecksTrace 16777216 (B.remaining reader.old) (B.remaining reader.new) result }
+{
+    check_buffered_with_due(alloc, reader, &mut None)
+}
+
+/// Checks the text of a trace as [`check_buffered`] does. If the verdict is that a line is wrong for its marks (`Cause::Marks`),
+/// `due` becomes the next mark of the step before, which should come in that line, or `None` if all of them came before. For any
+/// other result nothing is promised of `due`.
+///
+/// # Errors
+///
+/// Those of `check_within`.
+pub fn check_buffered_with_due<B: BufRead>(
+    alloc: Global,
+    reader: &mut B,
+    due: &mut Option<Mark>,
+) -> Result<Verdict, TraceError>
+    ensures checks { ChecksTrace 16777216 (B.remaining reader.old) (B.remaining reader.new) result }
+    ensures due { TellsDue (B.remaining reader.old) result due.new }
+{
+    check_by::<B, FromBuffer>(alloc, reader, MAX_TEXT, due)
+}

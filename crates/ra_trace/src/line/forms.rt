@@ -1,0 +1,394 @@
+//! The forms of lines.
+ghost use Rattle.std.specs.Prelude.{◌≡◌, ◌++◌, Some, None, MatchOption, codes, drop};
+ghost use Rattle.ra_trace.specs.Forms as spec;
+
+use crate::line::Line;
+use crate::line::fields::{cut, mode_of, name_of, number_before, seq_of, start_of};
+use crate::line::version::Version;
+use ra_stamp::{Entry, Mark, Message, Mode, Name, NodeId, Stamp};
+use ra_world::Step;
+
+/// Returns what is after these words, or `None` if the text doesn't begin with them. It does not allocate.
+#[tactic(auto, using(crate::proofs::Cuts::differs_at_once))]
+#[inline(always)]
+pub fn behind<'a>(words: &[u8], text: &'a [u8]) -> Option<&'a [u8]>
+    ensures { MatchOption result (spec.behind words.now text.now ≡ None)
+        (λ rest. spec.behind words.now text.now ≡ Some rest.now) }
+{
+    // Most words differ from the text in the first byte, and this is found sooner than by comparing all of them.
+    if !words.is_empty() && !text.is_empty() && words[0] != text[0] {
+        return None;
+    }
+    text.strip_prefix(words)
+}
+
+/// Reads a node before a space, and returns what is after it.
+#[inline(always)]
+fn node_before(text: &[u8]) -> Option<(NodeId, &[u8])>
+    ensures { MatchOption result (spec.before spec.node_of text.now ≡ None)
+        (λ prefix. spec.before spec.node_of text.now ≡ Some (prefix.0, prefix.1.now)) }
+{
+    let (number, rest) = number_before(1, 64, text)?;
+    let node = NodeId::new(number as u16)?;
+    Some((node, rest))
+}
+
+/// Reads a client before a space, and returns what is after it.
+#[inline(always)]
+fn client_before(text: &[u8]) -> Option<(u32, &[u8])>
+    ensures { MatchOption result (spec.before spec.client_of text.now ≡ None)
+        (λ prefix. spec.before spec.client_of text.now ≡ Some (prefix.0, prefix.1.now)) }
+{
+    let (number, rest) = number_before(0, u64::from(u32::MAX), text)?;
+    Some((number as u32, rest))
+}
+
+/// Reads a name and a mode.
+#[inline(always)]
+fn name_and_mode_of(text: &[u8]) -> Option<(Name, Mode)>
+    ensures { result ≡ spec.fields spec.name_of spec.mode_of text.now }
+{
+    let (name, mode) = cut(b' ', text)?;
+    let name = name_of(name)?;
+    let mode = mode_of(mode)?;
+    Some((name, mode))
+}
+
+/// Reads a name and a number.
+#[inline(always)]
+fn name_and_seq_of(text: &[u8]) -> Option<(Name, u64)>
+    ensures { result ≡ spec.fields spec.name_of spec.seq_of text.now }
+{
+    let (name, seq) = cut(b' ', text)?;
+    let name = name_of(name)?;
+    let seq = seq_of(seq)?;
+    Some((name, seq))
+}
+
+/// Reads a mode and a number.
+#[inline(always)]
+fn mode_and_seq_of(text: &[u8]) -> Option<(Mode, u64)>
+    ensures { result ≡ spec.fields spec.mode_of spec.seq_of text.now }
+{
+    let (mode, seq) = cut(b' ', text)?;
+    let mode = mode_of(mode)?;
+    let seq = seq_of(seq)?;
+    Some((mode, seq))
+}
+
+/// Reads a name, and a mode and a number.
+#[inline(always)]
+fn name_mode_and_seq_of(text: &[u8]) -> Option<(Name, (Mode, u64))>
+    ensures { result ≡ spec.fields spec.name_of (spec.fields spec.mode_of spec.seq_of) text.now }
+{
+    let (name, rest) = cut(b' ', text)?;
+    let name = name_of(name)?;
+    let rest = mode_and_seq_of(rest)?;
+    Some((name, rest))
+}
+
+/// Reads how many nodes there are, and the number that each resource begins with, in the first line of this version.
+fn first_of(version: Version, text: &[u8]) -> Option<Line>
+    ensures { result ≡ spec.first_in version text.now }
+{
+    let Some((nodes, start)) = node_before(text) else {
+        return None;
+    };
+    let start = start_of(start)?;
+    Some(Line::First {
+        version,
+        nodes,
+        start,
+    })
+}
+
+/// Reads node, client, name and mode.
+#[inline(always)]
+fn ask_of(text: &[u8]) -> Option<Line>
+    ensures { result ≡ spec.read_as Kind.Ask text.now }
+{
+    let Some((node, rest)) = node_before(text) else {
+        return None;
+    };
+    let Some((client, rest)) = client_before(rest) else {
+        return None;
+    };
+    let (name, mode) = name_and_mode_of(rest)?;
+    Some(Line::Stepped(Step::Ask {
+        node,
+        client,
+        name,
+        mode,
+    }))
+}
+
+/// Reads node, client and name.
+#[inline(always)]
+fn leave_of(text: &[u8]) -> Option<Line>
+    ensures { result ≡ spec.read_as Kind.Leave text.now }
+{
+    let Some((node, rest)) = node_before(text) else {
+        return None;
+    };
+    let Some((client, name)) = client_before(rest) else {
+        return None;
+    };
+    let name = name_of(name)?;
+    Some(Line::Stepped(Step::Leave { node, client, name }))
+}
+
+/// Reads sender, receiver, name, mode and number.
+#[inline(always)]
+fn request_of(text: &[u8]) -> Option<Message>
+    ensures { result ≡ spec.request_in text.now }
+{
+    let Some((from, rest)) = node_before(text) else {
+        return None;
+    };
+    let Some((to, rest)) = node_before(rest) else {
+        return None;
+    };
+    let (name, (mode, seq)) = name_mode_and_seq_of(rest)?;
+    Some(Message::Request {
+        from,
+        to,
+        name,
+        mode,
+        seq,
+    })
+}
+
+/// Reads sender, receiver, name and number.
+#[inline(always)]
+fn reply_of(text: &[u8]) -> Option<Message>
+    ensures { result ≡ spec.reply_in text.now }
+{
+    let Some((from, rest)) = node_before(text) else {
+        return None;
+    };
+    let Some((to, rest)) = node_before(rest) else {
+        return None;
+    };
+    let (name, seq) = name_and_seq_of(rest)?;
+    Some(Message::Reply {
+        from,
+        to,
+        name,
+        seq,
+    })
+}
+
+/// Reads node, client, name, mode and number.
+#[inline(always)]
+fn entry_of(text: &[u8]) -> Option<Entry>
+    ensures { result ≡ spec.entry_in text.now }
+{
+    let Some((node, rest)) = node_before(text) else {
+        return None;
+    };
+    let Some((client, rest)) = client_before(rest) else {
+        return None;
+    };
+    let (name, (mode, seq)) = name_mode_and_seq_of(rest)?;
+    Some(Entry {
+        name,
+        stamp: Stamp { seq, node },
+        client,
+        mode,
+    })
+}
+
+/// Reads nothing.
+fn last_of(text: &[u8]) -> Option<Line>
+    ensures { result ≡ spec.last_in text.now }
+{
+    if text.is_empty() {
+        Some(Line::Last)
+    } else {
+        None
+    }
+}
+
+/// What becomes of a message.
+#[derive(Clone, Copy)]
+enum Way {
+    Delivered,
+    Lost,
+    Repeated,
+}
+
+impl Way {
+    /// Returns the line of this message.
+    #[inline(always)]
+    fn line_of(self, message: Message) -> Line
+        ensures { result ≡ spec.sent_line self message }
+    {
+        match self {
+            Way::Delivered => Line::Stepped(Step::Deliver(message)),
+            Way::Lost => Line::Stepped(Step::Lose(message)),
+            Way::Repeated => Line::Stepped(Step::Repeat(message)),
+        }
+    }
+}
+
+/// What becomes of a request.
+#[derive(Clone, Copy)]
+enum Change {
+    Requested,
+    Entered,
+    Left,
+}
+
+impl Change {
+    /// Returns the line of this entry.
+    fn line_of(self, entry: Entry) -> Line
+        ensures { result ≡ spec.entry_line self entry }
+    {
+        match self {
+            Change::Requested => Line::Marked(Mark::Requested(entry)),
+            Change::Entered => Line::Marked(Mark::Entered(entry)),
+            Change::Left => Line::Marked(Mark::Left(entry)),
+        }
+    }
+}
+
+/// What a line is, and so how it goes on after its first words.
+#[derive(Clone, Copy)]
+enum Kind {
+    First(Version),
+    Ask,
+    Leave,
+    Request(Way),
+    Reply(Way),
+    Mark(Change),
+    Last,
+}
+
+/// Reads the line of a request.
+fn request_line(way: Way, text: &[u8]) -> Option<Line>
+    ensures { result ≡ spec.read_as (Kind.Request way) text.now }
+{
+    let message = request_of(text)?;
+    Some(way.line_of(message))
+}
+
+/// Reads the line of a reply.
+fn reply_line(way: Way, text: &[u8]) -> Option<Line>
+    ensures { result ≡ spec.read_as (Kind.Reply way) text.now }
+{
+    let message = reply_of(text)?;
+    Some(way.line_of(message))
+}
+
+/// Reads the line of a mark.
+fn mark_line(change: Change, text: &[u8]) -> Option<Line>
+    ensures { result ≡ spec.read_as (Kind.Mark change) text.now }
+{
+    let entry = entry_of(text)?;
+    Some(change.line_of(entry))
+}
+
+impl Kind {
+    /// Reads what is after the first words of such a line.
+    #[inline(always)]
+    fn read(self, rest: &[u8]) -> Option<Line>
+        ensures { result ≡ spec.read_as self rest.now }
+    {
+        match self {
+            Kind::First(version) => first_of(version, rest),
+            Kind::Ask => ask_of(rest),
+            Kind::Leave => leave_of(rest),
+            Kind::Request(way) => request_line(way, rest),
+            Kind::Reply(way) => reply_line(way, rest),
+            Kind::Mark(change) => mark_line(change, rest),
+            Kind::Last => last_of(rest),
+        }
+    }
+}
+
+/// Returns the line that a text with no line feed is, or `None` if it is not one. Whether its version allows it is not asked. It
+/// does not allocate, and the cost is linear in the text.
+///
+/// No two forms of lines begin alike. Those of most lines come first.
+#[inline(always)]
+pub fn line_of(text: &[u8]) -> Option<Line>
+    ensures { result ≡ spec.line_in text.now }
+{
+    if let Some(rest) = behind(b"request ", text) {
+        return Kind::Mark(Change::Requested).read(rest);
+    }
+    if let Some(rest) = behind(b"enter ", text) {
+        return Kind::Mark(Change::Entered).read(rest);
+    }
+    if let Some(rest) = behind(b"leave ", text) {
+        return Kind::Mark(Change::Left).read(rest);
+    }
+    line_without_mark_of(text)
+}
+
+/// Returns the line that a text is if it is not that of a mark.
+#[tactic(auto, using(crate::proofs::Deliveries::delivered))]
+#[inline(always)]
+fn line_without_mark_of(text: &[u8]) -> Option<Line>
+    ensures { result ≡ spec.line_by (drop 3 spec.forms) text.now }
+{
+    if let Some(rest) = behind(b"ask ", text) {
+        return Kind::Ask.read(rest);
+    }
+    if let Some(rest) = behind(b"release ", text) {
+        return Kind::Leave.read(rest);
+    }
+    if let Some(rest) = behind(b"deliver ", text) {
+        return delivery_of(rest);
+    }
+    rare_line_of(text)
+}
+
+/// Returns the line that the word `deliver`, a space and this text are.
+#[inline(always)]
+fn delivery_of(message: &[u8]) -> Option<Line>
+    ensures { result ≡ spec.line_by (drop 5 spec.forms) (codes "deliver " ++ message.now) }
+{
+    if let Some(rest) = behind(b"request ", message) {
+        return Kind::Request(Way::Delivered).read(rest);
+    }
+    if let Some(rest) = behind(b"reply ", message) {
+        return Kind::Reply(Way::Delivered).read(rest);
+    }
+    None
+}
+
+/// Returns the line that a text is if it is a loss or a repeat, or the first or the last line of a trace.
+fn rare_line_of(text: &[u8]) -> Option<Line>
+    ensures { result ≡ spec.line_by (drop 7 spec.forms) text.now }
+{
+    if let Some(rest) = behind(b"lose request ", text) {
+        return Kind::Request(Way::Lost).read(rest);
+    }
+    if let Some(rest) = behind(b"lose reply ", text) {
+        return Kind::Reply(Way::Lost).read(rest);
+    }
+    if let Some(rest) = behind(b"repeat request ", text) {
+        return Kind::Request(Way::Repeated).read(rest);
+    }
+    if let Some(rest) = behind(b"repeat reply ", text) {
+        return Kind::Reply(Way::Repeated).read(rest);
+    }
+    end_line_of(text)
+}
+
+/// Returns the line that a text is if it is the first or the last line of a trace.
+fn end_line_of(text: &[u8]) -> Option<Line>
+    ensures { result ≡ spec.line_by (drop 11 spec.forms) text.now }
+{
+    if let Some(rest) = behind(b"trace 1 ", text) {
+        return Kind::First(Version::One).read(rest);
+    }
+    if let Some(rest) = behind(b"trace 2 ", text) {
+        return Kind::First(Version::Two).read(rest);
+    }
+    if let Some(rest) = behind(b"end", text) {
+        return Kind::Last.read(rest);
+    }
+    None
+}

@@ -1,0 +1,98 @@
+//! The versions of traces, and what each allows.
+ghost use Rattle.std.specs.Prelude.{◌≡◌};
+ghost use Rattle.ra_trace.specs.Version as spec;
+ghost use Rattle.ra_trace.specs.Forms.{allows_entry, allows_mark, allows_message, allows_step, has_node};
+
+use ra_stamp::{Entry, Mark, Message, Mode, NodeId};
+use ra_world::Step;
+
+/// A version of the form of traces. Each is read, and the last one is written.
+#[derive(Clone, Copy)]
+pub enum Version {
+    /// Nodes 1 to 16, the modes `S` and `X`, and no repeats.
+    One,
+    /// Nodes 1 to 64, all modes, and repeats, which came to it later: each text that was a trace before is one still.
+    Two,
+}
+
+impl Version {
+    /// Returns the greatest number of a node.
+    fn last_node(self) -> u16
+        ensures { result ≡ spec.last_node self }
+    {
+        match self {
+            Version::One => 16,
+            Version::Two => 64,
+        }
+    }
+
+    /// Returns whether a node has a number of this version. It does not allocate.
+    pub fn has_node(self, node: NodeId) -> bool
+        ensures { result ≡ has_node self node }
+    {
+        node.get() <= self.last_node()
+    }
+
+    /// Returns whether a name may be locked in a mode. It does not allocate.
+    pub fn has_mode(self, mode: Mode) -> bool
+        ensures { result ≡ spec.has_mode self mode }
+    {
+        match self {
+            Version::One => matches!(mode, Mode::Shared | Mode::Exclusive),
+            Version::Two => true,
+        }
+    }
+
+    /// Returns whether a message may be repeated.
+    fn has_repeats(self) -> bool
+        ensures { result ≡ spec.has_repeats self }
+    {
+        match self {
+            Version::One => false,
+            Version::Two => true,
+        }
+    }
+
+    /// Returns whether the fields of an entry are in the ranges of this version.
+    fn allows_entry(self, entry: &Entry) -> bool
+        ensures { result ≡ allows_entry self entry.now }
+    {
+        self.has_node(entry.stamp.node) && self.has_mode(entry.mode)
+    }
+
+    /// Returns whether the fields of a mark are in the ranges of this version. It does not allocate.
+    pub fn allows_mark(self, mark: &Mark) -> bool
+        ensures { result ≡ allows_mark self mark.now }
+    {
+        match mark {
+            Mark::Requested(entry) => self.allows_entry(entry),
+            Mark::Entered(entry) => self.allows_entry(entry),
+            Mark::Left(entry) => self.allows_entry(entry),
+        }
+    }
+
+    /// Returns whether the fields of a message are in the ranges of this version.
+    fn allows_message(self, message: &Message) -> bool
+        ensures { result ≡ allows_message self message.now }
+    {
+        match message {
+            Message::Request { from, to, mode, .. } => {
+                self.has_node(*from) && self.has_node(*to) && self.has_mode(*mode)
+            }
+            Message::Reply { from, to, .. } => self.has_node(*from) && self.has_node(*to),
+        }
+    }
+
+    /// Returns whether this version has such a step, with its fields in their ranges. It does not allocate.
+    pub fn allows_step(self, step: &Step) -> bool
+        ensures { result ≡ allows_step self step.now }
+    {
+        match step {
+            Step::Ask { node, mode, .. } => self.has_node(*node) && self.has_mode(*mode),
+            Step::Leave { node, .. } => self.has_node(*node),
+            Step::Deliver(message) => self.allows_message(message),
+            Step::Lose(message) => self.allows_message(message),
+            Step::Repeat(message) => self.has_repeats() && self.allows_message(message),
+        }
+    }
+}

@@ -1,0 +1,128 @@
+//! The next line of a trace, and its bytes, each read by itself.
+ghost use Rattle.std.specs.Prelude.{◌≡◌, ℕ, ◌≤◌, ◌∷◌, [], List, Option, length, true, false, IfOk, IfErr, IfSome, IsNone, OnErr};
+ghost use Rattle.std.specs.Io.KnownBytes.{Consumes, IsAtEnd};
+ghost use Rattle.ra_trace.specs.declared.error.TraceError.{TraceError};
+ghost use Rattle.ra_trace.specs.NextLine.{FailsWithin, ReadsLine, ReadsNext, ReadsSome};
+ghost use Rattle.ra_trace.specs.declared.line_source.byte_lines.LineEnd.{LineEnd};
+
+use crate::TraceError;
+use crate::line::Line;
+use crate::line::forms::line_of;
+use arrayvec::ArrayVec;
+use std::io::Read;
+
+/// The most bytes of a line that are read. The longest line has 80, its line feed among them.
+pub const MAX_LINE: usize = 128;
+
+/// The bytes of a line, as far as they were read.
+pub type LineBytes = ArrayVec<u8, MAX_LINE>;
+
+/// With what the bytes of a line end.
+#[derive(Clone, Copy)]
+pub enum LineEnd {
+    /// Their last one is a line feed.
+    Feed,
+    /// They are as many as are read of a line, and none is a line feed.
+    Length,
+    /// The input is at its end, and no line feed came.
+    Input,
+}
+
+/// Reads the next byte, or `None` at the end. It does not allocate.
+///
+/// # Errors
+///
+/// `Read`: the reader failed. It is not tried again.
+pub fn next_byte<R: Read>(reader: &mut R) -> Result<Option<u8>, TraceError>
+    ensures some { IfOk result (λ came. IfSome came (λ byte. Consumes (R.remaining reader.old) (R.remaining reader.new) (byte ∷ []))) }
+    ensures none { IfOk result (λ came. IsNone came
+        → Consumes (R.remaining reader.old) (R.remaining reader.new) [] × IsAtEnd (R.remaining reader.new)) }
+    ensures err { IfErr result (λ fault. fault ≡ TraceError.Read) }
+    ensures untaken { OnErr result (Consumes (R.remaining reader.old) (R.remaining reader.new) []) }
+{
+    let mut byte = [0; 1];
+    match reader.read(&mut byte) {
+        Ok(0) => Ok(None),
+        Ok(_) => Ok(Some(byte[0])),
+        Err(_) => Err(TraceError::Read),
+    }
+}
+
+/// Reads the bytes of the next line in place of those that are there: to its line feed, and at most 128 of them. A text may still
+/// have `left` bytes. It does not allocate.
+///
+/// # Errors
+///
+/// `Read`: the reader failed. `Limit`: there is a byte after those that are left.
+pub fn read_line<R: Read>(
+    reader: &mut R,
+    bytes: &mut LineBytes,
+    left: usize,
+) -> Result<LineEnd, TraceError>
+    ensures { ReadsLine left (R.remaining reader.old) (R.remaining reader.new) bytes.new.items result }
+{
+    bytes.clear();
+    for _turn in 0..MAX_LINE {
+        let Some(byte) = next_byte(reader)? else {
+            return Ok(LineEnd::Input);
+        };
+        if bytes.len() >= left {
+            return Err(TraceError::Limit);
+        }
+        bytes.push(byte);
+        if byte == b'\n' {
+            return Ok(LineEnd::Feed);
+        }
+    }
+    Ok(LineEnd::Length)
+}
+
+/// Returns the line that these bytes are, which end so, or `None` if they are not one. The bytes of a line end with its line feed.
+#[inline(always)]
+pub fn line_at(end: LineEnd, bytes: &LineBytes) -> Option<Line>
+    requires { end ≡ LineEnd.Feed → 1 ≤ length bytes.now.items }
+    ensures { (left : ℕ) (old new : Option (List ℕ)) → ReadsLine left old new bytes.now.items (Ok end)
+        → ReadsNext left old new bytes.now.items (Ok result) }
+{
+    match end {
+        LineEnd::Feed => line_of(&bytes[..bytes.len() - 1]),
+        LineEnd::Length | LineEnd::Input => None,
+    }
+}
+
+/// Reads the next line, as [`LineSource::next_line`](crate::line_source::LineSource::next_line) says, each byte by itself.
+///
+/// # Errors
+///
+/// `Read`: the reader failed. `Limit`: there is a byte after those that are left.
+pub fn next_read_line<R: Read>(
+    reader: &mut R,
+    taken: &mut usize,
+    left: usize,
+) -> Result<Option<Line>, TraceError>
+    ensures { ReadsSome left (R.remaining reader.old) (R.remaining reader.new) taken.new result }
+{
+    let mut bytes = LineBytes::new();
+    let end = read_line(reader, &mut bytes, left)?;
+    *taken = bytes.len();
+    Ok(line_at(end, &bytes))
+}
+
+/// Returns whether the input is at its end, for which it reads one byte. A text may still have `left` bytes.
+///
+/// # Errors
+///
+/// `Read`: the reader failed. `Limit`: a byte came, and none is left.
+pub fn is_at_end<R: Read>(reader: &mut R, left: usize) -> Result<bool, TraceError>
+    ensures ended { IfOk result (λ ended. ended ≡ true
+        → Consumes (R.remaining reader.old) (R.remaining reader.new) [] × IsAtEnd (R.remaining reader.new)) }
+    ensures more { IfOk result (λ ended. ended ≡ false
+        → (1 ≤ left) × ((byte : ℕ) × Consumes (R.remaining reader.old) (R.remaining reader.new) (byte ∷ []))) }
+    ensures failed { IfErr result (FailsWithin left (R.remaining reader.old) (R.remaining reader.new) []) }
+{
+    match next_byte(reader)? {
+        None => Ok(true),
+        Some(_) if left == 0 => Err(TraceError::Limit),
+        Some(_) => Ok(false),
+    }
+}

@@ -1,0 +1,282 @@
+//! Mark logs: whether what any lock service wrote down is a run of the lock table.
+pub mod marks_table;
+pub mod marks_verdict;
+
+ghost use Rattle.std.specs.Prelude.{◌≡◌, ◌↔◌, ◌<◌, ◌≤◌, ◌+◌, ◌∷◌, [], ℕ, List, Option, IfOk, IfErr, IfSome, IsErrOf};
+ghost use Rattle.std.specs.Io.KnownBytes.{Consumes};
+ghost use Rattle.ra_stamp.specs.declared.entry.Mark.{Mark};
+ghost use Rattle.ra_world.specs.Quiet.{requests_in};
+ghost use Rattle.ra_trace.specs.declared.mark_log.marks_verdict.MarksVerdict.{MarksVerdict};
+ghost use Rattle.ra_trace.specs.Check.{ChecksLog};
+ghost use Rattle.ra_trace.specs.Marks.{grants_in};
+ghost use Rattle.ra_trace.specs.MarksAlong.{IsAlongMarks, IsMissing, IsNewLog, JudgedLine, JudgedMark, SomeMarkTaken, TurnsMarks};
+ghost use Rattle.ra_trace.specs.MarksReading.{AnswersMarks};
+
+use crate::laws::{each_mark_log_has_one_verdict, mark_logs_rest_on_tables};
+use crate::line::Line;
+use crate::line_source::{ByBytes, FromBuffer, LineSource};
+use crate::mark_log::marks_table::try_mark;
+use crate::{MarkCause, MarksVerdict, TraceError};
+use ra_stamp::Mark;
+use ra_table::Table;
+use std::alloc::Global;
+use std::io::{BufRead, Read};
+
+/// The most bytes that a log may have.
+const MAX_LOG: u64 = 16_777_216;
+
+/// What is known after the marks that came: the lock table after them, and how many of them were requests and grants.
+#[derive(Drop)]
+struct Log {
+    table: Table,
+    requests: u64,
+    grants: u64,
+}
+
+/// What the next line is.
+#[derive(Clone, Copy)]
+enum NextMark {
+    /// A mark that the lock table allows.
+    Right,
+    /// There is none: the input is at its end.
+    End,
+    /// It is wrong.
+    Wrong(MarkCause),
+}
+
+impl Log {
+    /// Makes the log of no marks.
+    ///
+    /// # Errors
+    ///
+    /// `Memory`: memory ran out.
+    fn new(alloc: Global) -> Result<Log, TraceError>
+        ensures ok { IfOk result IsNewLog }
+        ensures err { IfErr result (λ fault. fault ≡ TraceError.Memory) }
+    {
+        let Ok(table) = Table::new(alloc) else {
+            return Err(TraceError::Memory);
+        };
+        Ok(Log {
+            table,
+            requests: 0,
+            grants: 0,
+        })
+    }
+
+    /// Takes a mark that the lock table made, into the counts.
+    fn count(&mut self, mark: &Mark)
+        requires requests { self.old.requests < 16777217 }
+        requires grants { self.old.grants < 16777217 }
+        ensures table { self.new.table ≡ self.old.table }
+        ensures requests { self.new.requests ≡ self.old.requests + requests_in (mark.now ∷ []) }
+        ensures grants { self.new.grants ≡ self.old.grants + grants_in (mark.now ∷ []) }
+    {
+        match mark {
+            Mark::Requested(_) => self.requests += 1,
+            Mark::Entered(_) => self.grants += 1,
+            Mark::Left(_) => {}
+        }
+    }
+
+    /// Takes the next mark, and says what it is. After a wrong mark, or without memory, nothing is promised of the log.
+    ///
+    /// # Errors
+    ///
+    /// `Memory`: memory ran out.
+    fn take(&mut self, mark: &Mark) -> Result<NextMark, TraceError>
+        requires requests { self.old.requests < 16777217 }
+        requires grants { self.old.grants < 16777217 }
+        ensures { JudgedMark self.old mark.now self.new result }
+    {
+        match try_mark(&mut self.table, mark)? {
+            Some(cause) => Ok(NextMark::Wrong(cause)),
+            None => {
+                self.count(mark);
+                Ok(NextMark::Right)
+            }
+        }
+    }
+
+    /// Takes the next line, and says what it is.
+    ///
+    /// # Errors
+    ///
+    /// `Memory`: memory ran out.
+    fn take_line(&mut self, line: &Line) -> Result<NextMark, TraceError>
+        requires requests { self.old.requests < 16777217 }
+        requires grants { self.old.grants < 16777217 }
+        ensures { JudgedLine self.old line.now self.new result }
+    {
+        match line {
+            Line::Marked(mark) => self.take(mark),
+            Line::First { .. } | Line::Stepped(_) | Line::Last => {
+                Ok(NextMark::Wrong(MarkCause::Line))
+            }
+        }
+    }
+}
+
+/// Returns what these bytes are, so many, which are not a line: nothing more, or a wrong line.
+fn missing(taken: usize) -> NextMark
+    ensures { IsMissing taken result }
+{
+    if taken == 0 {
+        NextMark::End
+    } else {
+        NextMark::Wrong(MarkCause::Line)
+    }
+}
+
+/// Reads the next line into the log, and says what it is. `taken` becomes the number of its bytes. The text may still have `left`
+/// bytes.
+///
+/// # Errors
+///
+/// `Read`, `Limit`, `Memory`.
+fn take_next<R: Read, S: LineSource<R>>(
+    reader: &mut R,
+    taken: &mut usize,
+    log: &mut Log,
+    left: usize,
+) -> Result<NextMark, TraceError>
+    requires requests { log.old.requests < 16777217 }
+    requires grants { log.old.grants < 16777217 }
+    ensures turned { (limit number : ℕ) (old : Option (List ℕ))
+        → IsAlongMarks limit left old (R.remaining reader.old) log.old number
+        → TurnsMarks limit left old (R.remaining reader.new) log.new number taken.new result }
+    ensures some { IfOk result (λ next. SomeMarkTaken left taken.new next) }
+{
+    mark_logs_rest_on_tables();
+    match S::next_line(reader, taken, left)? {
+        Some(line) => log.take_line(&line),
+        None => Ok(missing(*taken)),
+    }
+}
+
+/// Returns the verdict of a text of at most `limit` bytes, line by line: at the first wrong line, or at the end of the text.
+///
+/// # Errors
+///
+/// `Read`, `Limit`, `Memory`.
+fn verdict_behind<R: Read, S: LineSource<R>>(
+    reader: &mut R,
+    log: &mut Log,
+    limit: usize,
+) -> Result<MarksVerdict, TraceError>
+    requires most { limit ≤ 16777216 }
+    requires new { IsNewLog log.old }
+    ensures { AnswersMarks limit (R.remaining reader.old) (R.remaining reader.new) result }
+{
+    mark_logs_rest_on_tables();
+    let mut taken = 0;
+    let mut left = limit;
+    let mut line = 1;
+    loop {
+        let next = take_next::<R, S>(reader, &mut taken, log, left)?;
+        if let NextMark::Wrong(cause) = next {
+            return Ok(MarksVerdict::Invalid { line, cause });
+        }
+        if let NextMark::End = next {
+            return Ok(MarksVerdict::Valid {
+                requests: log.requests,
+                grants: log.grants,
+            });
+        }
+        line += 1;
+        left -= taken;
+    }
+}
+
+/// Returns the verdict of a text of at most `limit` bytes.
+///
+/// # Errors
+///
+/// `Read`, `Limit`, `Memory`.
+fn verdict_of<R: Read, S: LineSource<R>>(
+    alloc: Global,
+    reader: &mut R,
+    limit: usize,
+) -> Result<MarksVerdict, TraceError>
+    requires { limit ≤ 16777216 }
+    ensures { AnswersMarks limit (R.remaining reader.old) (R.remaining reader.new) result }
+{
+    mark_logs_rest_on_tables();
+    let mut log = Log::new(alloc)?;
+    let verdict = verdict_behind::<R, S>(reader, &mut log, limit);
+    // By a call, since to drop each of its parts here is long to prove.
+    drop(log);
+    verdict
+}
+
+/// Checks a log as `check_marks_within` does, and takes the bytes from the reader in the way of `S`.
+///
+/// # Errors
+///
+/// Those of `check_marks_within`.
+fn check_by<R: Read, S: LineSource<R>>(
+    alloc: Global,
+    reader: &mut R,
+    limit: u64,
+) -> Result<MarksVerdict, TraceError>
+    requires { limit ≤ 16777216 }
+    ensures { ChecksLog limit (R.remaining reader.old) (R.remaining reader.new) result }
+{
+    each_mark_log_has_one_verdict();
+    verdict_of::<R, S>(alloc, reader, limit as usize)
+}
+
+/// Checks a log of marks: lines such as `request 1 7 r X 3`, `enter 1 7 r X 3` and `leave 1 7 r X 3`, each with node, client,
+/// name, mode and number as in traces of version 2. Returns that the marks are a run of the lock table, with the counts of
+/// requests and grants, or which line is the first wrong one, and why. The empty text is valid.
+///
+/// It goes line by line, and makes each mark in a lock table. The verdict comes at the first wrong line. Nothing is read
+/// after its line feed or its 128th byte, since each line is shorter. It keeps the present line and the lock table, which
+/// grows with the names and with the entries that wait and hold. It reads at most `limit + 1` bytes, each by a read of its
+/// own, so a reader with a buffer is best; a byte past the limit is not looked at. No read that failed is tried again. The
+/// cost is linear in what is read, plus that of the marks, as `Table` says. To read a line takes no memory.
+///
+/// # Errors
+///
+/// If no verdict was reached before:
+///
+/// 1. `Read`: the reader failed.
+/// 2. `Limit`: the text has more than `limit` bytes.
+/// 3. `Memory`: memory ran out.
+pub fn check_marks_within<R: Read>(
+    alloc: Global,
+    reader: &mut R,
+    limit: u64,
+) -> Result<MarksVerdict, TraceError>
+    requires { limit ≤ 16777216 }
+    ensures { ChecksLog limit (R.remaining reader.old) (R.remaining reader.new) result }
+{
+    check_by::<R, ByBytes>(alloc, reader, limit)
+}
+
+/// Checks a log of marks of at most 16,777,216 bytes, as `check_marks_within` does.
+///
+/// # Errors
+///
+/// Those of `check_marks_within`.
+pub fn check_marks<R: Read>(alloc: Global, reader: &mut R) -> Result<MarksVerdict, TraceError>
+    ensures { ChecksLog 16777216 (R.remaining reader.old) (R.remaining reader.new) result }
+{
+    check_marks_within(alloc, reader, MAX_LOG)
+}
+
+/// Checks a log of marks as `check_marks` does, and takes from the buffer of the reader exactly what `check_marks` reads. It
+/// looks through the buffer up to a line feed, and takes no byte after it. It is the faster of the two. At the end of the
+/// text, after the reader showed nothing, it is asked once more by a read of one byte.
+///
+/// # Errors
+///
+/// Those of `check_marks_within`.
+pub fn check_marks_buffered<B: BufRead>(
+    alloc: Global,
+    reader: &mut B,
+) -> Result<MarksVerdict, TraceError>
+    ensures { ChecksLog 16777216 (B.remaining reader.old) (B.remaining reader.new) result }
+{
+    check_by::<B, FromBuffer>(alloc, reader, MAX_LOG)
+}

@@ -1,0 +1,359 @@
+ghost use Rattle.std.specs.Prelude.{◌≡◌, ◌≢◌, ◌↔◌, ◌⊎◌, ◌+◌, ◌<◌, ◌^◌, ◌++◌, ℕ, List, [], ◌∷◌, length, take, slice_index_or, map, flat_map, codes, decimal, string_bytes, OnOk, IfOk, IfErr, IsErrOf, IsOkUnless, All};
+ghost use Rattle.std.specs.Io.KnownBytes.{Appends};
+ghost use Rattle.ra_stamp.specs.NodeId.{IsNodeNumber};
+ghost use Rattle.ra_world.specs.Traffic.{Move};
+ghost use Rattle.ra_world.specs.Run.{GoesOn, WorldRun};
+ghost use Rattle.ra_world.specs.Refused.{IsRefusedAt};
+ghost use Rattle.ra_world.specs.Lines.{field, mark_line};
+ghost use Rattle.ra_trace.specs.declared.line.Line.{Line};
+ghost use Rattle.ra_trace.specs.declared.line.version.Version.{Version};
+ghost use Rattle.ra_trace.specs.TraceText as spec;
+ghost use Rattle.ra_trace.specs.TraceText.{IsTrace};
+ghost use Rattle.ra_trace.specs.Ranges.{StepFits, MarkFits};
+ghost use Rattle.ra_trace.specs.Writing.{HasTraced, IsOpened, Opens, Traces, Written, refusal_of_run};
+
+use crate::WriteTraceError;
+use crate::line::Line;
+use crate::line::field_ranges::{mark_fits, step_fits};
+use crate::line::version::Version;
+use ra_stamp::{Marks, Memory, Message, Name, NodeId};
+use ra_world::{
+    MarklessWorld, RunError, Step, StepError, Steps, marks_of_runs_are_numbered,
+    messages_under_way_are_between_nodes, mode_word, prefixes_of_runs_are_runs, push_field,
+    push_mark_line, push_number, text_of, write_out,
+};
+use std::alloc::Global;
+use std::io::Write;
+
+/// Adds the first line of a trace.
+fn push_first_line(text: &mut String, nodes: u16, start: u64) -> Result<(), Memory>
+    ensures { OnOk result (string_bytes text.new ≡ string_bytes text.old ++ spec.line_text (Line.First Version.Two nodes start)) }
+{
+    text.push_str("trace 2")?;
+    push_number(text, nodes)?;
+    push_number(text, start)?;
+    text.push_str("\n")?;
+    Ok(())
+}
+
+/// Adds a word, sender, receiver and name.
+fn push_route(
+    text: &mut String,
+    word: &str,
+    from: NodeId,
+    to: NodeId,
+    name: &Name,
+) -> Result<(), Memory>
+    ensures { OnOk result (string_bytes text.new
+        ≡ string_bytes text.old ++ field word.now ++ field (decimal from) ++ field (decimal to) ++ field name.now) }
+{
+    push_field(text, word)?;
+    push_number(text, from.get())?;
+    push_number(text, to.get())?;
+    push_field(text, text_of(name))
+}
+
+/// Adds the fields of a message.
+fn push_message(text: &mut String, message: &Message) -> Result<(), Memory>
+    ensures { OnOk result (string_bytes text.new ≡ string_bytes text.old ++ spec.message_fields message.now) }
+{
+    match message {
+        Message::Request {
+            from,
+            to,
+            name,
+            mode,
+            seq,
+        } => {
+            push_route(text, "request", *from, *to, name)?;
+            push_field(text, mode_word(*mode))?;
+            push_number(text, *seq)
+        }
+        Message::Reply {
+            from,
+            to,
+            name,
+            seq,
+        } => {
+            push_route(text, "reply", *from, *to, name)?;
+            push_number(text, *seq)
+        }
+    }
+}
+
+/// Adds a word, node, client and name.
+fn push_asker(
+    text: &mut String,
+    word: &str,
+    node: NodeId,
+    client: u32,
+    name: &Name,
+) -> Result<(), Memory>
+    ensures { OnOk result (string_bytes text.new
+        ≡ string_bytes text.old ++ word.now ++ field (decimal node) ++ field (decimal client) ++ field name.now) }
+{
+    text.push_str(word)?;
+    push_number(text, node.get())?;
+    push_number(text, client)?;
+    push_field(text, text_of(name))
+}
+
+/// Adds a word and a message.
+fn push_sent(text: &mut String, word: &str, message: &Message) -> Result<(), Memory>
+    ensures { OnOk result (string_bytes text.new ≡ string_bytes text.old ++ word.now ++ spec.message_fields message.now) }
+{
+    text.push_str(word)?;
+    push_message(text, message)
+}
+
+/// Adds the words and fields of a step.
+fn push_step(text: &mut String, step: &Step) -> Result<(), Memory>
+    ensures { OnOk result (string_bytes text.new ++ codes "\n" ≡ string_bytes text.old ++ spec.step_line step.now) }
+{
+    match step {
+        Step::Ask {
+            node,
+            client,
+            name,
+            mode,
+        } => {
+            push_asker(text, "ask", *node, *client, name)?;
+            push_field(text, mode_word(*mode))
+        }
+        Step::Leave { node, client, name } => push_asker(text, "release", *node, *client, name),
+        Step::Deliver(message) => push_sent(text, "deliver", message),
+        Step::Lose(message) => push_sent(text, "lose", message),
+        Step::Repeat(message) => push_sent(text, "repeat", message),
+    }
+}
+
+/// Adds the line of a step.
+fn push_step_line(text: &mut String, step: &Step) -> Result<(), Memory>
+    ensures { OnOk result (string_bytes text.new ≡ string_bytes text.old ++ spec.step_line step.now) }
+{
+    push_step(text, step)?;
+    text.push_str("\n")?;
+    Ok(())
+}
+
+/// Adds the lines of marks.
+fn push_marks(text: &mut String, marks: &Marks) -> Result<(), Memory>
+    ensures text { OnOk result (string_bytes text.new ≡ string_bytes text.old ++ flat_map mark_line marks.now.items) }
+    ensures fit { OnOk result (All MarkFits marks.now.items) }
+{
+    for mark in marks.as_slice() {
+        mark_fits(mark);
+        push_mark_line(text, mark)?;
+    }
+    Ok(())
+}
+
+/// Adds the lines of a step and of its marks.
+fn push_move(text: &mut String, step: &Step, marks: &Marks) -> Result<(), Memory>
+    ensures text { OnOk result
+        (string_bytes text.new ≡ (string_bytes text.old ++ spec.step_line step.now) ++ flat_map mark_line marks.now.items) }
+    ensures fit { OnOk result (StepFits step.now × All MarkFits marks.now.items) }
+{
+    step_fits(step);
+    push_step_line(text, step)?;
+    push_marks(text, marks)
+}
+
+/// Returns the refusal of a trace that a refusal of its run is.
+fn refusal_of(refused: RunError) -> WriteTraceError
+    ensures { result ≡ refusal_of_run refused }
+{
+    match refused {
+        RunError::Memory => WriteTraceError::Memory,
+        refused => WriteTraceError::Run(refused),
+    }
+}
+
+/// Makes the world before the first step.
+///
+/// # Errors
+///
+/// `Run`: the number of nodes is not 1 to 64. `Memory`.
+fn opening_world(alloc: Global, nodes: u16, start: u64) -> Result<MarklessWorld, WriteTraceError>
+    ensures { Opens nodes start result }
+{
+    match MarklessWorld::new(alloc, nodes, start) {
+        Ok(world) => Ok(world),
+        Err(refused) => Err(refusal_of(RunError::from(refused))),
+    }
+}
+
+/// Makes a step of a run, that of this place, counted from 0, and adds its lines.
+///
+/// # Errors
+///
+/// `Run`: the step is refused. `Memory`.
+fn trace_step(
+    alloc: Global,
+    text: &mut String,
+    world: &mut MarklessWorld,
+    place: usize,
+    step: &Step,
+) -> Result<(), WriteTraceError>
+    requires { place < 2 ^ 63 }
+    ensures traced { (n start : ℕ) (steps : List Step) → place < length steps → step.now ≡ slice_index_or steps place step.now
+        → HasTraced n start (take place steps) world.old (string_bytes text.old)
+        → Traces n start (take (place + 1) steps) steps world.new (string_bytes text.new) result }
+    // If the step is refused, that is the answer, and not that memory ran out.
+    ensures memory { IsErrOf result WriteTraceError.Memory
+        → GoesOn world.old.count world.old.start world.old.moves step.now }
+{
+    prefixes_of_runs_are_runs();
+    match world.step(alloc, step) {
+        Ok(outcome) => {
+            let Ok(()) = push_move(text, step, &outcome.marks) else {
+                return Err(WriteTraceError::Memory);
+            };
+            Ok(())
+        }
+        Err(cause) => Err(refusal_of(RunError::at(place as u64 + 1, cause))),
+    }
+}
+
+/// Makes the steps of a run, and adds their lines.
+///
+/// # Errors
+///
+/// `Run`: a step is refused, the first such one. `Memory`.
+fn trace_steps(
+    alloc: Global,
+    text: &mut String,
+    world: &mut MarklessWorld,
+    steps: &Steps,
+) -> Result<(), WriteTraceError>
+    ensures traced { (n start : ℕ) → HasTraced n start [] world.old (string_bytes text.old)
+        → Traces n start steps.now.items steps.now.items world.new (string_bytes text.new) result }
+    // Memory ran out at one of the steps, up to which they are a run.
+    ensures memory { (n start : ℕ) → HasTraced n start [] world.old (string_bytes text.old)
+        → IsErrOf result WriteTraceError.Memory
+        → (place : ℕ) × (place < length steps.now.items) × WorldRun n start (take (place + 1) steps.now.items) }
+{
+    prefixes_of_runs_are_runs();
+    for (place, step) in steps.as_slice().iter().enumerate() {
+        trace_step(alloc, text, world, place, step)?;
+    }
+    Ok(())
+}
+
+/// Adds the trace of a run to an empty text. The world is the one before its first step.
+///
+/// # Errors
+///
+/// `Run`: a step is refused, the first such one. `Memory`.
+fn trace_run(
+    alloc: Global,
+    text: &mut String,
+    world: &mut MarklessWorld,
+    nodes: u16,
+    start: u64,
+    steps: &Steps,
+) -> Result<(), WriteTraceError>
+    ensures { string_bytes text.old ≡ [] → IsOpened nodes start world.old
+        → Written nodes start steps.now.items (string_bytes text.new) result }
+{
+    marks_of_runs_are_numbered();
+    prefixes_of_runs_are_runs();
+    messages_under_way_are_between_nodes();
+    let Ok(()) = push_first_line(text, nodes, start) else {
+        return Err(WriteTraceError::Memory);
+    };
+    trace_steps(alloc, text, world, steps)?;
+    let Ok(()) = text.push_str("end\n") else {
+        return Err(WriteTraceError::Memory);
+    };
+    Ok(())
+}
+
+/// Makes a run of this many nodes, all of whose numbers begin at `start`, through a list of steps, and returns its trace. The
+/// cost is that of the steps, each as `World::step` says, and linear in the text.
+///
+/// # Errors
+///
+/// The first that holds, except that `Memory` may come before the run gets to a step that is refused:
+///
+/// 1. `Run`: the number of nodes is not 1 to 64, or a step is refused, the first such one, with its place, counted from 1, and
+///    the cause. It is never that memory ran out.
+/// 2. `Memory`: memory ran out.
+///
+/// Never `Write`, as nothing is written.
+pub fn trace_text(
+    alloc: Global,
+    nodes: u16,
+    start: u64,
+    steps: &Steps,
+) -> Result<String, WriteTraceError>
+    ensures ok { IfOk result (λ text. (moves : List Move)
+        × (map (λ move. move.step) moves ≡ steps.now.items) × IsTrace nodes start moves (string_bytes text)) }
+    ensures bad_count { IsErrOf result (WriteTraceError.Run RunError.BadCount) ↔ (IsNodeNumber nodes → ⊥) }
+    ensures refused { (place : ℕ) (cause : StepError)
+        → IsErrOf result (WriteTraceError.Run (RunError.Refused place cause))
+        → IsNodeNumber nodes × IsRefusedAt nodes start steps.now.items place cause }
+    ensures never { ¬ IsErrOf result (WriteTraceError.Run RunError.Memory) }
+    // Memory may run out at each step and before the first, but a wrong number of nodes comes before.
+    ensures memory { IsErrOf result WriteTraceError.Memory → IsNodeNumber nodes }
+    ensures allowed { IsNodeNumber nodes → WorldRun nodes start steps.now.items
+        → IsOkUnless result WriteTraceError.Memory }
+    ensures early { IfErr result (λ fault. fault ≢ WriteTraceError.Write) }
+{
+    let mut world = opening_world(alloc, nodes, start)?;
+    let mut text = String::new(alloc);
+    let written = trace_run(alloc, &mut text, &mut world, nodes, start, steps);
+    // By a call, and before the `?`, since to drop each of its parts here is long to prove.
+    drop(world);
+    written?;
+    Ok(text)
+}
+
+/// Writes the trace of a run, as [`trace_text`] gives it: the whole run is made first. No write that failed is tried again.
+/// It has no limit of its own, so that the text may be longer than `check` takes.
+///
+/// # Errors
+///
+/// The first that holds, except that `Memory` may come before the run gets to a step that is refused:
+///
+/// 1. `Run`: the number of nodes is not 1 to 64, or a step is refused, the first such one, with its place, counted from 1, and
+///    the cause. It is never that memory ran out.
+/// 2. `Memory`: memory ran out.
+/// 3. `Write`: the writer failed or took nothing, with bytes left to write. A prefix of the text was written.
+///
+/// After the first two the writer is as before.
+pub fn write_trace<W: Write>(
+    alloc: Global,
+    nodes: u16,
+    start: u64,
+    steps: &Steps,
+    writer: &mut W,
+) -> Result<(), WriteTraceError>
+    // What is written is the trace of these steps and nothing else.
+    ensures ok { OnOk result ((moves : List Move) × (text : List ℕ)
+        × (map (λ move. move.step) moves ≡ steps.now.items) × IsTrace nodes start moves text
+        × Appends (W.contents writer.old) (W.contents writer.new) text) }
+
+    ensures bad_count { IsErrOf result (WriteTraceError.Run RunError.BadCount) ↔ (IsNodeNumber nodes → ⊥) }
+    ensures refused { (place : ℕ) (cause : StepError)
+        → IsErrOf result (WriteTraceError.Run (RunError.Refused place cause))
+        → IsNodeNumber nodes × IsRefusedAt nodes start steps.now.items place cause }
+    // If memory runs out in the run, the answer is `Memory`.
+    ensures never { ¬ IsErrOf result (WriteTraceError.Run RunError.Memory) }
+    // Memory may run out at each step and before the first, but a wrong number of nodes comes before.
+    ensures memory { IsErrOf result WriteTraceError.Memory → IsNodeNumber nodes }
+    ensures allowed { IsNodeNumber nodes → WorldRun nodes start steps.now.items
+        → IfErr result (λ fault. (fault ≡ WriteTraceError.Memory) ⊎ (fault ≡ WriteTraceError.Write)) }
+
+    ensures unwritten { IfErr result (λ fault. fault ≢ WriteTraceError.Write → writer.new ≡ writer.old) }
+    // A fault of the writer comes only with something left to write.
+    ensures prefix { IsErrOf result WriteTraceError.Write → (moves : List Move) × (prefix rest : List ℕ)
+        × (map (λ move. move.step) moves ≡ steps.now.items) × IsTrace nodes start moves (prefix ++ rest) × (rest ≢ [])
+        × Appends (W.contents writer.old) (W.contents writer.new) prefix }
+{
+    let text = trace_text(alloc, nodes, start, steps)?;
+    match write_out(writer, text.as_bytes()) {
+        Ok(()) => Ok(()),
+        Err(_) => Err(WriteTraceError::Write),
+    }
+}

@@ -1,0 +1,69 @@
+use Rattle.std.proofs.Common.{arith, ◌≡◌, ◌<◌, ◌≤◌, ◌++◌, List, length, ap, ◌∙◌, subst, sym, refl}
+use Rattle.ra_stamp.specs.declared.entry.Mark.{Mark}
+use Rattle.ra_world.specs.Quiet.{requests_in}
+use Rattle.ra_world.specs.Log.{LogState, moves_of}
+use Rattle.ra_world.proofs.LogCounts.{lost-le, repeated-le, lost_in_le, repeated_in_le, pushed}
+use Rattle.ra_world.proofs.world.log.Log.push.Goals as goal
+
+pub overflow_add-self : goal.overflow_add-self
+overflow_add-self g c =
+    let l = c.self.inside in
+    let fits : length (moves_of l.made.items) < 18446744073709551615 =
+    subst (λ (s : LogState). length s.moves < 18446744073709551615) (sym c.self.view_is) c.requires.for_step in
+    omega (arith, c.self.invariant.steps_are, fits)
+
+pub overflow_add-self-2 : goal.overflow_add-self-2
+overflow_add-self-2 g c =
+    let l = c.self.inside in
+    let fits : length (moves_of l.made.items) < 18446744073709551615 =
+    subst (λ (s : LogState). length s.moves < 18446744073709551615) (sym c.self.view_is) c.requires.for_step in
+    omega (arith, c.self.invariant.steps_are, c.self.invariant.sent_fits, c.len.type_inv, c.len.ensures, c.from.ensures, fits)
+
+pub overflow_add-self-3 : goal.overflow_add-self-3
+overflow_add-self-3 g c =
+    let l = c.self.inside in
+    let fits : length (moves_of l.made.items) < 18446744073709551615 =
+    subst (λ (s : LogState). length s.moves < 18446744073709551615) (sym c.self.view_is) c.requires.for_step in
+    omega (arith, c.self.invariant.steps_are, c.self.invariant.requests_fit, c.requests_of.type_inv, c.from-2.ensures, fits)
+
+pub overflow_add-self-4 : goal.overflow_add-self-4
+overflow_add-self-4 g c =
+    let l = c.self.inside in
+    let fits : length (moves_of l.made.items) < 18446744073709551615 =
+    subst (λ (s : LogState). length s.moves < 18446744073709551615) (sym c.self.view_is) c.requires.for_step in
+    omega (
+      arith,
+      c.self.invariant.steps_are,
+      fits,
+      lost-le g.row.KEEPS_MARKS (moves_of l.made.items) l.steps l.marks.items l.sent l.requests l.lost l.repeated c.self.invariant,
+      lost_in_le c.args.step.now,
+    )
+
+pub overflow_add-self-5 : goal.overflow_add-self-5
+overflow_add-self-5 g c =
+    let l = c.self.inside in
+    let fits : length (moves_of l.made.items) < 18446744073709551615 =
+    subst (λ (s : LogState). length s.moves < 18446744073709551615) (sym c.self.view_is) c.requires.for_step in
+    omega (
+      arith,
+      c.self.invariant.steps_are,
+      fits,
+      repeated-le g.row.KEEPS_MARKS (moves_of l.made.items) l.steps l.marks.items l.sent l.requests l.lost l.repeated c.self.invariant,
+      repeated_in_le c.args.step.now,
+    )
+
+pub invariant_of-self : goal.invariant_of-self
+invariant_of-self g c =
+    let l = c.self.inside in
+    let o = c.args.outcome.now in
+    let few : length o.sends.items ≤ 18446744073709551615 = omega (arith, c.len.type_inv, c.len.ensures) in
+    let made : c.requests_of.result ≡ requests_in o.marks.items = c.requests_of.ensures ∙ ap requests_in c.as_slice-2.ensures in
+    let fewer : requests_in o.marks.items ≤ 18446744073709551615 = omega (arith, c.requests_of.type_inv, made) in
+    pushed g.row.KEEPS_MARKS l.made.items c.and_pair-self-inside.result.items l.steps _ l.marks.items c.keep_marks.new.kept.items
+    l.sent c.from.result l.requests c.from-2.result l.lost c.losses_of.result l.repeated c.repeats_of.result c.args.step.now o c.self.invariant few fewer
+    c.and_pair-self-inside.ensures refl
+    (λ kept. c.keep_marks.ensures kept ∙ ap (λ (xs : List Mark). l.marks.items ++ xs) c.as_slice.ensures)
+    (c.from.ensures ∙ c.len.ensures)
+    (c.from-2.ensures ∙ made)
+    c.losses_of.ensures
+    c.repeats_of.ensures

@@ -1,0 +1,13 @@
+use Rattle.std.proofs.Common.{arith, ◌+◌}
+use Rattle.ra_world.proofs.LogCounts.{requests_in-take, requests_in-take-le}
+use Rattle.ra_world.proofs.world.log.requests_of.Goals as goal
+
+pub overflow_add-requests : goal.overflow_add-requests
+overflow_add-requests c =
+    let marks = c.args.marks.now in
+    let i = c.loop-mark.mark-index in
+    omega (arith, requests_in-take marks i c.mark-item.result c.loop-mark-test.true c.mark-item.is, requests_in-take-le marks (i + 1))
+
+pub loop-mark-preserved : goal.loop-mark-preserved
+loop-mark-preserved c =
+    omega (arith, requests_in-take c.args.marks.now c.loop-mark.mark-index c.mark-item.result c.loop-mark-test.true c.mark-item.is)

@@ -1,0 +1,45 @@
+use Rattle.std.proofs.Common.{◌≡◌, ◌+◌, ℕ, sym, subst, refl, inl, inr}
+use Rattle.ra_world.specs.declared.error.StepError.{StepError}
+use Rattle.ra_world.specs.Refused.{IsRefusedAt}
+use Rattle.ra_world.proofs.Refusing.{memory_or_not, no_run, refused_there, stops_before}
+use Rattle.ra_world.proofs.Runs.{prefix_of_steps, steps_go_on}
+use Rattle.ra_world.proofs.WorldLaws.{laws_below}
+use Rattle.ra_world.proofs.world.run_steps.step_through.Goals as goal
+
+pub returns-in-Err-clause-refused : goal.returns-in-Err-clause-refused
+returns-in-Err-clause-refused c place cause is =
+    let all = c.args.steps.now in
+    let made = c.loop-place.invariant in
+    let told = c.in-Err.ensures in
+    elim (memory_or_not c.in-Err.cause) [
+      | inl same ↦ let ends = c.at.ensures.memory same in cc
+      | inr other ↦
+          let ends = c.at.ensures.refused other in
+          let here : place ≡ c.loop-place.place + 1 = cc in
+          let this : c.in-Err.cause ≡ cause = cc in
+          let why = (told.refused c.in-Err.cause other).0 refl in
+          let there =
+          refused_there (prefix_of_steps laws_below.splits) (steps_go_on laws_below) c.args.world.now.count c.args.world.now.start c.loop-place.place all c.index-steps-place.result c.loop-place.world made
+          c.loop-place-test.true c.index-steps-place.is (λ on. other (told.allowed.1 on)) c.in-Err.cause why in
+          subst (λ (p : ℕ). IsRefusedAt c.args.world.now.count c.args.world.now.start all p cause) (sym here)
+          (subst (λ (why : StepError). IsRefusedAt c.args.world.now.count c.args.world.now.start all (c.loop-place.place + 1) why) this there)
+    ]
+
+pub returns-in-Err-clause-allowed : goal.returns-in-Err-clause-allowed
+returns-in-Err-clause-allowed c run =
+    let all = c.args.steps.now in
+    elim (memory_or_not c.in-Err.cause) [
+      | inl same ↦ c.at.ensures.memory same
+      | inr other ↦
+          absurd (no_run (prefix_of_steps laws_below.splits) (steps_go_on laws_below) c.args.world.now.count c.args.world.now.start c.loop-place.place all c.index-steps-place.result c.loop-place.world
+          c.loop-place.invariant c.loop-place-test.true c.index-steps-place.is (λ on. other (c.in-Err.ensures.allowed.1 on)) run)
+    ]
+
+pub returns-in-Err-clause-memory : goal.returns-in-Err-clause-memory
+returns-in-Err-clause-memory c is =
+    elim (memory_or_not c.in-Err.cause) [
+      | inl same ↦
+          stops_before c.args.world.now.count c.args.world.now.start c.loop-place.place c.args.steps.now c.index-steps-place.result c.loop-place.world c.step.new.self
+          c.loop-place.invariant c.loop-place-test.true c.index-steps-place.is (c.in-Err.ensures.allowed.0 same) c.in-Err.ensures.err
+      | inr other ↦ let ends = c.at.ensures.refused other in absurd cc
+    ]

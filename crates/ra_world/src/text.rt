@@ -1,0 +1,6 @@
+//! Lines of text: those of reports, states and notes, and how a text is cut apart.
+pub mod cutting;
+pub mod lines;
+pub mod note;
+pub mod report;
+pub mod state_lines;

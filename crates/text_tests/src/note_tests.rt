@@ -1,0 +1,3 @@
+//! What is told to a person.
+pub mod asked_notes;
+pub mod explained;

@@ -1,0 +1,149 @@
+//! How a script is performed if its reader fails, or the writer of its text.
+use crate::shared_texts::{ONE_LOCK, ONE_LOCK_LENGTH, ONE_LOCK_SCRIPT, failing};
+use crate::text_asserting::assert_row;
+use crate::trace_tests::traced_steps::assert_whole;
+use OutputKind::{Choices, Lines, Shrunk, State, Trace};
+use ra_schedule::Policy;
+use ra_script::{OutputKind, PerformError, perform, perform_as, perform_trace};
+use std::alloc::Global;
+use std::io;
+use std::process::Abort;
+use test_support::{FailingReader, FailingWriter, ONE_LOCK_LINES};
+
+/// How many bytes the lines of the run have of which the trace is [`ONE_LOCK`].
+const ONE_LOCK_LINES_LENGTH: usize = 110;
+
+/// The line of its choices.
+pub const ONE_LOCK_CHOICES: &str = "c1 m0 m0 c1\n";
+
+/// How many bytes it has.
+const ONE_LOCK_CHOICES_LENGTH: usize = 12;
+
+/// The line that says that the run is not stuck.
+pub const ONE_LOCK_SHRUNK: &str = "none\n";
+
+/// How many bytes it has.
+const ONE_LOCK_SHRUNK_LENGTH: usize = 5;
+
+/// The lines of the state at its end.
+pub const ONE_LOCK_STATE: &str = "steps 4
+node 1 r 1 idle
+node 2 r 1 idle
+client 1 1 done
+";
+
+/// How many bytes they have.
+const ONE_LOCK_STATE_LENGTH: usize = 56;
+
+/// Returns what is written of the script.
+pub fn text_of(format: OutputKind) -> &'static str {
+    match format {
+        Lines => ONE_LOCK_LINES,
+        Trace => ONE_LOCK,
+        Choices => ONE_LOCK_CHOICES,
+        Shrunk => ONE_LOCK_SHRUNK,
+        State => ONE_LOCK_STATE,
+    }
+}
+
+/// Returns a reader of a script that does not fail.
+pub fn reader_of(script: &[u8]) -> FailingReader<'_> {
+    FailingReader::new(script, 64, None, io::ErrorKind::Interrupted)
+}
+
+/// Returns a reader of the script that fails after this many bytes, or does not.
+fn script_reader(before_fault: Option<usize>) -> FailingReader<'static> {
+    let script = ONE_LOCK_SCRIPT.as_bytes();
+    FailingReader::new(script, 1, before_fault, io::ErrorKind::Interrupted)
+}
+
+/// Performs a script by a policy, and returns whether it finished.
+pub fn performed(
+    alloc: Global,
+    reader: &mut FailingReader<'_>,
+    writer: &mut FailingWriter<'_>,
+    format: OutputKind,
+    policy: &Policy,
+) -> Result<bool, PerformError> {
+    match format {
+        Lines => perform(alloc, reader, writer, policy),
+        Trace => perform_trace(alloc, reader, writer, policy),
+        Choices | Shrunk | State => perform_as(alloc, reader, writer, format, policy),
+    }
+}
+
+/// Performs a script from the oldest message on, and returns the fault, or `None` if there is none.
+fn fault_of(
+    alloc: Global,
+    reader: &mut FailingReader<'_>,
+    writer: &mut FailingWriter<'_>,
+    format: OutputKind,
+) -> Option<PerformError> {
+    performed(alloc, reader, writer, format, &Policy::Oldest).err()
+}
+
+/// Asserts that the fault of a reader after each number of bytes is named, and no byte is read after it and none written.
+fn assert_unread(rt: &(impl Abort + AllocGlobal), format: OutputKind) {
+    for before_fault in 0..=ONE_LOCK_SCRIPT.len() {
+        let mut reader = script_reader(Some(before_fault));
+        let mut writer = failing("", 1000, None);
+        let fault = fault_of(rt.alloc(), &mut reader, &mut writer, format);
+        assert_row(rt, before_fault, &fault, &Some(PerformError::Read));
+        let taken = ONE_LOCK_SCRIPT.len().checked_sub(reader.bytes.len());
+        assert_row(rt, before_fault, &taken, &Some(before_fault));
+        assert_row(rt, before_fault, &writer.differs, &false);
+    }
+}
+
+/// A row is here the number of bytes before the fault.
+#[test]
+fn a_reader_that_fails_behind_any_byte_is_a_fault(rt: HostRuntime) {
+    assert_unread(&rt, Lines);
+    assert_unread(&rt, Trace);
+    assert_unread(&rt, Choices);
+    assert_unread(&rt, Shrunk);
+    assert_unread(&rt, State);
+}
+
+/// Asserts that the fault of a writer after this many bytes is named, and just these are written.
+fn assert_prefix(
+    rt: &(impl Abort + AllocGlobal),
+    format: OutputKind,
+    before_fault: usize,
+    fault: Option<io::ErrorKind>,
+) {
+    let text = text_of(format);
+    let mut reader = script_reader(None);
+    let mut writer = failing(text, before_fault, fault);
+    let came = fault_of(rt.alloc(), &mut reader, &mut writer, format);
+    assert_row(rt, before_fault, &came, &Some(PerformError::Write));
+    let taken = text.len().checked_sub(writer.left.len());
+    assert_row(rt, before_fault, &taken, &Some(before_fault));
+    assert_row(rt, before_fault, &writer.differs, &false);
+}
+
+/// Asserts that it is so after each number of bytes, for a fault after which other writers would try again, and for a write that
+/// takes nothing. Asserts, too, that all is written byte by byte to a writer that would fail after it.
+fn assert_unwritten(rt: &(impl Abort + AllocGlobal), format: OutputKind, length: usize) {
+    let text = text_of(format);
+    assert_row(rt, length, &text.len(), &length);
+    for before_fault in 0..length {
+        assert_prefix(rt, format, before_fault, Some(io::ErrorKind::Interrupted));
+        assert_prefix(rt, format, before_fault, None);
+    }
+    let mut reader = script_reader(None);
+    let mut writer = failing(text, length, None);
+    let came = fault_of(rt.alloc(), &mut reader, &mut writer, format);
+    assert_row(rt, length, &came, &None);
+    assert_whole(rt, length, &writer);
+}
+
+/// A row is here the number of bytes before the fault.
+#[test]
+fn a_writer_that_fails_behind_any_byte_has_those_before(rt: HostRuntime) {
+    assert_unwritten(&rt, Lines, ONE_LOCK_LINES_LENGTH);
+    assert_unwritten(&rt, Trace, ONE_LOCK_LENGTH);
+    assert_unwritten(&rt, Choices, ONE_LOCK_CHOICES_LENGTH);
+    assert_unwritten(&rt, Shrunk, ONE_LOCK_SHRUNK_LENGTH);
+    assert_unwritten(&rt, State, ONE_LOCK_STATE_LENGTH);
+}

@@ -1,0 +1,139 @@
+//! Lists of steps that have no trace because one step is refused: the first, or one after many others.
+use crate::shared_texts::failing;
+use crate::text_asserting::assert_row;
+use crate::trace_tests::traced_steps::{adds, adds_line, fault_of_steps, text_of_steps};
+use ra_trace::WriteTraceError;
+use ra_world::{NodeRefusal, RunError, Step, StepError, Steps};
+use std::process::Abort;
+use test_support::{reply, request};
+
+/// Client 1 of node 1 leaves `r`.
+const LEAVES: &str = "release 1 1 r";
+
+/// Adds the steps of a request with this number: client 1 of node 1 asks, and the REQUEST and the REPLY are delivered.
+/// Returns whether there was room.
+fn adds_entry(steps: &mut Steps, seq: u64) -> bool {
+    adds_line(steps, "ask 1 1 r X")
+        && adds(steps, Some(Step::Deliver(request(1, 2, seq))))
+        && adds(steps, Some(Step::Deliver(reply(2, 1, seq))))
+}
+
+/// Adds 39 steps, with numbers that begin at `start`: client 1 locks `r` nine times and enters a tenth time. Returns
+/// whether there was room.
+fn adds_39_steps(steps: &mut Steps, start: u64) -> bool {
+    for lock in 1..=9u64 {
+        if !adds_entry(steps, start.saturating_add(lock)) || !adds_line(steps, LEAVES) {
+            return false;
+        }
+    }
+    adds_entry(steps, start.saturating_add(10))
+}
+
+/// The line of the step that is refused, the number that each name begins with, and the cause.
+struct Case(&'static str, u64, StepError);
+
+/// The greatest start from which ten requests can be made.
+const TEN_LEFT: u64 = u64::MAX - 10;
+
+const BUSY: StepError = StepError::Node(NodeRefusal::Busy);
+
+const EXHAUSTED: StepError = StepError::Node(NodeRefusal::Exhausted);
+
+const NOT_HELD: StepError = StepError::Node(NodeRefusal::NotHeld);
+
+/// Asserts that two nodes refuse the step at this place for the cause of a row, so that there is no trace and nothing is written.
+fn assert_no_trace(
+    rt: &(impl Abort + AllocGlobal),
+    row: usize,
+    case: &Case,
+    steps: &Steps,
+    place: u64,
+) {
+    let (alloc, start, cause) = (rt.alloc(), case.1, case.2);
+    let refused = Some(WriteTraceError::Run(RunError::Refused { place, cause }));
+    let mut writer = failing("", 0, None);
+    let fault = fault_of_steps(alloc, 2, start, steps, &mut writer);
+    assert_row(rt, row, &fault, &refused);
+    assert_row(
+        rt,
+        row,
+        &(writer.differs, writer.before_fault),
+        &(false, Some(0)),
+    );
+    let fault = text_of_steps(alloc, 2, start, steps).err();
+    assert_row(rt, row, &fault, &refused);
+}
+
+/// Adds the step of a case, as the first step or after 39 others, and one more step. Returns whether there was room.
+fn adds_case(steps: &mut Steps, case: &Case, place: u64) -> bool {
+    (place < 40 || adds_39_steps(steps, case.1))
+        && adds_line(steps, case.0)
+        && adds_line(steps, "ask 2 3 r X")
+}
+
+/// Asserts that the step of each case is refused at this place.
+fn assert_refused(rt: &(impl Abort + AllocGlobal), cases: &[Case], place: u64) {
+    for row in 0..cases.len() {
+        let mut steps = Steps::new(rt.alloc());
+        assert_row(rt, row, &adds_case(&mut steps, &cases[row], place), &true);
+        assert_no_trace(rt, row, &cases[row], &steps, place);
+    }
+}
+
+#[test]
+fn the_first_step_of_a_trace_is_refused_for_each_cause(rt: HostRuntime) {
+    const CASES: &[Case] = &[
+        Case("ask 3 1 r X", 0, StepError::NoNode),
+        Case("deliver request 1 2 r X 1", 0, StepError::NotUnderWay),
+        Case("lose request 1 2 r X 1", 0, StepError::NotUnderWay),
+        Case("repeat request 1 2 r X 1", 0, StepError::NotUnderWay),
+        Case(LEAVES, 0, NOT_HELD),
+        Case("ask 1 1 r X", u64::MAX, EXHAUSTED),
+    ];
+    assert_refused(&rt, CASES, 1);
+}
+
+/// Client 1 holds `r` by its tenth request.
+#[test]
+fn the_fortieth_step_of_a_trace_is_refused_for_each_cause(rt: HostRuntime) {
+    const CASES: &[Case] = &[
+        Case("ask 3 1 r X", 0, StepError::NoNode),
+        Case("deliver request 1 2 r X 1", 0, StepError::NotUnderWay),
+        Case("lose request 1 2 r X 1", 0, StepError::NotUnderWay),
+        Case("repeat request 1 2 r X 1", 0, StepError::NotUnderWay),
+        Case("release 1 2 r", 0, NOT_HELD),
+        Case("ask 1 1 r X", 0, BUSY),
+        Case("ask 1 1 r X", TEN_LEFT, BUSY),
+        Case("ask 1 2 r X", TEN_LEFT, EXHAUSTED),
+    ];
+    assert_refused(&rt, CASES, 40);
+}
+
+/// Returns how many lines a text has, which ends with a line feed.
+fn lines_in(text: &str) -> u64 {
+    let mut lines = 0u64;
+    for byte in text.as_bytes() {
+        if *byte == b'\n' {
+            lines = lines.saturating_add(1);
+        }
+    }
+    lines
+}
+
+/// Asserts that the 39 steps, with client 1's leave as the fortieth, have a trace of this many lines.
+fn assert_lines(rt: &(impl Abort + AllocGlobal), row: usize, start: u64, lines: u64) {
+    let mut steps = Steps::new(rt.alloc());
+    let is_made = adds_39_steps(&mut steps, start) && adds_line(&mut steps, LEAVES);
+    assert_row(rt, row, &is_made, &true);
+    match text_of_steps(rt.alloc(), 2, start, &steps) {
+        Ok(text) => assert_row(rt, row, &lines_in(text.as_str()), &lines),
+        Err(fault) => assert_row(rt, row, &Some(fault), &None),
+    }
+}
+
+/// A line for each of 40 steps and 30 marks, and the first and the last line.
+#[test]
+fn the_steps_before_have_their_lines(rt: HostRuntime) {
+    assert_lines(&rt, 0, 0, 72);
+    assert_lines(&rt, 1, TEN_LEFT, 72);
+}

@@ -1,0 +1,309 @@
+//! The choices of a run, and the first seed that comes to an end.
+use crate::script_tests::drives::{Chooser, driven, policy};
+use crate::script_tests::script_plans::adds_locker;
+use crate::world_steps::world_asserting::{assert_row, assert_same};
+use Chooser::{Faulty, Newest, Oldest, Seeded};
+use Ending::{Finished, Stuck};
+use ra_schedule::{
+    Choice, Ending, Figures, Observer, Policy, Script, SeedOutcome, SeedRange, Shrunk, first_seed,
+    shrink, survey,
+};
+use ra_stamp::{Memory, Mode};
+use std::alloc::Global;
+use std::process::Abort;
+use test_support::At;
+
+/// Adds this many clients, alternately at the first and the second node, which lock `r` and unlock it.
+fn adds_lockers(alloc: Global, script: &mut Script, clients: u16) -> bool {
+    for client in 0..clients {
+        if !adds_locker(alloc, script, 1 + client % 2, Mode::Exclusive) {
+            return false;
+        }
+    }
+    true
+}
+
+/// Makes a script of two nodes with this many such clients.
+pub fn lockers(alloc: Global, clients: u16) -> Option<Script> {
+    match Script::new(alloc, 2) {
+        Ok(mut script) => {
+            if adds_lockers(alloc, &mut script, clients) {
+                Some(script)
+            } else {
+                None
+            }
+        }
+        Err(_) => None,
+    }
+}
+
+/// What chooses for four clients, and the choices of the run, each a letter and a digit.
+struct Listed(Chooser, &'static str);
+
+/// Returns the letter and the number of a choice.
+fn letter_and_number(choice: &Choice) -> (u8, u64) {
+    match choice {
+        Choice::Client(client) => (b'c', u64::from(*client)),
+        Choice::Message(place) => (b'm', *place),
+        Choice::Lost(place) => (b'l', *place),
+        Choice::Repeated(place) => (b'r', *place),
+    }
+}
+
+/// Returns the words after this one, or a text that is no word if no space is between.
+fn next_words(rest: &[u8]) -> &[u8] {
+    match rest {
+        [] => rest,
+        [b' ', next @ ..] => next,
+        _ => b"?",
+    }
+}
+
+/// Returns whether these are the words of the choices, each a letter and a digit.
+fn are_words(words: &str, choices: &[Choice]) -> bool {
+    let mut rest = words.as_bytes();
+    for choice in choices {
+        let (letter, number) = letter_and_number(choice);
+        match rest {
+            [first, digit, others @ ..]
+                if *first == letter && u64::from(*digit) == number.saturating_add(48) => {
+                rest = next_words(others);
+            }
+            _ => return false,
+        }
+    }
+    rest.is_empty()
+}
+
+/// Asserts that the choices of the row with this number have these words.
+fn assert_words(rt: &impl Abort, row: usize, choices: &[Choice], words: &str) {
+    if !are_words(words, choices) {
+        panic!(rt; "row {row}, counted from 0: expected {words}, and {choices:?} came");
+    }
+}
+
+/// Asserts that a policy's run of a script has these choices.
+fn assert_chooses(
+    rt: &(impl Abort + AllocGlobal),
+    row: usize,
+    script: &Script,
+    policy: &Policy,
+    words: &str,
+) {
+    match driven(rt.alloc(), script, policy, 10_000) {
+        Ok(recording) => assert_words(rt, row, recording.choices.as_slice(), words),
+        Err(fault) => assert_row(rt, row, &Some(fault), &None),
+    }
+}
+
+/// Asserts that a run is shrunk to these choices, or is not stuck if the words are `none`.
+fn assert_shrunk(rt: &impl Abort, row: usize, shrunk: &Shrunk, words: &str) {
+    match &shrunk.choices {
+        Some(choices) => assert_words(rt, row, choices.as_slice(), words),
+        None => assert_row(rt, row, &"none", &words),
+    }
+}
+
+/// Asserts that a policy's run of a script is shrunk to these choices.
+fn assert_shrinks(
+    rt: &(impl Abort + AllocGlobal),
+    row: usize,
+    script: &Script,
+    policy: &Policy,
+    words: &str,
+) {
+    match shrink(rt.alloc(), script, policy, 10_000) {
+        Ok(shrunk) => assert_shrunk(rt, row, &shrunk, words),
+        Err(fault) => assert_row(rt, row, &Some(fault), &None),
+    }
+}
+
+/// Asserts that the run of each row has its choices, or is shrunk to them.
+fn assert_listed(
+    rt: &(impl Abort + AllocGlobal),
+    script: &Script,
+    rows: &[Listed],
+    is_shrunk: bool,
+) {
+    for row in 0..rows.len() {
+        let Listed(chooser, words) = &rows[row];
+        match policy(rt.alloc(), *chooser) {
+            Some(policy) if is_shrunk => assert_shrinks(rt, row, script, &policy, words),
+            Some(policy) => assert_chooses(rt, row, script, &policy, words),
+            None => panic!(rt; "row {row}, counted from 0: there is no such policy"),
+        }
+    }
+}
+
+/// Asserts it of four clients.
+fn assert_listed_of_four(rt: &(impl Abort + AllocGlobal), rows: &[Listed], is_shrunk: bool) {
+    match lockers(rt.alloc(), 4) {
+        Some(script) => assert_listed(rt, &script, rows, is_shrunk),
+        None => panic!(rt; "there is no memory for the script"),
+    }
+}
+
+/// The words were computed by a separate Python model of the algorithm, the policies and the generator PCG XSL RR
+/// 128/64, written from the rules in docs/ALGORITHM.md and docs/FORMATS.md. Of equal messages, a choice names the one that was drawn.
+#[test]
+fn the_choices_of_a_run_are_those_of_a_model(rt: HostRuntime) {
+    const ROWS: &[Listed] = &[
+        Listed(Oldest, "c1 c2 c3 c4 m0 m0 m0 c1 m0 c2 m0 m0 m0 c3 m0 c4"),
+        Listed(Newest, "c1 c2 c3 c4 m1 m0 m0 c1 m1 m0 c2 m1 m0 c3 m0 c4"),
+        Listed(Seeded(0), "c4 m0 c2 c1 c3 m1 m0 c4 m0 m0 c1 m0 c2 m0 m0 c3"),
+        Listed(Seeded(7), "c4 c2 m0 m0 c4 c3 m0 c1 m0 m0 c3 m1 m0 c2 m0 c1"),
+        Listed(
+            Seeded(19),
+            "c4 c3 c1 m1 c2 m1 c3 m0 m0 m0 c4 m1 m0 c1 m0 c2",
+        ),
+        Listed(Faulty(0, 100, 300), "c4 l0 c1 c2 m0 r0 c3 m1 c1 m1 m0"),
+        Listed(
+            Faulty(1, 100, 300),
+            "c4 m0 m0 c1 c3 m0 c2 c4 r0 r0 m2 r2 l1 c1 l3 m1 r1 m2 l1 m0",
+        ),
+        Listed(
+            Faulty(7, 100, 300),
+            "c4 c2 m0 m0 c3 m0 c1 c4 m1 r0 r0 r1 l3 r1 m0 m0 m0 c3 m1 m1 l0 c2 m0 c1",
+        ),
+    ];
+    assert_listed_of_four(&rt, ROWS, false);
+}
+
+/// The words were computed from those above by a separate Python model, `cases/shrink_model.py`.
+#[test]
+fn runs_are_shrunk_to_those_of_a_model(rt: HostRuntime) {
+    const ROWS: &[Listed] = &[
+        Listed(Oldest, "none"),
+        Listed(Faulty(0, 100, 300), "c4 l0"),
+        Listed(Faulty(1, 100, 300), "c3 l0"),
+        Listed(Faulty(7, 100, 300), "none"),
+    ];
+    assert_listed_of_four(&rt, ROWS, true);
+}
+
+/// Returns the first seed of a range with which a script comes to this end within this many turns.
+pub fn found<O: Observer>(
+    alloc: Global,
+    script: &Script,
+    ending: Ending,
+    seeds: SeedRange,
+    limit: u64,
+    observer: &mut O,
+) -> Result<Option<u64>, Memory> {
+    first_seed(alloc, script, None, ending, seeds, limit, observer)
+}
+
+/// An end, the first and the last seed of a range, how many turns there are, and the first seed of the range with which one
+/// client of two nodes comes to this end. It takes four turns.
+#[derive(Clone, Copy)]
+struct First(Ending, u64, u64, u64, Option<u64>);
+
+/// The greatest seed.
+const GREATEST: u64 = 18_446_744_073_709_551_615;
+
+const FIRST: &[First] = &[
+    First(Finished, 5, 7, 4, Some(5)),
+    First(Finished, GREATEST, GREATEST, 4, Some(GREATEST)),
+    First(Stuck, 5, 7, 4, None),
+    // A run that is cut off is neither.
+    First(Finished, 5, 7, 3, None),
+    First(Stuck, 5, 7, 3, None),
+    First(Finished, 7, 5, 4, None),
+];
+
+/// Asserts that the first seed is found for the script of a client.
+fn assert_first(rt: &(impl Abort + AllocGlobal), script: &Script) {
+    for row in 0..FIRST.len() {
+        let First(ending, first, last, limit, expected) = FIRST[row];
+        let seeds = SeedRange { first, last };
+        let seed = found(rt.alloc(), script, ending, seeds, limit, &mut ());
+        assert_row(rt, row, &seed, &Ok(expected));
+    }
+}
+
+#[test]
+fn the_first_seed_of_an_end_is_found(rt: HostRuntime) {
+    match lockers(rt.alloc(), 1) {
+        Some(script) => assert_first(&rt, &script),
+        None => panic!(rt; "there is no memory for the script"),
+    }
+}
+
+/// What an observer was told.
+#[derive(Drop)]
+struct Told {
+    ended: Vec<(u64, SeedOutcome)>,
+    is_whole: bool,
+}
+
+impl Observer for Told {
+    fn ended(&mut self, seed: u64, outcome: SeedOutcome) {
+        self.is_whole = self.is_whole && self.ended.push((seed, outcome)).is_ok();
+    }
+}
+
+/// The outcome for one client of two nodes: it asks, its REQUEST and the REPLY are delivered, and it leaves.
+const ONE_LOCK: SeedOutcome = SeedOutcome::Finished(Figures {
+    turns: 4,
+    messages: 2,
+});
+
+/// Makes an observer that was told nothing.
+fn nothing_told(alloc: Global) -> Told {
+    Told {
+        ended: Vec::new(alloc),
+        is_whole: true,
+    }
+}
+
+/// Returns whether just these outcomes were told.
+fn were_told(told: &Told, outcomes: &[(u64, SeedOutcome)]) -> bool {
+    told.is_whole && told.ended.as_slice() == outcomes
+}
+
+/// Returns whether a survey of three seeds tells what came of each.
+fn tells_each(alloc: Global, script: &Script) -> bool {
+    let mut told = nothing_told(alloc);
+    let seeds = SeedRange { first: 5, last: 7 };
+    survey(alloc, script, None, seeds, 4, &mut told).is_ok()
+        && were_told(&told, &[(5, ONE_LOCK), (6, ONE_LOCK), (7, ONE_LOCK)])
+}
+
+/// Returns whether a search among seeds finds the first one or none, and tells these outcomes.
+fn tells_up_to(
+    alloc: Global,
+    script: &Script,
+    limit: u64,
+    first: Option<u64>,
+    outcomes: &[(u64, SeedOutcome)],
+) -> bool {
+    let mut told = nothing_told(alloc);
+    let seeds = SeedRange { first: 5, last: 7 };
+    match found(alloc, script, Finished, seeds, limit, &mut told) {
+        Ok(seed) => seed == first && were_told(&told, outcomes),
+        Err(Memory) => false,
+    }
+}
+
+/// Returns whether surveys and searches tell what came of each seed, up to the one that is found.
+fn tell_each(alloc: Global) -> bool {
+    const CUT_OFF: &[(u64, SeedOutcome)] = &[
+        (5, SeedOutcome::Limit),
+        (6, SeedOutcome::Limit),
+        (7, SeedOutcome::Limit),
+    ];
+    match lockers(alloc, 1) {
+        Some(script) => {
+            tells_each(alloc, &script)
+                && tells_up_to(alloc, &script, 4, Some(5), &[(5, ONE_LOCK)])
+                && tells_up_to(alloc, &script, 3, None, CUT_OFF)
+        }
+        None => false,
+    }
+}
+
+#[test]
+fn surveys_and_searches_tell_what_came_of_each_seed(rt: HostRuntime) {
+    let at = At("surveys and searches tell what came of each seed", "run", 0);
+    assert_same(&rt, at, &tell_each(rt.alloc()), &true);
+}

@@ -1,0 +1,15 @@
+//! What the tests of worlds and of schedules share.
+use ra_world::Report;
+
+/// Returns the totals of a report: requests, messages, those under way, lost and repeated, and clients that wait and are queued.
+pub fn figures(report: &Report) -> [u128; 7] {
+    [
+        report.requests,
+        report.sent,
+        report.under_way,
+        report.lost,
+        report.repeated,
+        report.waiting,
+        report.queued,
+    ]
+}

@@ -1,0 +1,38 @@
+//! How a test ends that does not find what it should. It prints what was expected and what came.
+use ra_stamp::Memory;
+use std::fmt::{Debug, Display};
+use std::process::Abort;
+use test_support::{At, Tried, printed};
+
+/// Asserts that what came there is what was expected.
+pub fn assert_same<T: Debug + PartialEq>(rt: &impl Abort, at: At<'_>, came: &T, expected: &T) {
+    if came != expected {
+        panic!(rt; "{at}: expected {expected:?}, and {came:?} came");
+    }
+}
+
+/// Asserts that what came of the row with this number, from 0 up, is what was expected.
+pub fn assert_row<T: Debug + PartialEq>(rt: &impl Abort, row: usize, came: &T, expected: &T) {
+    assert_same(rt, At("the table", "row", row), came, expected);
+}
+
+/// Asserts that there is this text.
+pub fn assert_text(rt: &impl Abort, at: At<'_>, came: Result<String, Memory>, expected: &str) {
+    match came {
+        Ok(came) => assert_same(rt, at, &came.as_str(), &expected),
+        Err(Memory) => panic!(rt; "{at}: there is no memory for the text"),
+    }
+}
+
+/// Asserts that each of these values prints as the text beside it.
+pub fn assert_prints<T: Display>(rt: &(impl Abort + AllocGlobal), rows: &[(T, &str)]) {
+    for row in 0..rows.len() {
+        let came = printed(rt.alloc(), &rows[row].0);
+        assert_row(rt, row, &came.as_str(), &rows[row].1);
+    }
+}
+
+/// Asserts that calls of which a growth was refused had the right answer, and changed nothing.
+pub fn assert_grown(rt: &impl Abort, tried: Tried) {
+    assert_same(rt, At("calls", "try", 0), &tried.fault(), &None);
+}

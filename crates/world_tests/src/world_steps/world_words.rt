@@ -1,0 +1,67 @@
+//! What is printed of worlds and of schedules: refusals, reports and faults.
+use crate::world_steps::world_acts::{Act, Scene, follow};
+use crate::world_steps::world_asserting::{assert_prints, assert_row, assert_text};
+use Act::{Lock, ReportsText};
+use ra_schedule::{AddClientError, AddOpError, DriveError, NewScriptError};
+use ra_stamp::{Mark, Mode, Name};
+use ra_world::{NewError, NodeRefusal, RunError, StepError, mark_line};
+use test_support::{At, ONE_LOCK_LINES, assert_words, entry};
+
+/// Why a step is refused, with its word.
+const CAUSES: &[(StepError, &str)] = &[
+    (StepError::Node(NodeRefusal::Busy), "Busy"),
+    (StepError::Node(NodeRefusal::Exhausted), "Exhausted"),
+    (StepError::Node(NodeRefusal::NotHeld), "NotHeld"),
+    (StepError::NoNode, "NoNode"),
+    (StepError::NotUnderWay, "NotUnderWay"),
+    (StepError::Memory, "Memory"),
+];
+
+#[test]
+fn refusals_are_printed_as_their_words(rt: HostRuntime) {
+    assert_prints(&rt, CAUSES);
+    for (cause, word) in CAUSES {
+        let of_run = RunError::Refused {
+            place: 7,
+            cause: *cause,
+        };
+        assert_prints(&rt, &[(of_run, *word)]);
+    }
+    assert_words!(&rt; RunError: BadCount Memory; NewError: BadCount Memory);
+}
+
+const SCENES: &[Scene] = &[Scene(
+    "a report is printed as its lines",
+    2,
+    0,
+    &[Lock(1, 2), ReportsText(ONE_LOCK_LINES)],
+)];
+
+#[test]
+fn a_report_is_printed_as_its_lines(rt: HostRuntime) {
+    follow(&rt, SCENES);
+}
+
+/// The mark Requested with the longest name and mode and the greatest numbers.
+#[test]
+fn the_greatest_numbers_are_printed(rt: HostRuntime) {
+    let line = "request 64 4294967295 abcdefghijklmnopqrstuvwxyzABCDEF SIX 18446744073709551615\n";
+    match Name::new(b"abcdefghijklmnopqrstuvwxyzABCDEF") {
+        Ok(name) => {
+            let mode = Mode::SharedIntentExclusive;
+            let mark = Mark::Requested(entry(64, u32::MAX, name, mode, u64::MAX));
+            let came = mark_line(rt.alloc(), &mark);
+            assert_text(&rt, At("the greatest mark", "row", 0), came, line);
+        }
+        Err(fault) => assert_row(&rt, 0, &Some(fault), &None),
+    }
+}
+
+#[test]
+fn faults_are_printed_as_their_words(rt: HostRuntime) {
+    assert_words!(&rt;
+        NewScriptError: Nodes Memory;
+        AddClientError: Clients Memory;
+        AddOpError: Clients Limit NotHeld AlreadyHeld Memory;
+        DriveError: TurnLimit BadPlace NotEnabled Memory);
+}
