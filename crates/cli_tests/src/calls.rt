@@ -1,5 +1,5 @@
 //! Calls that other programs may make.
-use ra_cli::{CommandFault, answer, refuse_words, serve};
+use ra_cli::{CommandFault, answer, refuse_arguments, serve};
 use std::alloc::Global;
 use std::process::Abort;
 use std::sync::Wait;
@@ -72,7 +72,7 @@ fn a_command_is_served(rt: HostRuntime) {
 /// Returns what is printed if there are no words for this cause, or nothing if the status is not 2.
 fn refused(alloc: Global, fault: CommandFault) -> Vec<u8> {
     let mut output = Vec::new(alloc);
-    match refuse_words(&mut output, fault) {
+    match refuse_arguments(&mut output, fault) {
         2 => output,
         _ => Vec::new(alloc),
     }

@@ -5,7 +5,7 @@ mod note_places;
 mod serving_with_notes;
 mod user_notes;
 
-use crate::serving_with_notes::{refuse_words_with_note, serve_with_notes};
+use crate::serving_with_notes::{refuse_arguments_with_note, serve_with_notes};
 use ra_cli::CommandFault;
 use ra_notes::{EndReader, RecordingReader, SeenWriter};
 use ra_task::write_waiting_note;
@@ -13,14 +13,14 @@ use std::io::{BufReader, IsTerminal};
 use std::process::ExitCode;
 use std::{env, io};
 
-/// Returns the words of the command line, of which the first is the program's name.
+/// Returns the arguments of the command line, of which the first is the program's name.
 ///
 /// # Errors
 ///
-/// `Usage`: a word is not UTF-8. `Memory`: there is none for the words.
-fn words(rt: &HostRuntime) -> Result<Vec<String>, CommandFault> {
+/// `Usage`: an argument is not UTF-8. `Memory`: there is none for them.
+fn arguments(rt: &HostRuntime) -> Result<Vec<String>, CommandFault> {
     match env::args(rt) {
-        Ok(words) => words.collect(rt.alloc()).or(Err(CommandFault::Memory)),
+        Ok(arguments) => arguments.collect(rt.alloc()).or(Err(CommandFault::Memory)),
         Err(fault) if fault.kind() == io::ErrorKind::OutOfMemory => Err(CommandFault::Memory),
         Err(_) => Err(CommandFault::Usage),
     }
@@ -30,28 +30,28 @@ fn main(rt: HostRuntime) -> ExitCode {
     let alloc = rt.alloc();
     let mut writer = SeenWriter::new(io::writer(&rt));
     let mut notes = rt.stderr();
-    let words = match words(&rt) {
-        Ok(words) => words,
+    let arguments = match arguments(&rt) {
+        Ok(arguments) => arguments,
         Err(fault) => {
-            return ExitCode::from(refuse_words_with_note(&mut writer, fault, &mut notes));
+            return ExitCode::from(refuse_arguments_with_note(&mut writer, fault, &mut notes));
         }
     };
     let input = rt.reader();
     if input.is_terminal() {
-        write_waiting_note(words.as_slice(), &mut notes);
+        write_waiting_note(arguments.as_slice(), &mut notes);
     }
     // It is read in small pieces, which would otherwise be a call of the system each.
     let mut reader = match BufReader::new(alloc, EndReader::new(input)) {
-        Ok(reader) => RecordingReader::new(alloc, words.as_slice(), reader),
+        Ok(reader) => RecordingReader::new(alloc, arguments.as_slice(), reader),
         Err(_) => {
-            let status = refuse_words_with_note(&mut writer, CommandFault::Memory, &mut notes);
+            let status = refuse_arguments_with_note(&mut writer, CommandFault::Memory, &mut notes);
             return ExitCode::from(status);
         }
     };
     let status = serve_with_notes(
         &rt,
         alloc,
-        words.as_slice(),
+        arguments.as_slice(),
         &mut reader,
         &mut writer,
         &mut notes,

@@ -13,8 +13,8 @@ use std::alloc::Global;
 /// What a note is made of, besides what came of the command.
 #[derive(Clone, Copy)]
 pub struct NoteSource<'a> {
-    /// The words of the command line, of which notes quote options.
-    pub words: &'a [String],
+    /// The arguments of the command line, of which notes quote options.
+    pub arguments: &'a [String],
     pub asked: &'a Command<'a>,
     /// What was read, or `None` if there was no memory for it.
     pub seen: Option<&'a [u8]>,
@@ -36,13 +36,13 @@ fn run_place(alloc: Global, script: &[u8], why: RunScriptError) -> PlaceNote {
 }
 
 /// Returns what is said of a frame that is not answered.
-fn answer_place(alloc: Global, words: &[String], input: &[u8], why: AnswerError) -> PlaceNote {
+fn answer_place(alloc: Global, arguments: &[String], input: &[u8], why: AnswerError) -> PlaceNote {
     match why {
         AnswerError::Frame(fault) => frame_note(alloc, input, fault),
         AnswerError::Line | AnswerError::Hex => digits_note(alloc, input),
-        AnswerError::WrongNode => unanswered_place(alloc, words, input, Unanswered::WrongNode),
-        AnswerError::Stranger => unanswered_place(alloc, words, input, Unanswered::Stranger),
-        AnswerError::ClockFull => unanswered_place(alloc, words, input, Unanswered::ClockFull),
+        AnswerError::WrongNode => unanswered_place(alloc, arguments, input, Unanswered::WrongNode),
+        AnswerError::Stranger => unanswered_place(alloc, arguments, input, Unanswered::Stranger),
+        AnswerError::ClockFull => unanswered_place(alloc, arguments, input, Unanswered::ClockFull),
         _ => Ok(None),
     }
 }
@@ -57,7 +57,7 @@ fn place_in(alloc: Global, source: &NoteSource<'_>, bytes: &[u8], remark: &Remar
             why,
         ),
         Remark::Refused(Refusal::Cluster(why)) => run_place(alloc, bytes, why),
-        Remark::Refused(Refusal::Answer(why)) => answer_place(alloc, source.words, bytes, why),
+        Remark::Refused(Refusal::Answer(why)) => answer_place(alloc, source.arguments, bytes, why),
         Remark::Unfinished => unfinished_place(alloc, source.asked, bytes, source.last_seed),
         _ => Ok(None),
     }

@@ -6,17 +6,19 @@ ghost use Rattle.ra_cli.specs.Statuses.{Serves};
 
 use crate::note_places::NoteSource;
 use crate::user_notes::write_notes;
-use ra_cli::{CommandFault, do_command, refuse_words};
-use ra_notes::{RecordingReader, SeedProgress, SeenWriter, write_output_note, write_words_note};
+use ra_cli::{CommandFault, do_command, refuse_arguments};
+use ra_notes::{
+    RecordingReader, SeedProgress, SeenWriter, write_arguments_note, write_output_note,
+};
 use ra_task::command_of;
 use std::alloc::Global;
 use std::io::{BufRead, Write};
 use std::sync::Wait;
 use std::thread::Threads;
 
-/// Does as [`refuse_words`], and then writes a line for a person to `notes`. It writes another if `writer` failed, unless that
-/// is a pipe that is no longer read. That `notes` fails changes nothing else.
-pub fn refuse_words_with_note<W: Write, N: Write>(
+/// Does as [`refuse_arguments`], and then writes a line for a person to `notes`. It writes another if `writer` failed,
+/// unless that is a pipe that is no longer read. That `notes` fails changes nothing else.
+pub fn refuse_arguments_with_note<W: Write, N: Write>(
     writer: &mut SeenWriter<W>,
     fault: CommandFault,
     notes: &mut N,
@@ -25,8 +27,8 @@ pub fn refuse_words_with_note<W: Write, N: Write>(
         ⊎ ((result ≡ 1) × (prefix : List ℕ) × (rest : List ℕ) × (refused_line (command_word fault) ≡ prefix ++ rest) × (rest ≢ [])
         × Appends (W.contents writer.old.inner) (W.contents writer.new.inner) prefix) }
 {
-    let status = refuse_words(writer, fault);
-    write_words_note(fault, notes);
+    let status = refuse_arguments(writer, fault);
+    write_arguments_note(fault, notes);
     write_output_note(writer.fault(), notes);
     status
 }
@@ -41,28 +43,28 @@ pub fn refuse_words_with_note<W: Write, N: Write>(
 ///   locked, and for the seed of a run that was found.
 /// - There is a line if `writer` failed, unless that is a pipe that is no longer read.
 ///
-/// While many seeds take long, it writes there how far it is. Each line begins with `ra: `. Nothing of it goes to `writer`, and
-/// it is left out if memory or `notes` fails, which changes nothing else. To find the place in a script it is read once more. To
-/// find which client waits for which it is run once more, and shrunk once more if it was. For the mark that is due, a trace that was to be drawn is checked once
-/// more.
+/// While many seeds take long, it writes there how far it is. Each line begins with `ra: `. Nothing of it goes to
+/// `writer`, and it is left out if memory or `notes` fails, which changes nothing else. To find the place in a script
+/// it is read once more. To find which client waits for which it is run once more, and shrunk once more if it was. For
+/// the mark that is due, a trace that was to be drawn is checked once more.
 pub fn serve_with_notes<T: Threads + Wait + Sync, R: BufRead, W: Write, N: Write>(
     rt: &T,
     alloc: Global,
-    words: &[String],
+    arguments: &[String],
     reader: &mut RecordingReader<R>,
     writer: &mut SeenWriter<W>,
     notes: &mut N,
 ) -> u8
     // What is promised of the status, the reader and the writer is the same, whatever becomes of the note.
-    ensures { Serves (map string_bytes words.now) (R.remaining reader.old.inner) (R.remaining reader.new.inner)
+    ensures { Serves (map string_bytes arguments.now) (R.remaining reader.old.inner) (R.remaining reader.new.inner)
         (W.contents writer.old.inner) (W.contents writer.new.inner) (reader.new ≡ reader.old) result }
 {
-    let asked = command_of(alloc, words);
+    let asked = command_of(alloc, arguments);
     let mut progress = SeedProgress::new(alloc, notes);
     let mut text = Vec::new(alloc);
     let outcome = do_command(rt, alloc, &asked, reader, writer, &mut text, &mut progress);
     let source = NoteSource {
-        words,
+        arguments,
         asked: &asked,
         last_seed: progress.last(),
         seen: reader.seen().bytes(),

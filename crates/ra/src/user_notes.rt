@@ -10,8 +10,8 @@ use ra_task::{NO_MEMORY, Said, text_of};
 use std::alloc::Global;
 use std::io::Write;
 
-/// Writes the note on what came of a command, and another on a run that was shrunk. If nothing was refused, it adds a line for each
-/// option that has no effect, and one for the seed that was found. It ignores a failure of the writer.
+/// Writes the note on what came of a command, and another on a run that was shrunk. If nothing was refused, it adds a
+/// line for each option that has no effect, and one for the seed that was found. It ignores a failure of the writer.
 pub fn write_notes<N: Write>(
     alloc: Global,
     source: &NoteSource<'_>,
@@ -29,7 +29,7 @@ pub fn write_notes<N: Write>(
         let is_done = outcome.status != UNFINISHED;
         write_hints(
             alloc,
-            source.words,
+            source.arguments,
             source.asked,
             source.seen,
             is_done,
@@ -79,26 +79,26 @@ fn cause_of(alloc: Global, source: &NoteSource<'_>, remark: &Remark) -> Said {
 /// Returns what there is to say about a refusal, nothing if the writer failed, since a refusal does not say how.
 fn refusal_of(alloc: Global, source: &NoteSource<'_>, refusal: Refusal) -> Said {
     match refusal {
-        Refusal::Command(why) => of_command(alloc, source.words, why),
-        Refusal::Answer(why) => of_answer(alloc, source.words, why),
+        Refusal::Command(why) => of_command(alloc, source.arguments, why),
+        Refusal::Answer(why) => of_answer(alloc, source.arguments, why),
         Refusal::Choices(why) => of_choices(alloc, source.asked.choices(), why),
         Refusal::Perform(why) => of_performance(why),
         Refusal::Check(why) => of_check(why),
-        Refusal::Draw(why) => of_drawing(alloc, source.words, why),
+        Refusal::Draw(why) => of_drawing(alloc, source.arguments, why),
         Refusal::Cluster(why) => of_run(why),
     }
 }
 
 /// Returns what there is to say about a frame that is not answered.
-fn of_answer(alloc: Global, words: &[String], why: AnswerError) -> Said {
+fn of_answer(alloc: Global, arguments: &[String], why: AnswerError) -> Said {
     match why {
-        AnswerError::BadCount => range_note(alloc, words, "--nodes", "64"),
+        AnswerError::BadCount => range_note(alloc, arguments, "--nodes", "64"),
         AnswerError::BadNode => {
             range_note(
                 alloc,
-                words,
+                arguments,
                 "--node",
-                text_of(words, "--nodes").unwrap_or(""),
+                text_of(arguments, "--nodes").unwrap_or(""),
             )
         }
         AnswerError::Read => Said::Text(NO_INPUT),

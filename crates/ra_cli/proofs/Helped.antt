@@ -18,13 +18,13 @@ helped text shown old new before after Untouched status same is (inl (zero, all)
   done = λ _. (same, rw is at all);
   unfinished = λ three. absurd (omega (arith, zero, three));
   refused = λ two. absurd (omega (arith, zero, two));
-  broken = λ words fits one. absurd (omega (arith, zero, one));
+  broken = λ arguments fits one. absurd (omega (arith, zero, one));
 }
 helped text shown old new before after Untouched status same is (inr (one, prefix, rest, parts, left, some)) = record {
   range = omega (arith, one);
   done = λ zero. absurd (omega (arith, one, zero));
   unfinished = λ three. absurd (omega (arith, one, three));
   refused = λ two. absurd (omega (arith, one, two));
-  broken = λ words fits _. prefix_of words old before after shown prefix rest
-      (for_each old (λ input. IsPrinted words input shown) (λ input. inr (inr (inr (inr (inr (inl fits.2))))))) parts left some;
+  broken = λ arguments fits _. prefix_of arguments old before after shown prefix rest
+      (for_each old (λ input. IsPrinted arguments input shown) (λ input. inr (inr (inr (inr (inr (inl fits.2))))))) parts left some;
 }

@@ -10,7 +10,7 @@ mod BookTexts
 mod Surveys
 mod NodeRuns
 mod Statuses
-mod SettleWords
+mod SettleArguments
 mod SettleRuns
 mod Helping
 mod PictureLemmas

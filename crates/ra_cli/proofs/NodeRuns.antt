@@ -4,7 +4,7 @@ use Rattle.std.proofs.lemmas.Option.{same_Some}
 use Rattle.std.specs.Io.KnownBytes.{Appends}
 use Rattle.ra_book.specs.declared.error.BookFault.TheVariants as book
 use Rattle.ra_cli.specs.NodeRun.{ServesNode}
-use Rattle.ra_task.specs.Words.{AreNodeWords}
+use Rattle.ra_task.specs.Arguments.{AreNodeArguments}
 use Rattle.ra_cli.specs.Refusals.{IsOfReader, IsOfWriter}
 use Rattle.ra_cli.specs.Statuses.{IsRefused}
 use Rattle.ra_cli.specs.declared.error.AnswerError.TheVariants.{Line}
@@ -29,8 +29,8 @@ no_book old new before after status (answers, Err book.Line, owed, told, is) two
 no_book old new before after status (answers, Err book.Read, owed, told, is) two = absurd cc
 no_book old new before after status (answers, Err book.Write, owed, told, is) two = absurd cc
 
--- and the words are not those of another command
-pub no_sim : (words : List (List ℕ)) → AreNodeWords words → slice_get words 1 ≡ Some (codes "sim") → ⊥
-no_sim words (name, is) sim =
+-- and the arguments are not those of another command
+pub no_sim : (arguments : List (List ℕ)) → AreNodeArguments arguments → slice_get arguments 1 ≡ Some (codes "sim") → ⊥
+no_sim arguments (name, is) sim =
     let same : codes "node" ≡ codes "sim" = same_Some _ _ (sym (ap (λ (ws : List (List ℕ)). slice_get ws 1) is) ∙ sim) in
     absurd (omega (arith, ap length same))

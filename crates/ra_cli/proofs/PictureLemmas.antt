@@ -9,7 +9,7 @@ use Rattle.ra_draw.specs.declared.part.Part.{Part}
 use Rattle.ra_draw.specs.Drawing.{IsInput, IsOfPart, IsPicture, IsUnfit}
 use Rattle.ra_cli.specs.Pictures.{Attempts, IsOfKind, SaysWhyNot, Shows}
 use Rattle.ra_cli.specs.Statuses.{IsPrinted, BreaksOff}
-use Rattle.ra_task.specs.Words.{ReadsBy}
+use Rattle.ra_task.specs.Arguments.{ReadsBy}
 use Rattle.ra_cli.specs.declared.commands.draw_command.Denial.{Denial}
 use Rattle.ra_task.specs.declared.command_line.input_kind.InputKind.{InputKind}
 
@@ -24,20 +24,20 @@ pub of_input : (P : List ℕ → Type 0) (input taken : List ℕ) (new : Option 
 of_input P input taken new read = subst P (sym (same_input input taken new read))
 
 -- a picture of which the writer took a prefix
-pub of_picture : (words : List (List ℕ)) (kind : InputKind) (old new before after : Option (List ℕ)) → ReadsBy words kind
+pub of_picture : (arguments : List (List ℕ)) (kind : InputKind) (old new before after : Option (List ℕ)) → ReadsBy arguments kind
     → ((input prefix rest : List ℕ) × IsInput old new input × IsOfKind kind input × IsPicture (prefix ++ rest) × (rest ≢ [])
     × Appends before after prefix)
-    → IfSome old (λ input. BreaksOff words input before after)
-of_picture words kind None new before after by h = tt
-of_picture words kind (Some input) new before after by (taken, prefix, rest, read, is, picture, left, some) =
+    → IfSome old (λ input. BreaksOff arguments input before after)
+of_picture arguments kind None new before after by h = tt
+of_picture arguments kind (Some input) new before after by (taken, prefix, rest, read, is, picture, left, some) =
     let whole = of_input (IsOfKind kind) input taken new read is in
     (prefix, rest, inr (inr (inr (inr (inr (inr (inl (kind, by, inl (whole, picture)))))))), left, some)
 
 -- the line that says why there is none
-pub of_denied : (words : List (List ℕ)) (kind : InputKind) (old new : Option (List ℕ)) (text taken : List ℕ) → ReadsBy words kind
-    → IsInput old new taken → SaysWhyNot kind taken text → IfSome old (λ input. IsPrinted words input text)
-of_denied words kind None new text taken by read is = tt
-of_denied words kind (Some input) new text taken by read is =
+pub of_denied : (arguments : List (List ℕ)) (kind : InputKind) (old new : Option (List ℕ)) (text taken : List ℕ) → ReadsBy arguments kind
+    → IsInput old new taken → SaysWhyNot kind taken text → IfSome old (λ input. IsPrinted arguments input text)
+of_denied arguments kind None new text taken by read is = tt
+of_denied arguments kind (Some input) new text taken by read is =
     let why = of_input (λ (xs : List ℕ). SaysWhyNot kind xs text) input taken new read is in
     inr (inr (inr (inr (inr (inr (inl (kind, by, inr why)))))))
 

@@ -31,7 +31,7 @@ use Rattle.ra_cli.specs.ClusterRun.{IsClusterRun}
 use Rattle.ra_cli.specs.Refusals.{IsOfReader, IsOfWriter, refused_line, word_of}
 use Rattle.ra_cli.specs.Statuses.{IsRefused, IsSaid, IsBroken, IsPrinted, BreaksOff}
 use Rattle.ra_cli.specs.Surveyed.{IsTold}
-use Rattle.ra_task.specs.Words.{GivesNode, HasMarksWord, PrintsBy}
+use Rattle.ra_task.specs.Arguments.{GivesNode, HasMarksOption, PrintsBy}
 use Rattle.ra_cli.proofs.ClusterRuns.{of_known}
 use Rattle.ra_cli.proofs.Helping.{for_each}
 
@@ -96,20 +96,20 @@ line_of_reader refusal (inr (inr (inr (inl is)))) = ap (λ (r : Refusal). refuse
 line_of_reader refusal (inr (inr (inr (inr is)))) = ap (λ (r : Refusal). refused_line (word_of r)) is
 
 -- of a refusal that is not the writer's
-said : (words : List (List ℕ)) (old before after : Option (List ℕ)) (refusal : Refusal) → IsSaid refusal before after → IsBroken words old before after
-said words old before after refusal (inl (reader, all)) = inl (subst (Appends before after) (line_of_reader refusal reader) all)
-said words old before after refusal (inr (prefix, rest, is, left, some)) =
-    inr (for_each old (λ input. BreaksOff words input before after) (λ input. (prefix, rest, inl (refusal, sym is), left, some)))
+said : (arguments : List (List ℕ)) (old before after : Option (List ℕ)) (refusal : Refusal) → IsSaid refusal before after → IsBroken arguments old before after
+said arguments old before after refusal (inl (reader, all)) = inl (subst (Appends before after) (line_of_reader refusal reader) all)
+said arguments old before after refusal (inr (prefix, rest, is, left, some)) =
+    inr (for_each old (λ input. BreaksOff arguments input before after) (λ input. (prefix, rest, inl (refusal, sym is), left, some)))
 
 -- of any refusal
-pub broken : (words : List (List ℕ)) (old before between after : Option (List ℕ)) (refusal : Refusal)
-    → (IsOfWriter refusal → IfSome old (λ input. BreaksOff words input before between)) → (IsOfWriter refusal → after ≡ between)
+pub broken : (arguments : List (List ℕ)) (old before between after : Option (List ℕ)) (refusal : Refusal)
+    → (IsOfWriter refusal → IfSome old (λ input. BreaksOff arguments input before between)) → (IsOfWriter refusal → after ≡ between)
     → ((IsOfWriter refusal → ⊥) → between ≡ before)
-    → IsOfWriter refusal ⊎ ((IsOfWriter refusal → ⊥) × IsSaid refusal between after) → IsBroken words old before after
-broken words old before between after refusal fails stays same (inl writer) =
-    inr (subst (λ (o : Option (List ℕ)). IfSome old (λ input. BreaksOff words input before o)) (sym (stays writer)) (fails writer))
-broken words old before between after refusal fails stays same (inr (other, says)) =
-    said words old before after refusal (subst (λ (o : Option (List ℕ)). IsSaid refusal o after) (same other) says)
+    → IsOfWriter refusal ⊎ ((IsOfWriter refusal → ⊥) × IsSaid refusal between after) → IsBroken arguments old before after
+broken arguments old before between after refusal fails stays same (inl writer) =
+    inr (subst (λ (o : Option (List ℕ)). IfSome old (λ input. BreaksOff arguments input before o)) (sym (stays writer)) (fails writer))
+broken arguments old before between after refusal fails stays same (inr (other, says)) =
+    said arguments old before after refusal (subst (λ (o : Option (List ℕ)). IsSaid refusal o after) (same other) says)
 
 -- the line is written, or a prefix of it, if the reader failed
 pub line_of_failed : (refusal : Refusal) (line : List ℕ) (before after : Option (List ℕ)) (result : ℕ) → line ≡ refused_line (word_of refusal) → IsOfReader refusal
@@ -139,57 +139,57 @@ line_of_refused refusal line before after result status same is (inr (one, prefi
 )
 
 -- of a text of which the writer took a prefix
-pub prefix_of : (words : List (List ℕ)) (old before after : Option (List ℕ)) (text prefix rest : List ℕ) → IfSome old (λ input. IsPrinted words input text)
-    → text ≡ prefix ++ rest → rest ≢ [] → Appends before after prefix → IsBroken words old before after
-prefix_of words old before after text prefix rest printed is left some =
-    inr (of_known old (λ input. IsPrinted words input text) (λ input. BreaksOff words input before after)
-    (λ input h. (prefix, rest, subst (IsPrinted words input) is h, left, some)) printed)
+pub prefix_of : (arguments : List (List ℕ)) (old before after : Option (List ℕ)) (text prefix rest : List ℕ) → IfSome old (λ input. IsPrinted arguments input text)
+    → text ≡ prefix ++ rest → rest ≢ [] → Appends before after prefix → IsBroken arguments old before after
+prefix_of arguments old before after text prefix rest printed is left some =
+    inr (of_known old (λ input. IsPrinted arguments input text) (λ input. BreaksOff arguments input before after)
+    (λ input h. (prefix, rest, subst (IsPrinted arguments input) is h, left, some)) printed)
 
 -- ---- What is printed
 
-pub of_verdict : (words : List (List ℕ)) (old : Option (List ℕ)) (verdict : Verdict) → (HasMarksWord words → ⊥)
-    → IfSome old (λ input. IsVerdict input verdict) → IfSome old (λ input. IsPrinted words input (verdict_text verdict))
-of_verdict words old verdict none =
-    of_known old (λ input. IsVerdict input verdict) (λ input. IsPrinted words input (verdict_text verdict))
+pub of_verdict : (arguments : List (List ℕ)) (old : Option (List ℕ)) (verdict : Verdict) → (HasMarksOption arguments → ⊥)
+    → IfSome old (λ input. IsVerdict input verdict) → IfSome old (λ input. IsPrinted arguments input (verdict_text verdict))
+of_verdict arguments old verdict none =
+    of_known old (λ input. IsVerdict input verdict) (λ input. IsPrinted arguments input (verdict_text verdict))
     (λ input h. inr (inr (inr (inl (inl (none, verdict, h, refl))))))
 
-pub of_marks_verdict : (words : List (List ℕ)) (old : Option (List ℕ)) (verdict : MarksVerdict) → HasMarksWord words
-    → IfSome old (λ input. IsMarksVerdict input verdict) → IfSome old (λ input. IsPrinted words input (marks_verdict_text verdict))
-of_marks_verdict words old verdict some =
-    of_known old (λ input. IsMarksVerdict input verdict) (λ input. IsPrinted words input (marks_verdict_text verdict))
+pub of_marks_verdict : (arguments : List (List ℕ)) (old : Option (List ℕ)) (verdict : MarksVerdict) → HasMarksOption arguments
+    → IfSome old (λ input. IsMarksVerdict input verdict) → IfSome old (λ input. IsPrinted arguments input (marks_verdict_text verdict))
+of_marks_verdict arguments old verdict some =
+    of_known old (λ input. IsMarksVerdict input verdict) (λ input. IsPrinted arguments input (marks_verdict_text verdict))
     (λ input h. inr (inr (inr (inl (inr (some, verdict, h, refl))))))
 
-pub of_answered : (words : List (List ℕ)) (node nodes : ℕ) (old before after : Option (List ℕ)) → GivesNode words node nodes
+pub of_answered : (arguments : List (List ℕ)) (node nodes : ℕ) (old before after : Option (List ℕ)) → GivesNode arguments node nodes
     → IfSome old (λ input. (prefix rest : List ℕ) × IsAnswered node nodes input (prefix ++ rest) × (rest ≢ []) × Appends before after prefix)
-    → IfSome old (λ input. BreaksOff words input before after)
-of_answered words node nodes old before after gives =
+    → IfSome old (λ input. BreaksOff arguments input before after)
+of_answered arguments node nodes old before after gives =
     of_known old (λ input. (prefix rest : List ℕ) × IsAnswered node nodes input (prefix ++ rest) × (rest ≢ []) × Appends before after prefix)
-    (λ input. BreaksOff words input before after)
+    (λ input. BreaksOff arguments input before after)
     (λ input (prefix, rest, answered, left, some). (prefix, rest, inr (inl (node, nodes, gives, answered)), left, some))
 
-pub of_performed : (words : List (List ℕ)) (policy : Policy) (format : OutputKind) (old before after : Option (List ℕ))
+pub of_performed : (arguments : List (List ℕ)) (policy : Policy) (format : OutputKind) (old before after : Option (List ℕ))
     → IfSome old (λ input. (prefix rest : List ℕ) × (finished : Bool) × IsPerformedAs format policy input (prefix ++ rest) finished × (rest ≢ [])
     × Appends before after prefix)
-    → IfSome old (λ input. BreaksOff words input before after)
-of_performed words policy format old before after =
+    → IfSome old (λ input. BreaksOff arguments input before after)
+of_performed arguments policy format old before after =
     of_known old (λ input. (prefix rest : List ℕ) × (finished : Bool) × IsPerformedAs format policy input (prefix ++ rest) finished × (rest ≢ [])
-    × Appends before after prefix) (λ input. BreaksOff words input before after)
+    × Appends before after prefix) (λ input. BreaksOff arguments input before after)
     (λ input (prefix, rest, finished, prints, left, some). (prefix, rest, inr (inr (inl (policy, format, finished, prints))), left, some))
 
-pub of_cluster_run : (words : List (List ℕ)) (printed : ClusterOutput) (old before after : Option (List ℕ)) → PrintsBy words printed
+pub of_cluster_run : (arguments : List (List ℕ)) (printed : ClusterOutput) (old before after : Option (List ℕ)) → PrintsBy arguments printed
     → IfSome old (λ input. (prefix rest : List ℕ) × IsClusterRun printed input (prefix ++ rest) × (rest ≢ []) × Appends before after prefix)
-    → IfSome old (λ input. BreaksOff words input before after)
-of_cluster_run words printed old before after by =
+    → IfSome old (λ input. BreaksOff arguments input before after)
+of_cluster_run arguments printed old before after by =
     of_known old (λ input. (prefix rest : List ℕ) × IsClusterRun printed input (prefix ++ rest) × (rest ≢ []) × Appends before after prefix)
-    (λ input. BreaksOff words input before after)
+    (λ input. BreaksOff arguments input before after)
     (λ input (prefix, rest, runs, left, some). (prefix, rest, inr (inr (inr (inr (inl (printed, by, runs))))), left, some))
 
-pub of_surveyed : (words : List (List ℕ)) (faults : Option FaultRates) (find : Option Search) (first last : ℕ) (old before after : Option (List ℕ))
+pub of_surveyed : (arguments : List (List ℕ)) (faults : Option FaultRates) (find : Option Search) (first last : ℕ) (old before after : Option (List ℕ))
     → IfSome old (λ input. (prefix rest : List ℕ) × (finished : Bool) × IsTold faults find first last input (prefix ++ rest) finished × (rest ≢ [])
     × Appends before after prefix)
-    → IfSome old (λ input. BreaksOff words input before after)
-of_surveyed words faults find first last old before after =
+    → IfSome old (λ input. BreaksOff arguments input before after)
+of_surveyed arguments faults find first last old before after =
     of_known old (λ input. (prefix rest : List ℕ) × (finished : Bool) × IsTold faults find first last input (prefix ++ rest) finished × (rest ≢ [])
-    × Appends before after prefix) (λ input. BreaksOff words input before after)
+    × Appends before after prefix) (λ input. BreaksOff arguments input before after)
     (λ input (prefix, rest, finished, says, left, some).
     (prefix, rest, inr (inr (inr (inr (inr (inr (inr (faults, find, first, last, finished, says))))))), left, some))

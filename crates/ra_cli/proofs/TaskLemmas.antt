@@ -1,4 +1,4 @@
--- What is known of a task that was done, as the statuses tell it of the words.
+-- What is known of a task that was done, as the statuses tell it of the arguments.
 use Rattle.std.proofs.Common.{◌≡◌, ℕ, List, Option, Some, None, refl, subst, inl, inr}
 use Rattle.std.specs.Prelude.{◌⊎◌, IfSome, Any}
 use Rattle.std.specs.Io.KnownBytes.{Appends}
@@ -18,7 +18,7 @@ use Rattle.ra_cli.specs.Pictures.{IsOfKind}
 use Rattle.ra_cli.specs.Refusals.{IsOfReader, IsOfWriter, refused_line, word_of}
 use Rattle.ra_cli.specs.Statuses.{IsDone, IsRefused, IsUnfinished}
 use Rattle.ra_cli.specs.Tasks.{IsDoneBy, IsLeftBy, IsRefusedFor, RefusesNamed, RefusesPart, Suits}
-use Rattle.ra_task.specs.Words.{ChecksBy, GivesNode, IsHelpWord, OnAnswer, OnHelp}
+use Rattle.ra_task.specs.Arguments.{ChecksBy, GivesNode, IsHelpArgument, OnAnswer, OnHelp}
 use Rattle.ra_task.specs.declared.command_line.PolicyName.{PolicyName}
 use Rattle.ra_task.specs.declared.command_line.Task.{Task}
 use Rattle.ra_task.specs.declared.command_line.Task.TheVariants as task
@@ -83,45 +83,45 @@ of_part kind part (Some input) new fault h = (fault, refl, unfit)
         let (taken, read, is, why) = h of in
         of_input (λ (xs : List ℕ). IsOfKind kind xs × IsUnfit part xs fault) input taken new read (is, why)
 
--- ---- Words
+-- ---- Arguments
 
--- what is known of a task that was parsed suits the words
-pub suits : (words : List (List ℕ)) (asked : Task) → OnHelp asked (Any IsHelpWord words)
-    → OnAnswer asked (GivesNode words) → ChecksBy words asked → Suits words asked
-suits words (task.Answer node nodes) help numbers marks = (numbers, marks, tt)
-suits words (task.Sim policy choices format) help numbers marks = (tt, tt, tt)
-suits words (task.Survey faults find first last) help numbers marks = (tt, tt, tt)
-suits words task.Check help numbers marks = (tt, marks, tt)
-suits words task.CheckMarks help numbers marks = (tt, marks, tt)
-suits words (task.Draw kind part) help numbers marks = (tt, marks, tt)
-suits words (task.Cluster printed) help numbers marks = (tt, marks, tt)
-suits words (task.Help text) help numbers marks = (tt, tt, help)
+-- what is known of a task that was parsed suits the arguments
+pub suits : (arguments : List (List ℕ)) (asked : Task) → OnHelp asked (Any IsHelpArgument arguments)
+    → OnAnswer asked (GivesNode arguments) → ChecksBy arguments asked → Suits arguments asked
+suits arguments (task.Answer node nodes) help numbers marks = (numbers, marks, tt)
+suits arguments (task.Sim policy choices format) help numbers marks = (tt, tt, tt)
+suits arguments (task.Survey faults find first last) help numbers marks = (tt, tt, tt)
+suits arguments task.Check help numbers marks = (tt, marks, tt)
+suits arguments task.CheckMarks help numbers marks = (tt, marks, tt)
+suits arguments (task.Draw kind part) help numbers marks = (tt, marks, tt)
+suits arguments (task.Cluster printed) help numbers marks = (tt, marks, tt)
+suits arguments (task.Help text) help numbers marks = (tt, tt, help)
 
 -- status 0
-pub done : (words : List (List ℕ)) (asked : Task) (old new before after : Option (List ℕ)) (Untouched : Type 0)
-    → OnHelp asked (Any IsHelpWord words) → Suits words asked
+pub done : (arguments : List (List ℕ)) (asked : Task) (old new before after : Option (List ℕ)) (Untouched : Type 0)
+    → OnHelp asked (Any IsHelpArgument arguments) → Suits arguments asked
     → IsDoneBy asked old new before after Untouched
-    → (Untouched × Any IsHelpWord words)
-    ⊎ IsDone words old new before after ⊎ RunsBy words old new before after
-done words (task.Answer node nodes) old new before after Untouched help fits h = inr (inl (inl (node, nodes, fits.0, h)))
-done words (task.Sim policy choices format) old new before after Untouched help fits (chosen, named, h) = inr (inl (inr (inl (chosen, format, h))))
-done words (task.Survey faults find first last) old new before after Untouched help fits h =
+    → (Untouched × Any IsHelpArgument arguments)
+    ⊎ IsDone arguments old new before after ⊎ RunsBy arguments old new before after
+done arguments (task.Answer node nodes) old new before after Untouched help fits h = inr (inl (inl (node, nodes, fits.0, h)))
+done arguments (task.Sim policy choices format) old new before after Untouched help fits (chosen, named, h) = inr (inl (inr (inl (chosen, format, h))))
+done arguments (task.Survey faults find first last) old new before after Untouched help fits h =
     inr (inl (inr (inr (inr (inr (faults, find, first, last, h))))))
-done words task.Check old new before after Untouched help fits h = inr (inl (inr (inr (inl (inl (fits.1, h))))))
-done words task.CheckMarks old new before after Untouched help fits h = inr (inl (inr (inr (inl (inr (fits.1, h))))))
-done words (task.Draw kind part) old new before after Untouched help fits (input, read, (valid, few, picture, is, appends)) =
+done arguments task.Check old new before after Untouched help fits h = inr (inl (inr (inr (inl (inl (fits.1, h))))))
+done arguments task.CheckMarks old new before after Untouched help fits h = inr (inl (inr (inr (inl (inr (fits.1, h))))))
+done arguments (task.Draw kind part) old new before after Untouched help fits (input, read, (valid, few, picture, is, appends)) =
     inr (inl (inr (inr (inr (inl (kind, input, picture, fits.1, read, valid, is, appends))))))
-done words (task.Cluster printed) old new before after Untouched help fits h = inr (inr (printed, fits.1, h))
-done words (task.Help text) old new before after Untouched help fits h = inl (h.0, help)
+done arguments (task.Cluster printed) old new before after Untouched help fits h = inr (inr (printed, fits.1, h))
+done arguments (task.Help text) old new before after Untouched help fits h = inl (h.0, help)
 
 -- status 3
-pub left : (words : List (List ℕ)) (asked : Task) (old new before after : Option (List ℕ)) → Suits words asked
-    → IsLeftBy asked old new before after → IsUnfinished words old new before after
-left words (task.Answer node nodes) old new before after fits h = absurd h
-left words (task.Sim policy choices format) old new before after fits (chosen, named, h) = inl (chosen, format, h)
-left words (task.Survey faults find first last) old new before after fits h = inr (inr (inr (faults, find, first, last, h)))
-left words task.Check old new before after fits h = inr (inl (inl (fits.1, h)))
-left words task.CheckMarks old new before after fits h = inr (inl (inr (fits.1, h)))
-left words (task.Draw kind part) old new before after fits h = inr (inr (inl (kind, fits.1, h)))
-left words (task.Cluster printed) old new before after fits h = absurd h
-left words (task.Help text) old new before after fits h = absurd h
+pub left : (arguments : List (List ℕ)) (asked : Task) (old new before after : Option (List ℕ)) → Suits arguments asked
+    → IsLeftBy asked old new before after → IsUnfinished arguments old new before after
+left arguments (task.Answer node nodes) old new before after fits h = absurd h
+left arguments (task.Sim policy choices format) old new before after fits (chosen, named, h) = inl (chosen, format, h)
+left arguments (task.Survey faults find first last) old new before after fits h = inr (inr (inr (faults, find, first, last, h)))
+left arguments task.Check old new before after fits h = inr (inl (inl (fits.1, h)))
+left arguments task.CheckMarks old new before after fits h = inr (inl (inr (fits.1, h)))
+left arguments (task.Draw kind part) old new before after fits h = inr (inr (inl (kind, fits.1, h)))
+left arguments (task.Cluster printed) old new before after fits h = absurd h
+left arguments (task.Help text) old new before after fits h = absurd h

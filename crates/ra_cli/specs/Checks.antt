@@ -12,7 +12,7 @@ use Rattle.ra_trace.specs.declared.mark_log.marks_verdict.MarkCause.TheVariants 
 use Rattle.ra_trace.specs.declared.mark_log.marks_verdict.MarksVerdict.{MarksVerdict}
 use Rattle.ra_trace.specs.declared.mark_log.marks_verdict.MarksVerdict.TheVariants as marks
 use Rattle.ra_trace.specs.Marks.{IsMarksVerdict}
-use Rattle.ra_task.specs.Words.{HasMarksWord}
+use Rattle.ra_task.specs.Arguments.{HasMarksOption}
 
 -- the word for the cause of an invalid trace
 abbrev pub cause_word : Cause → List ℕ
@@ -76,13 +76,13 @@ ChecksMarks old new before after valid =
     × ((input : List ℕ) × (verdict : MarksVerdict) × IsMarksVerdict input verdict × (is_run verdict ≡ valid)
     × Appends before after (marks_verdict_text verdict))
 
--- the input was checked as the words say: as a mark log if one of them is `--marks`, and otherwise as a trace
-abbrev pub Judges : (words : List (List ℕ)) → (old new before after : Option (List ℕ)) → Bool → Type 0
-Judges words old new before after valid =
-    ((HasMarksWord words → ⊥) × Checks old new before after valid) ⊎ (HasMarksWord words × ChecksMarks old new before after valid)
+-- the input was checked as the arguments say: as a mark log if one of them is `--marks`, and otherwise as a trace
+abbrev pub Judges : (arguments : List (List ℕ)) → (old new before after : Option (List ℕ)) → Bool → Type 0
+Judges arguments old new before after valid =
+    ((HasMarksOption arguments → ⊥) × Checks old new before after valid) ⊎ (HasMarksOption arguments × ChecksMarks old new before after valid)
 
--- the text is the lines of the verdict on the input, checked as the words say
-abbrev pub IsJudged : (words : List (List ℕ)) → (input text : List ℕ) → Type 0
-IsJudged words input text =
-    ((HasMarksWord words → ⊥) × (verdict : Verdict) × IsVerdict input verdict × (text ≡ verdict_text verdict))
-    ⊎ (HasMarksWord words × (verdict : MarksVerdict) × IsMarksVerdict input verdict × (text ≡ marks_verdict_text verdict))
+-- the text is the lines of the verdict on the input, checked as the arguments say
+abbrev pub IsJudged : (arguments : List (List ℕ)) → (input text : List ℕ) → Type 0
+IsJudged arguments input text =
+    ((HasMarksOption arguments → ⊥) × (verdict : Verdict) × IsVerdict input verdict × (text ≡ verdict_text verdict))
+    ⊎ (HasMarksOption arguments × (verdict : MarksVerdict) × IsMarksVerdict input verdict × (text ≡ marks_verdict_text verdict))

@@ -22,7 +22,7 @@ use Rattle.ra_history.specs.declared.settle_books.settled.Settled.{Settled}
 use Rattle.ra_history.specs.Book.{BookState}
 use Rattle.ra_book.specs.Book.{lines_text}
 use Rattle.ra_book.specs.Written.{IsWrittenBook}
-use Rattle.ra_task.specs.Words.{PrintsBy}
+use Rattle.ra_task.specs.Arguments.{PrintsBy}
 use Rattle.ra_task.specs.declared.cluster_output.ClusterOutput.{ClusterOutput}
 use Rattle.ra_task.specs.declared.cluster_output.ClusterOutput.TheVariants.{Lines, Trace, Books}
 use Rattle.ra_cli.specs.declared.error.RunScriptError.{RunScriptError}
@@ -32,17 +32,17 @@ use Rattle.ra_cli.specs.declared.error.RunScriptError.TheVariants as fault
 abbrev pub AreWrittenBooks : List BookState → (output : List ℕ) → Type 0
 AreWrittenBooks books output = (written : List (List (List ℕ))) × AllZip IsWrittenBook written books × (output ≡ flat_map lines_text written)
 
--- what the output says of a run of nodes with numbers that begin at 0: the lines of its report, its trace, or these books,
--- which settle into it
+-- what the output says of a run of nodes with numbers that begin at 0: the lines of its report, its trace, or these
+-- books, which settle into it
 abbrev pub SaysRun : ClusterOutput → (nodes : ℕ) → List BookState → List Move → Report → (output : List ℕ) → Type 0
 SaysRun Lines nodes books moves report output = output ≡ report_text report
 SaysRun Trace nodes books moves report output = IsTrace nodes 0 moves output
 SaysRun Books nodes books moves report output = AreWrittenBooks books output
 
--- The output says what came of a run of the script: of books that threads may have recorded of it, or of the one run into which
--- they settle. `IsRecord` tells all that is promised of both. Among it, the marks of each client are those of its
--- operations, in order. Nothing waits or is queued, and no message is lost or under way. Each lock of the script was
--- requested, and exactly two messages were sent for each request and other node.
+-- The output says what came of a run of the script: of books that threads may have recorded of it, or of the one run
+-- into which they settle. `IsRecord` tells all that is promised of both. Among it, the marks of each client are those
+-- of its operations, in order. Nothing waits or is queued, and no message is lost or under way. Each lock of the script
+-- was requested, and exactly two messages were sent for each request and other node.
 pub record SaysScript (printed : ClusterOutput) (script : ScriptState) (output : List ℕ) : Type 0 where
   pub books : List BookState
   pub settled : Settled
@@ -60,9 +60,9 @@ RunsCluster printed old new before after =
     IfSome old (λ input. (output : List ℕ) × IsClusterRun printed input output × Consumes old new input × Appends before after output)
     × ((input output : List ℕ) × IsClusterRun printed input output × Appends before after output)
 
--- the same, and what is printed is what the words ask for
-abbrev pub RunsBy : (words : List (List ℕ)) → (old new before after : Option (List ℕ)) → Type 0
-RunsBy words old new before after = (printed : ClusterOutput) × PrintsBy words printed × RunsCluster printed old new before after
+-- the same, and what is printed is what the arguments ask for
+abbrev pub RunsBy : (arguments : List (List ℕ)) → (old new before after : Option (List ℕ)) → Type 0
+RunsBy arguments old new before after = (printed : ClusterOutput) × PrintsBy arguments printed × RunsCluster printed old new before after
 
 -- ---- Refusals
 

@@ -12,7 +12,7 @@ use Rattle.ra_draw.specs.declared.error.DrawError.TheVariants.{Write}
 use Rattle.ra_draw.specs.declared.part.Part.{Part}
 use Rattle.ra_draw.specs.Drawing.{IsDrawable, IsInput, IsOfPart, IsPicture, IsUnfit}
 use Rattle.ra_cli.specs.Checks.{verdict_text, marks_verdict_text}
-use Rattle.ra_task.specs.Words.{ReadsBy}
+use Rattle.ra_task.specs.Arguments.{ReadsBy}
 use Rattle.ra_cli.specs.declared.commands.draw_command.Denial.{Denial}
 use Rattle.ra_task.specs.declared.command_line.input_kind.InputKind.{InputKind}
 use Rattle.ra_task.specs.declared.command_line.input_kind.InputKind.TheVariants.{Trace, Marks}
@@ -31,9 +31,9 @@ SaysWhyNot Marks input text =
 
 -- ---- What is read and written
 
--- the input is of the kind that the words say and was read to its end, and a picture was written and nothing else
-abbrev pub IsDrawn : (words : List (List ℕ)) → (old new before after : Option (List ℕ)) → Type 0
-IsDrawn words old new before after = (kind : InputKind) × (input picture : List ℕ) × ReadsBy words kind × IsInput old new input
+-- the input is of the kind that the arguments say and was read to its end, and a picture was written and nothing else
+abbrev pub IsDrawn : (arguments : List (List ℕ)) → (old new before after : Option (List ℕ)) → Type 0
+IsDrawn arguments old new before after = (kind : InputKind) × (input picture : List ℕ) × ReadsBy arguments kind × IsInput old new input
     × IsOfKind kind input × IsPicture picture × Appends before after picture
 
 -- the input is not of this kind and was read to its end, and the line that says why was written and nothing else
@@ -41,14 +41,14 @@ abbrev pub IsNotDrawn : InputKind → (old new before after : Option (List ℕ))
 IsNotDrawn kind old new before after = (input text : List ℕ) × IsInput old new input × SaysWhyNot kind input text
     × Appends before after text
 
--- the same, and the kind is the one that the words say
-abbrev pub IsDenied : (words : List (List ℕ)) → (old new before after : Option (List ℕ)) → Type 0
-IsDenied words old new before after = (kind : InputKind) × ReadsBy words kind × IsNotDrawn kind old new before after
+-- the same, and the kind is the one that the arguments say
+abbrev pub IsDenied : (arguments : List (List ℕ)) → (old new before after : Option (List ℕ)) → Type 0
+IsDenied arguments old new before after = (kind : InputKind) × ReadsBy arguments kind × IsNotDrawn kind old new before after
 
--- the text is what is printed of the input: a picture if it is of the kind that the words say, and otherwise the line
--- that says why it is not
-abbrev pub IsDrawing : (words : List (List ℕ)) → (input text : List ℕ) → Type 0
-IsDrawing words input text = (kind : InputKind) × ReadsBy words kind × ((IsOfKind kind input × IsPicture text) ⊎ SaysWhyNot kind input text)
+-- the text is what is printed of the input: a picture if it is of the kind that the arguments say, and otherwise the
+-- line that says why it is not
+abbrev pub IsDrawing : (arguments : List (List ℕ)) → (input text : List ℕ) → Type 0
+IsDrawing arguments input text = (kind : InputKind) × ReadsBy arguments kind × ((IsOfKind kind input × IsPicture text) ⊎ SaysWhyNot kind input text)
 
 -- ---- One attempt
 

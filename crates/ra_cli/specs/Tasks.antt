@@ -22,7 +22,7 @@ use Rattle.ra_cli.specs.Pictures.{IsNotDrawn, IsOfKind, Shows}
 use Rattle.ra_cli.specs.Refusals.{IsOfReader, IsOfWriter, refused_line, word_of}
 use Rattle.ra_cli.specs.Statuses.{IsBroken}
 use Rattle.ra_cli.specs.Surveyed.{SurveysBy, RefusesSurvey}
-use Rattle.ra_task.specs.Words.{OnAnswer, OnHelp, ChecksBy, GivesNode, IsHelpWord}
+use Rattle.ra_task.specs.Arguments.{OnAnswer, OnHelp, ChecksBy, GivesNode, IsHelpArgument}
 use Rattle.ra_task.specs.declared.command_line.PolicyName.{PolicyName}
 use Rattle.ra_task.specs.declared.command_line.Task.{Task}
 use Rattle.ra_task.specs.declared.command_line.Task.TheVariants as task
@@ -87,8 +87,8 @@ RefusesNamed name choices format input why =
     ⊎ ((fault : PerformError) × (why ≡ refusal.Perform fault) × (policy : Policy) × IsNamed name choices policy
     × RefusesAs format policy input fault)
 
--- why a part is not drawn: if the part is the cause, the input is of this kind, and none of its lines is in the part, or
--- more than 4,096 are
+-- why a part is not drawn: if the part is the cause, the input is of this kind, and none of its lines is in the part,
+-- or more than 4,096 are
 abbrev pub RefusesPart : InputKind → Part → (input : List ℕ) → DrawError → Type 0
 RefusesPart kind part input fault = IsOfPart fault → IsOfKind kind input × IsUnfit part input fault
 
@@ -116,21 +116,21 @@ IsRefusedFor Cause before after = (why : Refusal) × (IsOfReader why → ⊥) ×
 abbrev pub IsRefusedBy : Task → (old before after : Option (List ℕ)) → Type 0
 IsRefusedBy asked old before after = IsRefusedFor (λ why. IfSome old (λ input. IsCauseFor asked input why)) before after
 
--- ---- Words
+-- ---- Arguments
 
--- the task is one that the words of a command line may ask for: of a node and the nodes that they give, for mark logs
--- exactly if a word is `--marks`, for the trace of threads exactly if a word is `--trace`, for their books exactly if one
--- is `--books`, and of help only if a word asks for it
-abbrev pub Suits : (words : List (List ℕ)) → Task → Type 0
-Suits words asked = OnAnswer asked (GivesNode words) × ChecksBy words asked × OnHelp asked (Any IsHelpWord words)
+-- the task is one that the arguments of a command line may ask for: of a node and the nodes that they give, for mark
+-- logs exactly if a word is `--marks`, for the trace of threads exactly if a word is `--trace`, for their books exactly
+-- if one is `--books`, and of help only if a word asks for it
+abbrev pub Suits : (arguments : List (List ℕ)) → Task → Type 0
+Suits arguments asked = OnAnswer asked (GivesNode arguments) × ChecksBy arguments asked × OnHelp asked (Any IsHelpArgument arguments)
 
 -- ---- What came of it
 
--- What came of a task that ended with this status. `old` and `new` are what is left in the reader before and after it, and
--- `before` and `after` what the writer contains, if they tell. `Untouched` says that nothing was read.
+-- What came of a task that ended with this status. `old` and `new` are what is left in the reader before and after it,
+-- and `before` and `after` what the writer contains, if they tell. `Untouched` says that nothing was read.
 pub record Does (asked : Task) (old new before after : Option (List ℕ)) (Untouched : Type 0) (status : ℕ) : Type 0 where
   pub range : status ≤ 3
   pub done : status ≡ 0 → IsDoneBy asked old new before after Untouched
   pub unfinished : status ≡ 3 → IsLeftBy asked old new before after
   pub refused : status ≡ 2 → IsRefusedBy asked old before after
-  pub broken : (words : List (List ℕ)) → Suits words asked → status ≡ 1 → IsBroken words old before after
+  pub broken : (arguments : List (List ℕ)) → Suits arguments asked → status ≡ 1 → IsBroken arguments old before after

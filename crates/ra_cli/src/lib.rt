@@ -14,4 +14,4 @@ pub use commands::answer_command::answer;
 pub use error::{AnswerError, RunScriptError};
 pub use ra_task::CommandFault;
 pub use refusal_lines::Refusal;
-pub use serving::{do_command, refuse_words, serve};
+pub use serving::{do_command, refuse_arguments, serve};

@@ -1,5 +1,5 @@
-//! The line that is printed of each refusal, as a constant: so it is printed whatever is lacking. The words are here and where
-//! each error says how it prints, since no contract says what a derived `Display` writes.
+//! The line that is printed of each refusal, as a constant: so it is printed whatever is lacking. The words are here
+//! and where each error says how it prints, since no contract says what a derived `Display` writes.
 ghost use Rattle.std.specs.Prelude.{◌≡◌};
 ghost use Rattle.ra_cli.specs.Refusals as spec;
 
@@ -105,7 +105,7 @@ fn cluster_line(fault: ClusterError) -> &'static str
     }
 }
 
-/// Returns the line that says why words ask for nothing. It does not allocate.
+/// Returns the line that says why arguments ask for nothing. It does not allocate.
 fn command_line(fault: CommandFault) -> &'static str
     ensures { result.now ≡ spec.refused_line (spec.command_word fault) }
 {

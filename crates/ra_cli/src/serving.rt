@@ -1,6 +1,6 @@
 ghost use Rattle.std.specs.Prelude.{true, false, [], ◌++◌, None, ◌≢◌, ◌↔◌, IsTrue, Option, ◌≡◌, ◌≤◌, ◌⊎◌, List, ℕ, map, IfSome, string_bytes};
 ghost use Rattle.std.specs.Io.KnownBytes.{Appends};
-ghost use Rattle.ra_task.specs.Words.{ReadsBy, GivesNode, HasMarksWord, PrintsBy};
+ghost use Rattle.ra_task.specs.Arguments.{ReadsBy, GivesNode, HasMarksOption, PrintsBy};
 ghost use Rattle.ra_cli.specs.Answer.{Refuses};
 ghost use Rattle.ra_cli.specs.Checks.{Checks, ChecksMarks, is_run, is_valid};
 ghost use Rattle.ra_trace.specs.declared.error.TraceError.{TraceError};
@@ -50,7 +50,7 @@ pub const DONE: u8 = 0;
 /// The input or the output failed.
 const BROKEN: u8 = 1;
 
-/// The words or the input were refused, memory ran out, or threads did not bring a script to its end.
+/// The arguments or the input were refused, memory ran out, or threads did not bring a script to its end.
 const REFUSED: u8 = 2;
 
 /// Writes a text and returns the status, or that of a fault if the writer fails. It does not allocate.
@@ -94,8 +94,8 @@ fn is_of_the_reader(refusal: Refusal) -> bool
     )
 }
 
-/// Prints the line of a refusal and returns what came of it, with status 1 if the reader or the writer failed, and otherwise 2.
-/// After a fault of the writer it prints nothing. It does not allocate.
+/// Prints the line of a refusal and returns what came of it, with status 1 if the reader or the writer failed, and
+/// otherwise 2. After a fault of the writer it prints nothing. It does not allocate.
 pub fn refuse<W: Write>(writer: &mut W, refusal: Refusal) -> Outcome
     ensures range { result.status ≤ 2 }
     ensures not_done { 1 ≤ result.status }
@@ -116,8 +116,9 @@ pub fn refuse<W: Write>(writer: &mut W, refusal: Refusal) -> Outcome
     }
 }
 
-/// Prints why there are no words of a command line, and returns the status, 2, or 1 if the writer fails. It does not allocate.
-pub fn refuse_words<W: Write>(writer: &mut W, fault: CommandFault) -> u8
+/// Prints why there are no arguments of a command line, and returns the status, 2, or 1 if the writer fails. It does
+/// not allocate.
+pub fn refuse_arguments<W: Write>(writer: &mut W, fault: CommandFault) -> u8
     ensures { ((result ≡ 2) × Appends (W.contents writer.old) (W.contents writer.new) (refused_line (command_word fault)))
         ⊎ ((result ≡ 1) × (prefix : List ℕ) × (rest : List ℕ) × (refused_line (command_word fault) ≡ prefix ++ rest) × (rest ≢ [])
         × Appends (W.contents writer.old) (W.contents writer.new) prefix) }
@@ -143,8 +144,8 @@ fn respond<R: Read, W: Write>(
     ensures refused { result.status ≡ 2 → IsRefusedFor (λ why. IfSome (R.remaining reader.old) (λ input.
         (fault : AnswerError) × (why ≡ Refusal.Answer fault) × Refuses node nodes input fault))
         (W.contents writer.old) (W.contents writer.new) }
-    ensures broken { (words : List (List ℕ)) → GivesNode words node nodes → result.status ≡ 1
-        → IsBroken words (R.remaining reader.old) (W.contents writer.old) (W.contents writer.new) }
+    ensures broken { (arguments : List (List ℕ)) → GivesNode arguments node nodes → result.status ≡ 1
+        → IsBroken arguments (R.remaining reader.old) (W.contents writer.old) (W.contents writer.new) }
 {
     match answer(alloc, node, nodes, reader, writer) {
         Ok(()) => Outcome::new(DONE, None),
@@ -169,8 +170,8 @@ fn simulate<R: Read, W: Write>(
     ensures refused { result.status ≡ 2 → IsRefusedFor
         (λ why. IfSome (R.remaining reader.old) (λ input. RefusesNamed name choices.now format input why))
         (W.contents writer.old) (W.contents writer.new) }
-    ensures broken { (words : List (List ℕ)) → result.status ≡ 1
-        → IsBroken words (R.remaining reader.old) (W.contents writer.old) (W.contents writer.new) }
+    ensures broken { (arguments : List (List ℕ)) → result.status ≡ 1
+        → IsBroken arguments (R.remaining reader.old) (W.contents writer.old) (W.contents writer.new) }
     // A text that is not a list of choices is refused before anything is read.
     ensures choices_first { choices_of choices.now ≡ None → (1 ≤ result.status) × (reader.new ≡ reader.old) }
 {
@@ -199,8 +200,8 @@ fn remark_on(find: Option<Search>) -> Remark {
     }
 }
 
-/// Drives a cluster through the script of the reader under each of many seeds, and writes the lines of what came of them, or
-/// what is to be printed of the first run that comes to an end.
+/// Drives a cluster through the script of the reader under each of many seeds, and writes the lines of what came of
+/// them, or what is to be printed of the first run that comes to an end.
 fn survey_seeds<R: Read, W: Write, O: Observer>(
     alloc: Global,
     faults: Option<Faults>,
@@ -219,8 +220,8 @@ fn survey_seeds<R: Read, W: Write, O: Observer>(
     ensures refused { result.status ≡ 2 → IsRefusedFor (λ why. IfSome (R.remaining reader.old) (λ input.
         (fault : RunScriptError) × (why ≡ Refusal.Cluster fault) × RefusesSurvey faults find first last input fault))
         (W.contents writer.old) (W.contents writer.new) }
-    ensures broken { (words : List (List ℕ)) → result.status ≡ 1
-        → IsBroken words (R.remaining reader.old) (W.contents writer.old) (W.contents writer.new) }
+    ensures broken { (arguments : List (List ℕ)) → result.status ≡ 1
+        → IsBroken arguments (R.remaining reader.old) (W.contents writer.old) (W.contents writer.new) }
 {
     match survey_script(alloc, faults, find, first, last, reader, writer, observer) {
         Ok(true) => Outcome::new(DONE, None),
@@ -248,8 +249,8 @@ fn judge<R: BufRead, W: Write>(alloc: Global, reader: &mut R, writer: &mut W) ->
         (W.contents writer.old) (W.contents writer.new) false }
     ensures refused { result.status ≡ 2 → IsRefusedFor (λ why. (fault : TraceError) × (why ≡ Refusal.Check fault))
         (W.contents writer.old) (W.contents writer.new) }
-    ensures broken { (words : List (List ℕ)) → (HasMarksWord words → ⊥) → result.status ≡ 1
-        → IsBroken words (R.remaining reader.old) (W.contents writer.old) (W.contents writer.new) }
+    ensures broken { (arguments : List (List ℕ)) → (HasMarksOption arguments → ⊥) → result.status ≡ 1
+        → IsBroken arguments (R.remaining reader.old) (W.contents writer.old) (W.contents writer.new) }
 {
     let mut due = None;
     let verdict = match check_buffered_with_due(alloc, reader, &mut due) {
@@ -284,8 +285,8 @@ fn judge_marks<R: BufRead, W: Write>(alloc: Global, reader: &mut R, writer: &mut
         (W.contents writer.old) (W.contents writer.new) false }
     ensures refused { result.status ≡ 2 → IsRefusedFor (λ why. (fault : TraceError) × (why ≡ Refusal.Check fault))
         (W.contents writer.old) (W.contents writer.new) }
-    ensures broken { (words : List (List ℕ)) → HasMarksWord words → result.status ≡ 1
-        → IsBroken words (R.remaining reader.old) (W.contents writer.old) (W.contents writer.new) }
+    ensures broken { (arguments : List (List ℕ)) → HasMarksOption arguments → result.status ≡ 1
+        → IsBroken arguments (R.remaining reader.old) (W.contents writer.old) (W.contents writer.new) }
 {
     let verdict = match check_marks_buffered(alloc, reader) {
         Ok(verdict) => verdict,
@@ -305,16 +306,17 @@ fn print_invalid<W: Write>(denial: Denial, writer: &mut W) -> Outcome
     ensures status { (result.status ≡ 1) ⊎ (result.status ≡ 3) }
     ensures denied { result.status ≡ 3
         → Appends (W.contents writer.old) (W.contents writer.new) (string_bytes denial.line) }
-    ensures broken { (words : List (List ℕ)) (old : Option (List ℕ))
-        → IfSome old (λ input. IsPrinted words input (string_bytes denial.line)) → result.status ≡ 1
-        → IsBroken words old (W.contents writer.old) (W.contents writer.new) }
+    ensures broken { (arguments : List (List ℕ)) (old : Option (List ℕ))
+        → IfSome old (λ input. IsPrinted arguments input (string_bytes denial.line)) → result.status ≡ 1
+        → IsBroken arguments old (W.contents writer.old) (W.contents writer.new) }
 {
     let Denial { line, remark } = denial;
     let status = written(writer, line.as_bytes(), UNFINISHED);
     Outcome::judged(status, Some(remark))
 }
 
-/// Draws a part of the reader's input, or writes the line that says why it is not of this kind. Then the whole input is in `text`.
+/// Draws a part of the reader's input, or writes the line that says why it is not of this kind. Then the whole input is
+/// in `text`.
 fn draw_trace<R: Read, W: Write>(
     alloc: Global,
     kind: InputKind,
@@ -332,8 +334,8 @@ fn draw_trace<R: Read, W: Write>(
     ensures refused { result.status ≡ 2 → IsRefusedFor (λ why. IfSome (R.remaining reader.old) (λ input.
         (fault : DrawError) × (why ≡ Refusal.Draw fault) × RefusesPart kind part input fault))
         (W.contents writer.old) (W.contents writer.new) }
-    ensures broken { (words : List (List ℕ)) → ReadsBy words kind → result.status ≡ 1
-        → IsBroken words (R.remaining reader.old) (W.contents writer.old) (W.contents writer.new) }
+    ensures broken { (arguments : List (List ℕ)) → ReadsBy arguments kind → result.status ≡ 1
+        → IsBroken arguments (R.remaining reader.old) (W.contents writer.old) (W.contents writer.new) }
 {
     match draw_input(alloc, kind, part, reader, writer, text) {
         Ok(None) => Outcome::new(DONE, None),
@@ -356,8 +358,8 @@ fn run_by_threads<T: Threads + Wait + Sync, R: Read, W: Write>(
     ensures refused { result.status ≡ 2 → IsRefusedFor (λ why. IfSome (R.remaining reader.old) (λ input.
         (fault : RunScriptError) × (why ≡ Refusal.Cluster fault) × RefusesRun input fault))
         (W.contents writer.old) (W.contents writer.new) }
-    ensures broken { (words : List (List ℕ)) → PrintsBy words printed → result.status ≡ 1
-        → IsBroken words (R.remaining reader.old) (W.contents writer.old) (W.contents writer.new) }
+    ensures broken { (arguments : List (List ℕ)) → PrintsBy arguments printed → result.status ≡ 1
+        → IsBroken arguments (R.remaining reader.old) (W.contents writer.old) (W.contents writer.new) }
 {
     match run_script(rt, alloc, printed, reader, writer) {
         Ok(()) => Outcome::new(DONE, None),
@@ -399,8 +401,8 @@ fn do_task<T: Threads + Wait + Sync, R: BufRead, W: Write, O: Observer>(
     }
 }
 
-/// Does what words ask for, and returns what came of it. The observer is told of each seed. A text that was to be drawn and is not of
-/// its kind, or of books to settle, is left in `text`.
+/// Does what arguments ask for, and returns what came of it. The observer is told of each seed. A text that was to be
+/// drawn and is not of its kind, or of books to settle, is left in `text`.
 pub fn do_command<T: Threads + Wait + Sync, R: BufRead, W: Write, O: Observer>(
     rt: &T,
     alloc: Global,
@@ -410,7 +412,7 @@ pub fn do_command<T: Threads + Wait + Sync, R: BufRead, W: Write, O: Observer>(
     text: &mut Vec<u8>,
     observer: &mut O,
 ) -> Outcome
-    ensures { (words : List (List ℕ)) → Asks words asked.now → Serves words (R.remaining reader.old) (R.remaining reader.new)
+    ensures { (arguments : List (List ℕ)) → Asks arguments asked.now → Serves arguments (R.remaining reader.old) (R.remaining reader.new)
         (W.contents writer.old) (W.contents writer.new) (reader.new ≡ reader.old) result.status }
 {
     orderly_scripts_are_finished();
@@ -422,28 +424,28 @@ pub fn do_command<T: Threads + Wait + Sync, R: BufRead, W: Write, O: Observer>(
     }
 }
 
-/// Does what the words ask for, of which the first is the program's name, and returns the exit status:
+/// Does what the arguments ask for, of which the first is the program's name, and returns the exit status:
 ///
 /// - 0: done.
 /// - 1: a fault of the input or the output.
 /// - 2: refused.
 /// - 3: a run that ended with something left to do, a trace or a log that is not one, or books that do not settle.
 ///
-/// A refusal is printed as one line, `refused` and its word; `ra node` answers refused lines and goes on. No read or write that
-/// failed is tried again, and after a fault of the output nothing more is written. It waits for nobody but the reader and the
-/// writer, and with the command `cluster` for the threads that it starts. The reader has a buffer for the commands `check` and
-/// `node`, which take of it what they read.
+/// A refusal is printed as one line, `refused` and its word; `ra node` answers refused lines and goes on. No read or
+/// write that failed is tried again, and after a fault of the output nothing more is written. It waits for nobody but
+/// the reader and the writer, and with the command `cluster` for the threads that it starts. The reader has a buffer
+/// for the commands `check` and `node`, which take of it what they read.
 pub fn serve<T: Threads + Wait + Sync, R: BufRead, W: Write>(
     rt: &T,
     alloc: Global,
-    words: &[String],
+    arguments: &[String],
     reader: &mut R,
     writer: &mut W,
 ) -> u8
-    ensures { Serves (map string_bytes words.now) (R.remaining reader.old) (R.remaining reader.new)
+    ensures { Serves (map string_bytes arguments.now) (R.remaining reader.old) (R.remaining reader.new)
         (W.contents writer.old) (W.contents writer.new) (reader.new ≡ reader.old) result }
 {
-    let asked = command_of(alloc, words);
+    let asked = command_of(alloc, arguments);
     let mut text = Vec::new(alloc);
     do_command(rt, alloc, &asked, reader, writer, &mut text, &mut ()).status
 }

@@ -1,4 +1,4 @@
-//! What is said of a command that was not done, of words that cannot be read, and of output that failed.
+//! What is said of a command that was not done, of arguments that cannot be read, and of output that failed.
 use crate::note_texts::{
     NO_INPUT, NO_OUTPUT, NO_SPACE, NO_TEXT, NO_WORD, TOO_LONG, TOO_MANY_BYTES, TOO_MANY_TURNS,
     UNEXPLAINED,
@@ -14,8 +14,8 @@ use ra_world::Note;
 use std::alloc::Global;
 use std::io::Write;
 
-/// Writes the note on words that could not be read. It does not allocate, and ignores a failure of the writer.
-pub fn write_words_note<N: Write>(fault: CommandFault, notes: &mut N) {
+/// Writes the note on arguments that could not be read. It does not allocate, and ignores a failure of the writer.
+pub fn write_arguments_note<N: Write>(fault: CommandFault, notes: &mut N) {
     let text = match fault {
         CommandFault::Usage => NO_TEXT,
         CommandFault::Memory => NO_MEMORY,
@@ -46,20 +46,20 @@ pub fn of_end(alloc: Global, text: Option<&[u8]>, sent: u128) -> Said {
     }
 }
 
-/// Returns what there is to say about words for which there is no task.
-pub fn of_command(alloc: Global, words: &[String], why: CommandFault) -> Said {
+/// Returns what there is to say about arguments for which there is no task.
+pub fn of_command(alloc: Global, arguments: &[String], why: CommandFault) -> Said {
     match why {
-        CommandFault::Usage => usage_note(alloc, words),
+        CommandFault::Usage => usage_note(alloc, arguments),
         CommandFault::Memory => Said::Text(NO_MEMORY),
     }
 }
 
 /// Returns the note on an option whose number is not from 1 to `most`.
-pub fn range_note(alloc: Global, words: &[String], option: &str, most: &str) -> Said {
+pub fn range_note(alloc: Global, arguments: &[String], option: &str, most: &str) -> Said {
     let mut note = Note::new(alloc);
     note.push(option);
     note.push(" is ");
-    note.push(text_of(words, option).unwrap_or(""));
+    note.push(text_of(arguments, option).unwrap_or(""));
     note.push(": must be 1 to ");
     note.push(most);
     Said::of(note)
@@ -116,9 +116,9 @@ pub fn of_check(why: TraceError) -> Said {
 }
 
 /// Returns the note on a part that has none of this many lines.
-fn no_lines_note(alloc: Global, words: &[String], lines: u64) -> Said {
+fn no_lines_note(alloc: Global, arguments: &[String], lines: u64) -> Said {
     let mut note = Note::new(alloc);
-    match text_of(words, "--from") {
+    match text_of(arguments, "--from") {
         Some(from) => {
             note.push("--from is ");
             note.push(from);
@@ -132,11 +132,11 @@ fn no_lines_note(alloc: Global, words: &[String], lines: u64) -> Said {
 }
 
 /// Returns what there is to say about an input that is not drawn.
-pub fn of_drawing(alloc: Global, words: &[String], why: DrawError) -> Said {
+pub fn of_drawing(alloc: Global, arguments: &[String], why: DrawError) -> Said {
     match why {
         DrawError::Read => Said::Text(NO_INPUT),
         DrawError::Limit => Said::Text(TOO_MANY_BYTES),
-        DrawError::NoLines { lines } => no_lines_note(alloc, words, lines),
+        DrawError::NoLines { lines } => no_lines_note(alloc, arguments, lines),
         DrawError::TooLong => Said::Text(TOO_LONG),
         DrawError::Memory => Said::Text(NO_MEMORY),
         DrawError::Write => Said::Nothing,

@@ -22,12 +22,12 @@ pub fn perform_place(alloc: Global, choices: &str, script: &[u8], why: PerformEr
 /// Returns what is said of a frame that a node does not answer.
 pub fn unanswered_place(
     alloc: Global,
-    words: &[String],
+    arguments: &[String],
     input: &[u8],
     why: Unanswered,
 ) -> PlaceNote {
-    let node = text_of(words, "--node").unwrap_or("");
-    let nodes = text_of(words, "--nodes").unwrap_or("");
+    let node = text_of(arguments, "--node").unwrap_or("");
+    let nodes = text_of(arguments, "--nodes").unwrap_or("");
     unanswered_note(alloc, input, node, nodes, why)
 }
 
@@ -60,7 +60,8 @@ pub fn unfinished_place(
     }
 }
 
-/// Returns the mark that is due at the first wrong line of a text, which is wrong for its marks. If memory runs out, it is not known.
+/// Returns the mark that is due at the first wrong line of a text, which is wrong for its marks. If memory runs out, it
+/// is not known.
 pub fn due_in(alloc: Global, text: &[u8]) -> LineCause {
     let (mut rest, mut due) = (text, None);
     match check_buffered_with_due(alloc, &mut rest, &mut due) {
@@ -69,8 +70,8 @@ pub fn due_in(alloc: Global, text: &[u8]) -> LineCause {
     }
 }
 
-/// Returns why a line of a trace is wrong, with the mark that is due there. A text that was to be drawn is checked once more for
-/// that.
+/// Returns why a line of a trace is wrong, with the mark that is due there. A text that was to be drawn is checked once
+/// more for that.
 pub fn cause_in(alloc: Global, drawn: &[u8], cause: Cause, due: Option<Mark>) -> LineCause {
     match cause {
         Cause::Marks if drawn.is_empty() => LineCause::Due(due),
@@ -79,7 +80,8 @@ pub fn cause_in(alloc: Global, drawn: &[u8], cause: Cause, due: Option<Mark>) ->
     }
 }
 
-/// Returns the text that was checked or was to be drawn, or `None` if there is no memory for it. One that was to be drawn is `drawn`.
+/// Returns the text that was checked or was to be drawn, or `None` if there is no memory for it. One that was to be
+/// drawn is `drawn`.
 pub fn text_in<'a>(seen: Option<&'a [u8]>, drawn: &'a [u8]) -> Option<&'a [u8]> {
     if drawn.is_empty() { seen } else { Some(drawn) }
 }

@@ -15,7 +15,7 @@ mod wrong_line;
 
 pub use command_notes::{
     of_check, of_choices, of_command, of_drawing, of_end, of_performance, range_note,
-    write_output_note, write_words_note,
+    write_arguments_note, write_output_note,
 };
 pub use input_places::{
     PlaceNote, cause_in, perform_place, text_in, unanswered_place, unfinished_place,

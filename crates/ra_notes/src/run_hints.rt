@@ -15,8 +15,8 @@ fn write_end<N: Write>(alloc: Global, script: Option<&[u8]>, notes: &mut N) {
     }
 }
 
-/// Returns whether a run was found that ends as it should: a finished one if the command was done, and otherwise one that is stuck. It
-/// does not allocate.
+/// Returns whether a run was found that ends as it should: a finished one if the command was done, and otherwise one
+/// that is stuck. It does not allocate.
 fn is_found(find: Option<Search>, is_done: bool) -> bool {
     match find {
         Some(
@@ -30,7 +30,8 @@ fn is_found(find: Option<Search>, is_done: bool) -> bool {
     }
 }
 
-/// Writes which seed made the run that was found, and perhaps shrunk, unless memory runs out. It ignores a failure of the writer.
+/// Writes which seed made the run that was found, and perhaps shrunk, unless memory runs out. It ignores a failure of
+/// the writer.
 fn write_seed<N: Write>(alloc: Global, shrinks: bool, seed: u64, notes: &mut N) {
     let (run, options) = if shrinks {
         ("the run that was shrunk", "--seeds, --find and --shrink")
@@ -45,11 +46,11 @@ fn write_seed<N: Write>(alloc: Global, shrinks: bool, seed: u64, notes: &mut N) 
     }
 }
 
-/// Writes the hints on a command that was done, or ended with something left to do. With many seeds, `last_seed` is the last one that
-/// was tried. The words tell which options have no effect. It ignores a failure of the writer.
+/// Writes the hints on a command that was done, or ended with something left to do. With many seeds, `last_seed` is the
+/// last one that was tried. The arguments tell which options have no effect. It ignores a failure of the writer.
 pub fn write_hints<N: Write>(
     alloc: Global,
-    words: &[String],
+    arguments: &[String],
     asked: &Command<'_>,
     script: Option<&[u8]>,
     is_done: bool,
@@ -61,13 +62,13 @@ pub fn write_hints<N: Write>(
     };
     match *task {
         Task::Sim { .. } => {
-            write_unused_options(words, notes);
+            write_unused_options(arguments, notes);
             if is_done {
                 write_end(alloc, script, notes);
             }
         }
         Task::Survey { find, .. } => {
-            write_unused_options(words, notes);
+            write_unused_options(arguments, notes);
             if let Some(seed) = last_seed
                 && is_found(find, is_done)
             {

@@ -22,15 +22,16 @@ pub struct Seen {
 }
 
 impl Seen {
-    /// The most bytes that are remembered of what is checked: as many as a text may have, and a line as far as it is read.
+    /// The most bytes that are remembered of what is checked: as many as a text may have, and a line as far as it is
+    /// read.
     pub const MAX_TEXT: usize = 16_777_216 + 128;
 
     /// The most bytes that are remembered of another input: as many as are read of a script.
     pub const MAX_BYTES: usize = 65_537;
 
-    /// Makes that of a reader of which nothing was read, by a command with these words.
-    fn new(alloc: Global, words: &[String]) -> Seen {
-        let is_check = match words.get(1) {
+    /// Makes that of a reader of which nothing was read, by a command with these arguments.
+    fn new(alloc: Global, arguments: &[String]) -> Seen {
+        let is_check = match arguments.get(1) {
             Some(command) => command.as_str() == "check",
             None => false,
         };
@@ -46,8 +47,9 @@ impl Seen {
         }
     }
 
-    /// Returns the first bytes that were read, and what the reader showed after them. There are at most 16,777,344 by the command
-    /// `check`, so a text that it checks is whole, and 65,537 by another one. Returns `None` if memory ran out.
+    /// Returns the first bytes that were read, and what the reader showed after them. There are at most 16,777,344 by
+    /// the command `check`, so a text that it checks is whole, and 65,537 by another one. Returns `None` if memory ran
+    /// out.
     pub fn bytes(&self) -> Option<&[u8]> {
         if self.is_whole {
             Some(self.bytes.as_slice())
@@ -102,14 +104,14 @@ pub struct RecordingReader<R> {
 }
 
 impl<R> RecordingReader<R> {
-    /// Makes one of a reader, for a command with these words, of which the first is the program's name. It does not allocate, and
-    /// reads that follow do so for what they remember, unless memory runs out.
-    pub fn new(alloc: Global, words: &[String], inner: R) -> RecordingReader<R>
+    /// Makes one of a reader, for a command with these arguments, of which the first is the program's name. It does not
+    /// allocate, and reads that follow do so for what they remember, unless memory runs out.
+    pub fn new(alloc: Global, arguments: &[String], inner: R) -> RecordingReader<R>
         ensures { result.inner ≡ inner }
     {
         RecordingReader {
             inner,
-            seen: Seen::new(alloc, words),
+            seen: Seen::new(alloc, arguments),
         }
     }
 

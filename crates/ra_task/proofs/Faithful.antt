@@ -1,8 +1,8 @@
--- Which words ask for a task that neither loses nor repeats a message.
+-- Which arguments ask for a task that neither loses nor repeats a message.
 use Rattle.std.proofs.Common.{◌≡◌, ◌≢◌, ℕ, Bool, true, false, List, length, Option, Some, None, Result, Ok, Err, codes, slice_get, sym, ap, ◌∙◌, arith}
 use Rattle.std.specs.Prelude.{IfSome, IfOk}
 use Rattle.ra_task.specs.Finishing.{HasNoChoices, RunsFaithfully}
-use Rattle.ra_task.specs.Words.{ChecksBy, OnAnswer, OnHelp, SimsFaithfully}
+use Rattle.ra_task.specs.Arguments.{ChecksBy, OnAnswer, OnHelp, SimsFaithfully}
 use Rattle.ra_task.specs.declared.command_line.Task.{Task}
 use Rattle.ra_task.specs.declared.command_line.Task.TheVariants as task
 
@@ -12,18 +12,18 @@ pub under : (Holds : Task → Type 0) (P Q : Type 0) → (P → Q) → (result :
 under Holds P Q f None h = tt
 under Holds P Q f (Some task) h = λ p. h (f p)
 
--- the words ask for no command but `sim`
-pub is_sim : (words : List (List ℕ)) (word : List ℕ) → slice_get words 1 ≡ Some word → SimsFaithfully words → word ≡ codes "sim"
-is_sim words word first sims = let command = sims.command in cc
+-- the arguments ask for no command but `sim`
+pub is_sim : (arguments : List (List ℕ)) (argument : List ℕ) → slice_get arguments 1 ≡ Some argument → SimsFaithfully arguments → argument ≡ codes "sim"
+is_sim arguments argument first sims = let command = sims.command in cc
 
--- they ask for no command whose word has another length
-pub no_other : (words : List (List ℕ)) (word command : List ℕ) → slice_get words 1 ≡ Some word → word ≡ command → length command ≢ 3
-    → SimsFaithfully words → ⊥
-no_other words word command first is long sims = long (ap length (sym is ∙ is_sim words word first sims))
+-- they ask for no command whose argument has another length
+pub no_other : (arguments : List (List ℕ)) (argument command : List ℕ) → slice_get arguments 1 ≡ Some argument → argument ≡ command → length command ≢ 3
+    → SimsFaithfully arguments → ⊥
+no_other arguments argument command first is long sims = long (ap length (sym is ∙ is_sim arguments argument first sims))
 
-pub other : (words : List (List ℕ)) → (SimsFaithfully words → ⊥) → (result : Option Task) → IfSome result (λ task. SimsFaithfully words → RunsFaithfully task)
-other words never None = tt
-other words never (Some task) = λ sims. absurd (never sims)
+pub other : (arguments : List (List ℕ)) → (SimsFaithfully arguments → ⊥) → (result : Option Task) → IfSome result (λ task. SimsFaithfully arguments → RunsFaithfully task)
+other arguments never None = tt
+other arguments never (Some task) = λ sims. absurd (never sims)
 
 -- what is so needs no premise
 pub anyway : (P : Type 0) (result : Option Task) → IfSome result HasNoChoices → IfSome result (λ task. P → HasNoChoices task)
@@ -60,10 +60,10 @@ pub none_numbered_by : {E : Type 0} (P : ℕ → ℕ → Type 0) (result : Resul
 none_numbered_by P (Ok asked) none = no_numbers P asked none
 none_numbered_by P (Err fault) none = tt
 
--- what is so of any words is so of these
-pub of_these : (words : List (List ℕ)) (result : Option Task) → IfSome result (λ task. (any : List (List ℕ)) → ChecksBy any task) → IfSome result (ChecksBy words)
-of_these words None h = tt
-of_these words (Some asked) h = h words
+-- what is so of any arguments is so of these
+pub of_these : (arguments : List (List ℕ)) (result : Option Task) → IfSome result (λ task. (any : List (List ℕ)) → ChecksBy any task) → IfSome result (ChecksBy arguments)
+of_these arguments None h = tt
+of_these arguments (Some asked) h = h arguments
 
 -- the lengths of the commands but `sim`
 pub answer_is_long : length (codes "answer") ≢ 3
@@ -78,6 +78,6 @@ check_is_long same = omega (arith, same)
 pub draw_is_long : length (codes "draw") ≢ 3
 draw_is_long same = omega (arith, same)
 
--- the words that were found not to be these are not these
-pub sim_words : {A : Type 0} (found : Bool) → found ≡ true → found ≡ false → A
-sim_words found is not = let clash : true ≡ false = cc in absurd cc
+-- the arguments that were found not to be these are not these
+pub sim_arguments : {A : Type 0} (found : Bool) → found ≡ true → found ≡ false → A
+sim_arguments found is not = let clash : true ≡ false = cc in absurd cc

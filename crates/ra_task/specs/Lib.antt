@@ -1,5 +1,5 @@
-pub mod Words
-pub mod SettleWords
+pub mod Arguments
+pub mod SettleArguments
 pub mod Finishing
 pub mod Named
 pub mod Asked

@@ -1,8 +1,8 @@
-//! What `ra cluster` prints, and which words ask for it.
+//! What `ra cluster` prints, and which arguments ask for it.
 ghost use Rattle.std.specs.Prelude.{map, string_bytes, IfSome};
-ghost use Rattle.ra_task.specs.Words.{PrintsBy};
+ghost use Rattle.ra_task.specs.Arguments.{PrintsBy};
 
-use crate::command_line::has_word;
+use crate::command_line::has_argument;
 
 /// What `ra cluster` prints of the run that threads made.
 #[derive(Clone, Copy)]
@@ -15,12 +15,16 @@ pub enum ClusterOutput {
     Books,
 }
 
-/// Returns what the words ask `ra cluster` to print, or `None` if they ask for both the trace and the books. The parser has
-/// found that these words are options, and tells less of them in its contract than the words do. It does not allocate.
-pub fn output_by(words: &[String]) -> Option<ClusterOutput>
-    ensures { IfSome result (PrintsBy (map string_bytes words.now)) }
+/// Returns what the arguments ask `ra cluster` to print, or `None` if they ask for both the trace and the books. The
+/// parser has found that these arguments are options, and tells less of them in its contract than the arguments do. It
+/// does not allocate.
+pub fn output_by(arguments: &[String]) -> Option<ClusterOutput>
+    ensures { IfSome result (PrintsBy (map string_bytes arguments.now)) }
 {
-    match (has_word(words, "--trace"), has_word(words, "--books")) {
+    match (
+        has_argument(arguments, "--trace"),
+        has_argument(arguments, "--books"),
+    ) {
         (false, false) => Some(ClusterOutput::Lines),
         (true, false) => Some(ClusterOutput::Trace),
         (false, true) => Some(ClusterOutput::Books),

@@ -1,15 +1,15 @@
-//! The command that words ask for.
+//! The command that arguments ask for.
 ghost use Rattle.std.specs.Prelude.{map, string_bytes};
 ghost use Rattle.ra_task.specs.Asked.{Asks};
 
 use crate::command_line::search::Search;
 use crate::command_line::{CommandFault, Task, parse};
-use crate::node_words::are_node_words;
-use crate::settle_words::{SettleTask, settle_words};
+use crate::node_arguments::are_node_arguments;
+use crate::settle_arguments::{SettleTask, settle_arguments};
 use ra_script::OutputKind;
 use std::alloc::Global;
 
-/// What the words of a command line ask for.
+/// What the arguments of a command line ask for.
 #[derive(Drop)]
 pub enum Command<'a> {
     /// The command `node`.
@@ -23,7 +23,8 @@ pub enum Command<'a> {
 }
 
 impl<'a> Command<'a> {
-    /// Returns what is printed of a run by `sim`, of one that is looked for if it looks for one, or `None` for another command.
+    /// Returns what is printed of a run by `sim`, of one that is looked for if it looks for one, or `None` for another
+    /// command.
     fn printed(&self) -> Option<OutputKind> {
         let Command::Task(task) = self else {
             return None;
@@ -52,17 +53,17 @@ impl<'a> Command<'a> {
     }
 }
 
-/// Returns what the words ask for, of which the first is the program's name.
-pub fn command_of<'a>(alloc: Global, words: &'a [String]) -> Command<'a>
-    ensures { Asks (map string_bytes words.now) result }
+/// Returns what the arguments ask for, of which the first is the program's name.
+pub fn command_of<'a>(alloc: Global, arguments: &'a [String]) -> Command<'a>
+    ensures { Asks (map string_bytes arguments.now) result }
 {
-    if are_node_words(words) {
+    if are_node_arguments(arguments) {
         return Command::Node;
     }
-    if let Some(asked) = settle_words(words) {
+    if let Some(asked) = settle_arguments(arguments) {
         return Command::Settle(asked);
     }
-    match parse(alloc, words) {
+    match parse(alloc, arguments) {
         Ok(task) => Command::Task(task),
         Err(fault) => Command::Unknown(fault),
     }

@@ -1,14 +1,14 @@
-//! What the words of a command line ask for. If they ask for nothing, what is wrong with them. Also what the user is told of words
-//! alone: which options have no effect, and what a command waits for.
+//! What the arguments of a command line ask for. If they ask for nothing, what is wrong with them. Also what the user
+//! is told of arguments alone: which options have no effect, and what a command waits for.
 #![tactic(auto)]
 
 mod cluster_output;
 mod command;
 mod command_line;
-mod node_words;
+mod node_arguments;
 mod policy;
 mod said;
-mod settle_words;
+mod settle_arguments;
 mod unused_options;
 mod waiting;
 
@@ -20,6 +20,6 @@ pub use command_line::usage::usage_note;
 pub use command_line::{CommandFault, PolicyName, Task, text_of};
 pub use policy::{is_choice, policy_of};
 pub use said::{NO_MEMORY, Said, write_line};
-pub use settle_words::{SettleOutput, SettleTask};
+pub use settle_arguments::{SettleOutput, SettleTask};
 pub use unused_options::write_unused_options;
 pub use waiting::write_waiting_note;

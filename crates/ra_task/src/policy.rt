@@ -1,4 +1,4 @@
-//! The policy that words name.
+//! The policy that arguments name.
 ghost use Rattle.std.specs.Prelude.{◌≡◌, ◌⊎◌, None, IsErr, IfOk, IfErr};
 ghost use Rattle.ra_script.specs.ChoicesText.{choices_of};
 ghost use Rattle.ra_task.specs.Named.{IsNamed};
@@ -30,7 +30,7 @@ pub fn policy_of(alloc: Global, name: PolicyName, choices: &str) -> Result<Polic
     })
 }
 
-/// Returns whether a word is a choice.
-pub fn is_choice(alloc: Global, word: &str) -> bool {
-    !word.is_empty() && read_choices(alloc, word).is_ok()
+/// Returns whether an argument is a choice.
+pub fn is_choice(alloc: Global, argument: &str) -> bool {
+    !argument.is_empty() && read_choices(alloc, argument).is_ok()
 }

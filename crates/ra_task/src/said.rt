@@ -10,7 +10,7 @@ pub const NO_MEMORY: &str = "out of memory";
 #[derive(Drop)]
 pub enum Said {
     Nothing,
-    /// A text that depends on neither the words nor the input.
+    /// A text that depends on neither the arguments nor the input.
     Text(&'static str),
     /// Such a text, about a line.
     Line { line: u64, text: &'static str },

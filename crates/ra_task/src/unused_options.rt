@@ -35,9 +35,9 @@ const LIMITED: &[Limited] = &[
     },
 ];
 
-/// Returns whether the words give an option a text. It does not allocate.
-pub fn is_given(words: &[String], option: &str) -> bool {
-    text_of(words, option).is_some()
+/// Returns whether the arguments give an option a text. It does not allocate.
+pub fn is_given(arguments: &[String], option: &str) -> bool {
+    text_of(arguments, option).is_some()
 }
 
 /// Returns whether an option has an effect under a policy. It does not allocate.
@@ -52,9 +52,9 @@ fn is_for(limited: &Limited, policy: &str) -> bool {
 
 /// Writes a line for each option that is given but has no effect under the policy. It does not allocate, and ignores a
 /// failure of the writer.
-fn write_limits<N: Write>(words: &[String], options: &[Limited], policy: &str, notes: &mut N) {
+fn write_limits<N: Write>(arguments: &[String], options: &[Limited], policy: &str, notes: &mut N) {
     for limited in options {
-        if is_given(words, limited.option) && !is_for(limited, policy) {
+        if is_given(arguments, limited.option) && !is_for(limited, policy) {
             write_line(notes, limited.text);
         }
     }
@@ -62,16 +62,16 @@ fn write_limits<N: Write>(words: &[String], options: &[Limited], policy: &str, n
 
 /// Writes a line for each option of `sim` that is given but has no effect. It does not allocate, and ignores a failure
 /// of the writer.
-pub fn write_unused_options<N: Write>(words: &[String], notes: &mut N) {
-    let policy = policy_word(words);
-    write_limits(words, LIMITED, policy, notes);
-    if policy == "listed" && choices_word(words).is_empty() {
+pub fn write_unused_options<N: Write>(arguments: &[String], notes: &mut N) {
+    let policy = policy_word(arguments);
+    write_limits(arguments, LIMITED, policy, notes);
+    if policy == "listed" && choices_word(arguments).is_empty() {
         write_line(
             notes,
             "--policy listed has nothing to do: --choices is missing or empty",
         );
     }
-    if is_given(words, "--seeds") && is_given(words, "--seed") {
+    if is_given(arguments, "--seeds") && is_given(arguments, "--seed") {
         write_line(notes, "--seed is ignored: --seeds gives the seeds");
     }
 }

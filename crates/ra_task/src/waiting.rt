@@ -1,5 +1,5 @@
 //! What the user at a terminal is told that a command waits for.
-use crate::command_line::{asks_for_help, has_word};
+use crate::command_line::{asks_for_help, has_argument};
 use crate::said::write_line;
 use std::io::Write;
 
@@ -83,9 +83,9 @@ fn input_of(command: &str) -> Option<&'static Input> {
     None
 }
 
-/// Returns whether a word is a command, each of which reads standard input.
-pub fn reads_input(word: &str) -> bool {
-    input_of(word).is_some()
+/// Returns whether an argument is a command, each of which reads standard input.
+pub fn reads_input(argument: &str) -> bool {
+    input_of(argument).is_some()
 }
 
 /// Writes what a command reads, if there is such a command.
@@ -104,11 +104,11 @@ fn write_input<N: Write>(command: &str, reads_marks: bool, notes: &mut N) {
 
 /// Tells the user at a terminal what the command waits for, if it reads something. It does not allocate, and ignores a
 /// failure of the writer.
-pub fn write_waiting_note<N: Write>(words: &[String], notes: &mut N) {
-    if asks_for_help(words) {
+pub fn write_waiting_note<N: Write>(arguments: &[String], notes: &mut N) {
+    if asks_for_help(arguments) {
         return;
     }
-    if let Some(command) = words.get(1) {
-        write_input(command.as_str(), has_word(words, "--marks"), notes);
+    if let Some(command) = arguments.get(1) {
+        write_input(command.as_str(), has_argument(arguments, "--marks"), notes);
     }
 }

@@ -1,8 +1,8 @@
 //! The command `settle`.
 ghost use Rattle.std.specs.Prelude.{◌≡◌, List, ℕ, string_bytes, IfOk};
 ghost use Rattle.ra_book.specs.Verdicts.{IsSettledText, IsWrong};
-ghost use Rattle.ra_task.specs.declared.settle_words.SettleOutput.{SettleOutput};
-ghost use Rattle.ra_task.specs.declared.settle_words.SettleTask.{SettleTask};
+ghost use Rattle.ra_task.specs.declared.settle_arguments.SettleOutput.{SettleOutput};
+ghost use Rattle.ra_task.specs.declared.settle_arguments.SettleTask.{SettleTask};
 ghost use Rattle.ra_cli.specs.SettleRun as spec;
 ghost use Rattle.ra_cli.specs.SettleRun.{Prints, RefusesInput, ServesSettle, TellsSettled, unsettled_line};
 
@@ -120,7 +120,8 @@ fn settle_input<W: Write>(alloc: Global, asked: SettleTask, input: &[u8], writer
     }
 }
 
-/// Prints that the reader failed, or gave more than a text may have, or that memory ran out, and returns what came of it.
+/// Prints that the reader failed, or gave more than a text may have, or that memory ran out, and returns what came of
+/// it.
 fn refuse_input<W: Write>(writer: &mut W, fault: TraceError) -> Outcome
     ensures { RefusesInput fault (W.contents writer.old) (W.contents writer.new) result.status }
 {
@@ -131,10 +132,10 @@ fn refuse_input<W: Write>(writer: &mut W, fault: TraceError) -> Outcome
     }
 }
 
-/// Reads the books of all nodes, one after the other in one text, and prints the report of the run into which they settle as
-/// asked, or its trace, with status 0. If they do not settle, it prints the line that is wrong, and the cause, with status 3. The status is 2 if
-/// the text has more than 1,073,741,824 bytes or memory ran out, and 1 if the reader or the writer failed. A text that has no more
-/// bytes is left in `text`.
+/// Reads the books of all nodes, one after the other in one text, and prints the report of the run into which they
+/// settle as asked, or its trace, with status 0. If they do not settle, it prints the line that is wrong, and the
+/// cause, with status 3. The status is 2 if the text has more than 1,073,741,824 bytes or memory ran out, and 1 if the
+/// reader or the writer failed. A text that has no more bytes is left in `text`.
 pub fn settle_books<R: Read, W: Write>(
     alloc: Global,
     asked: SettleTask,

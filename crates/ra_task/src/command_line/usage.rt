@@ -1,4 +1,4 @@
-//! What the parser says about words that are not a command line, on one line.
+//! What the parser says about arguments that are not a command line, on one line.
 use crate::command_line::command_rows::command;
 use crate::command_line::{PolicyName, format_of, policy_name, text_of};
 use crate::policy::is_choice;
@@ -119,20 +119,21 @@ fn range_of(option: &str) -> Option<&'static str> {
     None
 }
 
-/// Returns whether the parser takes a word for an option, though it is none, such as a negative number.
-fn is_no_option(word: &str) -> bool {
-    match word.as_bytes() {
+/// Returns whether the parser takes an argument for an option, though it is none, such as a negative number.
+fn is_no_option(argument: &str) -> bool {
+    match argument.as_bytes() {
         [b'-', next, ..] => !matches!(next, b'-' | b'h' | b'V'),
         _ => false,
     }
 }
 
-/// Returns the option that takes a value and is followed by a word that the parser takes for an option, and that word, or `None`.
-fn no_option_in(words: &[String]) -> Option<(&str, &str)> {
-    for place in 1..words.len() {
-        let option = words[place].as_str();
+/// Returns the option that takes a value and is followed by an argument that the parser takes for an option, and that
+/// argument, or `None`.
+fn no_option_in(arguments: &[String]) -> Option<(&str, &str)> {
+    for place in 1..arguments.len() {
+        let option = arguments[place].as_str();
         if range_of(option).is_some()
-            && let Some(next) = words.get(place + 1)
+            && let Some(next) = arguments.get(place + 1)
             && is_no_option(next.as_str())
         {
             return Some((option, next.as_str()));
@@ -141,8 +142,8 @@ fn no_option_in(words: &[String]) -> Option<(&str, &str)> {
     None
 }
 
-/// Returns what comes before the first occurrence of a mark in a text, and what follows it, or `None`. A call of it is cheaper
-/// to prove than one of `split_once`, which promises more.
+/// Returns what comes before the first occurrence of a mark in a text, and what follows it, or `None`. A call of it is
+/// cheaper to prove than one of `split_once`, which promises more.
 fn cut_at<'a>(text: &'a str, mark: &str) -> Option<(&'a str, &'a str)> {
     text.split_once(mark)
 }
@@ -153,8 +154,8 @@ fn between<'a>(said: &'a str, first: &str, second: &str) -> Option<(&'a str, &'a
     cut_at(rest, second)
 }
 
-/// Returns the option of which the parser says that its number is wrong, and that number, or `None`. It says why after a colon, and
-/// otherwise lists the words that an option takes, and the nearest one.
+/// Returns the option of which the parser says that its number is wrong, and that number, or `None`. It says why after
+/// a colon, and otherwise lists the words that an option takes, and the nearest one.
 fn wrong_number_in(said: &str) -> Option<(&str, &str)> {
     let (value, rest) = between(said, "invalid value '", "' for '")?;
     let (option, after) = cut_at(rest, " <")?;
@@ -172,8 +173,8 @@ fn push_range(note: &mut Note, option: &str, value: &str, text: &str) {
 }
 
 /// Adds which values an option takes if a wrong one is given, and returns whether one is.
-fn push_value(note: &mut Note, words: &[String], said: &str) -> bool {
-    let wrong = match no_option_in(words) {
+fn push_value(note: &mut Note, arguments: &[String], said: &str) -> bool {
+    let wrong = match no_option_in(arguments) {
         Some(wrong) => Some(wrong),
         None => wrong_number_in(said),
     };
@@ -187,19 +188,19 @@ fn push_value(note: &mut Note, words: &[String], said: &str) -> bool {
     true
 }
 
-/// Returns the command that the words name, or `None`.
-fn command_named(words: &[String]) -> Option<&str> {
-    let name = words.get(1)?.as_str();
+/// Returns the command that the arguments name, or `None`.
+fn command_named(arguments: &[String]) -> Option<&str> {
+    let name = arguments.get(1)?.as_str();
     if reads_input(name) { Some(name) } else { None }
 }
 
-/// Returns the word that the parser did not expect, if it is not an option.
+/// Returns the argument that the parser did not expect, if it is not an option.
 fn unexpected_in(said: &str) -> Option<&str> {
-    let (word, _) = between(said, "unexpected argument '", "' found")?;
-    if word.starts_with('-') {
+    let (argument, _) = between(said, "unexpected argument '", "' found")?;
+    if argument.starts_with('-') {
         None
     } else {
-        Some(word)
+        Some(argument)
     }
 }
 
@@ -230,60 +231,66 @@ fn push_said(note: &mut Note, said: &str) {
     }
 }
 
-/// Adds what a word may be that the parser did not expect: one of the choices, which are one argument, or a file.
-fn push_unexpected(alloc: Global, note: &mut Note, words: &[String], name: &str, word: &str) {
-    if is_given(words, "--choices") && is_choice(alloc, word) {
+/// Adds what an argument may be that the parser did not expect: one of the choices, which are one argument, or a file.
+fn push_unexpected(
+    alloc: Global,
+    note: &mut Note,
+    arguments: &[String],
+    name: &str,
+    argument: &str,
+) {
+    if is_given(arguments, "--choices") && is_choice(alloc, argument) {
         note.push("; all choices are one argument: quote them, as in --choices \"c1 m0\"");
     } else {
         note.push("; to read a file, run ra ");
         note.push(name);
         note.push(" < ");
-        note.shown(word);
+        note.shown(argument);
     }
 }
 
 /// Adds where to read more.
-fn push_see(note: &mut Note, words: &[String]) {
+fn push_see(note: &mut Note, arguments: &[String]) {
     note.push("; see ra ");
-    if let Some(name) = command_named(words) {
+    if let Some(name) = command_named(arguments) {
         note.push(name);
         note.push(" ");
     }
     note.push("--help");
 }
 
-/// Adds what is said about help options that share a word with others, and where to read more.
-fn push_help(note: &mut Note, words: &[String]) {
+/// Adds what is said about help options that share an argument with others, and where to read more.
+fn push_help(note: &mut Note, arguments: &[String]) {
     note.push("-h and -V must be arguments of their own");
-    push_see(note, words);
+    push_see(note, arguments);
 }
 
-/// Adds what the parser says, or which numbers an option takes, and what an unexpected word may be.
-fn push_parsed(alloc: Global, note: &mut Note, words: &[String], said: &str) {
-    if push_value(note, words, said) {
+/// Adds what the parser says, or which numbers an option takes, and what an unexpected argument may be.
+fn push_parsed(alloc: Global, note: &mut Note, arguments: &[String], said: &str) {
+    if push_value(note, arguments, said) {
         return;
     }
     push_said(note, said);
-    if let Some(name) = command_named(words)
-        && let Some(word) = unexpected_in(said)
+    if let Some(name) = command_named(arguments)
+        && let Some(argument) = unexpected_in(said)
     {
-        push_unexpected(alloc, note, words, name, word);
+        push_unexpected(alloc, note, arguments, name, argument);
     }
 }
 
-/// Adds what the parser says about the words with its error, and where to read more.
-fn push_error(alloc: Global, note: &mut Note, words: &[String], error: &ParseError) {
+/// Adds what the parser says about the arguments with its error, and where to read more.
+fn push_error(alloc: Global, note: &mut Note, arguments: &[String], error: &ParseError) {
     if matches!(
         error.kind(),
         ErrorKind::DisplayHelp | ErrorKind::DisplayVersion
     ) {
-        push_help(note, words);
+        push_help(note, arguments);
         return;
     }
     match format!(in alloc; "{error}") {
         Ok(said) => {
-            push_parsed(alloc, note, words, said.as_str());
-            push_see(note, words);
+            push_parsed(alloc, note, arguments, said.as_str());
+            push_see(note, arguments);
         }
         Err(_) => note.refuse_if(true),
     }
@@ -320,24 +327,24 @@ fn prints_one_run(sim: &ArgMatches) -> bool {
     sim.get_flag("trace") || sim.get_flag("as-choices") || sim.get_flag("shrink")
 }
 
-/// Adds what is wrong with words of the command `sim` that ask for many seeds.
-fn push_survey(note: &mut Note, words: &[String], policy: &PolicyName, sim: &ArgMatches) {
+/// Adds what is wrong with arguments of the command `sim` that ask for many seeds.
+fn push_survey(note: &mut Note, arguments: &[String], policy: &PolicyName, sim: &ArgMatches) {
     if !matches!(policy, PolicyName::Seeded(_) | PolicyName::Faulty { .. }) {
         note.push(SEEDS_POLICY_TEXT);
     } else if sim.get_flag("state") {
         note.push(STATE_TEXT);
-    } else if prints_one_run(sim) && !is_given(words, "--find") {
+    } else if prints_one_run(sim) && !is_given(arguments, "--find") {
         note.push(SEEDS_FORMAT_TEXT);
-    } else if sim.get_flag("shrink") && text_of(words, "--find") == Some("finished") {
+    } else if sim.get_flag("shrink") && text_of(arguments, "--find") == Some("finished") {
         note.push(SHRINK_FIND_TEXT);
     } else {
-        push_seeds(note, text_of(words, "--seeds").unwrap_or(""));
+        push_seeds(note, text_of(arguments, "--seeds").unwrap_or(""));
     }
 }
 
-/// Adds what is wrong with words of the command `sim` that name this policy, the next cause after the policy.
-fn push_under(note: &mut Note, words: &[String], policy: &PolicyName, sim: &ArgMatches) {
-    if format_of(policy, words, sim).is_none() {
+/// Adds what is wrong with arguments of the command `sim` that name this policy, the next cause after the policy.
+fn push_under(note: &mut Note, arguments: &[String], policy: &PolicyName, sim: &ArgMatches) {
+    if format_of(policy, arguments, sim).is_none() {
         note.push(if sim.get_flag("state") {
             STATE_TEXT
         } else if sim.get_flag("shrink") {
@@ -345,56 +352,57 @@ fn push_under(note: &mut Note, words: &[String], policy: &PolicyName, sim: &ArgM
         } else {
             AS_CHOICES_TEXT
         });
-    } else if is_given(words, "--seeds") {
-        push_survey(note, words, policy, sim);
+    } else if is_given(arguments, "--seeds") {
+        push_survey(note, arguments, policy, sim);
     } else {
         note.push(FIND_TEXT);
     }
 }
 
-/// Adds what is wrong with words of the command `sim` in which the parser finds nothing wrong. The causes are tried in
-/// the order in which a task is made from the words.
-fn push_unseen(note: &mut Note, words: &[String], sim: &ArgMatches) {
-    match policy_name(words, sim) {
-        Some(policy) => push_under(note, words, &policy, sim),
+/// Adds what is wrong with arguments of the command `sim` in which the parser finds nothing wrong. The causes are tried
+/// in the order in which a task is made from the arguments.
+fn push_unseen(note: &mut Note, arguments: &[String], sim: &ArgMatches) {
+    match policy_name(arguments, sim) {
+        Some(policy) => push_under(note, arguments, &policy, sim),
         None => note.push(FAULTS_TEXT),
     }
 }
 
-/// Adds what is wrong with words of a command in which the parser finds nothing wrong.
-fn push_unseen_of(note: &mut Note, words: &[String], command: &str, given: &ArgMatches) {
+/// Adds what is wrong with arguments of a command in which the parser finds nothing wrong.
+fn push_unseen_of(note: &mut Note, arguments: &[String], command: &str, given: &ArgMatches) {
     match command {
         "draw" => note.push(PART_TEXT),
         "cluster" => note.push(CLUSTER_TEXT),
         "node" => note.push(NODE_TEXT),
         "settle" => note.push(SETTLE_TEXT),
-        _ => push_unseen(note, words, given),
+        _ => push_unseen(note, arguments, given),
     }
 }
 
-/// Adds what is wrong with words in which the parser finds nothing wrong, so the cause is something that it does not check.
-fn push_unchecked(note: &mut Note, words: &[String], matches: &ArgMatches) {
+/// Adds what is wrong with arguments in which the parser finds nothing wrong, so the cause is something that it does
+/// not check.
+fn push_unchecked(note: &mut Note, arguments: &[String], matches: &ArgMatches) {
     match matches.subcommand() {
-        Some((command, given)) => push_unseen_of(note, words, command, given),
-        None => push_help(note, words),
+        Some((command, given)) => push_unseen_of(note, arguments, command, given),
+        None => push_help(note, arguments),
     }
 }
 
-/// Adds what is wrong with the words.
-fn push_usage<'a>(alloc: Global, note: &mut Note, words: &'a [String], command: Command<'a>) {
-    match command.try_get_matches_from(words) {
-        Ok(matches) => push_unchecked(note, words, &matches),
-        Err(error) => push_error(alloc, note, words, &error),
+/// Adds what is wrong with the arguments.
+fn push_usage<'a>(alloc: Global, note: &mut Note, arguments: &'a [String], command: Command<'a>) {
+    match command.try_get_matches_from(arguments) {
+        Ok(matches) => push_unchecked(note, arguments, &matches),
+        Err(error) => push_error(alloc, note, arguments, &error),
     }
 }
 
-/// Returns what there is to say about words that are not a command line of `ra`: what is wrong, the nearest word if the
-/// parser knows one, and where to read more. The parser is run again, so that the contract of `parse` need not mention
-/// notes.
-pub fn usage_note(alloc: Global, words: &[String]) -> Said {
+/// Returns what there is to say about arguments that are not a command line of `ra`: what is wrong, the nearest word if
+/// the parser knows one, and where to read more. The parser is run again, so that the contract of `parse` need not
+/// mention notes.
+pub fn usage_note(alloc: Global, arguments: &[String]) -> Said {
     let mut note = Note::new(alloc);
     match command(alloc, false) {
-        Ok(command) => push_usage(alloc, &mut note, words, command),
+        Ok(command) => push_usage(alloc, &mut note, arguments, command),
         Err(_) => note.refuse_if(true),
     }
     Said::of(note)

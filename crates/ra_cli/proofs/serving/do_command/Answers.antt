@@ -4,39 +4,40 @@ use Rattle.ra_script.specs.Performed.{IsOrderly}
 use Rattle.ra_cli.specs.declared.refusal_lines.Refusal.TheVariants.{Command}
 use Rattle.ra_task.specs.Finishing.{HasNoChoices, RunsFaithfully}
 use Rattle.ra_cli.specs.Refusals.{command_word, refused_line}
-use Rattle.ra_task.specs.declared.settle_words.SettleTask.{SettleTask}
+use Rattle.ra_task.specs.declared.settle_arguments.SettleTask.{SettleTask}
 use Rattle.ra_task.specs.declared.command_line.CommandFault.{CommandFault}
 use Rattle.ra_task.specs.declared.command_line.CommandFault.TheVariants as command
 use Rattle.ra_cli.proofs.ClusterRuns.{of_known}
 use Rattle.ra_cli.proofs.Helping.{for_each}
-use Rattle.ra_task.specs.Words.{AreNodeWords, AreSimWords}
+use Rattle.ra_task.specs.Arguments.{AreNodeArguments, AreSimArguments}
 use Rattle.ra_cli.specs.SettleRun.{ServesSettle}
-use Rattle.ra_task.specs.SettleWords.{AreSettleWords, AsksToSettle}
-use Rattle.ra_task.specs.Asked.{AreOtherWords, AsksForTask}
+use Rattle.ra_task.specs.SettleArguments.{AreSettleArguments, AsksToSettle}
+use Rattle.ra_task.specs.Asked.{AreOtherArguments, AsksForTask}
 use Rattle.ra_cli.proofs.NodeRuns.{no_book, no_sim}
 use Rattle.ra_cli.proofs.Orderly.{never_three, only_memory}
 use Rattle.ra_cli.proofs.SettleRuns.{two_refuses}
-use Rattle.ra_cli.proofs.SettleWords.{no_node_words, no_sim_words, one_thing}
+use Rattle.ra_cli.proofs.SettleArguments.{no_node_arguments, no_sim_arguments, one_thing}
 use Rattle.ra_cli.proofs.Statuses.{none_of_command, refused, broken}
 use Rattle.ra_cli.proofs.TaskLemmas.{done, left, suits, without_cause}
 use Rattle.ra_cli.proofs.serving.do_command.Goals as goal
 
--- the line for want of memory was written, or that for words that are no command line, which are not the name and `sim`
-abbrev MemoryOrUsage : (words : List (List ℕ)) (before after : Option (List ℕ)) → Type 0
-MemoryOrUsage words before after = Appends before after (refused_line (codes "Memory"))
-    ⊎ ((AreSimWords words → ⊥) × Appends before after (refused_line (codes "Usage")))
+-- the line for want of memory was written, or that for arguments that are no command line, which are not the name and
+-- `sim`
+abbrev MemoryOrUsage : (arguments : List (List ℕ)) (before after : Option (List ℕ)) → Type 0
+MemoryOrUsage arguments before after = Appends before after (refused_line (codes "Memory"))
+    ⊎ ((AreSimArguments arguments → ⊥) × Appends before after (refused_line (codes "Usage")))
 
-of_fault : (words : List (List ℕ)) (fault : CommandFault) (before after : Option (List ℕ)) → (AreSimWords words → ⊥)
-    → Appends before after (refused_line (command_word fault)) → MemoryOrUsage words before after
-of_fault words command.Usage before after other out = inr (other, out)
-of_fault words command.Memory before after other out = inl out
+of_fault : (arguments : List (List ℕ)) (fault : CommandFault) (before after : Option (List ℕ)) → (AreSimArguments arguments → ⊥)
+    → Appends before after (refused_line (command_word fault)) → MemoryOrUsage arguments before after
+of_fault arguments command.Usage before after other out = inr (other, out)
+of_fault arguments command.Memory before after other out = inl out
 
 not_three : (status : ℕ) → status ≤ 2 → status ≡ 3 → ⊥
 not_three status most is = omega (arith, most, is)
 
 pub returns-in-Node : goal.returns-in-Node
-returns-in-Node g c words asks =
-    let are : AreNodeWords words = rw c.in-Node.is at asks in
+returns-in-Node g c arguments asks =
+    let are : AreNodeArguments arguments = rw c.in-Node.is at asks in
     let node = c.be_a_node.ensures in
     let status = c.be_a_node.result.status in
     record {
@@ -45,18 +46,18 @@ returns-in-Node g c words asks =
       unfinished = λ three. absurd (not_three status node.range three);
       finished = λ sims. for_each (g.R.Read.remaining c.args.reader.now) (λ input. IsOrderly input → status ≢ 3)
           (λ input orderly is. not_three status node.range is);
-      only_memory = λ sims none two. absurd (no_sim words are sims.command);
+      only_memory = λ sims none two. absurd (no_sim arguments are sims.command);
       refused = no_book _ _ _ _ status node.serves;
       broken = λ one. inr (inl are);
       node = λ _. node.serves;
-      settle = λ printed asked. absurd (no_node_words words (printed, asked) are);
+      settle = λ printed asked. absurd (no_node_arguments arguments (printed, asked) are);
     }
 
 pub returns-in-Settle : goal.returns-in-Settle
-returns-in-Settle g c words asks =
+returns-in-Settle g c arguments asks =
     let books = c.in-Settle.books in
-    let asked : AsksToSettle words books = rw c.in-Settle.is at asks in
-    let are : AreSettleWords words = (books, asked) in
+    let asked : AsksToSettle arguments books = rw c.in-Settle.is at asks in
+    let are : AreSettleArguments arguments = (books, asked) in
     let serves = c.settle_books.ensures in
     let status = c.settle_books.result.status in
     let old = g.R.Read.remaining c.args.reader.now in
@@ -67,24 +68,24 @@ returns-in-Settle g c words asks =
       range = serves.range;
       done = λ zero. inr (inr (inr (inr are)));
       unfinished = λ three. inr are;
-      finished = λ sims. absurd (no_sim_words words are sims.command);
-      only_memory = λ sims none two. absurd (no_sim_words words are sims.command);
+      finished = λ sims. absurd (no_sim_arguments arguments are sims.command);
+      only_memory = λ sims none two. absurd (no_sim_arguments arguments are sims.command);
       refused = two_refuses books old new before after status serves;
       broken = λ one. inr (inr are);
-      node = λ node. absurd (no_node_words words are node);
-      settle = λ other also. subst (λ (p : SettleTask). ServesSettle p old new before after status) (one_thing words books other asked also) serves;
+      node = λ node. absurd (no_node_arguments arguments are node);
+      settle = λ other also. subst (λ (p : SettleTask). ServesSettle p old new before after status) (one_thing arguments books other asked also) serves;
     }
 
--- what was done by other words
-other_words : (A B C D : Type 0) → A ⊎ B ⊎ C → A ⊎ B ⊎ C ⊎ D
-other_words A B C D (inl a) = inl a
-other_words A B C D (inr (inl b)) = inr (inl b)
-other_words A B C D (inr (inr c)) = inr (inr (inl c))
+-- what was done by other arguments
+other_arguments : (A B C D : Type 0) → A ⊎ B ⊎ C → A ⊎ B ⊎ C ⊎ D
+other_arguments A B C D (inl a) = inl a
+other_arguments A B C D (inr (inl b)) = inr (inl b)
+other_arguments A B C D (inr (inr c)) = inr (inr (inl c))
 
 pub returns-in-Task : goal.returns-in-Task
-returns-in-Task g c words asks =
+returns-in-Task g c arguments asks =
     let asked = c.in-Task.task in
-    let known : AreOtherWords words × AsksForTask words asked = rw c.in-Task.is at asks in
+    let known : AreOtherArguments arguments × AsksForTask arguments asked = rw c.in-Task.is at asks in
     let (other, is_asked) = known in
     let did = c.do_task.ensures in
     let laws = c.orderly_scripts_are_finished.ensures in
@@ -93,20 +94,20 @@ returns-in-Task g c words asks =
     let new = g.R.Read.remaining c.do_task.new.reader in
     let before = g.W.Write.contents c.args.writer.now in
     let after = g.W.Write.contents c.do_task.new.writer in
-    let fits = suits words asked is_asked.help is_asked.numbers is_asked.marks in
+    let fits = suits arguments asked is_asked.help is_asked.numbers is_asked.marks in
     record {
       range = did.range;
-      done = λ is. other_words _ _ _ _ (done words asked old new before after _ is_asked.help fits (did.done is));
-      unfinished = λ is. inl (left words asked old new before after fits (did.unfinished is));
+      done = λ is. other_arguments _ _ _ _ (done arguments asked old new before after _ is_asked.help fits (did.done is));
+      unfinished = λ is. inl (left arguments asked old new before after fits (did.unfinished is));
       finished = λ sims. of_known old (λ input. IsOrderly input → RunsFaithfully asked → status ≢ 3) (λ input. IsOrderly input → status ≢ 3)
           (λ input h orderly. h orderly (is_asked.faithful sims)) (never_three laws.finished asked old new before after status did.unfinished);
       only_memory = λ sims none two. of_known old
           (λ input. IsOrderly input → RunsFaithfully asked → HasNoChoices asked → status ≡ 2 → Appends before after (refused_line (codes "Memory")))
-          (λ input. IsOrderly input → MemoryOrUsage words before after)
+          (λ input. IsOrderly input → MemoryOrUsage arguments before after)
           (λ input h orderly. inl (h orderly (is_asked.faithful sims) (is_asked.choices none) two))
           (only_memory laws.only_memory asked old before after status did.refused);
       refused = λ is. without_cause _ before after (did.refused is);
-      broken = λ is. inl (did.broken words fits is);
+      broken = λ is. inl (did.broken arguments fits is);
       node = λ are. absurd (other.no_node are);
       settle = λ printed settles. absurd (other.no_books (printed, settles));
     }
@@ -115,8 +116,8 @@ not_done : (status : ℕ) → 1 ≤ status → status ≡ 0 → ⊥
 not_done status least is = omega (arith, least, is)
 
 pub returns-in-Unknown : goal.returns-in-Unknown
-returns-in-Unknown g c words asks =
-    let known : AreOtherWords words × (AreSimWords words → ⊥) = rw c.in-Unknown.is at asks in
+returns-in-Unknown g c arguments asks =
+    let known : AreOtherArguments arguments × (AreSimArguments arguments → ⊥) = rw c.in-Unknown.is at asks in
     let (other, no_sim_alone) = known in
     let fault = c.in-Unknown.fault in
     let why = Command fault in
@@ -130,10 +131,10 @@ returns-in-Unknown g c words asks =
       unfinished = λ is. absurd (not_three status c.refuse.ensures.range is);
       finished = λ sims. for_each (g.R.Read.remaining c.args.reader.now) (λ input. IsOrderly input → status ≢ 3)
           (λ input orderly is. not_three status c.refuse.ensures.range is);
-      only_memory = λ sims none two. for_each (g.R.Read.remaining c.args.reader.now) (λ input. IsOrderly input → MemoryOrUsage words before after)
-          (λ input orderly. of_fault words fault before after no_sim_alone (c.refuse.ensures.refused two).2);
+      only_memory = λ sims none two. for_each (g.R.Read.remaining c.args.reader.now) (λ input. IsOrderly input → MemoryOrUsage arguments before after)
+          (λ input orderly. of_fault arguments fault before after no_sim_alone (c.refuse.ensures.refused two).2);
       refused = λ two. refused why before before after (λ _. refl) (c.refuse.ensures.refused two);
-      broken = λ one. inl (broken words (g.R.Read.remaining c.args.reader.now) before before after why
+      broken = λ one. inl (broken arguments (g.R.Read.remaining c.args.reader.now) before before after why
           (λ is. absurd (never is)) (λ is. absurd (never is)) (λ _. refl) (c.refuse.ensures.broken one));
       node = λ are. absurd (other.no_node are);
       settle = λ printed settles. absurd (other.no_books (printed, settles));

@@ -18,7 +18,7 @@ returns-in-Answer g c =
       done = came.answered;
       unfinished = λ is. none_of_3 _ came.range is;
       refused = came.refused;
-      broken = λ words fits. came.broken words fits.0;
+      broken = λ arguments fits. came.broken arguments fits.0;
     } in
     rw c.in-Answer.is did
 
@@ -34,7 +34,7 @@ returns-in-Sim g c =
       done = came.done;
       unfinished = came.unfinished;
       refused = came.refused;
-      broken = λ words fits. came.broken words;
+      broken = λ arguments fits. came.broken arguments;
     } in
     rw c.in-Sim.is did
 
@@ -50,7 +50,7 @@ returns-in-Survey g c =
       done = came.done;
       unfinished = came.unfinished;
       refused = came.refused;
-      broken = λ words fits. came.broken words;
+      broken = λ arguments fits. came.broken arguments;
     } in
     rw c.in-Survey.is did
 
@@ -66,7 +66,7 @@ returns-in-Check g c =
       done = came.valid;
       unfinished = came.invalid;
       refused = λ two. of_any _ old before after (came.refused two);
-      broken = λ words fits. came.broken words fits.1;
+      broken = λ arguments fits. came.broken arguments fits.1;
     } in
     rw c.in-Check.is did
 
@@ -82,7 +82,7 @@ returns-in-CheckMarks g c =
       done = came.valid;
       unfinished = came.invalid;
       refused = λ two. of_any _ old before after (came.refused two);
-      broken = λ words fits. came.broken words fits.1;
+      broken = λ arguments fits. came.broken arguments fits.1;
     } in
     rw c.in-CheckMarks.is did
 
@@ -98,7 +98,7 @@ returns-in-Draw g c =
       done = came.drawn;
       unfinished = came.not_drawn;
       refused = came.refused;
-      broken = λ words fits. came.broken words fits.1;
+      broken = λ arguments fits. came.broken arguments fits.1;
     } in
     rw c.in-Draw.is did
 
@@ -114,7 +114,7 @@ returns-in-Cluster g c =
       done = came.done;
       unfinished = λ is. none_of_3 _ came.range is;
       refused = came.refused;
-      broken = λ words fits. came.broken words fits.1;
+      broken = λ arguments fits. came.broken arguments fits.1;
     } in
     rw c.in-Cluster.is did
 

@@ -27,12 +27,12 @@ returns-in-Ok-Some-clause-refused g c two =
     ]
 
 pub returns-in-Ok-Some-clause-broken : goal.returns-in-Ok-Some-clause-broken
-returns-in-Ok-Some-clause-broken g c words by one =
+returns-in-Ok-Some-clause-broken g c arguments by one =
     let old = g.R.Read.remaining c.args.reader.now in
     let (input, read, (why, same)) = rw c.in-Ok-Some.field-0-is at c.in-Ok-Some.ensures.ok in
-    subst (λ (o : Option (List ℕ)). IsBroken words old o (g.W.Write.contents c.print_invalid.new.writer)) (ap g.W.Write.contents same)
-    (c.print_invalid.ensures.broken words old
-    (of_denied words c.args.kind old (g.R.Read.remaining c.draw_input.new.reader) (string_bytes c.in-Ok-Some.denial.line) input by read why) one)
+    subst (λ (o : Option (List ℕ)). IsBroken arguments old o (g.W.Write.contents c.print_invalid.new.writer)) (ap g.W.Write.contents same)
+    (c.print_invalid.ensures.broken arguments old
+    (of_denied arguments c.args.kind old (g.R.Read.remaining c.draw_input.new.reader) (string_bytes c.in-Ok-Some.denial.line) input by read why) one)
 
 pub returns-in-Err-clause-refused : goal.returns-in-Err-clause-refused
 returns-in-Err-clause-refused g c two =
@@ -44,13 +44,13 @@ returns-in-Err-clause-refused g c two =
     c.in-Err.ensures.unfit)
 
 pub returns-in-Err-clause-broken : goal.returns-in-Err-clause-broken
-returns-in-Err-clause-broken g c words by one =
+returns-in-Err-clause-broken g c arguments by one =
     let fault = c.in-Err.fault in
     let old = g.R.Read.remaining c.args.reader.now in
     let before = g.W.Write.contents c.args.writer.now in
     let between = g.W.Write.contents c.draw_input.new.writer in
-    broken words old before between (g.W.Write.contents c.refuse.new.writer) (Draw fault)
-    (λ is. of_picture words c.args.kind old (g.R.Read.remaining c.draw_input.new.reader) before between by
+    broken arguments old before between (g.W.Write.contents c.refuse.new.writer) (Draw fault)
+    (λ is. of_picture arguments c.args.kind old (g.R.Read.remaining c.draw_input.new.reader) before between by
     (c.in-Err.ensures.prefix (ap Err (of_draw fault is))))
     (λ is. ap g.W.Write.contents (c.refuse.ensures.unwritten is).1)
     (λ other. ap g.W.Write.contents (c.in-Err.ensures.unwritten (λ e. other (inr (inr (inr (ap Draw e)))))))
@@ -66,7 +66,7 @@ pub returns-in-Ok-None-clause-refused : goal.returns-in-Ok-None-clause-refused
 returns-in-Ok-None-clause-refused g c is = done_not_2 _ c.new.ensures is
 
 pub returns-in-Ok-None-clause-broken : goal.returns-in-Ok-None-clause-broken
-returns-in-Ok-None-clause-broken g c words by is = done_not_1 _ c.new.ensures is
+returns-in-Ok-None-clause-broken g c arguments by is = done_not_1 _ c.new.ensures is
 
 pub returns-in-Err-clause-range : goal.returns-in-Err-clause-range
 returns-in-Err-clause-range g c = at_most_3 _ c.refuse.ensures.range

@@ -62,10 +62,10 @@ returns-in-Err-clause-refused g c two =
     refused_for _ (Check c.in-Err.fault) before before (g.W.Write.contents c.refuse.new.writer) (λ other. refl) (c.refuse.ensures.refused two) (c.in-Err.fault, refl)
 
 pub returns-in-Err-clause-broken : goal.returns-in-Err-clause-broken
-returns-in-Err-clause-broken g c words marks one =
+returns-in-Err-clause-broken g c arguments marks one =
     let before = g.W.Write.contents c.args.writer.now in
     let never = none_of_check c.in-Err.fault in
-    broken words (g.R.Read.remaining c.args.reader.now) before before (g.W.Write.contents c.refuse.new.writer) (Check c.in-Err.fault)
+    broken arguments (g.R.Read.remaining c.args.reader.now) before before (g.W.Write.contents c.refuse.new.writer) (Check c.in-Err.fault)
     (λ is. absurd (never is)) (λ is. absurd (never is)) (λ other. refl) (c.refuse.ensures.broken one)
 
 pub returns-in-Err-marks_verdict_text-clause-refused : goal.returns-in-Err-marks_verdict_text-clause-refused
@@ -75,10 +75,10 @@ returns-in-Err-marks_verdict_text-clause-refused g c two =
     (c.refuse-in-Err-marks_verdict_text.ensures.refused two) (Memory, refl)
 
 pub returns-in-Err-marks_verdict_text-clause-broken : goal.returns-in-Err-marks_verdict_text-clause-broken
-returns-in-Err-marks_verdict_text-clause-broken g c words marks one =
+returns-in-Err-marks_verdict_text-clause-broken g c arguments marks one =
     let before = g.W.Write.contents c.args.writer.now in
     let never = none_of_check Memory in
-    broken words (g.R.Read.remaining c.args.reader.now) before before (g.W.Write.contents c.refuse-in-Err-marks_verdict_text.new.writer) (Check Memory)
+    broken arguments (g.R.Read.remaining c.args.reader.now) before before (g.W.Write.contents c.refuse-in-Err-marks_verdict_text.new.writer) (Check Memory)
     (λ is. absurd (never is)) (λ is. absurd (never is)) (λ other. refl) (c.refuse-in-Err-marks_verdict_text.ensures.broken one)
 
 pub returns-in-Ok-marks_verdict_text-clause-refused : goal.returns-in-Ok-marks_verdict_text-clause-refused
@@ -92,7 +92,7 @@ returns-in-Ok-marks_verdict_text-clause-refused g c two =
     ]
 
 pub returns-in-Ok-marks_verdict_text-clause-broken : goal.returns-in-Ok-marks_verdict_text-clause-broken
-returns-in-Ok-marks_verdict_text-clause-broken g c words marks one =
+returns-in-Ok-marks_verdict_text-clause-broken g c arguments marks one =
     let old = g.R.Read.remaining c.args.reader.now in
     elim c.written-status.ensures.value [
       | inl all ↦ elim c.marks_status_of.ensures [
@@ -101,8 +101,8 @@ returns-in-Ok-marks_verdict_text-clause-broken g c words marks one =
       ]
       | inr part ↦
           let (is_one, prefix, rest, is, left, some) = part in
-          prefix_of words old (g.W.Write.contents c.args.writer.now) (g.W.Write.contents c.written-status.new.writer) (marks_verdict_text c.in-Ok.verdict) prefix rest
-          (of_marks_verdict words old c.in-Ok.verdict marks c.in-Ok.ensures.ok) (sym (c.as_bytes.ensures.value ∙ c.in-Ok-marks_verdict_text.ensures) ∙ is) left some
+          prefix_of arguments old (g.W.Write.contents c.args.writer.now) (g.W.Write.contents c.written-status.new.writer) (marks_verdict_text c.in-Ok.verdict) prefix rest
+          (of_marks_verdict arguments old c.in-Ok.verdict marks c.in-Ok.ensures.ok) (sym (c.as_bytes.ensures.value ∙ c.in-Ok-marks_verdict_text.ensures) ∙ is) left some
     ]
 
 pub returns-in-Err-clause-range : goal.returns-in-Err-clause-range

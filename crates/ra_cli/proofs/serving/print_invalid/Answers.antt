@@ -18,11 +18,11 @@ returns-clause-denied g c three =
     ]
 
 pub returns-clause-broken : goal.returns-clause-broken
-returns-clause-broken g c words old printed one =
+returns-clause-broken g c arguments old printed one =
     elim c.written-status.ensures.value [
       | inl all ↦ absurd (omega (arith, all.0, c.judged.ensures, one))
       | inr part ↦
           let (is_one, prefix, rest, is, left, some) = part in
-          prefix_of words old (g.W.Write.contents c.args.writer.now) (g.W.Write.contents c.written-status.new.writer)
+          prefix_of arguments old (g.W.Write.contents c.args.writer.now) (g.W.Write.contents c.written-status.new.writer)
           (string_bytes c.args.denial.line) prefix rest printed (sym c.as_bytes.ensures.value ∙ is) left some
     ]

@@ -18,13 +18,13 @@ returns-in-Err-clause-refused g c two =
     (λ input h. (fault, refl, h)) c.in-Err.ensures.refused)
 
 pub returns-in-Err-clause-broken : goal.returns-in-Err-clause-broken
-returns-in-Err-clause-broken g c words gives one =
+returns-in-Err-clause-broken g c arguments gives one =
     let fault = c.in-Err.fault in
     let old = g.R.Read.remaining c.args.reader.now in
     let before = g.W.Write.contents c.args.writer.now in
     let between = g.W.Write.contents c.answer.new.writer in
-    broken words old before between (g.W.Write.contents c.refuse.new.writer) (Answer fault)
-    (λ is. of_answered words c.args.node c.args.nodes old before between gives (c.in-Err.ensures.prefix (ap Err (of_answer fault is))))
+    broken arguments old before between (g.W.Write.contents c.refuse.new.writer) (Answer fault)
+    (λ is. of_answered arguments c.args.node c.args.nodes old before between gives (c.in-Err.ensures.prefix (ap Err (of_answer fault is))))
     (λ is. ap g.W.Write.contents (c.refuse.ensures.unwritten is).1)
     (λ other. ap g.W.Write.contents (c.in-Err.ensures.unwritten (λ e. other (inl (ap Answer e)))))
     (c.refuse.ensures.broken one)

@@ -17,13 +17,13 @@ returns-in-Err-clause-refused g c two =
     (λ input. (other : RunScriptError) × (Cluster fault ≡ Cluster other) × RefusesRun input other) (λ input h. (fault, refl, h)) c.in-Err.ensures.refused)
 
 pub returns-in-Err-clause-broken : goal.returns-in-Err-clause-broken
-returns-in-Err-clause-broken g c words by one =
+returns-in-Err-clause-broken g c arguments by one =
     let fault = c.in-Err.fault in
     let old = g.R.Read.remaining c.args.reader.now in
     let before = g.W.Write.contents c.args.writer.now in
     let between = g.W.Write.contents c.run_script.new.writer in
-    broken words old before between (g.W.Write.contents c.refuse.new.writer) (Cluster fault)
-    (λ is. of_cluster_run words c.args.printed old before between by (c.in-Err.ensures.prefix (ap Err (of_run fault is))))
+    broken arguments old before between (g.W.Write.contents c.refuse.new.writer) (Cluster fault)
+    (λ is. of_cluster_run arguments c.args.printed old before between by (c.in-Err.ensures.prefix (ap Err (of_run fault is))))
     (λ is. ap g.W.Write.contents (c.refuse.ensures.unwritten is).1)
     (λ other. ap g.W.Write.contents (c.in-Err.ensures.unwritten (λ e. other (inr (inr (inl (ap Cluster e)))))))
     (c.refuse.ensures.broken one)

@@ -25,10 +25,10 @@ returns-in-Err-clause-refused g c two =
     (of_choices c.args.name c.args.choices.now c.args.format (g.R.Read.remaining c.args.reader.now) c.in-Err.fault c.in-Err.ensures.err)
 
 pub returns-in-Err-clause-broken : goal.returns-in-Err-clause-broken
-returns-in-Err-clause-broken g c words one =
+returns-in-Err-clause-broken g c arguments one =
     let before = g.W.Write.contents c.args.writer.now in
     let never = none_of_choices c.in-Err.fault in
-    broken words (g.R.Read.remaining c.args.reader.now) before before (g.W.Write.contents c.refuse.new.writer) (Choices c.in-Err.fault)
+    broken arguments (g.R.Read.remaining c.args.reader.now) before before (g.W.Write.contents c.refuse.new.writer) (Choices c.in-Err.fault)
     (λ is. absurd (never is)) (λ is. absurd (never is)) (λ other. refl) (c.refuse.ensures.broken one)
 
 pub returns-clause-refused : goal.returns-clause-refused
@@ -42,13 +42,13 @@ returns-clause-refused g c two =
     c.in-Err-perform_as.ensures.refused)
 
 pub returns-clause-broken : goal.returns-clause-broken
-returns-clause-broken g c words one =
+returns-clause-broken g c arguments one =
     let fault = c.in-Err-perform_as.fault in
     let old = g.R.Read.remaining c.args.reader.now in
     let before = g.W.Write.contents c.args.writer.now in
     let between = g.W.Write.contents c.perform_as.new.writer in
-    broken words old before between (g.W.Write.contents c.refuse-in-Err-perform_as.new.writer) (Perform fault)
-    (λ is. of_performed words c.in-Ok.policy c.args.format old before between (c.in-Err-perform_as.ensures.prefix (ap Err (of_perform fault is))))
+    broken arguments old before between (g.W.Write.contents c.refuse-in-Err-perform_as.new.writer) (Perform fault)
+    (λ is. of_performed arguments c.in-Ok.policy c.args.format old before between (c.in-Err-perform_as.ensures.prefix (ap Err (of_perform fault is))))
     (λ is. ap g.W.Write.contents (c.refuse-in-Err-perform_as.ensures.unwritten is).1)
     (λ other. ap g.W.Write.contents (c.in-Err-perform_as.ensures.unwritten (λ e. other (inr (inl (ap Perform e))))))
     (c.refuse-in-Err-perform_as.ensures.broken one)
@@ -84,7 +84,7 @@ pub returns-in-Ok-true-clause-refused : goal.returns-in-Ok-true-clause-refused
 returns-in-Ok-true-clause-refused g c is = done_not_2 _ c.new.ensures is
 
 pub returns-in-Ok-true-clause-broken : goal.returns-in-Ok-true-clause-broken
-returns-in-Ok-true-clause-broken g c words is = done_not_1 _ c.new.ensures is
+returns-in-Ok-true-clause-broken g c arguments is = done_not_1 _ c.new.ensures is
 
 pub returns-in-Ok-true-clause-choices_first : goal.returns-in-Ok-true-clause-choices_first
 returns-in-Ok-true-clause-choices_first g c none = absurd (false≢true (c.in-Ok.ensures.choices none))
@@ -99,7 +99,7 @@ pub returns-in-Ok-false-clause-refused : goal.returns-in-Ok-false-clause-refused
 returns-in-Ok-false-clause-refused g c is = left_not_2 _ c.new-in-Ok-false.ensures is
 
 pub returns-in-Ok-false-clause-broken : goal.returns-in-Ok-false-clause-broken
-returns-in-Ok-false-clause-broken g c words is = left_not_1 _ c.new-in-Ok-false.ensures is
+returns-in-Ok-false-clause-broken g c arguments is = left_not_1 _ c.new-in-Ok-false.ensures is
 
 pub returns-in-Ok-false-clause-choices_first : goal.returns-in-Ok-false-clause-choices_first
 returns-in-Ok-false-clause-choices_first g c none = absurd (false≢true (c.in-Ok.ensures.choices none))

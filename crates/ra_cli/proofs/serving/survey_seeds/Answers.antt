@@ -24,13 +24,13 @@ returns-in-Err-clause-refused g c two =
     × RefusesSurvey c.args.faults c.args.find c.args.first c.args.last input other) (λ input h. (fault, refl, h)) c.in-Err.ensures.refused)
 
 pub returns-in-Err-clause-broken : goal.returns-in-Err-clause-broken
-returns-in-Err-clause-broken g c words one =
+returns-in-Err-clause-broken g c arguments one =
     let fault = c.in-Err.fault in
     let old = g.R.Read.remaining c.args.reader.now in
     let before = g.W.Write.contents c.args.writer.now in
     let between = g.W.Write.contents c.survey_script.new.writer in
-    broken words old before between (g.W.Write.contents c.refuse.new.writer) (Cluster fault)
-    (λ is. of_surveyed words c.args.faults c.args.find c.args.first c.args.last old before between (c.in-Err.ensures.prefix (ap Err (of_run fault is))))
+    broken arguments old before between (g.W.Write.contents c.refuse.new.writer) (Cluster fault)
+    (λ is. of_surveyed arguments c.args.faults c.args.find c.args.first c.args.last old before between (c.in-Err.ensures.prefix (ap Err (of_run fault is))))
     (λ is. ap g.W.Write.contents (c.refuse.ensures.unwritten is).1)
     (λ other. ap g.W.Write.contents (c.in-Err.ensures.unwritten (λ e. other (inr (inr (inl (ap Cluster e)))))))
     (c.refuse.ensures.broken one)
@@ -45,7 +45,7 @@ pub returns-in-Ok-true-clause-refused : goal.returns-in-Ok-true-clause-refused
 returns-in-Ok-true-clause-refused g c is = done_not_2 _ c.new.ensures is
 
 pub returns-in-Ok-true-clause-broken : goal.returns-in-Ok-true-clause-broken
-returns-in-Ok-true-clause-broken g c words is = done_not_1 _ c.new.ensures is
+returns-in-Ok-true-clause-broken g c arguments is = done_not_1 _ c.new.ensures is
 
 pub returns-in-Ok-false-clause-range : goal.returns-in-Ok-false-clause-range
 returns-in-Ok-false-clause-range g c = left_at_most_3 _ c.new-in-Ok-false.ensures
@@ -57,7 +57,7 @@ pub returns-in-Ok-false-clause-refused : goal.returns-in-Ok-false-clause-refused
 returns-in-Ok-false-clause-refused g c is = left_not_2 _ c.new-in-Ok-false.ensures is
 
 pub returns-in-Ok-false-clause-broken : goal.returns-in-Ok-false-clause-broken
-returns-in-Ok-false-clause-broken g c words is = left_not_1 _ c.new-in-Ok-false.ensures is
+returns-in-Ok-false-clause-broken g c arguments is = left_not_1 _ c.new-in-Ok-false.ensures is
 
 pub returns-in-Err-clause-range : goal.returns-in-Err-clause-range
 returns-in-Err-clause-range g c = at_most_3 _ c.refuse.ensures.range

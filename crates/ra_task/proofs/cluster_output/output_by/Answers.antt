@@ -4,15 +4,15 @@ use Rattle.ra_task.proofs.cluster_output.output_by.Goals as goal
 
 pub returns-in-false-false : goal.returns-in-false-false
 returns-in-false-false c =
-    let words = c.args.words.now in
-    (is_missing words (codes "--trace") c.in-false-false.ensures, is_missing words (codes "--books") c.in-false-false.ensures')
+    let arguments = c.args.arguments.now in
+    (is_missing arguments (codes "--trace") c.in-false-false.ensures, is_missing arguments (codes "--books") c.in-false-false.ensures')
 
 pub returns-in-true-false : goal.returns-in-true-false
 returns-in-true-false c =
-    let words = c.args.words.now in
-    (is_given words (codes "--trace") c.in-true-false.ensures, is_missing words (codes "--books") c.in-true-false.ensures')
+    let arguments = c.args.arguments.now in
+    (is_given arguments (codes "--trace") c.in-true-false.ensures, is_missing arguments (codes "--books") c.in-true-false.ensures')
 
 pub returns-in-false-true : goal.returns-in-false-true
 returns-in-false-true c =
-    let words = c.args.words.now in
-    (is_missing words (codes "--trace") c.in-false-true.ensures, is_given words (codes "--books") c.in-false-true.ensures')
+    let arguments = c.args.arguments.now in
+    (is_missing arguments (codes "--trace") c.in-false-true.ensures, is_given arguments (codes "--books") c.in-false-true.ensures')

@@ -3,8 +3,8 @@ use Rattle.std.proofs.lemmas.Bool.{false≢true}
 use Rattle.ra_task.proofs.Settling.{none_asked}
 use Rattle.ra_task.proofs.command.command_of.Goals as goal
 
-pub returns-then-are_node_words : goal.returns-then-are_node_words
-returns-then-are_node_words c = c.are_node_words.ensures.0 c.if-are_node_words.true
+pub returns-then-are_node_arguments : goal.returns-then-are_node_arguments
+returns-then-are_node_arguments c = c.are_node_arguments.ensures.0 c.if-are_node_arguments.true
 
 pub returns-in-Some : goal.returns-in-Some
 returns-in-Some c = c.in-Some.ensures
@@ -12,8 +12,8 @@ returns-in-Some c = c.in-Some.ensures
 pub returns-in-Ok : goal.returns-in-Ok
 returns-in-Ok c = (
   record {
-    no_node = λ are. false≢true (sym c.if-are_node_words.false ∙ c.are_node_words.ensures.1 are);
-    no_books = none_asked (map string_bytes c.args.words.now) c.settle_words.result c.settle_words.ensures c.in_default.not-Some;
+    no_node = λ are. false≢true (sym c.if-are_node_arguments.false ∙ c.are_node_arguments.ensures.1 are);
+    no_books = none_asked (map string_bytes c.args.arguments.now) c.settle_arguments.result c.settle_arguments.ensures c.in_default.not-Some;
   },
   record {
     help = c.in-Ok.ensures.help;
@@ -27,8 +27,8 @@ returns-in-Ok c = (
 pub returns-in-Err : goal.returns-in-Err
 returns-in-Err c = (
   record {
-    no_node = λ are. false≢true (sym c.if-are_node_words.false ∙ c.are_node_words.ensures.1 are);
-    no_books = none_asked (map string_bytes c.args.words.now) c.settle_words.result c.settle_words.ensures c.in_default.not-Some;
+    no_node = λ are. false≢true (sym c.if-are_node_arguments.false ∙ c.are_node_arguments.ensures.1 are);
+    no_books = none_asked (map string_bytes c.args.arguments.now) c.settle_arguments.result c.settle_arguments.ensures c.in_default.not-Some;
   },
   λ are. false≢true (c.in-Err.ensures.plain are),
 )

@@ -2,12 +2,12 @@ use Rattle.std.proofs.Common.{◌≡◌, ℕ, List, ◌⊎◌, map, string_bytes
 use Rattle.std.proofs.lemmas.Bool.{false≢true}
 use lib.Pointwise.{bytes_decides}
 use Rattle.ra_schedule.specs.Faults.{FaultRates}
-use Rattle.ra_task.specs.Words.{GivesNothingBut, GivesText, NamesFaithfully}
+use Rattle.ra_task.specs.Arguments.{GivesNothingBut, GivesText, NamesFaithfully}
 use Rattle.ra_task.proofs.command_line.policy_name.Goals as goal
 
--- the word is the default, or is given in the words
+-- the word is the default, or is given in the arguments
 abbrev Word : List (List ℕ) → List ℕ → Type 0
-Word words word = (word ≡ codes "oldest") ⊎ GivesText words (codes "--policy") word
+Word arguments word = (word ≡ codes "oldest") ⊎ GivesText arguments (codes "--policy") word
 
 not_listed : codes "oldest" ≡ codes "listed" → ⊥
 not_listed is = false≢true ((bytes_decides (codes "oldest") (codes "listed")).1 is)
@@ -15,21 +15,21 @@ not_listed is = false≢true ((bytes_decides (codes "oldest") (codes "listed")).
 not_faulty : codes "oldest" ≡ codes "faulty" → ⊥
 not_faulty is = false≢true ((bytes_decides (codes "oldest") (codes "faulty")).1 is)
 
-unlisted : (words : List (List ℕ)) (word : List ℕ) → NamesFaithfully words → Word words word → word ≡ codes "listed" → ⊥
-unlisted words word names (inl default) is = not_listed (sym default ∙ is)
-unlisted words word names (inr given) is = names.unlisted (subst (GivesText words (codes "--policy")) is given)
+unlisted : (arguments : List (List ℕ)) (word : List ℕ) → NamesFaithfully arguments → Word arguments word → word ≡ codes "listed" → ⊥
+unlisted arguments word names (inl default) is = not_listed (sym default ∙ is)
+unlisted arguments word names (inr given) is = names.unlisted (subst (GivesText arguments (codes "--policy")) is given)
 
-faultless : (words : List (List ℕ)) (word : List ℕ) (faults : FaultRates) → NamesFaithfully words → Word words word
-    → (GivesNothingBut words (codes "--lose") 0 → GivesNothingBut words (codes "--repeat") 0 → (faults.lose ≡ 0) × (faults.repeat ≡ 0))
+faultless : (arguments : List (List ℕ)) (word : List ℕ) (faults : FaultRates) → NamesFaithfully arguments → Word arguments word
+    → (GivesNothingBut arguments (codes "--lose") 0 → GivesNothingBut arguments (codes "--repeat") 0 → (faults.lose ≡ 0) × (faults.repeat ≡ 0))
     → word ≡ codes "faulty" → (faults.lose ≡ 0) × (faults.repeat ≡ 0)
-faultless words word faults names (inl default) zero is = absurd (not_faulty (sym default ∙ is))
-faultless words word faults names (inr given) zero is =
-    let none = names.faultless (subst (GivesText words (codes "--policy")) is given) in
+faultless arguments word faults names (inl default) zero is = absurd (not_faulty (sym default ∙ is))
+faultless arguments word faults names (inr given) zero is =
+    let none = names.faultless (subst (GivesText arguments (codes "--policy")) is given) in
     zero none.0 none.1
 
 pub returns : goal.returns
 returns c names =
-    let words = map string_bytes c.args.words.now in
+    let arguments = map string_bytes c.args.arguments.now in
     let word = c.policy_word-word.result.now in
     let said = c.policy_word-word.ensures in
-    c.policy_called.ensures (unlisted words word names said) (faultless words word c.in_ok-faults.faults names said c.in_ok-faults.ensures)
+    c.policy_called.ensures (unlisted arguments word names said) (faultless arguments word c.in_ok-faults.faults names said c.in_ok-faults.ensures)

@@ -2,16 +2,16 @@ use Rattle.std.proofs.Common.{◌≡◌, ◌≢◌, ℕ, List, ◌∷◌, ◌++�
 use Rattle.std.proofs.lemmas.Str.Pattern.{strip_prefix_char}
 use Rattle.ra_task.proofs.command_line.text_in.Goals as goal
 
--- a word that is an option and a rest is the option, a byte and what is after that byte in the rest
-behind : (byte : ℕ) (word option rest : List ℕ) (text : Option (Bor (List ℕ))) → word ≡ option ++ rest
-    → MatchOption text ((any : List ℕ) → rest ≢ byte ∷ any) (λ text. rest ≡ byte ∷ text.now) → IfSome text (λ text. word ≡ option ++ byte ∷ text.now)
-behind byte word option rest None whole stripped = tt
-behind byte word option rest (Some text) whole stripped = whole ∙ ap (λ (back : List ℕ). option ++ back) stripped
+-- an argument that is an option and a rest is the option, a byte and what is after that byte in the rest
+behind : (byte : ℕ) (argument option rest : List ℕ) (text : Option (Bor (List ℕ))) → argument ≡ option ++ rest
+    → MatchOption text ((any : List ℕ) → rest ≢ byte ∷ any) (λ text. rest ≡ byte ∷ text.now) → IfSome text (λ text. argument ≡ option ++ byte ∷ text.now)
+behind byte argument option rest None whole stripped = tt
+behind byte argument option rest (Some text) whole stripped = whole ∙ ap (λ (back : List ℕ). option ++ back) stripped
 
 pub returns : goal.returns
 returns c =
     let rest = c.in_ok-rest.rest.now in
     let (place, found, left, length) = c.in_ok-rest.ensures.cases in
-    behind 61 c.args.word.now c.args.option.now rest c.strip_prefix-2.result
+    behind 61 c.args.argument.now c.args.option.now rest c.strip_prefix-2.result
     (found.1 ∙ ap (λ (back : List ℕ). c.args.option.now ++ back) (sym left))
     (strip_prefix_char 61 rest c.strip_prefix-2.result c.strip_prefix-2.ensures.cases (omega arith))

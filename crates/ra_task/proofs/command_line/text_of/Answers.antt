@@ -6,26 +6,26 @@ use Rattle.ra_task.proofs.command_line.text_of.Goals as goal
 
 pub returns-then-eq : goal.returns-then-eq
 returns-then-eq c =
-    let words = c.args.words.now in
+    let arguments = c.args.arguments.now in
     let place = c.loop-place.place in
-    let same = (bytes_decides c.as_str-word.result.now c.args.option.now).0 (sym c.eq.ensures ∙ c.if-eq.true) in
-    let here = slice_get_read words (length words) place c.index-words-place.result refl (omega arith) c.index-words-place.is in
+    let same = (bytes_decides c.as_str-argument.result.now c.args.option.now).0 (sym c.eq.ensures ∙ c.if-eq.true) in
+    let here = slice_get_read arguments (length arguments) place c.index-arguments-place.result refl (omega arith) c.index-arguments-place.is in
     let found = c.in_ok-next.ensures.lookup in
-    let next = slice_get_read words (length words) (place + 1) c.in_ok-next.next.now refl found.3.0 found.1 in (
+    let next = slice_get_read arguments (length arguments) (place + 1) c.in_ok-next.next.now refl found.3.0 found.1 in (
       place,
       c.loop-place.auto.place,
       inl (
-        word_at words place c.index-words-place.result here ∙ ap Some (sym c.as_str-word.ensures.value ∙ same),
-        word_at words (place + 1) c.in_ok-next.next.now next ∙ ap Some (sym c.as_str.ensures.value),
+        word_at arguments place c.index-arguments-place.result here ∙ ap Some (sym c.as_str-argument.ensures.value ∙ same),
+        word_at arguments (place + 1) c.in_ok-next.next.now next ∙ ap Some (sym c.as_str.ensures.value),
       ),
     )
 
 pub returns-in-Some : goal.returns-in-Some
 returns-in-Some c =
-    let words = c.args.words.now in
+    let arguments = c.args.arguments.now in
     let place = c.loop-place.place in
-    let here = slice_get_read words (length words) place c.index-words-place.result refl (omega arith) c.index-words-place.is in (
+    let here = slice_get_read arguments (length arguments) place c.index-arguments-place.result refl (omega arith) c.index-arguments-place.is in (
       place,
       c.loop-place.auto.place,
-      inr (word_at words place c.index-words-place.result here ∙ ap Some (sym c.as_str-word.ensures.value ∙ c.in-Some.ensures)),
+      inr (word_at arguments place c.index-arguments-place.result here ∙ ap Some (sym c.as_str-argument.ensures.value ∙ c.in-Some.ensures)),
     )

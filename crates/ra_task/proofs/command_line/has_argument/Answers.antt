@@ -3,21 +3,21 @@ use Rattle.std.specs.Prelude.{string_bytes}
 use Rattle.std.proofs.lemmas.Bool.{false≢true}
 use Rattle.std.proofs.lemmas.List.{get_or_read}
 use lib.Pointwise.{bytes_decides}
-use Rattle.ra_task.proofs.command_line.has_word.Goals as goal
+use Rattle.ra_task.proofs.command_line.has_argument.Goals as goal
 
 pub returns-then-eq : goal.returns-then-eq
 returns-then-eq c =
     let same = (bytes_decides c.as_str.result.now c.args.sought.now).0 (sym c.eq.ensures ∙ c.if-eq.true) in
-    (λ true. (c.loop-word.word-index, c.word-item.result, c.loop-word-test.true, sym c.word-item.is, sym c.as_str.ensures.value ∙ same), λ any. refl)
+    (λ true. (c.loop-argument.argument-index, c.argument-item.result, c.loop-argument-test.true, sym c.argument-item.is, sym c.as_str.ensures.value ∙ same), λ any. refl)
 
-pub loop-word-preserved : goal.loop-word-preserved
-loop-word-preserved c =
-    below_more _ _ c.loop-word.invariant
+pub loop-argument-preserved : goal.loop-argument-preserved
+loop-argument-preserved c =
+    below_more _ _ c.loop-argument.invariant
     (λ other there same.
-    let here = get_or_read c.args.words.now c.loop-word.word-index c.word-item.result c.loop-word-test.true c.word-item.is other in
+    let here = get_or_read c.args.arguments.now c.loop-argument.argument-index c.argument-item.result c.loop-argument-test.true c.argument-item.is other in
     let text = c.as_str.ensures.value ∙ ap string_bytes (here ∙ there) ∙ same in
     false≢true (sym c.if-eq.false ∙ c.eq.ensures ∙ (bytes_decides c.as_str.result.now c.args.sought.now).1 text))
 
 pub returns : goal.returns
 returns c =
-    (λ is. absurd (false≢true is), λ any. absurd (c.loop-word.invariant any.0 (let less : any.0 < length c.args.words.now = any.2 in omega arith) any.1 any.3 any.4))
+    (λ is. absurd (false≢true is), λ any. absurd (c.loop-argument.invariant any.0 (let less : any.0 < length c.args.arguments.now = any.2 in omega arith) any.1 any.3 any.4))

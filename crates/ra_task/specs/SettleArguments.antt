@@ -1,8 +1,8 @@
--- Which words ask `ra` to settle books.
+-- Which arguments ask `ra` to settle books.
 use Rattle.std.specs.Prelude.{◌≡◌, ◌⊎◌, ℕ, Bool, false, true, List, [], ◌∷◌, codes}
-use Rattle.ra_task.specs.declared.settle_words.SettleOutput.{SettleOutput}
-use Rattle.ra_task.specs.declared.settle_words.SettleOutput.TheVariants.{Lines, Trace}
-use Rattle.ra_task.specs.declared.settle_words.SettleTask.{SettleTask}
+use Rattle.ra_task.specs.declared.settle_arguments.SettleOutput.{SettleOutput}
+use Rattle.ra_task.specs.declared.settle_arguments.SettleOutput.TheVariants.{Lines, Trace}
+use Rattle.ra_task.specs.declared.settle_arguments.SettleTask.{SettleTask}
 
 -- these are the options of `settle`, in either order, by which messages may come again or not, and this is printed
 abbrev pub AreOptionsOf : (repeats : Bool) → (printed : SettleOutput) → (options : List (List ℕ)) → Type 0
@@ -19,10 +19,10 @@ AreOptionsFor options asked = AreOptionsOf asked.repeats asked.printed options
 abbrev pub AreNoOptions : (options : List (List ℕ)) → Type 0
 AreNoOptions options = (asked : SettleTask) → AreOptionsFor options asked → ⊥
 
--- the words are the program's name, `settle`, and options that ask for this
-abbrev pub AsksToSettle : (words : List (List ℕ)) → SettleTask → Type 0
-AsksToSettle words asked = (name : List ℕ) × (options : List (List ℕ)) × (words ≡ name ∷ codes "settle" ∷ options)
+-- the arguments are the program's name, `settle`, and options that ask for this
+abbrev pub AsksToSettle : (arguments : List (List ℕ)) → SettleTask → Type 0
+AsksToSettle arguments asked = (name : List ℕ) × (options : List (List ℕ)) × (arguments ≡ name ∷ codes "settle" ∷ options)
     × AreOptionsFor options asked
 
-abbrev pub AreSettleWords : (words : List (List ℕ)) → Type 0
-AreSettleWords words = (asked : SettleTask) × AsksToSettle words asked
+abbrev pub AreSettleArguments : (arguments : List (List ℕ)) → Type 0
+AreSettleArguments arguments = (asked : SettleTask) × AsksToSettle arguments asked

@@ -1,17 +1,17 @@
--- The words that ask to settle books.
+-- The arguments that ask to settle books.
 use Rattle.std.proofs.Common.{◌≡◌, ℕ, ◌+◌, Bool, true, false, List, [], ◌∷◌, length, slice_get, Some, codes, ap, sym, refl, ◌∙◌, inl, inr, arith}
 use Rattle.std.proofs.lemmas.Option.{same_Some}
-use Rattle.ra_task.specs.declared.settle_words.SettleOutput.{SettleOutput}
-use Rattle.ra_task.specs.declared.settle_words.SettleOutput.TheVariants.{Lines, Trace}
-use Rattle.ra_task.specs.declared.settle_words.SettleTask.{SettleTask}
-use Rattle.ra_task.specs.Words.{AreNodeWords}
-use Rattle.ra_task.specs.SettleWords.{AreOptionsOf, AreSettleWords, AsksToSettle}
+use Rattle.ra_task.specs.declared.settle_arguments.SettleOutput.{SettleOutput}
+use Rattle.ra_task.specs.declared.settle_arguments.SettleOutput.TheVariants.{Lines, Trace}
+use Rattle.ra_task.specs.declared.settle_arguments.SettleTask.{SettleTask}
+use Rattle.ra_task.specs.Arguments.{AreNodeArguments}
+use Rattle.ra_task.specs.SettleArguments.{AreOptionsOf, AreSettleArguments, AsksToSettle}
 
 -- ---- How many bytes the options have
 
 abbrev all_bytes : List (List ℕ) → ℕ
 all_bytes [] = 0
-all_bytes (word ∷ words) = length word + all_bytes words
+all_bytes (word ∷ arguments) = length word + all_bytes arguments
 
 abbrev bytes_of : Bool → SettleOutput → ℕ
 bytes_of false Lines = 0
@@ -45,29 +45,29 @@ one_task true false Lines Trace same = absurd (omega (arith, same))
 one_task true false Trace Lines same = absurd (omega (arith, same))
 one_task true false Trace Trace same = absurd (omega (arith, same))
 
--- ---- Words that ask
+-- ---- Arguments that ask
 
 tail_of : {X : Type 0} {x y : X} {xs ys : List X} → x ∷ xs ≡ y ∷ ys → xs ≡ ys
 tail_of e = cc
 
 -- ---- They are those of no other command
 
-second : (words : List (List ℕ)) → AreSettleWords words → slice_get words 1 ≡ Some (codes "settle")
-second words (asked, asks) = ap (λ (ws : List (List ℕ)). slice_get ws 1) asks.2
+second : (arguments : List (List ℕ)) → AreSettleArguments arguments → slice_get arguments 1 ≡ Some (codes "settle")
+second arguments (asked, asks) = ap (λ (ws : List (List ℕ)). slice_get ws 1) asks.2
 
-pub no_sim_words : (words : List (List ℕ)) → AreSettleWords words → slice_get words 1 ≡ Some (codes "sim") → ⊥
-no_sim_words words are sim =
-    let same : codes "settle" ≡ codes "sim" = same_Some _ _ (sym (second words are) ∙ sim) in
+pub no_sim_arguments : (arguments : List (List ℕ)) → AreSettleArguments arguments → slice_get arguments 1 ≡ Some (codes "sim") → ⊥
+no_sim_arguments arguments are sim =
+    let same : codes "settle" ≡ codes "sim" = same_Some _ _ (sym (second arguments are) ∙ sim) in
     absurd (omega (arith, ap length same))
 
-pub no_node_words : (words : List (List ℕ)) → AreSettleWords words → AreNodeWords words → ⊥
-no_node_words words are (name, is) =
-    let same : codes "settle" ≡ codes "node" = same_Some _ _ (sym (second words are) ∙ ap (λ (ws : List (List ℕ)). slice_get ws 1) is) in
+pub no_node_arguments : (arguments : List (List ℕ)) → AreSettleArguments arguments → AreNodeArguments arguments → ⊥
+no_node_arguments arguments are (name, is) =
+    let same : codes "settle" ≡ codes "node" = same_Some _ _ (sym (second arguments are) ∙ ap (λ (ws : List (List ℕ)). slice_get ws 1) is) in
     absurd (omega (arith, ap length same))
 
 -- and they ask for one thing
-pub one_thing : (words : List (List ℕ)) (a b : SettleTask) → AsksToSettle words a → AsksToSettle words b → a ≡ b
-one_thing words a b (name, options, is, are) (name', options', is', are') =
+pub one_thing : (arguments : List (List ℕ)) (a b : SettleTask) → AsksToSettle arguments a → AsksToSettle arguments b → a ≡ b
+one_thing arguments a b (name, options, is, are) (name', options', is', are') =
     let same : options ≡ options' = tail_of (tail_of (sym is ∙ is')) in
     let bytes = sym (bytes_are a.repeats a.printed options are) ∙ ap all_bytes same ∙ bytes_are b.repeats b.printed options' are' in
     let (repeats, printed) = one_task a.repeats b.repeats a.printed b.printed bytes in

@@ -1,6 +1,6 @@
-//! The words that ask to settle books.
+//! The arguments that ask to settle books.
 ghost use Rattle.std.specs.Prelude.{◌≡◌, ◌↔◌, ◌∷◌, [], map, string_bytes, IsTrue, MatchOption};
-ghost use Rattle.ra_task.specs.SettleWords.{AreNoOptions, AreOptionsFor, AreSettleWords, AsksToSettle};
+ghost use Rattle.ra_task.specs.SettleArguments.{AreNoOptions, AreOptionsFor, AreSettleArguments, AsksToSettle};
 
 /// What `ra settle` prints of the run into which books settle.
 #[derive(Clone, Copy)]
@@ -20,14 +20,14 @@ pub struct SettleTask {
     pub printed: SettleOutput,
 }
 
-/// Returns whether a word is this text. It does not allocate.
-fn is_text(word: &String, text: &str) -> bool
-    ensures { IsTrue result ↔ (string_bytes word.now ≡ text.now) }
+/// Returns whether an argument is this text. It does not allocate.
+fn is_text(argument: &String, text: &str) -> bool
+    ensures { IsTrue result ↔ (string_bytes argument.now ≡ text.now) }
 {
-    word.as_str() == text
+    argument.as_str() == text
 }
 
-/// Returns whether two words are these texts. It does not allocate.
+/// Returns whether two arguments are these texts. It does not allocate.
 fn are_texts(one: &String, other: &String, first: &str, second: &str) -> bool
     ensures { IsTrue result ↔ ((string_bytes one.now ≡ first.now) × (string_bytes other.now ≡ second.now)) }
 {
@@ -71,7 +71,8 @@ fn two_options(one: &String, other: &String) -> Option<SettleTask>
     None
 }
 
-/// Returns what the words after `settle` ask for, or `None` if they are not its options, each at most once. It does not allocate.
+/// Returns what the arguments after `settle` ask for, or `None` if they are not its options, each at most once. It does
+/// not allocate.
 fn options_of(options: &[String]) -> Option<SettleTask>
     ensures { MatchOption result (AreNoOptions (map string_bytes options.now)) (AreOptionsFor (map string_bytes options.now)) }
 {
@@ -86,15 +87,15 @@ fn options_of(options: &[String]) -> Option<SettleTask>
     }
 }
 
-/// Returns how the words ask to settle books, or `None` if they do not: they are the program's name, `settle`, and perhaps
-/// `--repeats` and `--trace`, in either order. It does not allocate.
-pub fn settle_words(words: &[String]) -> Option<SettleTask>
-    ensures { MatchOption result (AreSettleWords (map string_bytes words.now) → ⊥)
-        (AsksToSettle (map string_bytes words.now)) }
+/// Returns how the arguments ask to settle books, or `None` if they do not: they are the program's name, `settle`, and
+/// perhaps `--repeats` and `--trace`, in either order. It does not allocate.
+pub fn settle_arguments(arguments: &[String]) -> Option<SettleTask>
+    ensures { MatchOption result (AreSettleArguments (map string_bytes arguments.now) → ⊥)
+        (AsksToSettle (map string_bytes arguments.now)) }
 {
-    match words {
-        [_, word, options @ ..] => {
-            if is_text(word, "settle") {
+    match arguments {
+        [_, argument, options @ ..] => {
+            if is_text(argument, "settle") {
                 options_of(options)
             } else {
                 None
