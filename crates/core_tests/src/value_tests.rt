@@ -1,4 +1,5 @@
 //! Names, stamps, frames, bags of messages and lock tables.
+pub mod bag_copies;
 pub mod bags;
 pub mod changed_bytes;
 pub mod costs;

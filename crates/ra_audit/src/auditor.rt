@@ -409,8 +409,7 @@ fn take_into(
 ) -> Result<(), TakeError>
     ensures { Takes nodes.old node after events.now result nodes.new }
 {
-    // Nodes are counted from 1.
-    let place = usize::from(node.get()) - 1;
+    let place = node.place();
     if place >= nodes.len() {
         return Err(TakeError::NoNode);
     }
@@ -430,8 +429,7 @@ fn take_handed_into<R: Wait>(
     ensures handed { TakesHanded nodes.old losses.old.losing site.now result nodes.new losses.new.losing }
     ensures lost { losses.new.lost ≡ losses.old.lost }
 {
-    // Nodes are counted from 1.
-    let place = usize::from(site.node().get()) - 1;
+    let place = site.node().place();
     if place >= nodes.len() {
         return Err(TakeError::NoNode);
     }

@@ -9,7 +9,7 @@ use Rattle.hex.specs.Hex.{decode_of, decode_sized}
 use Rattle.ra_stamp.specs.Name.{IsName}
 use Rattle.ra_stamp.specs.NodeId.{IsNodeNumber}
 use Rattle.ra_stamp.specs.declared.mode.Mode.{Mode}
-use Rattle.ra_world.specs.Lines.{mode_word}
+use Rattle.ra_stamp.specs.Mode.{mode_word}
 use Rattle.ra_trace.specs.Forms.{fields, behind, node_of, client_of, start_of, name_of, mode_of}
 use Rattle.ra_trace.specs.TraceText.{IsClientNumber}
 use Rattle.ra_trace.proofs.Cuts.{mapped, behind-append}

@@ -19,7 +19,8 @@ use Rattle.ra_stamp.specs.declared.mode.Mode.TheVariants.{Shared, Exclusive, Int
 use Rattle.ra_frame.specs.FrameText.{IsWrittenText}
 use Rattle.ra_frame.specs.declared.format.Format.TheVariants.{V2}
 use Rattle.ra_frame.specs.declared.frame.Frame.{Frame}
-use Rattle.ra_world.specs.Lines.{field, mode_word}
+use Rattle.ra_stamp.specs.Mode.{mode_word}
+use Rattle.ra_world.specs.Lines.{field}
 use Rattle.ra_trace.specs.TraceText.{IsClientNumber}
 use Rattle.ra_trace.proofs.Cuts.{IsFree}
 use Rattle.ra_trace.proofs.Spelled.{reads_client, reads_mode, reads_name, reads_node, reads_start}

@@ -8,7 +8,8 @@ use Rattle.ra_stamp.specs.declared.mode.Mode.{Mode}
 use Rattle.ra_frame.specs.declared.frame.Frame.{Frame}
 use Rattle.ra_frame.specs.FrameText.{IsFrameText}
 use Rattle.ra_frame.specs.Faults.{first_fault}
-use Rattle.ra_world.specs.Lines.{field, mode_word}
+use Rattle.ra_stamp.specs.Mode.{mode_word}
+use Rattle.ra_world.specs.Lines.{field}
 use Rattle.ra_trace.specs.TraceText.{IsClientNumber}
 use Rattle.ra_history.specs.declared.book.event.BookKind.{BookKind}
 use Rattle.ra_history.specs.declared.book.event.BookKind.TheVariants.{Asked, Gave, Got}

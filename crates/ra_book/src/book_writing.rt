@@ -14,7 +14,7 @@ ghost use Rattle.ra_book.specs.declared.book_writing.WriteBookError.{WriteBookEr
 use ra_frame::{Frame, MAX_FRAME, encoded};
 use ra_history::{Book, BookEvent, BookKind};
 use ra_stamp::{Memory, Mode, Name, NodeId};
-use ra_world::{mode_word, push_field, push_number, text_of};
+use ra_world::{push_field, push_number};
 use std::alloc::{AllocError, Global};
 use thiserror::Error;
 
@@ -63,7 +63,7 @@ fn push_client(text: &mut String, word: &str, client: u32, name: &Name) -> Resul
 {
     text.push_str(word)?;
     push_number(text, client)?;
-    push_field(text, text_of(name))
+    push_field(text, name.as_str())
 }
 
 /// Adds bytes as hexadecimal digits in lower case, with the space before them.
@@ -103,7 +103,7 @@ fn push_ask(text: &mut String, client: u32, name: &Name, mode: Mode) -> Result<(
 {
     client_fits(client, name);
     push_client(text, "ask", client, name)?;
-    push_field(text, mode_word(mode))?;
+    push_field(text, mode.word())?;
     text.push_str("\n")?;
     Ok(())
 }

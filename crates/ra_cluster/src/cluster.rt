@@ -187,7 +187,7 @@ impl<G: Gate + Drop> Cluster<G> {
         ensures found { IfSome result (λ site. site.now ≡ node) }
         ensures absent { IsNone result ↔ self.now.nodes < node }
     {
-        self.sites.get(usize::from(node.get()) - 1)
+        self.sites.get(node.place())
     }
 
     /// Returns the site of a node, and all sites, or `None` if there is no such node.
@@ -355,7 +355,7 @@ impl<G: Gate + Drop> Cluster<G> {
     /// Hands a node each frame that comes for it, until the post is closed, as [`Site::pump`] does. [`Cluster::run`] calls
     /// it. It returns at once if there is no such node.
     pub fn pump<R: Wait>(&self, rt: &R, alloc: Global, node: NodeId) {
-        let Some(inbox) = self.inboxes.get(usize::from(node.get()) - 1) else {
+        let Some(inbox) = self.inboxes.get(node.place()) else {
             return;
         };
         if let Some((site, sites)) = self.site_among_all(node) {

@@ -178,7 +178,7 @@ fn send_frame<R: Wait>(rt: &R, alloc: Global, senders: &[FrameSender], frame: &F
 
 /// Sends the bytes of a frame to the inbox of a node. Returns whether it took them.
 fn send_to<R: Wait>(rt: &R, senders: &[FrameSender], node: NodeId, bytes: Vec<u8>) -> bool {
-    match senders.get(usize::from(node.get()) - 1) {
+    match senders.get(node.place()) {
         Some(sender) => sender.send(rt, bytes).is_ok(),
         None => false,
     }

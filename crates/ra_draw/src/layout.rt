@@ -10,7 +10,6 @@ use name_cut::name_cut_of;
 pub use node_lane::Column;
 use node_lane::{NodeLane, short};
 use ra_stamp::{Memory, NodeId};
-use ra_world::mode_word;
 use sizes::{
     BAND_HEIGHT, BAND_ROWS, BOTTOM_MARGIN, COLUMN_WIDTH, COPIES_WIDTH, FEW_NODES_GAP,
     LABEL_LETTERS, LANE_MARGIN, LEFT_MARGIN, LEGEND_WIDTH, MEAN_LETTER, MOST_WIDE, NARROW_GAP,
@@ -99,7 +98,7 @@ impl Layout {
         if end == 0 {
             return Ok(());
         }
-        let Some(lane) = self.lanes.get_mut(usize::from(span.key.node.get()) - 1) else {
+        let Some(lane) = self.lanes.get_mut(span.key.node.place()) else {
             return Ok(());
         };
         let column = lane.take(span.key.client, span.asked.row, end)?;
@@ -174,7 +173,7 @@ impl Layout {
 
     /// Returns the lane of a node, if it has one.
     fn lane(&self, node: NodeId) -> Option<&NodeLane> {
-        self.lanes.get(usize::from(node.get()) - 1)
+        self.lanes.get(node.place())
     }
 
     /// Returns how far to the right a node is.
@@ -221,7 +220,7 @@ impl Layout {
         let letters = self
             .cut
             .letters_of(span.key.name.bytes().len())
-            .saturating_add(mode_word(span.mode).len())
+            .saturating_add(span.mode.word().len())
             .saturating_add(1);
         let height = self.y(bar.end).saturating_sub(self.y(span.asked.row));
         self.is_wide() && (letters as u64).saturating_mul(WIDE_LETTER) <= height

@@ -4,17 +4,12 @@ use Rattle.std.specs.List.{filter}
 use Rattle.ra_stamp.specs.declared.entry.Entry.{Entry}
 use Rattle.ra_stamp.specs.declared.entry.Mark.{Mark}
 use Rattle.ra_stamp.specs.declared.entry.Mark.TheVariants.{Requested, Entered, Left}
+use Rattle.ra_stamp.specs.Mark.{entry_of_mark}
 use Rattle.ra_schedule.specs.declared.script.Op.{Op}
 use Rattle.ra_schedule.specs.declared.script.Op.TheVariants.{Lock, Unlock}
 use Rattle.ra_schedule.specs.Script.{ScriptState, ScriptClient, client_at}
 pub use Rattle.ra_schedule.specs.Performing.{locks_in, locks_of}
 use Rattle.ra_world.specs.declared.text.report.Report.{Report}
-
--- the request that a mark is about
-abbrev pub entry_of_mark : Mark → Entry
-entry_of_mark (Requested entry) = entry
-entry_of_mark (Entered entry) = entry
-entry_of_mark (Left entry) = entry
 
 -- the client of the request that a mark is about
 abbrev pub client_of_mark : Mark → ℕ

@@ -49,3 +49,4 @@ mod SinceAsks
 mod ScriptNames
 mod ClientLines
 mod ToldStates
+pub mod ScheduleLaws

@@ -22,7 +22,6 @@ use crate::choice::random_state::{RandomState, note_step_in};
 use crate::driver::client_progress::{
     Progress, first_entered, first_free, note_move, opening_progress,
 };
-use crate::laws::schedules_rest_on_runs;
 use crate::{Choice, Choices, DriveError, Policy, Script};
 use ra_stamp::Memory;
 use ra_world::{Step, Steps, World};
@@ -99,10 +98,11 @@ impl Driver {
         ensures memory { IsErrOf result DriveError.Memory → IsHeldUp script.now policy.now limit world.new.moves }
     {
         for _turn in 0..limit {
-            let Some(picked) = self.next_choice(script, policy, world) else {
+            let chosen = self.next_choice(script, policy, world);
+            let Some(picked) = &chosen else {
                 return Ok(());
             };
-            self.take_step(alloc, script, world, &picked)?;
+            self.take_step(alloc, script, world, picked)?;
         }
         match self.next_choice(script, policy, world) {
             None => Ok(()),
@@ -152,7 +152,6 @@ impl Driver {
         ensures memory { IsErrOf result DriveError.Memory
             → (step : Step) × StandsFor script.now world.old.moves picked.now.choice step }
     {
-        schedules_rest_on_runs();
         let choice = picked.choice;
         let step = match &picked.meaning {
             Ok(step) => step,

@@ -10,7 +10,6 @@ ghost use Rattle.ra_world.specs.Traffic.{Move, lost_by, repeated_by};
 ghost use Rattle.ra_world.specs.World.{Reports};
 ghost use Rattle.ra_schedule.specs.declared.choice.Policy.{Policy};
 ghost use Rattle.ra_schedule.specs.declared.error.DriveError.{DriveError};
-ghost use Rattle.ra_schedule.specs.BelowFinishing.{LawsOfNodes, LawsOfRuns};
 ghost use Rattle.ra_schedule.specs.declared.surveys.seed_outcomes.SeedOutcome.{SeedOutcome};
 ghost use Rattle.ra_schedule.specs.Faults.{FaultRates};
 ghost use Rattle.ra_schedule.specs.declared.surveys.seed_outcomes.Survey.{Survey};
@@ -21,38 +20,6 @@ ghost use Rattle.ra_schedule.specs.Performing.{Performs, IsAtRest, ChoosesItself
 ghost use Rattle.ra_schedule.specs.Schedule.{steps_of, Follows, Ends, Stops, IsFinished, RepeatsNothing};
 ghost use Rattle.ra_schedule.specs.Script.{ScriptState, IsScript};
 
-use crate::laws::schedules_rest_on_runs;
-use ra_node::{
-    events_are_determined, events_go_on, events_keep_a_node_consistent, events_leave_other_names,
-};
-use ra_world::{
-    asks_make_requests_or_are_queued, marks_of_runs_are_table_runs,
-    messages_under_way_are_between_nodes, numbers_rise_at_most_by_the_requests,
-    prefixes_of_runs_are_runs, runs_go_on_where_steps_are_allowed,
-    runs_send_at_most_two_messages_for_each_request_and_other_node,
-    tables_of_runs_are_those_of_their_nodes, waiting_requests_are_blocked_in_quiet_runs,
-};
-
-/// What the laws on how scripts end are proved from: the laws of nodes and of runs, in one place.
-pub fn endings_rest_on_nodes_and_runs()
-    ensures nodes { LawsOfNodes }
-    ensures runs { LawsOfRuns }
-{
-    events_keep_a_node_consistent();
-    events_leave_other_names();
-    events_are_determined();
-    events_go_on();
-    prefixes_of_runs_are_runs();
-    messages_under_way_are_between_nodes();
-    runs_go_on_where_steps_are_allowed();
-    marks_of_runs_are_table_runs();
-    tables_of_runs_are_those_of_their_nodes();
-    waiting_requests_are_blocked_in_quiet_runs();
-    numbers_rise_at_most_by_the_requests();
-    runs_send_at_most_two_messages_for_each_request_and_other_node();
-    asks_make_requests_or_are_queued();
-}
-
 /// Clients that take names in ascending order and give them all back never deadlock, and no wake-up is lost: if nothing
 /// was lost and nothing more can happen, every operation is done, and nothing waits or is queued. This holds in whatever
 /// order the clients take their turns and the messages come, also if messages are repeated.
@@ -61,9 +28,7 @@ pub fn ordered_scripts_finish()
         → ¬ IsOutOfOrder script → ¬ IsUnreleased script
         → Performs script moves → lost_by moves ≡ [] → IsAtRest script moves
         → Reports script.nodes 0 moves report → IsFinished script (steps_of moves) report }
-{
-    endings_rest_on_nodes_and_runs();
-}
+{}
 
 /// A script takes few turns, in whatever order: one for each operation, two for each lock and other node, and at most
 /// three more for each message that is repeated. No script takes more than 8,323,072 without repeats. And each run can
@@ -75,10 +40,7 @@ pub fn scripts_come_to_rest()
     ensures carried_on { (script : ScriptState) (moves : List Move) → IsScript script → Performs script moves
         → (rest : List Move) × Performs script (moves ++ rest) × IsAtRest script (moves ++ rest)
         × (lost_by rest ≡ []) × (repeated_by rest ≡ []) }
-{
-    schedules_rest_on_runs();
-    endings_rest_on_nodes_and_runs();
-}
+{}
 
 /// What a policy makes of a script. Its moves are what the script says. If it chooses by itself and loses no message, a
 /// script of clients that take names in ascending order and give them all back is finished. If it repeats no message, it
@@ -95,10 +57,7 @@ pub fn policies_bring_scripts_to_rest()
     ensures in_time { (script : ScriptState) (policy : Policy) (limit : ℕ) (moves : List Move) (cause : DriveError)
         → IsScript script → ChoosesItself policy → RepeatsNothing policy → most_turns script ≤ limit
         → Follows script policy moves → ¬ Stops script policy limit moves cause }
-{
-    schedules_rest_on_runs();
-    endings_rest_on_nodes_and_runs();
-}
+{}
 
 /// By chance, without losses and repeats, each seed brings a script to its end within the limit, if that is at least
 /// `most_turns` and each client takes names in ascending order and gives them all back. So a survey counts each seed as
@@ -110,10 +69,7 @@ pub fn seeds_finish_ordered_scripts()
         → IsOutcome script (chance faults seed) limit outcome → is_finished outcome ≡ true }
     ensures surveys { (script : ScriptState) (faults : Option FaultRates) (limit first last : ℕ) (survey : Survey)
         → IsScript script → IsSurvey script faults limit first last survey → SeedsFinish script faults limit first last survey }
-{
-    schedules_rest_on_runs();
-    endings_rest_on_nodes_and_runs();
-}
+{}
 
 /// In any run, not only of a script: suppose that nothing was lost, nothing is under way, and each client takes names in
 /// ascending order, one at a time. Then each name that is waited for is held, and a client that holds it waits for
@@ -131,6 +87,4 @@ pub fn clients_in_order_never_deadlock()
         → start + requests_in (marks_of moves) < greatest_number
         → (node client : ℕ) (name : List ℕ) → (1 ≤ node) × (node ≤ n) → WaitsForName (nodes node) client name
         → SomeoneCanGoOn n nodes name }
-{
-    endings_rest_on_nodes_and_runs();
-}
+{}

@@ -5,32 +5,13 @@ ghost use Rattle.ra_world.specs.Traffic.{Move, repeated_by};
 ghost use Rattle.ra_schedule.specs.declared.choice.Policy.{Policy};
 ghost use Rattle.ra_schedule.specs.Script.{ScriptState};
 ghost use Rattle.ra_schedule.specs.Schedule.{Follows, Ends, RepeatsNothing};
-ghost use Rattle.ra_schedule.specs.Below.{LawsBelow};
-
-use ra_world::{
-    messages_under_way_are_between_nodes, prefixes_of_runs_are_runs, runs_are_determined,
-    runs_go_on_where_steps_are_allowed, steps_elsewhere_leave_a_node,
-};
-
-/// What the proofs on schedules take from those on runs, in one place.
-pub fn schedules_rest_on_runs()
-    ensures { LawsBelow }
-{
-    prefixes_of_runs_are_runs();
-    messages_under_way_are_between_nodes();
-    runs_are_determined();
-    runs_go_on_where_steps_are_allowed();
-    steps_elsewhere_leave_a_node();
-}
 
 /// A policy leads through a script in one way: two lists of moves that follow it to its end are equal.
 pub fn policies_lead_to_one_run()
     ensures { (script : ScriptState) (policy : Policy) (a b : List Move) → IsNodeNumber script.nodes
         → Follows script policy a → Ends script policy a → Follows script policy b → Ends script policy b
         → a ≡ b }
-{
-    schedules_rest_on_runs();
-}
+{}
 
 /// A policy repeats a message only if it has faults with some repeats, or lists one. So what a report says of runs
 /// without repeats is true of each run that `drive` and `summarize` return under any other policy.

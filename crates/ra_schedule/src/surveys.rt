@@ -9,8 +9,6 @@ ghost use Rattle.ra_schedule.specs.Survey.{IsOutcome, IsSurvey, SeedsFinish};
 ghost use Rattle.ra_schedule.specs.Telling.{Tells, TellsSeeds, TellsSomeSeeds};
 ghost use Rattle.ra_schedule.specs.Survey as spec;
 
-use crate::finishing::endings_rest_on_nodes_and_runs;
-use crate::laws::schedules_rest_on_runs;
 use crate::surveys::observer::Observer;
 use crate::surveys::seed_outcomes::{Figures, SeedOutcome, Survey, no_survey, with_outcome};
 use crate::{DriveError, Faults, Policy, Script, SeedRange, summarize};
@@ -103,8 +101,6 @@ pub fn survey<O: Observer>(
     ensures err { OnErr result (TellsSomeSeeds script.now faults limit seeds.first seeds.last
         (O.told observer.old) (O.told observer.new)) }
 {
-    schedules_rest_on_runs();
-    endings_rest_on_nodes_and_runs();
     script.is_within_its_limits();
     let SeedRange { first, last } = seeds;
     if last < first {

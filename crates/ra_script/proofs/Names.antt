@@ -14,7 +14,7 @@ use Rattle.ra_stamp.specs.declared.mode.Mode.{Mode}
 use Rattle.ra_stamp.specs.declared.mode.Mode.TheVariants.{Shared, Exclusive, IntentShared, IntentExclusive, SharedIntentExclusive}
 use Rattle.ra_schedule.specs.declared.script.Op.{Op}
 use Rattle.ra_schedule.specs.declared.script.Op.TheVariants.{Lock, Unlock}
-use Rattle.ra_world.specs.Lines.{mode_word}
+use Rattle.ra_stamp.specs.Mode.{mode_word}
 use Rattle.ra_script.specs.Operation.{is_name, name_of, op_with, cut, op_of, spelling, name_in}
 use Rattle.ra_script.proofs.Cuts.{cut-append, cut-only}
 

@@ -6,7 +6,7 @@ use Rattle.ra_stamp.specs.Name.{is_name_byte}
 use Rattle.ra_stamp.specs.declared.mode.Mode.TheVariants.{Shared, Exclusive, IntentShared, IntentExclusive, SharedIntentExclusive}
 use Rattle.ra_schedule.specs.declared.script.Op.{Op}
 use Rattle.ra_schedule.specs.declared.script.Op.TheVariants.{Lock, Unlock}
-use Rattle.ra_world.specs.Lines.{mode_word}
+use Rattle.ra_stamp.specs.Mode.{mode_word}
 
 -- whether the bytes are a name
 abbrev pub is_name : List ℕ → Bool

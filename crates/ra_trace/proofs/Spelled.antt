@@ -10,7 +10,7 @@ use Rattle.ra_stamp.specs.Name.{IsName}
 use Rattle.ra_stamp.specs.NodeId.{IsNodeNumber}
 use Rattle.ra_stamp.specs.declared.mode.Mode.{Mode}
 use Rattle.ra_stamp.specs.declared.mode.Mode.TheVariants.{Shared, Exclusive, IntentShared, IntentExclusive, SharedIntentExclusive}
-use Rattle.ra_world.specs.Lines.{mode_word}
+use Rattle.ra_stamp.specs.Mode.{mode_word}
 use Rattle.ra_trace.specs.Forms.{cut, before, fields, number_within, node_of, client_of, start_of, seq_of, is_name, name_of, mode_of}
 use Rattle.ra_trace.specs.TraceText.{IsClientNumber, IsSeq}
 use Rattle.ra_trace.proofs.Cuts.{IsFree, mapped, cut-append, cut-only}

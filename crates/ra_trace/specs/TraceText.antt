@@ -12,7 +12,8 @@ use Rattle.ra_world.specs.declared.step.Step.{Step}
 use Rattle.ra_world.specs.declared.step.Step.TheVariants.{Ask, Leave, Deliver, Lose, Repeat}
 use Rattle.ra_world.specs.Traffic.{Move}
 use Rattle.ra_world.specs.Run.{IsRun}
-use Rattle.ra_world.specs.Lines.{field, mode_word, mark_line}
+use Rattle.ra_stamp.specs.Mode.{mode_word}
+use Rattle.ra_world.specs.Lines.{field, mark_line}
 use Rattle.ra_trace.specs.declared.line.Line.{Line}
 use Rattle.ra_trace.specs.declared.line.Line.TheVariants.{First, Stepped, Marked, Last}
 use Rattle.ra_trace.specs.declared.line.version.Version.{Version}

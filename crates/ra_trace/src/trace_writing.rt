@@ -19,8 +19,8 @@ use crate::line::version::Version;
 use ra_stamp::{Marks, Memory, Message, Name, NodeId};
 use ra_world::{
     MarklessWorld, RunError, Step, StepError, Steps, marks_of_runs_are_numbered,
-    messages_under_way_are_between_nodes, mode_word, prefixes_of_runs_are_runs, push_field,
-    push_mark_line, push_number, text_of, write_out,
+    messages_under_way_are_between_nodes, prefixes_of_runs_are_runs, push_field, push_mark_line,
+    push_number, write_out,
 };
 use std::alloc::Global;
 use std::io::Write;
@@ -50,7 +50,7 @@ fn push_route(
     push_field(text, word)?;
     push_number(text, from.get())?;
     push_number(text, to.get())?;
-    push_field(text, text_of(name))
+    push_field(text, name.as_str())
 }
 
 /// Adds the fields of a message.
@@ -66,7 +66,7 @@ fn push_message(text: &mut String, message: &Message) -> Result<(), Memory>
             seq,
         } => {
             push_route(text, "request", *from, *to, name)?;
-            push_field(text, mode_word(*mode))?;
+            push_field(text, mode.word())?;
             push_number(text, *seq)
         }
         Message::Reply {
@@ -95,7 +95,7 @@ fn push_asker(
     text.push_str(word)?;
     push_number(text, node.get())?;
     push_number(text, client)?;
-    push_field(text, text_of(name))
+    push_field(text, name.as_str())
 }
 
 /// Adds a word and a message.
@@ -118,7 +118,7 @@ fn push_step(text: &mut String, step: &Step) -> Result<(), Memory>
             mode,
         } => {
             push_asker(text, "ask", *node, *client, name)?;
-            push_field(text, mode_word(*mode))
+            push_field(text, mode.word())
         }
         Step::Leave { node, client, name } => push_asker(text, "release", *node, *client, name),
         Step::Deliver(message) => push_sent(text, "deliver", message),

@@ -47,7 +47,6 @@ mod AtPlace
 mod StepAnswers
 mod Worlds
 pub mod Refusing
-mod NameText
 mod Written
 mod StateTexts
 mod Elsewhere

@@ -1,20 +1,11 @@
 -- The printed lines of a report. A line is words with one space between two, and a line feed at its end. Numbers are
 -- decimal, without leading zeros.
 use Rattle.std.specs.Prelude.{◌≡◌, ◌≢◌, ℕ, List, [], ◌++◌, codes, decimal, flat_map}
-use Rattle.ra_stamp.specs.declared.mode.Mode.{Mode}
-use Rattle.ra_stamp.specs.declared.mode.Mode.TheVariants.{Shared, Exclusive, IntentShared, IntentExclusive, SharedIntentExclusive}
+use Rattle.ra_stamp.specs.Mode.{mode_word}
 use Rattle.ra_stamp.specs.declared.entry.Entry.{Entry}
 use Rattle.ra_stamp.specs.declared.entry.Mark.{Mark}
 use Rattle.ra_stamp.specs.declared.entry.Mark.TheVariants.{Requested, Entered, Left}
 use Rattle.ra_world.specs.declared.text.report.Report.{Report}
-
--- the word of a mode
-abbrev pub mode_word : Mode → List ℕ
-mode_word Shared = codes "S"
-mode_word Exclusive = codes "X"
-mode_word IntentShared = codes "IS"
-mode_word IntentExclusive = codes "IX"
-mode_word SharedIntentExclusive = codes "SIX"
 
 -- a field that follows the first word of a line, with the space before it
 abbrev pub field : List ℕ → List ℕ

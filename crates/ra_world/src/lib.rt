@@ -25,9 +25,7 @@ pub use laws::{
 };
 pub use step::{Step, Steps};
 pub use text::cutting::cut;
-pub use text::lines::{
-    mark_line, mode_word, push_field, push_mark_line, push_number, report_text, text_of,
-};
+pub use text::lines::{mark_line, push_field, push_mark_line, push_number, report_text};
 pub use text::note::Note;
 pub use text::report::Report;
 pub use world::fitting::{steps_that_fit_together_are_runs, steps_that_fit_with_copies_are_runs};

@@ -71,7 +71,7 @@ struct Host {
 impl Host {
     /// Lets an event happen at a node, prints its marks and sends its messages, as frames that carry the node's clock.
     fn step(&mut self, rt: &impl Print, alloc: Global, node: NodeId, event: Event) -> Result<()> {
-        let place = usize::from(node.get()) - 1;
+        let place = node.place();
         let site = self.sites.get_mut(place).context("there is no such node")?;
         let outcome = site.step(alloc, event)?;
         for mark in outcome.marks.as_slice() {

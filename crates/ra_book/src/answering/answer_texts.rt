@@ -15,7 +15,6 @@ use itoa::{Buffer, Integer};
 use ra_frame::{Frame, MAX_FRAME, encoded};
 use ra_node::Outcome;
 use ra_stamp::{Entry, Mark, Message, NodeId};
-use ra_world::mode_word;
 use std::io::Write;
 
 /// Puts out a field, with the space before it.
@@ -84,7 +83,7 @@ fn put_entry<W: Write>(writer: &mut W, out: &mut Output, entry: &Entry)
     put_number(writer, out, entry.stamp.node.get());
     put_number(writer, out, entry.client);
     put_field(writer, out, entry.name.bytes());
-    put_field(writer, out, mode_word(entry.mode).as_bytes());
+    put_field(writer, out, entry.mode.word().as_bytes());
     put_number(writer, out, entry.stamp.seq);
 }
 

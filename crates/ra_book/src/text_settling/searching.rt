@@ -31,8 +31,7 @@ fn was_sent(books: &mut [Book], frame: &Frame) -> bool
     ensures sent { IsTrue result ↔ IsSentBy (senders_of books.old) frame.now }
     ensures same { senders_of books.new ≡ senders_of books.old }
 {
-    // Nodes are counted from 1.
-    let place = usize::from(frame.message.from().get()) - 1;
+    let place = frame.message.from().place();
     if place < books.len() {
         let book = &mut books[place];
         has_sent(book, frame)

@@ -6,7 +6,6 @@ use crate::svg::svg_writer::SvgWriter;
 use crate::svg::wording::mode_text;
 use crate::timeline::{ClientAct, LockKey, Timeline};
 use ra_stamp::{Memory, NodeId};
-use ra_world::mode_word;
 use std::alloc::Global;
 
 /// The two layers of a picture: the shapes, and the labels, which are in front of them all.
@@ -146,7 +145,7 @@ impl Layers {
             &[Text(word), Short(&act.key.name, layout.cut)],
         );
         if let Some(mode) = act.mode {
-            self.labels.write(" $", &[Text(mode_word(mode))]);
+            self.labels.write(" $", &[Text(mode.word())]);
         }
         self.labels.put(b"</text>\n");
     }

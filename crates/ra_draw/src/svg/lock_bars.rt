@@ -5,7 +5,6 @@ use crate::svg::layers::Layers;
 use crate::svg::svg_writer::Piece::{Number, Short, Text};
 use crate::svg::wording::mode_text;
 use crate::timeline::Moment;
-use ra_world::mode_word;
 
 /// A phase of a bar: what the client does then, and how that looks.
 #[derive(Clone, Copy)]
@@ -75,7 +74,7 @@ impl Layers {
                 Number(phase.width),
                 Number(height),
                 Text(phase.look),
-                Text(mode_word(bar.span.mode)),
+                Text(bar.span.mode.word()),
             ],
         );
     }
@@ -111,7 +110,7 @@ impl Layers {
                     Number(x.saturating_add(9)),
                     Number(y.saturating_add(4)),
                     Short(&span.key.name, layout.cut),
-                    Text(mode_word(span.mode)),
+                    Text(span.mode.word()),
                 ],
             );
         }

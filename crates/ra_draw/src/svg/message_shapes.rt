@@ -5,7 +5,6 @@ use crate::svg::svg_writer::Piece::{Node, Number, Short, Text, Whole};
 use crate::svg::wording::{kind_of, mode_text, start_word};
 use crate::timeline::{Fate, MessagePath, Moment, UnderWayPlace};
 use ra_stamp::{Message, Name};
-use ra_world::mode_word;
 
 impl Layers {
     /// Begins the label of a message beside a place: its kind, number, name and mode.
@@ -30,7 +29,7 @@ impl Layers {
             ],
         );
         if let Message::Request { mode, .. } = message {
-            self.labels.write(" $", &[Text(mode_word(*mode))]);
+            self.labels.write(" $", &[Text(mode.word())]);
         }
     }
 

@@ -15,12 +15,11 @@ pub struct LockKey {
 impl LockKey {
     /// Returns that of a mark.
     pub fn of(mark: &Mark) -> LockKey {
-        match mark {
-            Mark::Requested(entry) | Mark::Entered(entry) | Mark::Left(entry) => LockKey {
-                node: entry.stamp.node,
-                client: entry.client,
-                name: entry.name,
-            },
+        let entry = mark.entry();
+        LockKey {
+            node: entry.stamp.node,
+            client: entry.client,
+            name: entry.name,
         }
     }
 }

@@ -5,7 +5,7 @@ use crate::trace_notes::open_text::{OpenText, Sought};
 use crate::trace_notes::past::Past;
 use crate::trace_notes::replay::Replay;
 use crate::trace_notes::table_steps::refusal_after;
-use crate::trace_notes::text_line::{TextLine, entry_of};
+use crate::trace_notes::text_line::TextLine;
 use ra_stamp::{Entry, Mark};
 use ra_trace::MarkCause;
 use ra_world::Note;
@@ -153,7 +153,7 @@ fn push_mark_fault(
         note.push("the lock table does not allow this mark");
         note.push(cause_text(why));
     }
-    push_details(note, entry_of(mark), replay, why);
+    push_details(note, mark.entry(), replay, why);
 }
 
 /// Adds why the mark in a line is wrong and what is in its way, or `other` if that is not known since there is no memory for what waits,

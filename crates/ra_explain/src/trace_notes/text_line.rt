@@ -70,7 +70,7 @@ impl<'a> TextLine<'a> {
     /// Returns the entry of the mark that it is, if it is one.
     pub fn entry(&self) -> Option<Entry> {
         match &self.mark() {
-            Some(mark) => Some(*entry_of(mark)),
+            Some(mark) => Some(*mark.entry()),
             None => None,
         }
     }
@@ -91,12 +91,5 @@ impl<'a> TextLine<'a> {
             }
             _ => None,
         }
-    }
-}
-
-/// Returns the entry of a mark.
-pub fn entry_of(mark: &Mark) -> &Entry {
-    match mark {
-        Mark::Requested(entry) | Mark::Entered(entry) | Mark::Left(entry) => entry,
     }
 }

@@ -40,17 +40,8 @@ fn name_clients(marks: &[Mark], count: u32) -> bool
 fn names_a_client(mark: &Mark, count: u32) -> bool
     ensures { IsTrue result ↔ ((1 ≤ client_of_mark mark.now) × (client_of_mark mark.now ≤ count)) }
 {
-    let client = entry_of(mark).client;
+    let client = mark.entry().client;
     1 <= client && client <= count
-}
-
-/// Returns the request that a mark is about.
-fn entry_of(mark: &Mark) -> Entry
-    ensures { result ≡ spec.entry_of_mark mark.now }
-{
-    match *mark {
-        Mark::Requested(entry) | Mark::Entered(entry) | Mark::Left(entry) => entry,
-    }
 }
 
 /// Returns whether a mark is that of a request that is made.
@@ -74,7 +65,7 @@ fn follows_ops(script: &Script, client: u32, marks: &[Mark]) -> bool
     let mut place = 0;
     let mut requested = false;
     for mark in marks {
-        if entry_of(mark).client != client {
+        if mark.entry().client != client {
             continue;
         }
         let Some(op) = script.op(client, place) else {

@@ -12,7 +12,6 @@ ghost use Rattle.ra_schedule.specs.PolicyState.{AreDraws, generator_at, generato
 use crate::choice::random_choice::choose;
 use crate::choice::random_state::RandomState;
 use crate::driver::client_progress::Progress;
-use crate::laws::schedules_rest_on_runs;
 use crate::{Choice, DriveError, Op, Policy, Script};
 use ra_stamp::NodeId;
 use ra_world::{Step, World};
@@ -117,7 +116,6 @@ pub fn pick(
         ≡ generator_at policy.now (words_drawn policy.now world.now.moves + words_for policy.now picked.choice)) }
     ensures draws { IfSome draws.new (AreDraws script.now world.now.moves) }
 {
-    schedules_rest_on_runs();
     if let Policy::Listed(choices) = policy {
         let choice = choices.at(world.steps())?;
         return Some(with_meaning(script, world, clients, choice));
@@ -161,7 +159,6 @@ fn meaning(
     ensures ok { IfOk result (StandsFor script.now world.now.moves choice) }
     ensures err { IfErr result (HasFault script.now world.now.moves choice) }
 {
-    schedules_rest_on_runs();
     match choice {
         Choice::Client(client) => {
             if client == 0 || client > script.clients() {

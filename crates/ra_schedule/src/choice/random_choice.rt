@@ -7,7 +7,6 @@ ghost use Rattle.ra_schedule.specs.PolicyState.{IsWithoutFault, generator_at, wo
 ghost use Rattle.ra_schedule.specs.Enabled.{AreFlags, numbers_from};
 
 use crate::choice::enabled::Enabled;
-use crate::laws::schedules_rest_on_runs;
 use crate::{Choice, Policy, Script};
 use ra_world::World;
 use rand_core::utils::NextWord;
@@ -59,7 +58,6 @@ pub fn choose(
     ensures drawn { IfSome result (λ choice.
         Some generator.new ≡ generator_at policy.now (words_drawn policy.now world.now.moves + words_for policy.now choice)) }
 {
-    schedules_rest_on_runs();
     let named = draw(generator, script, world, enabled)?;
     let Policy::Faulty { faults, .. } = policy else {
         return Some(named);

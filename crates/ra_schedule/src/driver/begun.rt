@@ -6,7 +6,6 @@ ghost use Rattle.ra_schedule.specs.Replaying.{SomeoneWaits};
 
 use crate::choice::picking::enabled_step;
 use crate::driver::client_progress::Progress;
-use crate::laws::schedules_rest_on_runs;
 use crate::{Choice, Script};
 use ra_world::World;
 
@@ -73,7 +72,6 @@ pub fn is_stuck(script: &Script, world: &World, clients: &[Progress]) -> bool
     requires { Tracks script.now world.now clients.now }
     ensures { IsTrue result ↔ IsStuckRun script.now world.now.moves }
 {
-    schedules_rest_on_runs();
     match oldest(script, world, clients) {
         Some(_) => false,
         None => someone_waits(clients),

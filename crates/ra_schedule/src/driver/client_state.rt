@@ -9,7 +9,7 @@ use crate::choice::picking::enabled_step;
 use crate::driver::client_progress::Progress;
 use crate::{Op, Script};
 use ra_stamp::{Memory, Mode, Name, NodeId};
-use ra_world::{Step, World, mode_word, push_field, push_number, text_of};
+use ra_world::{Step, World, push_field, push_number};
 use std::alloc::Global;
 
 /// What a client is at.
@@ -89,12 +89,12 @@ fn push_op(text: &mut String, op: Op) -> Result<(), Memory>
     match op {
         Op::Lock(name, mode) => {
             push_field(text, "lock")?;
-            push_field(text, text_of(&name))?;
-            push_field(text, mode_word(mode))
+            push_field(text, name.as_str())?;
+            push_field(text, mode.word())
         }
         Op::Unlock(name) => {
             push_field(text, "unlock")?;
-            push_field(text, text_of(&name))
+            push_field(text, name.as_str())
         }
     }
 }
@@ -114,8 +114,8 @@ fn push_state(text: &mut String, state: ClientState) -> Result<(), Memory>
         ClientState::Done => push_field(text, "done"),
         ClientState::Waits(name, mode, number) => {
             push_field(text, "waits")?;
-            push_field(text, text_of(&name))?;
-            push_field(text, mode_word(mode))?;
+            push_field(text, name.as_str())?;
+            push_field(text, mode.word())?;
             push_number(text, number)
         }
         ClientState::Next(op, enabled) => {

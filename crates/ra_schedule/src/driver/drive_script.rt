@@ -7,8 +7,6 @@ ghost use Rattle.ra_schedule.specs.Driving.{Records, IsThrough};
 use crate::driver::Driver;
 use crate::driver::begun::is_stuck;
 use crate::driver::client_progress::Progress;
-use crate::finishing::endings_rest_on_nodes_and_runs;
-use crate::laws::schedules_rest_on_runs;
 use crate::{Choices, DriveError, Policy, Script};
 use ra_stamp::Memory;
 use ra_world::{Report, Steps, World};
@@ -136,8 +134,6 @@ pub fn drive_through(
 ) -> Result<DrivenCluster, DriveError>
     ensures { Drives script.now policy.now limit (IsThrough script.now policy.now limit records) result }
 {
-    schedules_rest_on_runs();
-    endings_rest_on_nodes_and_runs();
     let Ok(mut world) = World::new(alloc, script.nodes(), 0) else {
         return Err(DriveError::Memory);
     };
@@ -168,7 +164,6 @@ pub fn driven_of(script: &Script, cluster: DrivenCluster) -> Driven
     ensures made { (policy : Policy) (limit : ℕ) (records : Bool) → IsThrough script.now policy limit records cluster
         → Records script.now policy limit records result }
 {
-    endings_rest_on_nodes_and_runs();
     let DrivenCluster { world, driver } = cluster;
     let Driver {
         clients,

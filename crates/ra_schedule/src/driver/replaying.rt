@@ -8,9 +8,8 @@ ghost use Rattle.ra_schedule.specs.Replaying.{IsReplay, MadeIfPossible};
 use crate::choice::picking::with_meaning;
 use crate::driver::Driver;
 use crate::driver::begun::{is_stuck, oldest};
-use crate::laws::schedules_rest_on_runs;
 use crate::{Choice, Script};
-use ra_stamp::{Memory, Message, equal_is_same};
+use ra_stamp::{Memory, Message};
 use ra_world::{Step, World};
 use std::alloc::Global;
 
@@ -45,7 +44,6 @@ fn unnumbered(message: &Message) -> Message
 fn are_alike(one: &Message, other: &Message) -> bool
     ensures { IsTrue result ↔ (spec.unnumbered one.now ≡ spec.unnumbered other.now) }
 {
-    equal_is_same();
     let left = unnumbered(one);
     let right = unnumbered(other);
     left == right
@@ -55,7 +53,6 @@ fn are_alike(one: &Message, other: &Message) -> bool
 fn is_alike_at(world: &World, place: u64, message: &Message) -> bool
     ensures { IsTrue result ↔ IsAlikeAt world.now.moves message.now place }
 {
-    schedules_rest_on_runs();
     match world.message_at(place) {
         Some(found) => are_alike(&found, message),
         None => false,
@@ -67,7 +64,6 @@ fn place_like(world: &World, message: &Message) -> Option<u64>
     ensures some { IfSome result (IsFirstAlike world.now.moves message.now) }
     ensures none { IsNone result → (place : ℕ) → IsAlikeAt world.now.moves message.now place → ⊥ }
 {
-    schedules_rest_on_runs();
     for place in 0..world.under_way() {
         if is_alike_at(world, place, message) {
             return Some(place);

@@ -73,7 +73,7 @@ pub fn members_at(rosters: &[NodeClients], node: Option<NodeId>) -> &[u32]
 {
     match node {
         Some(node) if usize::from(node.get()) <= rosters.len() => {
-            let roster = &rosters[usize::from(node.get()) - 1];
+            let roster = &rosters[node.place()];
             &roster.members
         }
         _ => &[],

@@ -5,29 +5,8 @@ ghost use Rattle.ra_world.specs.Lines as spec;
 
 use crate::Report;
 use itoa::{Buffer, Integer};
-use ra_stamp::{Entry, Mark, Memory, Mode, Name};
+use ra_stamp::{Entry, Mark, Memory};
 use std::alloc::Global;
-
-/// Returns the text of a name. It does not allocate.
-#[tactic(auto, using(crate::proofs::NameText::name_is_utf8))]
-pub fn text_of(name: &Name) -> &str
-    ensures { result.now ≡ name.now }
-{
-    str::from_utf8(name.bytes()).unwrap()
-}
-
-/// Returns the word of a mode: `S`, `X`, `IS`, `IX` or `SIX`. It does not allocate.
-pub fn mode_word(mode: Mode) -> &'static str
-    ensures { result.now ≡ spec.mode_word mode }
-{
-    match mode {
-        Mode::Shared => "S",
-        Mode::Exclusive => "X",
-        Mode::IntentShared => "IS",
-        Mode::IntentExclusive => "IX",
-        Mode::SharedIntentExclusive => "SIX",
-    }
-}
 
 /// Adds a field that is text, with the space before it, in time linear in it.
 ///
@@ -62,8 +41,8 @@ fn push_entry(text: &mut String, entry: &Entry) -> Result<(), Memory>
 {
     push_number(text, entry.stamp.node.get())?;
     push_number(text, entry.client)?;
-    push_field(text, text_of(&entry.name))?;
-    push_field(text, mode_word(entry.mode))?;
+    push_field(text, entry.name.as_str())?;
+    push_field(text, entry.mode.word())?;
     push_number(text, entry.stamp.seq)?;
     Ok(())
 }

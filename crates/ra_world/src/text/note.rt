@@ -1,5 +1,4 @@
 //! A note to a person as it is made, part by part.
-use crate::{mode_word, text_of};
 use itoa::{Buffer, Integer};
 use ra_stamp::{Memory, Mode, Name};
 use std::alloc::Global;
@@ -49,14 +48,14 @@ impl Note {
     /// Adds a name in quotes.
     pub fn name(&mut self, name: &Name) {
         self.push("'");
-        self.push(text_of(name));
+        self.push(name.as_str());
         self.push("'");
     }
 
     /// Adds a mode in brackets, after a space.
     pub fn mode(&mut self, mode: Mode) {
         self.push(" (");
-        self.push(mode_word(mode));
+        self.push(mode.word());
         self.push(")");
     }
 

@@ -7,9 +7,7 @@ ghost use Rattle.ra_world.specs.Keeping.{nodes_of};
 ghost use Rattle.ra_world.specs.Lines as lines;
 ghost use Rattle.ra_world.specs.StateLines as spec;
 
-use crate::text::lines::{
-    mode_word, push_entry_line, push_field, push_number, push_total_line, text_of,
-};
+use crate::text::lines::{push_entry_line, push_field, push_number, push_total_line};
 use ra_bag::Bag;
 use ra_node::{Node, Queued};
 use ra_stamp::{Entry, Memory, Message, Name, NodeId};
@@ -21,7 +19,7 @@ fn push_at(text: &mut String, word: &str, me: NodeId, name: &Name) -> Result<(),
 {
     text.push_str(word)?;
     push_number(text, me.get())?;
-    push_field(text, text_of(name))
+    push_field(text, name.as_str())
 }
 
 /// Adds the end of a line.
@@ -39,7 +37,7 @@ fn push_request(text: &mut String, word: &str, entry: &Entry) -> Result<(), Memo
 {
     push_field(text, word)?;
     push_number(text, entry.client)?;
-    push_field(text, mode_word(entry.mode))?;
+    push_field(text, entry.mode.word())?;
     push_number(text, entry.stamp.seq)
 }
 
@@ -180,7 +178,7 @@ fn push_queued(text: &mut String, me: NodeId, name: &Name, queued: Queued) -> Re
 {
     push_at(text, "queued", me, name)?;
     push_number(text, queued.client)?;
-    push_field(text, mode_word(queued.mode))?;
+    push_field(text, queued.mode.word())?;
     end_line(text)
 }
 
@@ -254,7 +252,7 @@ fn push_ends(text: &mut String, word: &str, message: &Message) -> Result<(), Mem
     text.push_str(word)?;
     push_number(text, message.from().get())?;
     push_number(text, message.to().get())?;
-    push_field(text, text_of(&message.name()))
+    push_field(text, message.name().as_str())
 }
 
 /// Adds what a message is.
@@ -264,7 +262,7 @@ fn push_message_fields(text: &mut String, message: &Message) -> Result<(), Memor
     match *message {
         Message::Request { mode, seq, .. } => {
             push_ends(text, " request", message)?;
-            push_field(text, mode_word(mode))?;
+            push_field(text, mode.word())?;
             push_number(text, seq)
         }
         Message::Reply { seq, .. } => {

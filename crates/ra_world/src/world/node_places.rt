@@ -32,7 +32,7 @@ pub fn place_of(nodes: &[Node], node: NodeId) -> Option<usize>
     ensures some { IfSome result (λ place. (place + 1 ≡ node) × (place < length nodes.now)) }
     ensures none { IsNone result ↔ (length nodes.now < node) }
 {
-    let place = usize::from(node.get()) - 1;
+    let place = node.place();
     if place < nodes.len() {
         Some(place)
     } else {

@@ -7,8 +7,8 @@ use Rattle.ra_audit.proofs.auditor.take_handed_into.Goals as goal
 pub returns-clause-handed : goal.returns-clause-handed
 returns-clause-handed r c =
     let nodes = c.args.nodes.now in
-    let place = c.from-place.result - 1 in
-    let number : place + 1 ≡ c.args.site.now = omega (arith, c.get.ensures.value, c.get.ensures.valid.0, c.from-place.ensures, c.node.ensures) in
+    let place = c.place-place.result in
+    let number : place + 1 ≡ c.args.site.now = omega (arith, c.place-place.ensures.value, c.place-place.ensures.valid.0, c.node.ensures) in
     let within : place < length nodes = omega (arith, c.if-place-nodes.false) in
     let x = c.index-nodes-place.result in
     let p = get_or nodes place x in
@@ -18,7 +18,7 @@ returns-clause-handed r c =
 pub take_handed-requires : goal.take_handed-requires
 take_handed-requires r c =
     let nodes = c.args.nodes.now in
-    let place = c.from-place.result - 1 in
-    let number : place + 1 ≡ c.args.site.now = omega (arith, c.get.ensures.value, c.get.ensures.valid.0, c.from-place.ensures, c.node.ensures) in
+    let place = c.place-place.result in
+    let number : place + 1 ≡ c.args.site.now = omega (arith, c.place-place.ensures.value, c.place-place.ensures.valid.0, c.node.ensures) in
     let within : place < length nodes = omega (arith, c.if-place-nodes.false) in
     sym number ∙ sym (number_of nodes c.requires.0 place c.index-nodes-place.result c.requires.1 within)

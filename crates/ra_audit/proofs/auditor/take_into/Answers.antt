@@ -6,8 +6,8 @@ use Rattle.ra_audit.proofs.auditor.take_into.Goals as goal
 pub returns : goal.returns
 returns c =
     let nodes = c.args.nodes.now in
-    let place = c.from-place.result - 1 in
-    let number : place + 1 ≡ c.args.node = omega (arith, c.get.ensures.value, c.get.ensures.valid.0, c.from-place.ensures) in
+    let place = c.place-place.result in
+    let number : place + 1 ≡ c.args.node = omega (arith, c.place-place.ensures.value, c.place-place.ensures.valid.0) in
     let within : place < length nodes = omega (arith, c.if-place-nodes.false) in
     let x = c.index-nodes-place.result in
     let p = get_or nodes place x in

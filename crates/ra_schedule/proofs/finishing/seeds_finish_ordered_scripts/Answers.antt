@@ -1,11 +1,12 @@
 use Rattle.ra_schedule.proofs.Endings.{seed_finishes}
 use Rattle.ra_schedule.proofs.SurveyEnds.{seeds_finish}
+use Rattle.ra_schedule.proofs.ScheduleLaws.{endings_rest_on_runs, schedules_rest_on_runs}
 use Rattle.ra_schedule.proofs.finishing.seeds_finish_ordered_scripts.Goals as goal
 
 pub returns : goal.returns
 returns c =
-    let laws = c.endings_rest_on_nodes_and_runs.ensures.runs in
-    let below = c.schedules_rest_on_runs.ensures in
+    let laws = endings_rest_on_runs in
+    let below = schedules_rest_on_runs in
     record {
       outcomes = λ script faults limit seed outcome fit. seed_finishes laws below script fit faults limit seed outcome;
       surveys = λ script faults limit first last survey fit. seeds_finish laws below script fit faults limit first last survey;

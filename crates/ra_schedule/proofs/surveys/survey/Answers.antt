@@ -4,6 +4,7 @@ use Rattle.ra_schedule.specs.Telling.{Told}
 use Rattle.ra_schedule.proofs.SurveySeeds.{none_yet, at_last, one_more_seed, all_seeds, no_seeds}
 use Rattle.ra_schedule.proofs.ToldSeeds.{ToldSoFar, told_none, told_more, tells_seeds, tells_some}
 use Rattle.ra_schedule.proofs.SurveyEnds.{seeds_finish}
+use Rattle.ra_schedule.proofs.ScheduleLaws.{endings_rest_on_runs, schedules_rest_on_runs}
 use Rattle.ra_schedule.proofs.surveys.survey.Goals as goal
 
 pub loop-seed-init : goal.loop-seed-init
@@ -68,11 +69,11 @@ returns-clause-told g c =
 pub returns-then-last-first-clause-waiting_ends : goal.returns-then-last-first-clause-waiting_ends
 returns-then-last-first-clause-waiting_ends g c =
     let script = c.args.script.now in
-    seeds_finish c.endings_rest_on_nodes_and_runs.ensures.runs c.schedules_rest_on_runs.ensures script c.is_within_its_limits.ensures c.args.faults c.args.limit
+    seeds_finish endings_rest_on_runs schedules_rest_on_runs script c.is_within_its_limits.ensures c.args.faults c.args.limit
     c.args.seeds.first c.args.seeds.last c.no_survey.result
     (no_seeds script c.args.faults c.args.limit c.args.seeds.first c.args.seeds.last c.no_survey.result c.if-last-first.true (c.no_survey.ensures c.args.seeds.first))
 
 pub returns-clause-waiting_ends : goal.returns-clause-waiting_ends
 returns-clause-waiting_ends g c =
-    seeds_finish c.endings_rest_on_nodes_and_runs.ensures.runs c.schedules_rest_on_runs.ensures c.args.script.now c.is_within_its_limits.ensures c.args.faults c.args.limit
+    seeds_finish endings_rest_on_runs schedules_rest_on_runs c.args.script.now c.is_within_its_limits.ensures c.args.faults c.args.limit
     c.args.seeds.first c.args.seeds.last c.with_outcome.result (returns-clause-ok g c)

@@ -10,9 +10,9 @@ pub returns-then-place-books-clause-sent : goal.returns-then-place-books-clause-
 returns-then-place-books-clause-sent c =
     let books = c.args.books.now in
     let frame = c.args.frame.now in
-    let place = c.from-place.result - 1 in
+    let place = c.place-place.result in
     let book = get_or books place c.index-books-place.result in
-    let from : place + 1 ≡ from_of frame.message = omega (arith, c.from-place.ensures, c.get.ensures.value, c.get.ensures.valid, c.from.ensures) in
+    let from : place + 1 ≡ from_of frame.message = omega (arith, c.place-place.ensures.value, c.place-place.ensures.valid, c.from.ensures) in
     let within : place < length (senders_of books) = omega (arith, c.if-place-books.true, length-map books sender_of) in
     let here : get_or (senders_of books) place (sender_of book) ≡ sender_of book =
     get_or-map sender_of books place c.index-books-place.result (sender_of book) c.if-place-books.true
@@ -23,7 +23,7 @@ returns-then-place-books-clause-sent c =
 pub returns-then-place-books-clause-same : goal.returns-then-place-books-clause-same
 returns-then-place-books-clause-same c =
     let books = c.args.books.now in
-    let place = c.from-place.result - 1 in
+    let place = c.place-place.result in
     let book = get_or books place c.index-books-place.result in
     one_flagged books place book c.has_sent.new.book c.if-place-books.true
     (get_or_default books place c.index-books-place.result book c.if-place-books.true) c.has_sent.ensures.same
@@ -32,7 +32,7 @@ pub returns-else-place-books-clause-sent : goal.returns-else-place-books-clause-
 returns-else-place-books-clause-sent c =
     let books = c.args.books.now in
     let frame = c.args.frame.now in
-    let place = c.from-place.result - 1 in
-    let from : place + 1 ≡ from_of frame.message = omega (arith, c.from-place.ensures, c.get.ensures.value, c.get.ensures.valid, c.from.ensures) in
+    let place = c.place-place.result in
+    let from : place + 1 ≡ from_of frame.message = omega (arith, c.place-place.ensures.value, c.place-place.ensures.valid, c.from.ensures) in
     let past : length (senders_of books) ≤ place = omega (arith, c.if-place-books.false, length-map books sender_of) in
     (λ is. absurd (false≢true is), λ was. absurd (no_sender (senders_of books) c.requires frame place from past was))

@@ -10,8 +10,8 @@ returns-clause-found g c =
     c.args.node
     _
     c.deref.result.now
-    c.get-2.result
+    c.get.result
     (c.deref.ensures.value ∙ c.self.invariant.1)
-    (omega (arith, c.get.ensures.value, c.get.ensures.valid))
-    c.get-2.ensures.lookup.0
-    c.get-2.ensures.lookup.1
+    (omega (arith, c.place.ensures.value, c.place.ensures.valid))
+    c.get.ensures.lookup.0
+    c.get.ensures.lookup.1

@@ -14,7 +14,7 @@ returns-in_default-op c =
     let client = c.args.client in
     let marks = c.args.marks.now in
     let o = client_at c.args.script.now client in
-    let mine : client_of_mark c.mark-item.result ≡ client = sym (ap (λ (e : Entry). e.client) c.entry_of.ensures) ∙ c.if-entry_of-client.false in
+    let mine : client_of_mark c.mark-item.result ≡ client = sym (ap (λ (e : Entry). e.client) c.entry.ensures) ∙ c.if-entry-client.false in
     no (λ followed.
     no_operation c.in-Some.node o client marks c.loop-mark.requested c.loop-mark.place c.loop-mark.mark-index c.mark-item.result (omega arith) c.mark-item.is mine (sym c.in_default-op.is ∙ c.op.ensures.value) c.loop-mark.invariant.left ((of_client o c.in-Some.node (marks_of_client client marks) c.in-Some.ensures.value).0 followed))
 
@@ -23,7 +23,7 @@ returns-then-not-is_next c =
     let client = c.args.client in
     let marks = c.args.marks.now in
     let o = client_at c.args.script.now client in
-    let mine : client_of_mark c.mark-item.result ≡ client = sym (ap (λ (e : Entry). e.client) c.entry_of.ensures) ∙ c.if-entry_of-client.false in
+    let mine : client_of_mark c.mark-item.result ≡ client = sym (ap (λ (e : Entry). e.client) c.entry.ensures) ∙ c.if-entry-client.false in
     no (λ followed.
     wrong_mark c.in-Some.node o client marks c.loop-mark.requested c.loop-mark.place c.loop-mark.mark-index c.mark-item.result c.in-Some-op.op (omega arith) c.mark-item.is mine (sym c.in-Some-op.is ∙ c.op.ensures.value) (iff_false c.is_next.ensures c.if-not-is_next.true) c.loop-mark.invariant.left ((of_client o c.in-Some.node (marks_of_client client marks) c.in-Some.ensures.value).0 followed))
 
@@ -35,7 +35,7 @@ loop-mark-preserved c =
     let place = c.loop-mark.place in
     let next = c.if-not-requested.place in
     let asked = is_request c.mark-item.result in
-    let mine : client_of_mark c.mark-item.result ≡ client = sym (ap (λ (e : Entry). e.client) c.entry_of.ensures) ∙ c.if-entry_of-client.false in
+    let mine : client_of_mark c.mark-item.result ≡ client = sym (ap (λ (e : Entry). e.client) c.entry.ensures) ∙ c.if-entry-client.false in
     let moved : next ≡ cond asked place (place + 1) =
     elim c.if-not-requested.branch [
       | then-not-requested w ↦ w.place-is ∙ sym (ap (λ (b : Bool). cond b place (place + 1)) (sym c.is_request-requested.ensures ∙ w.if-not-requested.true))

@@ -1,4 +1,5 @@
 use Rattle.ra_schedule.proofs.Meanings.{delivered, lost, repeated, none_delivered, none_lost, none_repeated, some_number, place_of_client, progress_of, nobody_above, somebody, nobody, number_zero, enabled_stands, disabled_fault}
+use Rattle.ra_schedule.proofs.ScheduleLaws.{schedules_rest_on_runs}
 use Rattle.ra_schedule.proofs.choice.picking.meaning.Goals as goal
 use Rattle.ra_schedule.proofs.choice.picking.meaning.Goals.{then-client-eq0-via-then-client-eq0, then-client-eq0-via-else-client-eq0+then-client-clients}
 
@@ -46,7 +47,7 @@ returns-in-Some-clause-ok c =
 
 pub returns-in-None-clause-err : goal.returns-in-None-clause-err
 returns-in-None-clause-err c =
-    none_delivered c.schedules_rest_on_runs.ensures.one_list c.args.script.now c.args.world.now.moves c.args.choice c.in-Message.place c.in-Message.is c.in-None.ensures.value
+    none_delivered schedules_rest_on_runs.one_list c.args.script.now c.args.world.now.moves c.args.choice c.in-Message.place c.in-Message.is c.in-None.ensures.value
 
 pub returns-in-Some-message_at-clause-ok : goal.returns-in-Some-message_at-clause-ok
 returns-in-Some-message_at-clause-ok c =
@@ -54,7 +55,7 @@ returns-in-Some-message_at-clause-ok c =
 
 pub returns-in-None-message_at-clause-err : goal.returns-in-None-message_at-clause-err
 returns-in-None-message_at-clause-err c =
-    none_lost c.schedules_rest_on_runs.ensures.one_list c.args.script.now c.args.world.now.moves c.args.choice c.in-Lost.place c.in-Lost.is c.in-None-message_at.ensures.value
+    none_lost schedules_rest_on_runs.one_list c.args.script.now c.args.world.now.moves c.args.choice c.in-Lost.place c.in-Lost.is c.in-None-message_at.ensures.value
 
 pub returns-in-Some-message_at-2-clause-ok : goal.returns-in-Some-message_at-2-clause-ok
 returns-in-Some-message_at-2-clause-ok c =
@@ -62,4 +63,4 @@ returns-in-Some-message_at-2-clause-ok c =
 
 pub returns-in-None-message_at-2-clause-err : goal.returns-in-None-message_at-2-clause-err
 returns-in-None-message_at-2-clause-err c =
-    none_repeated c.schedules_rest_on_runs.ensures.one_list c.args.script.now c.args.world.now.moves c.args.choice c.in-Repeated.place c.in-Repeated.is c.in-None-message_at-2.ensures.value
+    none_repeated schedules_rest_on_runs.one_list c.args.script.now c.args.world.now.moves c.args.choice c.in-Repeated.place c.in-Repeated.is c.in-None-message_at-2.ensures.value

@@ -8,6 +8,7 @@ use Rattle.ra_schedule.specs.Driving.{IsMeaning}
 use Rattle.ra_schedule.proofs.Choosing.{nothing_left, newest_message, oldest_message, first_client, listed_choice, listed_ends}
 use Rattle.ra_schedule.proofs.Meanings.{some_number}
 use Rattle.ra_schedule.proofs.PolicyGenerator.{none_goes_on, listed_goes_on}
+use Rattle.ra_schedule.proofs.ScheduleLaws.{schedules_rest_on_runs}
 use Rattle.ra_schedule.proofs.choice.picking.pick.Goals as goal
 use Rattle.ra_schedule.proofs.choice.picking.pick.Goals.{in-Newest, in_default-policy}
 
@@ -52,7 +53,7 @@ returns-then-messages-eq0 c =
     record {
       some = tt;
       meaning = tt;
-      none = λ e. nothing_left c.schedules_rest_on_runs.ensures.one_list c.args.script.now c.args.policy.now c.args.world.now.moves _
+      none = λ e. nothing_left schedules_rest_on_runs.one_list c.args.script.now c.args.policy.now c.args.world.now.moves _
           c.in_default.not-Listed has (none, (left, leaves, sym is ∙ c.if-messages-eq0.true));
       drawn = tt;
       draws = c.requires.draws;

@@ -3,12 +3,13 @@ use Rattle.rand_pcg.specs.Lcg.{Lcg}
 use Rattle.ra_schedule.specs.declared.choice.Choice.TheVariants.{Message}
 use Rattle.ra_schedule.specs.Schedule.{with_fault}
 use Rattle.ra_schedule.proofs.PolicyGenerator.{named_is_picked, client_is_picked, message_is_picked, nothing_is_picked}
+use Rattle.ra_schedule.proofs.ScheduleLaws.{schedules_rest_on_runs}
 use Rattle.ra_schedule.proofs.choice.random_choice.choose.Goals as goal
 
 pub returns-in_err-named-clause-none : goal.returns-in_err-named-clause-none
 returns-in_err-named-clause-none c e =
     let moves = c.args.world.now.moves in
-    nothing_is_picked c.args.script.now c.args.policy.now moves c.args.generator.now (c.schedules_rest_on_runs.ensures.one_list moves) c.requires.drawn
+    nothing_is_picked c.args.script.now c.args.policy.now moves c.args.generator.now (schedules_rest_on_runs.one_list moves) c.requires.drawn
     (c.in_err-named.ensures.none refl)
 
 pub returns-in_default : goal.returns-in_default

@@ -14,6 +14,7 @@ use Rattle.ra_schedule.specs.Progress.{Tracks, AreCountable, OfEach, IsProgressA
 use Rattle.ra_schedule.proofs.HandedOn.{no_ok, one_refusal}
 use Rattle.ra_schedule.proofs.Meanings.{not_memory}
 use Rattle.ra_schedule.proofs.Turns.{tracks_on, draws_before, driven_more, countable, whole}
+use Rattle.ra_schedule.proofs.ScheduleLaws.{schedules_rest_on_runs}
 use Rattle.ra_schedule.proofs.driver.Driver.take_step.Goals as goal
 
 pub note_move-requires : goal.note_move-requires
@@ -41,7 +42,7 @@ note_step_in-requires-clause-draws c =
     let outcome = c.in-Ok-step_near.outcome in
     let move : Move = record { step = c.in-Ok.step; sends = outcome.sends.items; marks = outcome.marks.items } in
     let kept = draws_before c.args.script.now c.args.world.now c.step_near.new.self c.args.self.now move c.requires.driven c.in-Ok-step_near.ensures.ok c.in-Ok-step_near.ensures.run
-    c.schedules_rest_on_runs.ensures c.args.picked.now.choice means in
+    schedules_rest_on_runs c.args.picked.now.choice means in
     subst (λ (ms : List Mark). IfSome c.args.self.now.draws (AreDrawsElsewhere c.in-Ok.step ms c.args.script.now c.step_near.new.self.moves)) (sym c.as_slice-marks.ensures) kept
 
 pub returns-clause-ok : goal.returns-clause-ok

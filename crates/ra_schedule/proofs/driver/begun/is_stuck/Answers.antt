@@ -1,6 +1,7 @@
 use Rattle.std.proofs.Common.{refl}
 use Rattle.std.proofs.lemmas.Bool.{false≢true}
 use Rattle.ra_schedule.proofs.OldestChoices.{someone, not_quiet}
+use Rattle.ra_schedule.proofs.ScheduleLaws.{schedules_rest_on_runs}
 use Rattle.ra_schedule.proofs.driver.begun.is_stuck.Goals as goal
 
 pub oldest-requires : goal.oldest-requires
@@ -9,7 +10,7 @@ oldest-requires c = c.requires
 pub returns-in-Some : goal.returns-in-Some
 returns-in-Some c = (
   λ yes. absurd (false≢true yes),
-  λ stuck. absurd (not_quiet c.schedules_rest_on_runs.ensures.one_list c.args.script.now c.args.world.now.moves _ c.in-Some.ensures.some stuck.quiet),
+  λ stuck. absurd (not_quiet schedules_rest_on_runs.one_list c.args.script.now c.args.world.now.moves _ c.in-Some.ensures.some stuck.quiet),
 )
 
 pub returns-in-None : goal.returns-in-None

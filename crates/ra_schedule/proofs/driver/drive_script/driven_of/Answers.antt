@@ -8,6 +8,7 @@ use Rattle.ra_schedule.specs.Progress.{Tracks}
 use Rattle.ra_schedule.specs.Schedule.{steps_of, IsFinished}
 use Rattle.ra_schedule.proofs.Endings.{whole_run}
 use Rattle.ra_schedule.proofs.Turns.{all_done, are_done, records_all}
+use Rattle.ra_schedule.proofs.ScheduleLaws.{endings_rest_on_nodes, endings_rest_on_runs}
 use Rattle.ra_schedule.proofs.driver.drive_script.driven_of.Goals as goal
 use Rattle.ra_schedule.proofs.driver.drive_script.driven_of.Goals.{then-has_nothing_left, else-has_nothing_left}
 
@@ -22,7 +23,6 @@ returns-clause-run c policy limit records through =
     let tracks = c.requires in
     let told = c.into_report-report.ensures in
     let report = c.into_report-report.result in
-    let laws = c.endings_rest_on_nodes_and_runs.ensures in
     let nothing = c.has_nothing_left.ensures in
     let finished : IsTrue c.if-has_nothing_left.finished ↔ IsFinished script (steps_of world.moves) report =
     elim c.if-has_nothing_left.branch [
@@ -44,7 +44,7 @@ returns-clause-run c policy limit records through =
         λ h. w.finished-is ∙ nothing.1 (h.none_waits, h.none_queued, h.none_under_way),
       )
     ] in
-    whole_run laws.nodes laws.runs script through.fit policy limit records c.args.cluster report c.if-has_nothing_left.finished through
+    whole_run endings_rest_on_nodes endings_rest_on_runs script through.fit policy limit records c.args.cluster report c.if-has_nothing_left.finished through
     (subst (λ (n : ℕ). Reports n 0 world.moves report) tracks.count
     (subst (λ (s : ℕ). Reports world.count s world.moves report) tracks.start told.report))
     (subst (λ (n : ℕ). MainTheorem n report) tracks.count told.main_theorem) finished

@@ -4,6 +4,7 @@ use Rattle.ra_stamp.specs.declared.message.Message.{Message as Sent}
 use Rattle.ra_schedule.specs.Shrinking.{unnumbered}
 use Rattle.ra_schedule.proofs.Choosing.{place_is_one}
 use Rattle.ra_schedule.proofs.Meanings.{absent}
+use Rattle.ra_schedule.proofs.ScheduleLaws.{schedules_rest_on_runs}
 use Rattle.ra_schedule.proofs.driver.replaying.is_alike_at.Goals as goal
 
 pub returns-in-Some : goal.returns-in-Some
@@ -14,11 +15,11 @@ returns-in-Some c =
       λ at.
           let (other, there, alike) = at in
           c.are_alike.ensures.1 (subst (λ (m : Sent). unnumbered m ≡ unnumbered c.args.message.now)
-          (place_is_one c.schedules_rest_on_runs.ensures.one_list moves c.args.place other c.in-Some.found there (left, leaves, sym is)) alike),
+          (place_is_one schedules_rest_on_runs.one_list moves c.args.place other c.in-Some.found there (left, leaves, sym is)) alike),
     )
 
 pub returns-in-None : goal.returns-in-None
 returns-in-None c = (
   λ yes. absurd (false≢true yes),
-  λ at. let (other, there, alike) = at in absurd (absent c.schedules_rest_on_runs.ensures.one_list c.args.world.now.moves c.args.place c.in-None.ensures.value other there),
+  λ at. let (other, there, alike) = at in absurd (absent schedules_rest_on_runs.one_list c.args.world.now.moves c.args.place c.in-None.ensures.value other there),
 )

@@ -2,6 +2,7 @@ use Rattle.std.proofs.Common.{arith, sym, ◌∙◌, below_more}
 use Rattle.std.proofs.lemmas.Bool.{false≢true}
 use Rattle.ra_schedule.specs.Shrinking.{IsAlikeAt}
 use Rattle.ra_schedule.proofs.Replayed.{none_alike}
+use Rattle.ra_schedule.proofs.ScheduleLaws.{schedules_rest_on_runs}
 use Rattle.ra_schedule.proofs.driver.replaying.place_like.Goals as goal
 
 pub loop-place-init : goal.loop-place-init
@@ -18,5 +19,5 @@ loop-place-preserved c =
 pub returns-clause-none : goal.returns-clause-none
 returns-clause-none c e =
     let (left, leaves, is) = c.under_way-place-end.ensures.value in
-    none_alike c.schedules_rest_on_runs.ensures.one_list c.args.world.now.moves c.args.message.now left c.loop-place.place leaves
+    none_alike schedules_rest_on_runs.one_list c.args.world.now.moves c.args.message.now left c.loop-place.place leaves
     (let past = c.loop-place-test.false in omega (arith, is, past)) c.loop-place.invariant
