@@ -55,10 +55,11 @@ impl fmt::Display for Entry {
 
 impl fmt::Display for Mark {
     fn fmt<W: fmt::Write>(&self, f: &mut fmt::Formatter<W>) -> fmt::Result {
-        match self {
-            Mark::Requested(entry) => write!(f, "request {entry}"),
-            Mark::Entered(entry) => write!(f, "enter {entry}"),
-            Mark::Left(entry) => write!(f, "leave {entry}"),
-        }
+        let word = match self {
+            Mark::Requested(_) => "request",
+            Mark::Entered(_) => "enter",
+            Mark::Left(_) => "leave",
+        };
+        write!(f, "{word} {}", self.entry())
     }
 }

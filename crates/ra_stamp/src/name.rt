@@ -105,14 +105,10 @@ impl Name {
         if bytes.len() > Name::MAX_LEN {
             return Err(NameError::TooLong);
         }
-        let mut padded = [0; 32];
-        if !copy_name(bytes, &mut padded) {
-            return Err(NameError::BadByte);
+        match Name::of(bytes) {
+            Some(name) => Ok(name),
+            None => Err(NameError::BadByte),
         }
-        Ok(Name {
-            bytes: padded,
-            len: bytes.len() as u8,
-        })
     }
 
     /// Makes the name of these bytes, or returns `None` if they are not one. It does not allocate. For what is read line by line it
