@@ -378,7 +378,11 @@ impl Automaton {
     {
         match *message {
             Message::Request { .. } => false,
-            Message::Reply { from, seq, .. } => self.effect(from, seq) == Effect::Enter,
+            Message::Reply { from, seq, .. } => match self.effect(from, seq) {
+                Effect::Enter => true,
+                Effect::WaitOn => false,
+                Effect::Stray => false,
+            },
         }
     }
 

@@ -28,7 +28,7 @@ pub enum Answer {
 }
 
 /// What a REPLY leads to.
-#[derive(Clone, Copy, PartialEq, Eq)]
+#[derive(Clone, Copy)]
 pub enum Effect {
     /// It is not awaited.
     Stray,
