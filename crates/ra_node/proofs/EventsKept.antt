@@ -7,6 +7,7 @@ use Rattle.ra_stamp.specs.declared.entry.Mark.{Mark}
 use Rattle.ra_stamp.specs.Message.{from_of, name_of, seq_of}
 use Rattle.ra_automaton.specs.State.{State, IsOther, IsConsistent}
 use Rattle.ra_automaton.specs.Steps.{RequestStep, ReceiveStep, LeaveStep}
+use Rattle.ra_automaton.proofs.Consistent.{consistent_request, consistent_receive, consistent_leave}
 use Rattle.ra_node.specs.Resource.{Resource, use_of}
 use Rattle.ra_node.specs.Turns.{AskTurn, LeaveTurn}
 use Rattle.ra_node.specs.Node.{NodeState, resource_at, IsConsistentNode}
@@ -60,6 +61,13 @@ module _
         (addressed old message (resource_at old name).state here.me_is here.nodes_is for).from turn.step in
         update_kept old new name event.resource (receive_updates old new message sends marks event) h
         (receive_kept old.me old.nodes name old.start (resource_at old name) message sends marks event.resource turn state here)
+
+-- the same, by what the crate of the automaton proves of each step
+pub node_kept : (old new : NodeState) (event : Event) (sends : List Message) (marks : List Mark) → IsConsistentNode old → IsForThisNode old event → NodeEvent old event sends marks new → IsConsistentNode new
+node_kept =
+    event_kept (λ old new mode sends entered. consistent_request old mode sends entered new)
+    (λ old new message sends entered. consistent_receive old message sends entered new)
+    (λ old new sends. consistent_leave old sends new)
 
 -- ---- What an event sends and marks
 

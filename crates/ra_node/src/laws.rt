@@ -13,8 +13,6 @@ ghost use Rattle.ra_node.specs.Node.{NodeState, opening_node, resource_at, clien
 ghost use Rattle.ra_node.specs.Events.{Event, Happening, name_of_event, NodeEvent, NodeEvents, AllowsEvent, IsForThisNode, AreForThisNode};
 ghost use Rattle.ra_node.specs.Carried.{IsSend, IsMark, MarksLead, sends_at_most, marks_at_most, replies_at_most, entries_at_most};
 
-use ra_automaton::steps_keep_a_state_consistent;
-
 /// An event about one name leaves all other names, and the identity of the node, as they were.
 pub fn events_leave_other_names()
     ensures entry { (old new : NodeState) (event : Event) (sends : List Message) (marks : List Mark)
@@ -66,9 +64,7 @@ pub fn events_keep_a_node_consistent()
         → NodeEvent old event sends marks new
         → MarksLead (use_of (resource_at old (name_of_event event))) marks
         (use_of (resource_at new (name_of_event event))) }
-{
-    steps_keep_a_state_consistent();
-}
+{}
 
 /// Events of a node, one after the other, lead from a consistent node to a consistent one, and so do those of a node
 /// that had met nothing. The node's identity does not change. Whether each event is for this node may be judged by the
@@ -82,9 +78,7 @@ pub fn histories_keep_a_node_consistent()
         → NodeEvents (opening_node me nodes start) happened new → IsConsistentNode new }
     ensures node { (old new : NodeState) (happened : List Happening) → NodeEvents old happened new
         → (new.me ≡ old.me) × (new.nodes ≡ old.nodes) × (new.start ≡ old.start) }
-{
-    events_keep_a_node_consistent();
-}
+{}
 
 /// A node's state and an event determine what is sent, what is marked, and the state after it.
 pub fn events_are_determined()
