@@ -53,7 +53,7 @@ fn are_name_bytes(name: &[u8]) -> bool
     requires not_long { length name.now ≤ 32 }
     ensures { result ≡ list_all is_name_byte name.now }
 {
-    Name::new(name).is_ok()
+    Name::of(name).is_some()
 }
 
 /// Returns the version of a frame, by its first byte. It does not allocate.
@@ -169,7 +169,7 @@ fn name_at(format: Format, bytes: &[u8]) -> Name
 {
     let name = format.mode_place() + NAME;
     let length = usize::from(bytes[format.mode_place() + NAME_LENGTH]);
-    Name::new(&bytes[name..name + length]).unwrap()
+    Name::of(&bytes[name..name + length]).unwrap()
 }
 
 /// Returns the message of bytes that have no fault. It does not allocate.
