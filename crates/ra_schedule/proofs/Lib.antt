@@ -1,4 +1,6 @@
 mod Held
+mod LockPlaces
+mod FirstLocks
 mod Plans
 mod Last
 mod OpFaults

@@ -2,6 +2,7 @@ pub mod Script
 pub mod Seeds
 pub mod Faults
 pub mod LockOrder
+pub mod LockSearch
 pub mod Schedule
 pub mod Performing
 pub mod Orderly

@@ -1,11 +1,13 @@
 -- Scripts whose clients take names in ascending order and give them all back. They never deadlock.
-use Rattle.std.specs.Prelude.{◌≡◌, ℕ, List, take, Some, slice_get}
+use Rattle.std.specs.Prelude.{◌≡◌, ◌≢◌, ◌⊎◌, ℕ, ◌≤◌, ◌<◌, List, take, Some, slice_get}
 use Rattle.std.specs.Ordering.{nat_cmp}
 use Rattle.std.specs.Cmp.Lexicographic.{slice_cmp}
 use Rattle.std.specs.declared.cmp.Ordering.TheVariants.{Less}
 use Rattle.ra_stamp.specs.declared.mode.Mode.{Mode}
 use Rattle.ra_schedule.specs.declared.script.Op.{Op}
-use Rattle.ra_schedule.specs.declared.script.Op.TheVariants.{Lock}
+use Rattle.ra_schedule.specs.declared.script.Op.TheVariants.{Lock, Unlock}
+use Rattle.ra_schedule.specs.declared.script.lock_order.OutOfOrder.{OutOfOrder}
+use Rattle.ra_schedule.specs.declared.script.lock_order.Unreleased.{Unreleased}
 use Rattle.ra_schedule.specs.Script.{ScriptState, ScriptClient, client_at, IsHeldAfter}
 
 -- one name is below the other, by bytes
@@ -33,3 +35,47 @@ IsOutOfOrder script = (client : ℕ) × IsOf LocksOutOfOrder script client
 -- some client holds a name after all its operations
 abbrev pub IsUnreleased : ScriptState → Type 0
 IsUnreleased script = (client : ℕ) × IsOf EndsHolding script client
+
+-- ---- Where
+
+-- the operation at this place locks the name
+abbrev pub LocksAt : List Op → ℕ → List ℕ → Type 0
+LocksAt ops place name = (mode : Mode) × (slice_get ops place ≡ Some (Lock name mode))
+
+-- a name is locked at one place, and not unlocked before the other one, which locks a name that is not above it
+pub record LocksBelow (ops : List Op) (since place : ℕ) : Type 0 where
+  pub held : List ℕ
+  pub name : List ℕ
+  pub later : since < place
+  pub locks_held : LocksAt ops since held
+  pub kept : (k : ℕ) → since < k → k < place → slice_get ops k ≢ Some (Unlock held)
+  pub locks : LocksAt ops place name
+  pub not_above : IsBelow held name → ⊥
+
+-- this place is the first one that locks a name that is not above each name held then; of the names held then that are not
+-- below, the one that was locked first was locked at the place `since`
+pub record IsFirstBelow (ops : List Op) (since place : ℕ) : Type 0 where
+  pub is : LocksBelow ops since place
+  pub first : (earlier other : ℕ) → LocksBelow ops earlier other → (place < other) ⊎ ((place ≡ other) × (since ≤ earlier))
+
+-- a name is locked at this place, and not unlocked after it
+pub record NeverUnlocks (ops : List Op) (place : ℕ) : Type 0 where
+  pub name : List ℕ
+  pub locks : LocksAt ops place name
+  pub kept : (k : ℕ) → place < k → slice_get ops k ≢ Some (Unlock name)
+
+-- this place is the first such one
+pub record IsFirstNeverUnlocked (ops : List Op) (place : ℕ) : Type 0 where
+  pub is : NeverUnlocks ops place
+  pub first : (other : ℕ) → NeverUnlocks ops other → place ≤ other
+
+-- of the first client that locks out of order, this is the first place where it does so, and the first name held then that
+-- is not below
+pub record IsFirstOutOfOrder (script : ScriptState) (found : OutOfOrder) : Type 0 where
+  pub is : IsOf (λ ops. IsFirstBelow ops found.since found.place) script found.client
+  pub first : (client : ℕ) → IsOf LocksOutOfOrder script client → found.client ≤ client
+
+-- of the first client that holds a name at its end, this is the first place that locks one that it never unlocks
+pub record IsFirstUnreleased (script : ScriptState) (found : Unreleased) : Type 0 where
+  pub is : IsOf (λ ops. IsFirstNeverUnlocked ops found.place) script found.client
+  pub first : (client : ℕ) → IsOf EndsHolding script client → found.client ≤ client

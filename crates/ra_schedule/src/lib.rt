@@ -20,6 +20,9 @@ pub use finishing::{
     scripts_come_to_rest, seeds_finish_ordered_scripts,
 };
 pub use laws::{policies_lead_to_one_run, policies_repeat_no_message};
+pub use script::lock_order::{
+    OutOfOrder, Unreleased, first_out_of_order, first_unreleased, is_unreleased,
+};
 pub use script::{Op, Script};
 pub use surveys::first_seed::{Ending, first_seed};
 pub use surveys::observer::Observer;

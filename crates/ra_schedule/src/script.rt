@@ -1,3 +1,4 @@
+pub mod lock_order;
 pub mod node_clients;
 pub mod script_names;
 
@@ -226,6 +227,14 @@ impl Script {
     {
         let client = self.client(client)?;
         client.ops.get(place as usize).copied()
+    }
+
+    /// Returns the operations of the client with this number, or `None` if there is no such client.
+    fn ops(&self, client: u32) -> Option<&[Op]>
+        ensures { option_copied result ≡ option_map (λ c. c.ops) (client_at self.now client) }
+    {
+        let client = self.client(client)?;
+        Some(&client.ops)
     }
 
     /// Returns the client with this number, or `None`.

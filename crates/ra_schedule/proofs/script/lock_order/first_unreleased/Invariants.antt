@@ -1,0 +1,7 @@
+use Rattle.ra_schedule.specs.LockOrder.{EndsHolding}
+use Rattle.ra_schedule.proofs.FirstLocks.{NoClient}
+use Rattle.ra_schedule.proofs.script.lock_order.first_unreleased.Given as goal
+
+-- no client so far is one
+abbrev pub invariant-loop-place : goal.invariant-loop-place
+invariant-loop-place l = NoClient EndsHolding l.script l.place
