@@ -4,9 +4,11 @@ ghost use Rattle.ra_stamp.specs.Member.{IsMember};
 
 use crate::NodeId;
 use std::marker::Model;
+use thiserror::Error;
 
-/// Why a node is no member of a cluster. A caller makes its own error of it, so it has no text.
-#[derive(Clone, Copy, Debug, PartialEq, Eq)]
+/// Why a node is no member of a cluster.
+#[derive(Clone, Copy, Debug, PartialEq, Eq, Error)]
+#[error("{:?}", self)]
 pub enum MemberError {
     /// The number of nodes is not 1 to 64.
     BadCount,
