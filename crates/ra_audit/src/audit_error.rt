@@ -4,6 +4,7 @@ ghost use Rattle.ra_audit.specs.declared.audit_error.AuditError.TheVariants as a
 use ra_cluster::{BookEvent, TakeError};
 use ra_frame::Frame;
 use ra_stamp::{Memory, NodeId};
+use std::fmt;
 use thiserror::Error;
 
 /// The first event found that does not fit the run of the cluster.
@@ -17,7 +18,6 @@ pub struct AuditFault {
 
 /// Why an auditor did not put all that it can into the run.
 #[derive(Clone, Copy, Debug, PartialEq, Eq, Error)]
-#[error("{:?}", self)]
 pub enum AuditError {
     /// An event does not fit, now or in an earlier round.
     Fault(AuditFault),
@@ -27,9 +27,14 @@ pub enum AuditError {
     Memory,
 }
 
+impl fmt::Display for AuditError {
+    fn fmt<W: fmt::Write>(&self, f: &mut fmt::Formatter<W>) -> fmt::Result {
+        fmt::Debug::fmt(self, f)
+    }
+}
+
 /// Why a round of the audit of a cluster did not put all that it can into the run.
 #[derive(Clone, Copy, Debug, PartialEq, Eq, Error)]
-#[error("{:?}", self)]
 pub enum RoundError {
     /// The cluster was not made to be audited.
     NotAudited,
@@ -50,9 +55,14 @@ pub enum RoundError {
     },
 }
 
+impl fmt::Display for RoundError {
+    fn fmt<W: fmt::Write>(&self, f: &mut fmt::Formatter<W>) -> fmt::Result {
+        fmt::Debug::fmt(self, f)
+    }
+}
+
 /// Why the audit of a cluster did not end with all that happened in the run.
 #[derive(Clone, Copy, Debug, PartialEq, Eq, Error)]
-#[error("{:?}", self)]
 pub enum FinishError {
     /// The last round failed.
     Round(RoundError),
@@ -62,15 +72,26 @@ pub enum FinishError {
     LostUnsent(Frame),
 }
 
+impl fmt::Display for FinishError {
+    fn fmt<W: fmt::Write>(&self, f: &mut fmt::Formatter<W>) -> fmt::Result {
+        fmt::Debug::fmt(self, f)
+    }
+}
+
 /// Why not all that the books of a closed cluster say is in the run of an auditor.
 #[derive(Clone, Copy, Debug, PartialEq, Eq, Error)]
-#[error("{:?}", self)]
 pub enum BehindError {
     /// There are more or fewer books than nodes in the run.
     OtherCount,
     /// The last event of this node's book has another clock than the node's last event in the run, or the book at its place is
     /// that of another node.
     Behind(NodeId),
+}
+
+impl fmt::Display for BehindError {
+    fn fmt<W: fmt::Write>(&self, f: &mut fmt::Formatter<W>) -> fmt::Result {
+        fmt::Debug::fmt(self, f)
+    }
 }
 
 impl From<Memory> for AuditError {

@@ -1,11 +1,11 @@
 ghost use Rattle.std.specs.Prelude.{◌≡◌};
 
 use ra_stamp::MemberError;
+use std::fmt;
 use thiserror::Error;
 
 /// Why no automaton was made, and no node that keeps some.
 #[derive(Clone, Copy, Debug, PartialEq, Eq, Error)]
-#[error("{:?}", self)]
 pub enum NewError {
     /// The number of nodes is not 1 to 64.
     BadCount,
@@ -13,6 +13,12 @@ pub enum NewError {
     BadNode,
     /// Memory ran out.
     Memory,
+}
+
+impl fmt::Display for NewError {
+    fn fmt<W: fmt::Write>(&self, f: &mut fmt::Formatter<W>) -> fmt::Result {
+        fmt::Debug::fmt(self, f)
+    }
 }
 
 /// It says the same of a node that is no member.
@@ -31,7 +37,6 @@ impl From<MemberError> for NewError {
 
 /// Why no request was made.
 #[derive(Clone, Copy, Debug, PartialEq, Eq, Error)]
-#[error("{:?}", self)]
 pub enum RequestError {
     /// The node waits or is inside already.
     NotIdle,
@@ -41,9 +46,14 @@ pub enum RequestError {
     Memory,
 }
 
+impl fmt::Display for RequestError {
+    fn fmt<W: fmt::Write>(&self, f: &mut fmt::Formatter<W>) -> fmt::Result {
+        fmt::Debug::fmt(self, f)
+    }
+}
+
 /// Why a message was not taken.
 #[derive(Clone, Copy, Debug, PartialEq, Eq, Error)]
-#[error("{:?}", self)]
 pub enum ReceiveError {
     /// It is for another node.
     WrongNode,
@@ -53,12 +63,23 @@ pub enum ReceiveError {
     Memory,
 }
 
+impl fmt::Display for ReceiveError {
+    fn fmt<W: fmt::Write>(&self, f: &mut fmt::Formatter<W>) -> fmt::Result {
+        fmt::Debug::fmt(self, f)
+    }
+}
+
 /// Why the node did not leave.
 #[derive(Clone, Copy, Debug, PartialEq, Eq, Error)]
-#[error("{:?}", self)]
 pub enum LeaveError {
     /// It is not inside.
     NotHeld,
     /// Memory ran out.
     Memory,
+}
+
+impl fmt::Display for LeaveError {
+    fn fmt<W: fmt::Write>(&self, f: &mut fmt::Formatter<W>) -> fmt::Result {
+        fmt::Debug::fmt(self, f)
+    }
 }

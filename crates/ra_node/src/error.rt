@@ -1,8 +1,8 @@
+use std::fmt;
 use thiserror::Error;
 
 /// Why a client may not ask.
 #[derive(Clone, Copy, Debug, PartialEq, Eq, Error)]
-#[error("{:?}", self)]
 pub enum AskError {
     /// The client waits, is queued or holds on that name at this node.
     Busy,
@@ -12,12 +12,23 @@ pub enum AskError {
     Memory,
 }
 
+impl fmt::Display for AskError {
+    fn fmt<W: fmt::Write>(&self, f: &mut fmt::Formatter<W>) -> fmt::Result {
+        fmt::Debug::fmt(self, f)
+    }
+}
+
 /// Why a client did not leave.
 #[derive(Clone, Copy, Debug, PartialEq, Eq, Error)]
-#[error("{:?}", self)]
 pub enum LeaveError {
     /// The client does not hold the name at this node.
     NotHeld,
     /// Memory ran out.
     Memory,
+}
+
+impl fmt::Display for LeaveError {
+    fn fmt<W: fmt::Write>(&self, f: &mut fmt::Formatter<W>) -> fmt::Result {
+        fmt::Debug::fmt(self, f)
+    }
 }

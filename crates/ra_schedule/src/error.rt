@@ -10,7 +10,6 @@ use thiserror::Error;
 
 /// Why there is no script.
 #[derive(Clone, Copy, Debug, PartialEq, Eq, Error)]
-#[error("{:?}", self)]
 pub enum NewScriptError {
     /// The number of nodes is not 1 to 64.
     Nodes,
@@ -18,14 +17,25 @@ pub enum NewScriptError {
     Memory,
 }
 
+impl fmt::Display for NewScriptError {
+    fn fmt<W: fmt::Write>(&self, f: &mut fmt::Formatter<W>) -> fmt::Result {
+        fmt::Debug::fmt(self, f)
+    }
+}
+
 /// Why a client was not added, in the order in which the causes are looked for.
 #[derive(Clone, Copy, Debug, PartialEq, Eq, Error)]
-#[error("{:?}", self)]
 pub enum AddClientError {
     /// There are 64 clients already, or the node is not 1 to the number of nodes.
     Clients,
     /// Memory ran out.
     Memory,
+}
+
+impl fmt::Display for AddClientError {
+    fn fmt<W: fmt::Write>(&self, f: &mut fmt::Formatter<W>) -> fmt::Result {
+        fmt::Debug::fmt(self, f)
+    }
 }
 
 /// Why an operation was not added, in the order in which the causes are looked for.
@@ -53,7 +63,6 @@ impl fmt::Display for AddOpError {
 
 /// Why a script was not driven to an end, in the order in which the causes are looked for at each turn.
 #[derive(Clone, Copy, Debug, PartialEq, Eq, Error)]
-#[error("{:?}", self)]
 pub enum DriveError {
     /// A choice is left after as many turns as there may be.
     TurnLimit,
@@ -63,6 +72,12 @@ pub enum DriveError {
     NotEnabled,
     /// Memory ran out.
     Memory,
+}
+
+impl fmt::Display for DriveError {
+    fn fmt<W: fmt::Write>(&self, f: &mut fmt::Formatter<W>) -> fmt::Result {
+        fmt::Debug::fmt(self, f)
+    }
 }
 
 impl From<Memory> for DriveError {

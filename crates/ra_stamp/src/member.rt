@@ -3,17 +3,23 @@ ghost use Rattle.ra_stamp.specs.NodeId.{IsNodeNumber};
 ghost use Rattle.ra_stamp.specs.Member.{IsMember};
 
 use crate::NodeId;
+use std::fmt;
 use std::marker::Model;
 use thiserror::Error;
 
 /// Why a node is no member of a cluster.
 #[derive(Clone, Copy, Debug, PartialEq, Eq, Error)]
-#[error("{:?}", self)]
 pub enum MemberError {
     /// The number of nodes is not 1 to 64.
     BadCount,
     /// The node's number is above the number of nodes.
     BadNode,
+}
+
+impl fmt::Display for MemberError {
+    fn fmt<W: fmt::Write>(&self, f: &mut fmt::Formatter<W>) -> fmt::Result {
+        fmt::Debug::fmt(self, f)
+    }
 }
 
 /// A node of a cluster, and how many nodes the cluster has: 1 to 64, and the node is one of them. A caller that has it

@@ -15,7 +15,6 @@ use thiserror::Error;
 
 /// Why bytes are not a name.
 #[derive(Clone, Copy, Debug, PartialEq, Eq, Error)]
-#[error("{:?}", self)]
 pub enum NameError {
     /// There is no byte.
     Empty,
@@ -23,6 +22,12 @@ pub enum NameError {
     TooLong,
     /// A byte is not one of `A` to `Z`, `a` to `z`, `0` to `9`, `_`, `-` and `.`.
     BadByte,
+}
+
+impl fmt::Display for NameError {
+    fn fmt<W: fmt::Write>(&self, f: &mut fmt::Formatter<W>) -> fmt::Result {
+        fmt::Debug::fmt(self, f)
+    }
 }
 
 /// The name of a resource: 1 to 32 of the bytes `A` to `Z`, `a` to `z`, `0` to `9`, `_`, `-` and `.`. Contracts

@@ -6,11 +6,11 @@ ghost use Rattle.ra_world.specs.declared.error.ReadFault.TheVariants as read;
 use ra_node::{AskError, LeaveError};
 use ra_stamp::Memory;
 use std::alloc::{AllocError, AllocFailed};
+use std::fmt;
 use thiserror::Error;
 
 /// Why there is no world.
 #[derive(Clone, Copy, Debug, PartialEq, Eq, Error)]
-#[error("{:?}", self)]
 pub enum NewError {
     /// The number of nodes is not 1 to 64.
     BadCount,
@@ -18,9 +18,14 @@ pub enum NewError {
     Memory,
 }
 
+impl fmt::Display for NewError {
+    fn fmt<W: fmt::Write>(&self, f: &mut fmt::Formatter<W>) -> fmt::Result {
+        fmt::Debug::fmt(self, f)
+    }
+}
+
 /// Why a node refuses what its client wants.
 #[derive(Clone, Copy, Debug, PartialEq, Eq, Error)]
-#[error("{:?}", self)]
 pub enum NodeRefusal {
     /// The client that asks waits, is queued or holds on that name at this node.
     Busy,
@@ -28,6 +33,12 @@ pub enum NodeRefusal {
     Exhausted,
     /// The client that leaves does not hold the name at this node.
     NotHeld,
+}
+
+impl fmt::Display for NodeRefusal {
+    fn fmt<W: fmt::Write>(&self, f: &mut fmt::Formatter<W>) -> fmt::Result {
+        fmt::Debug::fmt(self, f)
+    }
 }
 
 /// Why a step was not made, in the order in which the causes are looked for.
@@ -65,12 +76,17 @@ pub enum RunError {
 
 /// Why an input was not read.
 #[derive(Clone, Copy, Debug, PartialEq, Eq, Error)]
-#[error("{:?}", self)]
 pub enum ReadFault {
     /// The reader failed.
     Read,
     /// Memory ran out.
     Memory,
+}
+
+impl fmt::Display for ReadFault {
+    fn fmt<W: fmt::Write>(&self, f: &mut fmt::Formatter<W>) -> fmt::Result {
+        fmt::Debug::fmt(self, f)
+    }
 }
 
 /// The writer failed, or took nothing.
