@@ -1,95 +1,145 @@
--- What a table answers of an entry, seen from the entries on its name alone.
-use Rattle.std.proofs.Common.{◌≡◌, ℕ, List, Any, Contains, ◌↔◌, Result, Ok, Err, IsOk, IsErrOf, refl, sym, ap, ◌∙◌, subst}
+-- What a lock table answers of an entry that is to be granted, and that the lane of its name answers the same.
+use Rattle.std.proofs.Common.{◌≡◌, ◌≤◌, ℕ, List, Any, Contains, ◌↔◌, Result, Ok, Err, refl, sym, subst, inl, inr}
 use Rattle.std.proofs.lemmas.Bool.{false≢true}
 use Rattle.ra_stamp.specs.declared.entry.Entry.{Entry}
 use Rattle.ra_stamp.specs.Stamp.{IsEarlier}
 use Rattle.ra_table.specs.declared.error.EnterError.{EnterError}
 use Rattle.ra_table.specs.declared.error.EnterError.TheVariants.{NotWaiting, Held, Earlier}
-use Rattle.ra_table.specs.Table.{LockTable, Excludes, MayEnter}
-use Rattle.ra_table.specs.Refusals.{SharesNodeAndName, IsHeld, HasEarlier}
-use Rattle.ra_table.specs.Lanes.{Standing, on_name}
-use Rattle.ra_table.proofs.Allowed.{MayEnter-not_refused, MayEnter-not_held, MayEnter-no_earlier}
+use Rattle.ra_table.specs.declared.error.RequestError.{RequestError}
+use Rattle.ra_table.specs.Table.{LockTable, Excludes, MayRequest, MayEnter}
+use Rattle.ra_table.specs.Refusals.{SharesNodeAndName, IsNodeBusy, IsNotAbove, IsHeld, HasEarlier}
+use Rattle.ra_table.specs.Answers.{RequestTells, EnterTells, IsAnswered}
+use Rattle.ra_table.specs.Lanes.{on_name}
+use Rattle.ra_table.proofs.Allowed.{MayRequest-not_refused, MayRequest-not_busy, MayRequest-not_overtaken, MayEnter-not_refused, MayEnter-not_held, MayEnter-no_earlier}
 use Rattle.ra_table.proofs.Joined.{Any-on, Contains-on}
 
--- what an answer says of an entry that is to be granted
-pub record IsAnswered (table : LockTable) (e : Entry) (answer : Result ℕ EnterError) : Type 0 where
-  pub allowed : IsOk answer ↔ MayEnter table e
-  pub not_waiting : IsErrOf answer NotWaiting ↔ (Contains table.waiting e → ⊥)
-  pub held : IsErrOf answer Held ↔ (Contains table.waiting e × IsHeld table e)
-  pub earlier : IsErrOf answer Earlier ↔ (Contains table.waiting e × (IsHeld table e → ⊥) × HasEarlier table e)
+-- ---- What the check of a grant answers
 
--- of all entries those on the name of this one are in a list
-module _ (some standing all : List Entry) (e : Entry) (on : some ≡ on_name e.name standing) (is : standing ≡ all) where
-  among : some ≡ on_name e.name all
-  among = on ∙ ap (on_name e.name) is
+pub answers_not_waiting : (table : LockTable) (e : Entry) → (Contains table.waiting e → ⊥) → IsAnswered table e (Err NotWaiting)
+answers_not_waiting table e none =
+    record {
+      allowed = (λ ok. absurd (false≢true ok), λ may. absurd (none may.waits));
+      not_waiting = (λ _. none, λ _. refl);
+      held = (λ err. absurd cc, λ h. absurd (none h.0));
+      earlier = (λ err. absurd cc, λ h. absurd (none h.0));
+      no_memory = λ err. cc;
+    }
 
-  pub Contains-among : Contains some e ↔ Contains all e
-  Contains-among = subst (λ (l : List Entry). Contains l e ↔ Contains all e) (sym among) (Contains-on all e)
+pub answers_held : (table : LockTable) (e : Entry) → Contains table.waiting e → IsHeld table e → IsAnswered table e (Err Held)
+answers_held table e there held =
+    record {
+      allowed = (λ ok. absurd (false≢true ok), λ may. absurd (MayEnter-not_held table e may held));
+      not_waiting = (λ err. absurd cc, λ none. absurd (none there));
+      held = (λ _. (there, held), λ _. refl);
+      earlier = (λ err. absurd cc, λ h. absurd (h.1 held));
+      no_memory = λ err. cc;
+    }
 
-  pub Any-among : (P : Entry → Type 0) → ((x : Entry) → P x → x.name ≡ e.name) → Any P some ↔ Any P all
-  Any-among P named = subst (λ (l : List Entry). Any P l ↔ Any P all) (sym among) (Any-on P e.name all named)
+pub answers_earlier : (table : LockTable) (e : Entry) → Contains table.waiting e → (IsHeld table e → ⊥) → HasEarlier table e → IsAnswered table e (Err Earlier)
+answers_earlier table e there free earlier =
+    record {
+      allowed = (λ ok. absurd (false≢true ok), λ may. absurd (MayEnter-no_earlier table e may earlier));
+      not_waiting = (λ err. absurd cc, λ absent. absurd (absent there));
+      held = (λ err. absurd cc, λ h. absurd (free h.1));
+      earlier = (λ _. (there, free, earlier), λ _. refl);
+      no_memory = λ err. cc;
+    }
 
-  pub shares-among : Any (λ x. SharesNodeAndName x e) some ↔ Any (λ x. SharesNodeAndName x e) all
-  shares-among = Any-among (λ x. SharesNodeAndName x e) (λ x s. s.0)
+pub answers_ok : (table : LockTable) (e : Entry) (place : ℕ) → Contains table.waiting e → (IsHeld table e → ⊥) → (HasEarlier table e → ⊥) → IsAnswered table e (Ok place)
+answers_ok table e place there free next =
+    record {
+      allowed = (λ _. MayEnter-not_refused table e there free next, λ _. refl);
+      not_waiting = (λ err. absurd cc, λ absent. absurd (absent there));
+      held = (λ err. absurd cc, λ h. absurd (free h.1));
+      earlier = (λ err. absurd cc, λ h. absurd (next h.2));
+      no_memory = λ err. cc;
+    }
 
-  pub excludes-among : Any (λ x. Excludes x e) some ↔ Any (λ x. Excludes x e) all
-  excludes-among = Any-among (λ x. Excludes x e) (λ x s. s.0)
+-- ---- What the lane of a name answers
 
-  pub earlier-among : Any (λ x. Excludes x e × IsEarlier x.stamp e.stamp) some ↔ Any (λ x. Excludes x e × IsEarlier x.stamp e.stamp) all
-  earlier-among = Any-among (λ x. Excludes x e × IsEarlier x.stamp e.stamp) (λ x s. s.0.0)
+-- the lane has the entries of the table that are on this name
+pub record Shows (name : List ℕ) (lane table : LockTable) : Type 0 where
+  pub waiting : lane.waiting ≡ on_name name table.waiting
+  pub holding : lane.holding ≡ on_name name table.holding
+  pub granted : lane.granted ≡ on_name name table.granted
 
-module _ (waiting holding : List Entry) (lanes : Standing) (table : LockTable) (e : Entry) (on_waiting : waiting ≡ on_name e.name lanes.waiting) (on_holding : holding ≡ on_name e.name lanes.holding) (waiting_is : lanes.waiting ≡ table.waiting)
-    (holding_is : lanes.holding ≡ table.holding) where
-  pub waits : Contains waiting e ↔ Contains table.waiting e
-  waits = Contains-among waiting lanes.waiting table.waiting e on_waiting waiting_is
+over : {A B C : Type 0} → A ↔ B → B ↔ C → A ↔ C
+over first second = (λ a. second.0 (first.0 a), λ c. first.1 (second.1 c))
 
-  pub is_held : Any (λ x. Excludes x e) holding ↔ IsHeld table e
-  is_held = excludes-among holding lanes.holding table.holding e on_holding holding_is
+Any-among : (some all : List Entry) (e : Entry) → some ≡ on_name e.name all → (P : Entry → Type 0) → ((x : Entry) → P x → x.name ≡ e.name) → Any P some ↔ Any P all
+Any-among some all e on P named = subst (λ (l : List Entry). Any P l ↔ Any P all) (sym on) (Any-on P e.name all named)
 
-  pub has_earlier : Any (λ x. Excludes x e × IsEarlier x.stamp e.stamp) waiting ↔ HasEarlier table e
-  has_earlier = earlier-among waiting lanes.waiting table.waiting e on_waiting waiting_is
+Contains-among : (some all : List Entry) (e : Entry) → some ≡ on_name e.name all → Contains some e ↔ Contains all e
+Contains-among some all e on = subst (λ (l : List Entry). Contains l e ↔ Contains all e) (sym on) (Contains-on all e)
 
-  pub answers_not_waiting : (Contains waiting e → ⊥) → IsAnswered table e (Err NotWaiting)
-  answers_not_waiting absent =
-      let none : Contains table.waiting e → ⊥ = λ at. absent (waits.1 at) in
-      record {
-        allowed = (λ ok. absurd (false≢true ok), λ may. absurd (none may.waits));
-        not_waiting = (λ _. none, λ _. refl);
-        held = (λ err. absurd cc, λ h. absurd (none h.0));
-        earlier = (λ err. absurd cc, λ h. absurd (none h.0));
-      }
+module _ (lane table : LockTable) (e : Entry) (shows : Shows e.name lane table) where
+  waits : Contains lane.waiting e ↔ Contains table.waiting e
+  waits = Contains-among lane.waiting table.waiting e shows.waiting
 
-  pub answers_held : Contains waiting e → Any (λ x. Excludes x e) holding → IsAnswered table e (Err Held)
-  answers_held at some =
-      let there = waits.0 at in
-      let held = is_held.0 some in
-      record {
-        allowed = (λ ok. absurd (false≢true ok), λ may. absurd (MayEnter-not_held table e may held));
-        not_waiting = (λ err. absurd cc, λ none. absurd (none there));
-        held = (λ _. (there, held), λ _. refl);
-        earlier = (λ err. absurd cc, λ h. absurd (h.1 held));
-      }
+  pub lane_holds : Contains lane.holding e ↔ Contains table.holding e
+  lane_holds = Contains-among lane.holding table.holding e shows.holding
 
-  pub answers_earlier : Contains waiting e → (Any (λ x. Excludes x e) holding → ⊥) → Any (λ x. Excludes x e × IsEarlier x.stamp e.stamp) waiting → IsAnswered table e (Err Earlier)
-  answers_earlier at none some =
-      let there = waits.0 at in
-      let free : IsHeld table e → ⊥ = λ held. none (is_held.1 held) in
-      let earlier = has_earlier.0 some in
-      record {
-        allowed = (λ ok. absurd (false≢true ok), λ may. absurd (MayEnter-no_earlier table e may earlier));
-        not_waiting = (λ err. absurd cc, λ absent. absurd (absent there));
-        held = (λ err. absurd cc, λ h. absurd (free h.1));
-        earlier = (λ _. (there, free, earlier), λ _. refl);
-      }
+  is_busy : IsNodeBusy lane e ↔ IsNodeBusy table e
+  is_busy =
+      let waiting = Any-among lane.waiting table.waiting e shows.waiting (λ x. SharesNodeAndName x e) (λ x s. s.0) in
+      let holding = Any-among lane.holding table.holding e shows.holding (λ x. SharesNodeAndName x e) (λ x s. s.0) in (
+        λ busy. elim busy [
+          | inl w ↦ inl (waiting.0 w)
+          | inr h ↦ inr (holding.0 h)
+        ],
+        λ busy. elim busy [
+          | inl w ↦ inl (waiting.1 w)
+          | inr h ↦ inr (holding.1 h)
+        ],
+      )
 
-  pub answers_ok : (place : ℕ) → Contains waiting e → (Any (λ x. Excludes x e) holding → ⊥) → (Any (λ x. Excludes x e × IsEarlier x.stamp e.stamp) waiting → ⊥) → IsAnswered table e (Ok place)
-  answers_ok place at none first =
-      let there = waits.0 at in
-      let free : IsHeld table e → ⊥ = λ held. none (is_held.1 held) in
-      let next : HasEarlier table e → ⊥ = λ earlier. first (has_earlier.1 earlier) in
-      record {
-        allowed = (λ _. MayEnter-not_refused table e there free next, λ _. refl);
-        not_waiting = (λ err. absurd cc, λ absent. absurd (absent there));
-        held = (λ err. absurd cc, λ h. absurd (free h.1));
-        earlier = (λ err. absurd cc, λ h. absurd (next h.2));
-      }
+  is_not_above : IsNotAbove lane e ↔ IsNotAbove table e
+  is_not_above = Any-among lane.granted table.granted e shows.granted (λ x. (x.name ≡ e.name) × (e.stamp.seq ≤ x.stamp.seq)) (λ x s. s.0)
+
+  is_held : IsHeld lane e ↔ IsHeld table e
+  is_held = Any-among lane.holding table.holding e shows.holding (λ x. Excludes x e) (λ x s. s.0)
+
+  has_earlier : HasEarlier lane e ↔ HasEarlier table e
+  has_earlier = Any-among lane.waiting table.waiting e shows.waiting (λ x. Excludes x e × IsEarlier x.stamp e.stamp) (λ x s. s.0.0)
+
+  pub may_request : MayRequest lane e ↔ MayRequest table e
+  may_request = (
+    λ may. MayRequest-not_refused table e (λ busy. MayRequest-not_busy lane e may (is_busy.1 busy)) (λ above. MayRequest-not_overtaken lane e may (is_not_above.1 above)),
+    λ may. MayRequest-not_refused lane e (λ busy. MayRequest-not_busy table e may (is_busy.0 busy)) (λ above. MayRequest-not_overtaken table e may (is_not_above.0 above)),
+  )
+
+  pub may_enter : MayEnter lane e ↔ MayEnter table e
+  may_enter = (
+    λ may. MayEnter-not_refused table e (waits.0 may.waits) (λ held. MayEnter-not_held lane e may (is_held.1 held)) (λ earlier. MayEnter-no_earlier lane e may (has_earlier.1 earlier)),
+    λ may. MayEnter-not_refused lane e (waits.1 may.waits) (λ held. MayEnter-not_held table e may (is_held.0 held)) (λ earlier. MayEnter-no_earlier table e may (has_earlier.0 earlier)),
+  )
+
+  refused_above : ((IsNodeBusy lane e → ⊥) × IsNotAbove lane e) ↔ ((IsNodeBusy table e → ⊥) × IsNotAbove table e)
+  refused_above = (λ h. (λ busy. h.0 (is_busy.1 busy), is_not_above.0 h.1), λ h. (λ busy. h.0 (is_busy.0 busy), is_not_above.1 h.1))
+
+  pub request_tells : (result : Result (Unit {0}) RequestError) → RequestTells result lane e → RequestTells result table e
+  request_tells result told = record {
+    node_busy = over told.node_busy is_busy;
+    not_above = over told.not_above refused_above;
+    allowed = over told.allowed may_request;
+  }
+
+  not_there : (Contains lane.waiting e → ⊥) ↔ (Contains table.waiting e → ⊥)
+  not_there = (λ none at. none (waits.1 at), λ none at. none (waits.0 at))
+
+  refused_held : (Contains lane.waiting e × IsHeld lane e) ↔ (Contains table.waiting e × IsHeld table e)
+  refused_held = (λ h. (waits.0 h.0, is_held.0 h.1), λ h. (waits.1 h.0, is_held.1 h.1))
+
+  refused_earlier : (Contains lane.waiting e × (IsHeld lane e → ⊥) × HasEarlier lane e) ↔ (Contains table.waiting e × (IsHeld table e → ⊥) × HasEarlier table e)
+  refused_earlier = (
+    λ h. (waits.0 h.0, (λ held. h.1 (is_held.1 held)), has_earlier.0 h.2),
+    λ h. (waits.1 h.0, (λ held. h.1 (is_held.0 held)), has_earlier.1 h.2),
+  )
+
+  pub enter_tells : (result : Result (Unit {0}) EnterError) → EnterTells result lane e → EnterTells result table e
+  enter_tells result told = record {
+    not_waiting = over told.not_waiting not_there;
+    held = over told.held refused_held;
+    earlier = over told.earlier refused_earlier;
+    allowed = over told.allowed may_enter;
+  }

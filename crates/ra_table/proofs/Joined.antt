@@ -11,15 +11,11 @@ use Rattle.std.proofs.lemmas.Option.{same_Some, none-some}
 use Rattle.std.proofs.lemmas.Slice.Eq.{bytes_eq-Decides}
 use Rattle.ra_stamp.specs.declared.entry.Entry.{Entry}
 use Rattle.ra_table.specs.Table.{Gains, Loses}
-use Rattle.ra_table.specs.Lanes.{on_name, joined, AreOnTheirNames}
+use Rattle.ra_table.specs.Lanes.{AreOn, on_name, joined, AreOnTheirNames}
 use Rattle.ra_table.proofs.Apart.{All-put, All-taken, Contains-tail, Contains-cons_cases}
 use Rattle.ra_table.proofs.Numbers.{Any-tail, Any-cases}
 
 -- ---- The entries on one name
-
--- each of these entries is on this name
-abbrev pub AreOn : List ℕ → List Entry → Type 0
-AreOn name es = All (λ x. x.name ≡ name) es
 
 same_name : (a b : List ℕ) → a ≡ b → bytes_eq a b ≡ true
 same_name a b same = (bytes_eq-Decides a b).1 same

@@ -1,152 +1,195 @@
--- Who waits and holds in the lanes that a table keeps, and what becomes of it if one lane changes or comes.
-use Rattle.std.proofs.Common.{◌≡◌, ◌<◌, ℕ, List, [], ◌∷◌, ◌++◌, length, Option, Some, None, Result, Ok, Err, IsSome, OnOk, OnErr, MutBor, refl, sym, ap, ◌∙◌, subst, arith}
-use Rattle.std.specs.Option.{option_copied_mut}
+-- What becomes of the table if the lane of a name changes or comes.
+use Rattle.std.proofs.Common.{◌≡◌, ℕ, List, [], ◌∷◌, ◌++◌, Some, None, Contains, Result, Ok, Err, OnOk, OnErr, refl, sym, ap, ◌∙◌, subst}
 use Rattle.std.specs.Str.{bytes_eq}
 use Rattle.std.specs.Map.{lookup}
 use Rattle.std.proofs.lemmas.List.{append-nil}
 use Rattle.std.proofs.lemmas.List.Elements.{All-nil, All-push}
 use Rattle.indexmap.specs.IndexMap.{IndexMap, IsUnique, WritesThrough}
 use Rattle.ra_stamp.specs.declared.entry.Entry.{Entry}
-use Rattle.ra_table.specs.declared.lanes.NameEntries.{NameEntries}
-use Rattle.ra_table.specs.Table.{Gains, Loses}
-use Rattle.ra_table.specs.Lanes.{Standing, on_name, joined, AreOnTheirNames, waiting_of, holding_of, standing_in, IsSorted}
-use Rattle.ra_table.proofs.Moves.{Gains-push}
-use Rattle.ra_table.proofs.Joined.{AreOn, All-gains, found, missing, lane_is_on, lane_gains, lane_loses, lane_stays, stay_on, joined_more, more_on}
+use Rattle.ra_stamp.specs.declared.entry.Mark.{Mark}
+use Rattle.ra_stamp.specs.declared.entry.Mark.TheVariants.{Requested, Entered, Left}
+use Rattle.ra_table.specs.Table.{LockTable, empty_table, Gains, Loses, MayRequest, MayEnter, TableStep}
+use Rattle.ra_table.specs.Laws.{IsConflictFree}
+use Rattle.ra_table.specs.Lanes.{AreOn, first_request, on_name, joined, AreOnTheirNames, waiting_of, holding_of, granted_of, table_of, IsKept}
+use Rattle.ra_table.proofs.Moves.{of_parts, Gains-push}
+use Rattle.ra_table.proofs.Conflicts.{stays_conflict_free}
+use Rattle.ra_table.proofs.Checked.{Shows, lane_holds, may_request, may_enter}
+use Rattle.ra_table.proofs.Joined.{All-gains, All-loses, found, missing, lane_is_on, lane_gains, lane_loses, lane_stays, stay_on, joined_more, more_on}
 
--- what holds anyway holds after an error
-pub on_err : {X E : Type 0} (r : Result X E) (P : Type 0) → P → OnErr r P
-on_err (Ok x) P p = tt
-on_err (Err e) P p = p
+pub empty_may : (e : Entry) → MayRequest empty_table e
+empty_may e = record {
+  not_waiting = All-nil (λ (x : Entry). x.name ≡ e.name → x.stamp.node ≡ e.stamp.node → ⊥);
+  not_holding = All-nil (λ (x : Entry). x.name ≡ e.name → x.stamp.node ≡ e.stamp.node → ⊥);
+  above = All-nil _;
+}
 
-module _ {S : Type 0} (lanes : IndexMap (List ℕ) NameEntries S) (now : Standing) (is : standing_in lanes.entries ≡ now) (sorted : IsSorted lanes.entries) (name : List ℕ) where
+module _ {S : Type 0} (lanes : IndexMap (List ℕ) LockTable S) (now : LockTable) (is : table_of lanes.entries ≡ now) (kept : IsKept lanes.entries) (e : Entry) where
   -- ---- Looking a name up
 
-  pub waiting_found : (lane : NameEntries) → Some lane ≡ lookup (bytes_eq name) lanes.entries → lane.waiting.items ≡ on_name name now.waiting
-  waiting_found lane at = found waiting_of name lanes.entries lane sorted.distinct sorted.waiting at ∙ ap (λ (s : Standing). on_name name s.waiting) is
+  pub shown : (lane : LockTable) → Some lane ≡ lookup (bytes_eq e.name) lanes.entries → Shows e.name lane now
+  shown lane at = record {
+    waiting = found waiting_of e.name lanes.entries lane kept.distinct kept.waiting at ∙ ap (λ (t : LockTable). on_name e.name t.waiting) is;
+    holding = found holding_of e.name lanes.entries lane kept.distinct kept.holding at ∙ ap (λ (t : LockTable). on_name e.name t.holding) is;
+    granted = found granted_of e.name lanes.entries lane kept.distinct kept.granted at ∙ ap (λ (t : LockTable). on_name e.name t.granted) is;
+  }
 
-  pub holding_found : (lane : NameEntries) → Some lane ≡ lookup (bytes_eq name) lanes.entries → lane.holding.items ≡ on_name name now.holding
-  holding_found lane at = found holding_of name lanes.entries lane sorted.distinct sorted.holding at ∙ ap (λ (s : Standing). on_name name s.holding) is
+  -- a name that has no lane is as one whose lane is empty
+  pub none_shown : None ≡ lookup (bytes_eq e.name) lanes.entries → Shows e.name empty_table now
+  none_shown none = record {
+    waiting = missing waiting_of e.name lanes.entries kept.waiting none ∙ ap (λ (t : LockTable). on_name e.name t.waiting) is;
+    holding = missing holding_of e.name lanes.entries kept.holding none ∙ ap (λ (t : LockTable). on_name e.name t.holding) is;
+    granted = missing granted_of e.name lanes.entries kept.granted none ∙ ap (λ (t : LockTable). on_name e.name t.granted) is;
+  }
 
-  pub nobody_waits : None ≡ lookup (bytes_eq name) lanes.entries → [] ≡ on_name name now.waiting
-  nobody_waits none = missing waiting_of name lanes.entries sorted.waiting none ∙ ap (λ (s : Standing). on_name name s.waiting) is
+  pub granted_on : (lane : LockTable) → Some lane ≡ lookup (bytes_eq e.name) lanes.entries → AreOn e.name lane.granted
+  granted_on lane at = lane_is_on granted_of e.name lanes.entries lane kept.granted at
 
-  pub nobody_holds : None ≡ lookup (bytes_eq name) lanes.entries → [] ≡ on_name name now.holding
-  nobody_holds none = missing holding_of name lanes.entries sorted.holding none ∙ ap (λ (s : Standing). on_name name s.holding) is
+  pub is_free : IsConflictFree now.holding
+  is_free = subst (λ (t : LockTable). IsConflictFree t.holding) is kept.conflict_free
 
-  -- if an entry waits or holds on the name, there is a lane
-  pub lane_of_waiting : (place : ℕ) (shown : Option (MutBor NameEntries)) → option_copied_mut shown ≡ lookup (bytes_eq name) lanes.entries → place < length (on_name name now.waiting) → IsSome shown
-  lane_of_waiting place None none lt = absurd (omega (arith, lt, ap length (nobody_waits none)))
-  lane_of_waiting place (Some lane) at lt = refl
+  -- what is so after a mark of the entry was tried, whether it was refused or not
+  pub record IsTried {E : Type 0} (mark : Mark) (lanes' : IndexMap (List ℕ) LockTable S) (result : Result (Unit {0}) E) : Type 0 where
+    pub still_kept : IsKept lanes'.entries
+    pub ok : OnOk result (TableStep now mark (table_of lanes'.entries))
+    pub err : OnErr result (table_of lanes'.entries ≡ now)
 
-  pub lane_of_holding : (place : ℕ) (shown : Option (MutBor NameEntries)) → option_copied_mut shown ≡ lookup (bytes_eq name) lanes.entries → place < length (on_name name now.holding) → IsSome shown
-  lane_of_holding place None none lt = absurd (omega (arith, lt, ap length (nobody_holds none)))
-  lane_of_holding place (Some lane) at lt = refl
+  -- what a step of the table has left
+  record IsMade (mark : Mark) (lanes' : IndexMap (List ℕ) LockTable S) : Type 0 where
+    step : TableStep now mark (table_of lanes'.entries)
+    kept_after : IsConflictFree (joined holding_of lanes'.entries) → IsKept lanes'.entries
 
-  -- what is so after an entry is to wait, whether there was memory for it or not
-  pub record IsAfterWait {E : Type 0} (lanes' : IndexMap (List ℕ) NameEntries S) (e : Entry) (result : Result (Unit {0}) E) : Type 0 where
-    pub still_sorted : IsSorted lanes'.entries
-    pub waiting : OnOk result (Gains now.waiting e (joined waiting_of lanes'.entries))
-    pub holding : joined holding_of lanes'.entries ≡ now.holding
-    pub err : OnErr result (standing_in lanes'.entries ≡ now)
+  made_tried : {E : Type 0} (mark : Mark) (lanes' : IndexMap (List ℕ) LockTable S) (u : Unit {0}) → IsMade mark lanes' → IsTried {E = E} mark lanes' (Ok u)
+  made_tried mark lanes' u made = record {
+    still_kept = made.kept_after (stays_conflict_free now (table_of lanes'.entries) mark made.step is_free);
+    ok = made.step;
+    err = tt;
+  }
 
   -- ---- The lane of the name changes
 
-  module _ (lanes' : IndexMap (List ℕ) NameEntries S) (old new : NameEntries) (at : Some old ≡ lookup (bytes_eq name) lanes.entries) (written : WritesThrough bytes_eq (bytes_eq name) lanes new lanes') where
-    pub on_waiting : AreOn name old.waiting.items
-    on_waiting = lane_is_on waiting_of name lanes.entries old sorted.waiting at
+  module _ (lanes' : IndexMap (List ℕ) LockTable S) (old new : LockTable) (at : Some old ≡ lookup (bytes_eq e.name) lanes.entries) (written : WritesThrough bytes_eq (bytes_eq e.name) lanes new lanes') where
+    shows : Shows e.name old now
+    shows = shown old at
 
-    pub on_holding : AreOn name old.holding.items
-    on_holding = lane_is_on holding_of name lanes.entries old sorted.holding at
+    gains : (part : LockTable → List Entry) → Gains (part old) e (part new) → Gains (joined part lanes.entries) e (joined part lanes'.entries)
+    gains part one = subst (λ (es : List (List ℕ × LockTable)). Gains (joined part lanes.entries) e (joined part es)) (sym written.0) (lane_gains part e.name lanes.entries old new e at one)
 
-    pub sorted_after : AreOn name new.waiting.items → AreOn name new.holding.items → IsSorted lanes'.entries
-    sorted_after waiting holding = record {
-      distinct = written.4;
-      waiting = subst (AreOnTheirNames waiting_of) (sym written.0) (stay_on waiting_of name lanes.entries new sorted.waiting waiting);
-      holding = subst (AreOnTheirNames holding_of) (sym written.0) (stay_on holding_of name lanes.entries new sorted.holding holding);
+    loses : (part : LockTable → List Entry) → Loses (part old) e (part new) → Loses (joined part lanes.entries) e (joined part lanes'.entries)
+    loses part one = subst (λ (es : List (List ℕ × LockTable)). Loses (joined part lanes.entries) e (joined part es)) (sym written.0) (lane_loses part e.name lanes.entries old new e at one)
+
+    stays : (part : LockTable → List Entry) → part new ≡ part old → joined part lanes'.entries ≡ joined part lanes.entries
+    stays part same = ap (joined part) written.0 ∙ lane_stays part e.name lanes.entries old new at same
+
+    on_after : (part : LockTable → List Entry) → AreOnTheirNames part lanes.entries → AreOn e.name (part new) → AreOnTheirNames part lanes'.entries
+    on_after part on here = subst (AreOnTheirNames part) (sym written.0) (stay_on part e.name lanes.entries new on here)
+
+    on_old : (part : LockTable → List Entry) → AreOnTheirNames part lanes.entries → AreOn e.name (part old)
+    on_old part on = lane_is_on part e.name lanes.entries old on at
+
+    gains_on : (part : LockTable → List Entry) → AreOnTheirNames part lanes.entries → Gains (part old) e (part new) → AreOnTheirNames part lanes'.entries
+    gains_on part on one = on_after part on (All-gains (λ (x : Entry). x.name ≡ e.name) (part old) (part new) e one (on_old part on) refl)
+
+    loses_on : (part : LockTable → List Entry) → AreOnTheirNames part lanes.entries → Loses (part old) e (part new) → AreOnTheirNames part lanes'.entries
+    loses_on part on one = on_after part on (All-loses (λ (x : Entry). x.name ≡ e.name) (part old) (part new) e one (on_old part on))
+
+    stays_on : (part : LockTable → List Entry) → AreOnTheirNames part lanes.entries → part new ≡ part old → AreOnTheirNames part lanes'.entries
+    stays_on part on same = on_after part on (subst (AreOn e.name) (sym same) (on_old part on))
+
+    is_now : (mark : Mark) → TableStep (table_of lanes.entries) mark (table_of lanes'.entries) → TableStep now mark (table_of lanes'.entries)
+    is_now mark step = subst (λ (t : LockTable). TableStep t mark (table_of lanes'.entries)) is step
+
+    requested : TableStep old (Requested e) new → IsMade (Requested e) lanes'
+    requested step = record {
+      step = is_now (Requested e) (subst (λ (t : LockTable). MayRequest t e) (sym is) ((may_request old now e shows).0 step.0), gains waiting_of step.1, stays holding_of step.2, stays granted_of step.3);
+      kept_after = λ free. record {
+        distinct = written.4;
+        waiting = gains_on waiting_of kept.waiting step.1;
+        holding = stays_on holding_of kept.holding step.2;
+        granted = stays_on granted_of kept.granted step.3;
+        conflict_free = free;
+      };
     }
 
-    pub waiting_gains : (e : Entry) → Gains old.waiting.items e new.waiting.items → Gains now.waiting e (joined waiting_of lanes'.entries)
-    waiting_gains e gains =
-        subst (λ (l : List Entry). Gains l e (joined waiting_of lanes'.entries)) (ap (λ (s : Standing). s.waiting) is)
-        (subst (λ (es : List (List ℕ × NameEntries)). Gains (joined waiting_of lanes.entries) e (joined waiting_of es)) (sym written.0) (lane_gains waiting_of name lanes.entries old new e at gains))
+    entered : TableStep old (Entered e) new → IsMade (Entered e) lanes'
+    entered step = record {
+      step = is_now (Entered e) (subst (λ (t : LockTable). MayEnter t e) (sym is) ((may_enter old now e shows).0 step.0), loses waiting_of step.1, gains holding_of step.2, gains granted_of step.3);
+      kept_after = λ free. record {
+        distinct = written.4;
+        waiting = loses_on waiting_of kept.waiting step.1;
+        holding = gains_on holding_of kept.holding step.2;
+        granted = gains_on granted_of kept.granted step.3;
+        conflict_free = free;
+      };
+    }
 
-    pub holding_gains : (e : Entry) → Gains old.holding.items e new.holding.items → Gains now.holding e (joined holding_of lanes'.entries)
-    holding_gains e gains =
-        subst (λ (l : List Entry). Gains l e (joined holding_of lanes'.entries)) (ap (λ (s : Standing). s.holding) is)
-        (subst (λ (es : List (List ℕ × NameEntries)). Gains (joined holding_of lanes.entries) e (joined holding_of es)) (sym written.0) (lane_gains holding_of name lanes.entries old new e at gains))
+    left : TableStep old (Left e) new → IsMade (Left e) lanes'
+    left step = record {
+      step = is_now (Left e) (subst (λ (t : LockTable). Contains t.holding e) (sym is) ((lane_holds old now e shows).0 step.0), stays waiting_of step.1, loses holding_of step.2, stays granted_of step.3);
+      kept_after = λ free. record {
+        distinct = written.4;
+        waiting = stays_on waiting_of kept.waiting step.1;
+        holding = loses_on holding_of kept.holding step.2;
+        granted = stays_on granted_of kept.granted step.3;
+        conflict_free = free;
+      };
+    }
 
-    pub waiting_loses : (e : Entry) → Loses old.waiting.items e new.waiting.items → Loses now.waiting e (joined waiting_of lanes'.entries)
-    waiting_loses e loses =
-        subst (λ (l : List Entry). Loses l e (joined waiting_of lanes'.entries)) (ap (λ (s : Standing). s.waiting) is)
-        (subst (λ (es : List (List ℕ × NameEntries)). Loses (joined waiting_of lanes.entries) e (joined waiting_of es)) (sym written.0) (lane_loses waiting_of name lanes.entries old new e at loses))
-
-    pub holding_loses : (e : Entry) → Loses old.holding.items e new.holding.items → Loses now.holding e (joined holding_of lanes'.entries)
-    holding_loses e loses =
-        subst (λ (l : List Entry). Loses l e (joined holding_of lanes'.entries)) (ap (λ (s : Standing). s.holding) is)
-        (subst (λ (es : List (List ℕ × NameEntries)). Loses (joined holding_of lanes.entries) e (joined holding_of es)) (sym written.0) (lane_loses holding_of name lanes.entries old new e at loses))
-
-    pub waiting_stays : new.waiting.items ≡ old.waiting.items → joined waiting_of lanes'.entries ≡ now.waiting
-    waiting_stays same = ap (joined waiting_of) written.0 ∙ lane_stays waiting_of name lanes.entries old new at same ∙ ap (λ (s : Standing). s.waiting) is
-
-    pub holding_stays : new.holding.items ≡ old.holding.items → joined holding_of lanes'.entries ≡ now.holding
-    holding_stays same = ap (joined holding_of) written.0 ∙ lane_stays holding_of name lanes.entries old new at same ∙ ap (λ (s : Standing). s.holding) is
-
-    pub all_stay : new.waiting.items ≡ old.waiting.items → new.holding.items ≡ old.holding.items → standing_in lanes'.entries ≡ now
-    all_stay waiting holding = λ i. record { waiting = waiting_stays waiting i; holding = holding_stays holding i }
-
-    pub waited : {E : Type 0} (e : Entry) (result : Result (Unit {0}) E) → e.name ≡ name → new.holding.items ≡ old.holding.items → OnOk result (new.waiting.items ≡ old.waiting.items ++ e ∷ [])
-        → OnErr result (new.waiting.items ≡ old.waiting.items) → IsAfterWait lanes' e result
-    waited e (Ok u) name_is holding ok err =
-        let gains : Gains old.waiting.items e new.waiting.items = subst (Gains old.waiting.items e) (sym ok) (Gains-push old.waiting.items e) in
+    refused : {E : Type 0} (mark : Mark) (fault : E) → new ≡ old → IsTried mark lanes' (Err fault)
+    refused mark fault same =
+        let part_stays = λ (part : LockTable → List Entry). ap part same in
         record {
-          still_sorted = sorted_after (All-gains (λ (x : Entry). x.name ≡ name) old.waiting.items new.waiting.items e gains on_waiting name_is) (subst (AreOn name) (sym holding) on_holding);
-          waiting = waiting_gains e gains;
-          holding = holding_stays holding;
-          err = tt;
+          still_kept = record {
+            distinct = written.4;
+            waiting = stays_on waiting_of kept.waiting (part_stays waiting_of);
+            holding = stays_on holding_of kept.holding (part_stays holding_of);
+            granted = stays_on granted_of kept.granted (part_stays granted_of);
+            conflict_free = subst IsConflictFree (sym (stays holding_of (part_stays holding_of))) kept.conflict_free;
+          };
+          ok = tt;
+          err = (λ i. of_parts (stays waiting_of (part_stays waiting_of) i) (stays holding_of (part_stays holding_of) i) (stays granted_of (part_stays granted_of) i)) ∙ is;
         }
-    waited e (Err fault) name_is holding ok err =
-        record {
-          still_sorted = sorted_after (subst (AreOn name) (sym err) on_waiting) (subst (AreOn name) (sym holding) on_holding);
-          waiting = tt;
-          holding = holding_stays holding;
-          err = all_stay err holding;
-        }
+
+    tried : {E : Type 0} (mark : Mark) → (TableStep old mark new → IsMade mark lanes') → (result : Result (Unit {0}) E) → OnOk result (TableStep old mark new) → OnErr result (new ≡ old) → IsTried mark lanes' result
+    tried mark makes (Ok u) ok err = made_tried mark lanes' u (makes ok)
+    tried mark makes (Err fault) ok err = refused mark fault err
+
+    pub request_tried : {E : Type 0} (result : Result (Unit {0}) E) → OnOk result (TableStep old (Requested e) new) → OnErr result (new ≡ old) → IsTried (Requested e) lanes' result
+    request_tried = tried (Requested e) requested
+
+    pub enter_tried : {E : Type 0} (result : Result (Unit {0}) E) → OnOk result (TableStep old (Entered e) new) → OnErr result (new ≡ old) → IsTried (Entered e) lanes' result
+    enter_tried = tried (Entered e) entered
+
+    pub leave_tried : {E : Type 0} (result : Result (Unit {0}) E) → OnOk result (TableStep old (Left e) new) → OnErr result (new ≡ old) → IsTried (Left e) lanes' result
+    leave_tried = tried (Left e) left
 
   -- ---- The name has its first lane
 
-  module _ (lanes' : IndexMap (List ℕ) NameEntries S) (new : NameEntries) (e : Entry) (name_is : e.name ≡ name) (waits : new.waiting.items ≡ e ∷ []) (none : new.holding.items ≡ []) (more : lanes'.entries ≡ lanes.entries ++ (name, new) ∷ []) where
-    pub sorted_with : IsUnique bytes_eq lanes' → IsSorted lanes'.entries
-    sorted_with unique = record {
-      distinct = unique;
-      waiting = subst (AreOnTheirNames waiting_of) (sym more)
-          (more_on waiting_of lanes.entries name new sorted.waiting (subst (AreOn name) (sym waits) (All-push (λ (x : Entry). x.name ≡ name) [] e (All-nil (λ (x : Entry). x.name ≡ name)) name_is)));
-      holding = subst (AreOnTheirNames holding_of) (sym more) (more_on holding_of lanes.entries name new sorted.holding (subst (AreOn name) (sym none) (All-nil (λ (x : Entry). x.name ≡ name))));
-    }
-
-    pub one_more_waits : Gains now.waiting e (joined waiting_of lanes'.entries)
-    one_more_waits =
-        subst (Gains now.waiting e) (sym (ap (joined waiting_of) more ∙ joined_more waiting_of lanes.entries name new ∙ ap (λ (l : List Entry). joined waiting_of lanes.entries ++ l) waits ∙ ap (λ (s : Standing). s.waiting ++ e ∷ []) is))
-        (Gains-push now.waiting e)
-
-    pub none_more_holds : joined holding_of lanes'.entries ≡ now.holding
-    none_more_holds = ap (joined holding_of) more ∙ joined_more holding_of lanes.entries name new ∙ ap (λ (l : List Entry). joined holding_of lanes.entries ++ l) none ∙ append-nil (joined holding_of lanes.entries) ∙ ap (λ (s : Standing). s.holding) is
-
-  pub opened : {E : Type 0} (before lanes' : IndexMap (List ℕ) NameEntries S) (e : Entry) → before ≡ lanes → e.name ≡ name → (result : Result (Unit {0}) E)
-      → OnOk result ((lane : NameEntries) × (lane.waiting.items ≡ e ∷ []) × (lane.holding.items ≡ []) × (lanes'.entries ≡ before.entries ++ (name, lane) ∷ []))
-      → OnOk result (IsUnique bytes_eq lanes') → OnErr result (lanes'.entries ≡ before.entries) → IsAfterWait lanes' e result
-  opened before lanes' e same name_is (Ok u) made unique err =
-      let more : lanes'.entries ≡ lanes.entries ++ (name, made.0) ∷ [] = made.3 ∙ ap (λ (m : IndexMap (List ℕ) NameEntries S). m.entries ++ (name, made.0) ∷ []) same in
+  opened : (lanes' : IndexMap (List ℕ) LockTable S) → None ≡ lookup (bytes_eq e.name) lanes.entries → lanes'.entries ≡ lanes.entries ++ (e.name, first_request e) ∷ [] → IsUnique bytes_eq lanes' → IsMade (Requested e) lanes'
+  opened lanes' none more unique =
+      let first = first_request e in
+      let joined_is = λ (part : LockTable → List Entry). ap (joined part) more ∙ joined_more part lanes.entries e.name first in
+      let on_nothing = All-nil (λ (x : Entry). x.name ≡ e.name) in
+      let on_more = λ (part : LockTable → List Entry) (on : AreOnTheirNames part lanes.entries) (here : AreOn e.name (part first)). subst (AreOnTheirNames part) (sym more) (more_on part lanes.entries e.name first on here) in
       record {
-        still_sorted = sorted_with lanes' made.0 e name_is made.1 made.2 more unique;
-        waiting = one_more_waits lanes' made.0 e name_is made.1 made.2 more;
-        holding = none_more_holds lanes' made.0 e name_is made.1 made.2 more;
-        err = tt;
+        step = subst (λ (t : LockTable). TableStep t (Requested e) (table_of lanes'.entries)) is (
+          subst (λ (t : LockTable). MayRequest t e) (sym is) ((may_request empty_table now e (none_shown none)).0 (empty_may e)),
+          subst (Gains (joined waiting_of lanes.entries) e) (sym (joined_is waiting_of)) (Gains-push (joined waiting_of lanes.entries) e),
+          joined_is holding_of ∙ append-nil (joined holding_of lanes.entries),
+          joined_is granted_of ∙ append-nil (joined granted_of lanes.entries),
+        );
+        kept_after = λ free. record {
+          distinct = unique;
+          waiting = on_more waiting_of kept.waiting (All-push (λ (x : Entry). x.name ≡ e.name) [] e on_nothing refl);
+          holding = on_more holding_of kept.holding on_nothing;
+          granted = on_more granted_of kept.granted on_nothing;
+          conflict_free = free;
+        };
       }
-  opened before lanes' e same name_is (Err fault) made unique err =
-      let back : lanes'.entries ≡ lanes.entries = err ∙ ap (λ (m : IndexMap (List ℕ) NameEntries S). m.entries) same in
-      record {
-        still_sorted = subst IsSorted (sym back) sorted;
-        waiting = tt;
-        holding = ap (joined holding_of) back ∙ ap (λ (s : Standing). s.holding) is;
-        err = ap standing_in back ∙ is;
-      }
+
+  pub open_tried : {E : Type 0} (before lanes' : IndexMap (List ℕ) LockTable S) → before ≡ lanes → None ≡ lookup (bytes_eq e.name) lanes.entries → (result : Result (Unit {0}) E)
+      → OnOk result (lanes'.entries ≡ before.entries ++ (e.name, first_request e) ∷ []) → OnOk result (IsUnique bytes_eq lanes') → OnErr result (lanes'.entries ≡ before.entries) → IsTried (Requested e) lanes' result
+  open_tried before lanes' same none (Ok u) more unique err =
+      made_tried (Requested e) lanes' u (opened lanes' none (more ∙ ap (λ (m : IndexMap (List ℕ) LockTable S). m.entries ++ (e.name, first_request e) ∷ []) same) unique)
+  open_tried before lanes' same none (Err fault) more unique err =
+      let back : lanes'.entries ≡ lanes.entries = err ∙ ap (λ (m : IndexMap (List ℕ) LockTable S). m.entries) same in
+      record { still_kept = subst IsKept (sym back) kept; ok = tt; err = ap table_of back ∙ is }

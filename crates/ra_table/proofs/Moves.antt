@@ -4,7 +4,11 @@ use Rattle.std.specs.List.{remove}
 use Rattle.std.proofs.lemmas.List.{append-nil}
 use Rattle.ra_stamp.proofs.Places.{split_at}
 use Rattle.ra_stamp.specs.declared.entry.Entry.{Entry}
-use Rattle.ra_table.specs.Table.{Gains, Loses}
+use Rattle.ra_table.specs.Table.{LockTable, Gains, Loses}
+
+-- the table of these entries
+abbrev pub of_parts : List Entry → List Entry → List Entry → LockTable
+of_parts waiting holding granted = record { waiting = waiting; holding = holding; granted = granted }
 
 pub Gains-push : (xs : List Entry) (e : Entry) → Gains xs e (xs ++ e ∷ [])
 Gains-push xs e = (xs, [], sym (append-nil xs), refl)

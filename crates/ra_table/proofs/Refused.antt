@@ -1,20 +1,19 @@
--- What the end of a request and of an entry tells, and that a refusal leaves the table as it was.
-use Rattle.std.proofs.Common.{◌≡◌, ◌↔◌, ℕ, List, Contains, Result, Ok, Err, IfErr, IsOk, IsErrOf, refl, sym, ap, ◌∙◌, subst}
-use Rattle.std.specs.Prelude.{IsOkUnless}
+-- What the end of a request and of a grant tells.
+use Rattle.std.proofs.Common.{◌≡◌, ◌↔◌, Contains, Result, Ok, Err, IfErr, IsOk, IsErrOf, refl, sym, ap, ◌∙◌, arith}
 use Rattle.std.specs.Result.{IsErrAnd}
 use Rattle.std.proofs.lemmas.Bool.{false≢true}
 use Rattle.ra_stamp.specs.declared.entry.Entry.{Entry}
 use Rattle.ra_table.specs.declared.error.EnterError.{EnterError}
 use Rattle.ra_table.specs.declared.error.EnterError.TheVariants as entering
+use Rattle.ra_table.specs.declared.error.LeaveError.{LeaveError}
+use Rattle.ra_table.specs.declared.error.LeaveError.TheVariants.{NotHeld}
 use Rattle.ra_table.specs.declared.error.RequestError.{RequestError}
 use Rattle.ra_table.specs.declared.error.RequestError.TheVariants as requesting
-use Rattle.ra_table.specs.Table.{LockTable, MayRequest, MayEnter}
+use Rattle.ra_table.specs.Table.{LockTable, empty_table, MayRequest, MayEnter}
 use Rattle.ra_table.specs.Refusals.{IsNodeBusy, IsNotAbove, IsHeld, HasEarlier}
-use Rattle.ra_table.specs.Laws.{IsConflictFree}
-use Rattle.ra_table.specs.Highest.{AreHighest, IsKept}
-use Rattle.ra_table.specs.Lanes.{Standing}
+use Rattle.ra_table.specs.Answers.{RequestTells, CheckTells, EnterTells, IsAnswered}
 use Rattle.ra_table.proofs.Allowed.{MayRequest-not_refused, MayRequest-not_busy, MayRequest-not_overtaken, MayEnter-not_held, MayEnter-no_earlier}
-use Rattle.ra_table.proofs.Checked.{IsAnswered}
+use Rattle.ra_table.proofs.Checked.{answers_not_waiting}
 
 same_error : {X E : Type 0} (e f : E) → IsErrOf {T = X} (Err e) f → e ≡ f
 same_error e f h = cc
@@ -33,12 +32,6 @@ fault_is P (Err e) is = is
 
 -- ---- A request
 
--- what the end of a request tells
-pub record RequestTells (result : Result (Unit {0}) RequestError) (table : LockTable) (e : Entry) : Type 0 where
-  pub node_busy : IsErrOf result requesting.NodeBusy ↔ IsNodeBusy table e
-  pub not_above : IsErrOf result requesting.NotAbove ↔ ((IsNodeBusy table e → ⊥) × IsNotAbove table e)
-  pub allowed : IsOkUnless result requesting.Memory ↔ MayRequest table e
-
 busy_apart : requesting.NodeBusy ≡ requesting.Memory → ⊥
 busy_apart e = cc
 
@@ -47,13 +40,6 @@ not_above_apart e = cc
 
 busy_and_not_above : requesting.NodeBusy ≡ requesting.NotAbove → ⊥
 busy_and_not_above e = cc
-
--- what the check of a request tells
-pub record CheckTells (result : Result (Unit {0}) RequestError) (table : LockTable) (e : Entry) : Type 0 where
-  pub allowed : IsOk result ↔ MayRequest table e
-  pub node_busy : IsErrOf result requesting.NodeBusy ↔ IsNodeBusy table e
-  pub not_above : IsErrOf result requesting.NotAbove ↔ ((IsNodeBusy table e → ⊥) × IsNotAbove table e)
-  pub no_memory : IsErrOf result requesting.Memory → ⊥
 
 pub busy_told : (table : LockTable) (e : Entry) → IsNodeBusy table e → CheckTells (Err requesting.NodeBusy) table e
 busy_told table e busy = record {
@@ -80,14 +66,12 @@ none_told table e free above = record {
 }
 
 -- a request that may not be made is refused for that
-pub request_refused : (fault : RequestError) (table : LockTable) (e : Entry) → IsErrOf {T = Unit {0}} (Err fault) requesting.NodeBusy ↔ IsNodeBusy table e
-    → IsErrOf {T = Unit {0}} (Err fault) requesting.NotAbove ↔ ((IsNodeBusy table e → ⊥) × IsNotAbove table e) → IsOk {T = Unit {0}} (Err fault) ↔ MayRequest table e → (IsErrOf {T = Unit {0}} (Err fault) requesting.Memory → ⊥)
-    → RequestTells (Err fault) table e
-request_refused fault table e node_busy not_above allowed no_memory =
+pub request_refused : (fault : RequestError) (table : LockTable) (e : Entry) → CheckTells (Err fault) table e → RequestTells (Err fault) table e
+request_refused fault table e told =
     record {
-      node_busy = node_busy;
-      not_above = not_above;
-      allowed = (λ h. absurd (no_memory (ap Err h)), λ may. absurd (false≢true (allowed.1 may)));
+      node_busy = told.node_busy;
+      not_above = told.not_above;
+      allowed = (λ h. absurd (told.no_memory (ap Err h)), λ may. absurd (false≢true (told.allowed.1 may)));
     }
 
 -- one that may be made is refused only because memory ran out
@@ -107,13 +91,6 @@ request_made (Err fault) table e may memory =
 
 -- ---- An entry
 
--- what the end of an entry tells
-pub record EnterTells (result : Result (Unit {0}) EnterError) (table : LockTable) (e : Entry) : Type 0 where
-  pub not_waiting : IsErrOf result entering.NotWaiting ↔ (Contains table.waiting e → ⊥)
-  pub held : IsErrOf result entering.Held ↔ (Contains table.waiting e × IsHeld table e)
-  pub earlier : IsErrOf result entering.Earlier ↔ (Contains table.waiting e × (IsHeld table e → ⊥) × HasEarlier table e)
-  pub allowed : IsOkUnless result entering.Memory ↔ MayEnter table e
-
 not_waiting_apart : entering.NotWaiting ≡ entering.Memory → ⊥
 not_waiting_apart e = cc
 
@@ -127,13 +104,13 @@ earlier_apart e = cc
 passed_on : {X Y : Type 0} (fault f : EnterError) (P : Type 0) → IsErrOf {T = X} (Err fault) f ↔ P → IsErrOf {T = Y} (Err fault) f ↔ P
 passed_on fault f P tells = (λ h. tells.0 (ap Err (same_error fault f h)), λ p. ap Err (same_error fault f (tells.1 p)))
 
-pub enter_refused : (fault : EnterError) (table : LockTable) (e : Entry) → IsAnswered table e (Err fault) → (IsErrOf {T = ℕ} (Err fault) entering.Memory → ⊥) → EnterTells (Err fault) table e
-enter_refused fault table e told no_memory =
+pub enter_refused : (fault : EnterError) (table : LockTable) (e : Entry) → IsAnswered table e (Err fault) → EnterTells (Err fault) table e
+enter_refused fault table e told =
     record {
       not_waiting = passed_on fault entering.NotWaiting (Contains table.waiting e → ⊥) told.not_waiting;
       held = passed_on fault entering.Held (Contains table.waiting e × IsHeld table e) told.held;
       earlier = passed_on fault entering.Earlier (Contains table.waiting e × (IsHeld table e → ⊥) × HasEarlier table e) told.earlier;
-      allowed = (λ h. absurd (no_memory (ap Err h)), λ may. absurd (false≢true (told.allowed.1 may)));
+      allowed = (λ h. absurd (told.no_memory (ap Err h)), λ may. absurd (false≢true (told.allowed.1 may)));
     }
 
 pub enter_made : (result : Result (Unit {0}) EnterError) (table : LockTable) (e : Entry) → MayEnter table e → IfErr result (λ fault. fault ≡ entering.Memory) → EnterTells result table e
@@ -152,18 +129,13 @@ enter_made (Err fault) table e may memory =
       allowed = (λ _. may, λ _. memory);
     }
 
--- ---- What does not change
+-- no entry waits in the empty table
+pub nobody_enters : (e : Entry) → EnterTells (Err entering.NotWaiting) empty_table e
+nobody_enters e = enter_refused entering.NotWaiting empty_table e (answers_not_waiting empty_table e (λ at. absurd (omega (arith, at.1))))
 
--- the table of these lanes and grants
-abbrev pub table_of : Standing → List Entry → LockTable
-table_of lanes granted = record { waiting = lanes.waiting; holding = lanes.holding; granted = granted }
+-- ---- An entry that leaves
 
-pub same_table : (lanes lanes' : Standing) (granted granted' : List Entry) (now : LockTable) → lanes' ≡ lanes → granted' ≡ granted → table_of lanes granted ≡ now → table_of lanes' granted' ≡ now
-same_table lanes lanes' granted granted' now same_lanes same_granted is = (λ i. table_of (same_lanes i) (same_granted i)) ∙ is
-
-pub kept_as : (holding holding' granted granted' : List Entry) (numbers numbers' : List (List ℕ × ℕ)) → holding' ≡ holding → granted' ≡ granted → numbers' ≡ numbers → IsKept holding granted numbers → IsKept holding' granted' numbers'
-kept_as holding holding' granted granted' numbers numbers' same_holding same_granted same_numbers kept =
-    record {
-      conflict_free = subst IsConflictFree (sym same_holding) kept.conflict_free;
-      are_highest = subst (λ (ns : List (List ℕ × ℕ)). AreHighest ns granted') (sym same_numbers) (subst (AreHighest numbers) (sym same_granted) kept.are_highest);
-    }
+-- it is not given back exactly if it does not hold
+pub not_held_told : (result : Result (Unit {0}) LeaveError) (Here There : Type 0) → IsOk result ↔ Here → Here ↔ There → IsErrOf result NotHeld ↔ (There → ⊥)
+not_held_told (Ok u) Here There ok same = (λ err. absurd (ok_apart u NotHeld err), λ none. absurd (none (same.0 (ok.0 refl))))
+not_held_told (Err NotHeld) Here There ok same = (λ _ there. false≢true (ok.1 (same.1 there)), λ _. refl)

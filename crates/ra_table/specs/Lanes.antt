@@ -1,27 +1,41 @@
--- How a table keeps the entries that wait and hold: in lanes, one for each name. No public contract speaks of lanes.
-use Rattle.std.specs.Prelude.{◌≡◌, ◌<◌, ℕ, List, [], ◌∷◌, ◌++◌, All, length, slice_index_or}
+-- How a table keeps its entries: in lanes, one for each name. No public contract speaks of lanes.
+use Rattle.std.specs.Prelude.{◌≡◌, ◌<◌, ◌≤◌, ℕ, List, [], ◌∷◌, ◌++◌, Option, Some, None, All, length, max, slice_index_or, unwrap_or}
 use Rattle.std.specs.List.{filter, AllByRecursion, IsDistinct}
 use Rattle.std.specs.Map.{keys_of}
 use Rattle.std.specs.Str.{bytes_eq}
 use Rattle.ra_stamp.specs.declared.entry.Entry.{Entry}
-use Rattle.ra_table.specs.declared.lanes.NameEntries.{NameEntries}
+use Rattle.ra_table.specs.Table.{LockTable}
+use Rattle.ra_table.specs.Laws.{IsConflictFree}
 
--- the entries that wait and those that hold, on all names
-pub record Standing : Type 0 where
-  pub waiting : List Entry
-  pub holding : List Entry
+-- ---- One lane, which is the lock table of one name
 
--- no entry waits or holds
-abbrev pub nobody : Standing
-nobody = record { waiting = []; holding = [] }
+-- the table in which this entry alone waits
+abbrev pub first_request : Entry → LockTable
+first_request e = record { waiting = e ∷ []; holding = []; granted = [] }
 
--- the entries on this name, in order
-abbrev pub on_name : List ℕ → List Entry → List Entry
-on_name name entries = filter (λ x. bytes_eq name x.name) entries
+-- each of these entries is on this name
+abbrev pub AreOn : List ℕ → List Entry → Type 0
+AreOn name entries = All (λ x. x.name ≡ name) entries
 
 -- the entry is at this place of the list, counted from 0
 abbrev pub StandsAt : List Entry → ℕ → Entry → Type 0
 StandsAt entries place e = (place < length entries) × (slice_index_or entries place e ≡ e)
+
+-- the highest number of these entries, if there are any
+abbrev pub highest_of : List Entry → Option ℕ
+highest_of [] = None
+highest_of (e ∷ es) = Some (max e.stamp.seq (unwrap_or (highest_of es) 0))
+
+-- a highest number exists, and is at least this one
+abbrev pub Reaches : Option ℕ → ℕ → Type 0
+Reaches None number = ⊥
+Reaches (Some highest) number = number ≤ highest
+
+-- ---- All lanes
+
+-- the entries on this name, in order
+abbrev pub on_name : List ℕ → List Entry → List Entry
+on_name name entries = filter (λ x. bytes_eq name x.name) entries
 
 module _ {X : Type 0} (part : X → List Entry) where
   -- this part of all lanes, one after the other
@@ -31,22 +45,29 @@ module _ {X : Type 0} (part : X → List Entry) where
 
   -- each entry in this part of a lane is on the name of the lane
   abbrev pub AreOnTheirNames : List (List ℕ × X) → Type 0
-  AreOnTheirNames lanes = AllByRecursion (λ lane. All (λ x. x.name ≡ lane.0) (part lane.1)) lanes
+  AreOnTheirNames lanes = AllByRecursion (λ lane. AreOn lane.0 (part lane.1)) lanes
 
 -- the entries that wait in a lane
-abbrev pub waiting_of : NameEntries → List Entry
-waiting_of lane = lane.waiting.items
+abbrev pub waiting_of : LockTable → List Entry
+waiting_of lane = lane.waiting
 
 -- the entries that hold in a lane
-abbrev pub holding_of : NameEntries → List Entry
-holding_of lane = lane.holding.items
+abbrev pub holding_of : LockTable → List Entry
+holding_of lane = lane.holding
 
--- the entries that wait and hold in these lanes
-abbrev pub standing_in : List (List ℕ × NameEntries) → Standing
-standing_in lanes = record { waiting = joined waiting_of lanes; holding = joined holding_of lanes }
+-- the entries that were granted in a lane
+abbrev pub granted_of : LockTable → List Entry
+granted_of lane = lane.granted
 
--- no name has two lanes, and each entry is in the lane of its name
-pub record IsSorted (lanes : List (List ℕ × NameEntries)) : Type 0 where
+-- the table of the entries of all lanes
+abbrev pub table_of : List (List ℕ × LockTable) → LockTable
+table_of lanes = record { waiting = joined waiting_of lanes; holding = joined holding_of lanes; granted = joined granted_of lanes }
+
+-- what holds of the lanes of each table: no name has two of them, each entry is in the lane of its name, and no two entries
+-- hold in conflict
+pub record IsKept (lanes : List (List ℕ × LockTable)) : Type 0 where
   pub distinct : IsDistinct bytes_eq (keys_of lanes)
   pub waiting : AreOnTheirNames waiting_of lanes
   pub holding : AreOnTheirNames holding_of lanes
+  pub granted : AreOnTheirNames granted_of lanes
+  pub conflict_free : IsConflictFree (joined holding_of lanes)

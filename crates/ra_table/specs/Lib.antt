@@ -1,5 +1,5 @@
 pub mod Table
 pub mod Refusals
 pub mod Laws
-pub mod Highest
+pub mod Answers
 pub mod Lanes

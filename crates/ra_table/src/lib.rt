@@ -3,8 +3,7 @@
 #![tactic(auto)]
 
 mod error;
-mod highest;
-mod lanes;
+mod lane;
 mod laws;
 mod lists;
 mod table;

@@ -1,16 +1,16 @@
-ghost use Rattle.std.specs.Prelude.{◌≡◌, ◌↔◌, Contains, IsTrue, IsOk, IsErrOf, IsOkUnless, IfOk, OnOk, OnErr};
+ghost use Rattle.std.specs.Prelude.{◌≡◌, ◌↔◌, ◌++◌, ◌∷◌, [], None, Contains, IsTrue, IsOk, IsErrOf, IsOkUnless, IfOk, IfErr, OnOk, OnErr};
+ghost use Rattle.std.specs.Str.{bytes_eq};
+ghost use Rattle.indexmap.specs.IndexMap.{get, IsUnique};
 ghost use Rattle.ra_stamp.specs.declared.entry.Mark.{Mark};
 ghost use Rattle.ra_table.specs.Table.{empty_table, MayRequest, MayEnter, TableStep};
 ghost use Rattle.ra_table.specs.Refusals.{IsNodeBusy, IsNotAbove, IsHeld, HasEarlier};
 ghost use Rattle.ra_table.specs.Laws.{IsConflictFree};
-ghost use Rattle.ra_table.specs.Lanes.{on_name, StandsAt};
+ghost use Rattle.ra_table.specs.Lanes.{first_request};
 
 use crate::error::{EnterError, LeaveError, RequestError};
-use crate::highest::{is_at_most_granted, make_room, raise};
-use crate::lanes::Lanes;
-use crate::lists::{has_earlier, has_excluding, has_node_of, place_of};
+use crate::lane::Lane;
 use indexmap::IndexMap;
-use ra_stamp::{Entry, GhostList, Memory, Name};
+use ra_stamp::{Entry, Memory, Name};
 use std::alloc::Global;
 use std::marker::Model;
 
@@ -18,30 +18,48 @@ use std::marker::Model;
 /// one name hold. A name that was asked for is kept for ever, also once nobody waits or holds on it any more. So the
 /// table grows with the names, and not with the grants.
 ///
-/// The entries that wait and hold are kept by their names, so that a call looks at those on its entry's name alone.
-/// Of the grants the table keeps the highest number on each name, with which a request is compared. Which they were
-/// only clauses and proofs see. A name is found by a fixed hash: among names that someone picked so that they collide, a
-/// look-up is linear in their number.
+/// The entries that wait and hold are kept by their names, so that a call looks at those on its entry's name alone, and
+/// looks for the name once. Of the grants the table keeps the highest number on each name, with which a request is
+/// compared. Which they were only clauses and proofs see. A name is found by a fixed hash: among names that someone picked
+/// so that they collide, a look-up is linear in their number.
 #[derive(Drop)]
 pub struct Table {
-    /// The entries that wait and hold.
-    lanes: Lanes,
-    /// The entries granted so far, for proofs alone.
-    granted: GhostList<Entry>,
-    /// The highest number granted so far on each name.
-    highest: IndexMap<Name, u64>,
+    /// A lane for each name on which an entry ever waited.
+    lanes: IndexMap<Name, Lane>,
 }
 
 impl Model for Table {
     ghost use Rattle.ra_table.specs.Table.{LockTable};
-    ghost use Rattle.ra_table.specs.Highest.{IsKept};
+    ghost use Rattle.ra_table.specs.Lanes.{table_of, IsKept};
 
     ghost Value = { LockTable };
 
-    ghost view = { λ t.
-        record { waiting = t.lanes.waiting; holding = t.lanes.holding; granted = t.granted.items } };
+    ghost view = { λ t. table_of t.lanes.entries };
 
-    ghost invariant = { λ t. IsKept t.lanes.holding t.granted.items t.highest.entries };
+    ghost invariant = { λ t. IsKept t.lanes.entries };
+}
+
+/// Makes the lane of a name that has none yet, in which this entry waits.
+///
+/// # Errors
+///
+/// `Memory`: the lanes are as before.
+fn open(lanes: &mut IndexMap<Name, Lane>, entry: &Entry) -> Result<(), RequestError>
+    requires { get bytes_eq lanes.old entry.now.name ≡ None }
+    ensures ok { OnOk result (lanes.new.entries
+        ≡ lanes.old.entries ++ (entry.now.name, first_request entry.now) ∷ []) }
+    ensures unique { OnOk result (IsUnique bytes_eq lanes.new) }
+    ensures err { OnErr result (lanes.new.entries ≡ lanes.old.entries) }
+    ensures memory { IfErr result (λ fault. fault ≡ RequestError.Memory) }
+{
+    let alloc = *lanes.allocator();
+    let Ok(lane) = Lane::first(alloc, entry) else {
+        return Err(RequestError::Memory);
+    };
+    match lanes.insert(entry.name, lane) {
+        Ok(_) => Ok(()),
+        Err(_) => Err(RequestError::Memory),
+    }
 }
 
 impl Table {
@@ -55,9 +73,7 @@ impl Table {
         ensures empty { IfOk result (λ table. table ≡ empty_table) }
     {
         Ok(Table {
-            lanes: Lanes::new(alloc),
-            granted: GhostList::new(),
-            highest: IndexMap::new(alloc),
+            lanes: IndexMap::new(alloc),
         })
     }
 
@@ -83,15 +99,14 @@ impl Table {
         ensures allowed { IsOkUnless result RequestError.Memory ↔ MayRequest self.old entry }
         ensures exclusive { IsConflictFree self.new.holding }
     {
-        self.check_request(&entry)?;
-        if self.lanes.wait(&entry).is_err() {
-            return Err(RequestError::Memory);
+        match self.lanes.get_mut(&entry.name) {
+            Some(lane) => lane.request(&entry),
+            None => open(&mut self.lanes, &entry),
         }
-        Ok(())
     }
 
     /// Grants an entry that waits, so that it holds, in expected time linear in the number of entries that wait and
-    /// hold on its name. Now and then it moves the highest numbers into more memory, which is constant on average.
+    /// hold on its name.
     ///
     /// # Errors
     ///
@@ -116,17 +131,10 @@ impl Table {
         ensures allowed { IsOkUnless result EnterError.Memory ↔ MayEnter self.old entry.now }
         ensures exclusive { IsConflictFree self.new.holding }
     {
-        let place = self.check_enter(entry)?;
-        if make_room(&mut self.highest).is_err() {
-            return Err(EnterError::Memory);
-        }
-        // This is the last that can be refused.
-        if self.lanes.grant(place, entry).is_err() {
-            return Err(EnterError::Memory);
-        }
-        self.granted = self.granted.and(entry);
-        raise(&mut self.highest, entry);
-        Ok(())
+        let Some(lane) = self.lanes.get_mut(&entry.name) else {
+            return Err(EnterError::NotWaiting);
+        };
+        lane.enter(entry)
     }
 
     /// Ends the hold of an entry, in expected time linear in the number of entries that hold on its name. It does not
@@ -142,12 +150,10 @@ impl Table {
         ensures not_held { IsErrOf result LeaveError.NotHeld ↔ ¬ Contains self.old.holding entry.now }
         ensures exclusive { IsConflictFree self.new.holding }
     {
-        let (_, holding) = self.lanes.on(&entry.name);
-        let Some(place) = place_of(holding, entry) else {
+        let Some(lane) = self.lanes.get_mut(&entry.name) else {
             return Err(LeaveError::NotHeld);
         };
-        self.lanes.release(place, entry);
-        Ok(())
+        lane.leave(entry)
     }
 
     /// Returns whether the entry may wait, unless memory runs out: its node neither waits nor holds on its name, and its number is above that of
@@ -157,7 +163,10 @@ impl Table {
         ensures allowed { IsTrue result ↔ MayRequest self.now entry.now }
         ensures exclusive { IsConflictFree self.now.holding }
     {
-        self.check_request(entry).is_ok()
+        match self.lanes.get(&entry.name) {
+            Some(lane) => lane.check_request(entry).is_ok(),
+            None => true,
+        }
     }
 
     /// Returns whether the entry may be granted now, unless memory runs out: it waits, no conflicting entry on its name
@@ -167,7 +176,10 @@ impl Table {
         ensures allowed { IsTrue result ↔ MayEnter self.now entry.now }
         ensures exclusive { IsConflictFree self.now.holding }
     {
-        self.check_enter(entry).is_ok()
+        match self.lanes.get(&entry.name) {
+            Some(lane) => lane.check_enter(entry).is_ok(),
+            None => false,
+        }
     }
 
     /// Returns whether the entry holds, in expected time linear in the number of entries that hold on its name. It does not allocate.
@@ -175,72 +187,9 @@ impl Table {
         ensures held { IsTrue result ↔ Contains self.now.holding entry.now }
         ensures exclusive { IsConflictFree self.now.holding }
     {
-        let (_, holding) = self.lanes.on(&entry.name);
-        match place_of(holding, entry) {
-            Some(_) => true,
+        match self.lanes.get(&entry.name) {
+            Some(lane) => lane.holds(entry),
             None => false,
         }
-    }
-
-    /// Returns whether the entry's node waits or holds on its name.
-    fn is_node_busy(&self, entry: &Entry) -> bool
-        ensures busy { IsTrue result ↔ IsNodeBusy self.now entry.now }
-        ensures exclusive { IsConflictFree self.now.holding }
-    {
-        let (waiting, holding) = self.lanes.on(&entry.name);
-        has_node_of(waiting, entry) || has_node_of(holding, entry)
-    }
-
-    /// Checks whether the request may be made.
-    ///
-    /// # Errors
-    ///
-    /// Those of `request`, except for `Memory`.
-    fn check_request(&self, entry: &Entry) -> Result<(), RequestError>
-        ensures allowed { IsOk result ↔ MayRequest self.now entry.now }
-        ensures node_busy { IsErrOf result RequestError.NodeBusy ↔ IsNodeBusy self.now entry.now }
-        ensures not_above { IsErrOf result RequestError.NotAbove
-            ↔ (¬ IsNodeBusy self.now entry.now × IsNotAbove self.now entry.now) }
-        ensures no_memory { ¬ IsErrOf result RequestError.Memory }
-        ensures exclusive { IsConflictFree self.now.holding }
-    {
-        if self.is_node_busy(entry) {
-            return Err(RequestError::NodeBusy);
-        }
-        if is_at_most_granted(&self.highest, entry) {
-            return Err(RequestError::NotAbove);
-        }
-        Ok(())
-    }
-
-    /// Returns where the entry waits among those on its name, if it may be granted.
-    ///
-    /// # Errors
-    ///
-    /// Those of `enter`, except for `Memory`.
-    fn check_enter(&self, entry: &Entry) -> Result<usize, EnterError>
-        ensures place { IfOk result (λ place.
-            StandsAt (on_name entry.now.name self.now.waiting) place entry.now) }
-        ensures allowed { IsOk result ↔ MayEnter self.now entry.now }
-        ensures not_waiting { IsErrOf result EnterError.NotWaiting ↔ ¬ Contains self.now.waiting entry.now }
-        ensures held { IsErrOf result EnterError.Held
-            ↔ (Contains self.now.waiting entry.now × IsHeld self.now entry.now) }
-        ensures earlier { IsErrOf result EnterError.Earlier
-            ↔ (Contains self.now.waiting entry.now × ¬ IsHeld self.now entry.now
-            × HasEarlier self.now entry.now) }
-        ensures no_memory { ¬ IsErrOf result EnterError.Memory }
-        ensures exclusive { IsConflictFree self.now.holding }
-    {
-        let (waiting, holding) = self.lanes.on(&entry.name);
-        let Some(place) = place_of(waiting, entry) else {
-            return Err(EnterError::NotWaiting);
-        };
-        if has_excluding(holding, entry) {
-            return Err(EnterError::Held);
-        }
-        if has_earlier(waiting, entry) {
-            return Err(EnterError::Earlier);
-        }
-        Ok(place)
     }
 }

@@ -1,79 +1,58 @@
-use Rattle.std.proofs.Common.{◌≡◌, ℕ, List, [], ◌∷◌, ◌++◌, Result, Err, Ok, refl, rules, sym, ap, ◌∙◌, subst}
-use Rattle.ra_stamp.specs.declared.entry.Entry.{Entry}
-use Rattle.ra_stamp.specs.declared.entry.Mark.TheVariants.{Entered}
-use Rattle.ra_table.specs.Table.{LockTable, Gains, Loses}
-use Rattle.ra_table.specs.declared.error.EnterError.{EnterError}
-use Rattle.ra_table.specs.Highest.{AreHighest}
-use Rattle.ra_table.specs.Lanes.{on_name, StandsAt}
-use Rattle.ra_table.proofs.Conflicts.{stays_conflict_free}
-use Rattle.ra_table.proofs.Moves.{Gains-push}
-use Rattle.ra_table.proofs.Refused.{EnterTells, same_fault, enter_refused, enter_made}
+use Rattle.std.proofs.Common.{ℕ, List, Err, sym, ap, ◌∙◌, subst}
+use Rattle.indexmap.specs.IndexMap.{IndexMap}
+use Rattle.ra_table.specs.declared.error.EnterError.TheVariants.{NotWaiting}
+use Rattle.ra_table.specs.Table.{LockTable, empty_table}
+use Rattle.ra_table.specs.Lanes.{table_of, IsKept}
+use Rattle.ra_table.proofs.Checked.{enter_tells}
+use Rattle.ra_table.proofs.Kept.{shown, none_shown, enter_tried}
+use Rattle.ra_table.proofs.Refused.{nobody_enters}
 use Rattle.ra_table.proofs.table.Table.enter.Goals as goal
 
-pub returns-clause-ok : goal.returns-clause-ok
-returns-clause-ok c =
-    let e = c.args.entry.now in
-    let loses : Loses c.self.inside.lanes.waiting e c.grant.new.self.waiting = search rules in
-    let gains : Gains c.self.inside.lanes.holding e c.grant.new.self.holding = search rules in
-    let granted-is : c.and-self-inside.result.items ≡ c.args.self.now.granted ++ e ∷ [] = c.and-self-inside.ensures ∙ ap (λ (t : LockTable). t.granted ++ e ∷ []) c.self.view_is in (
-      c.in_ok-place.ensures.allowed.0 refl,
-      subst (λ (es : List Entry). Loses es e c.grant.new.self.waiting) (ap (λ (t : LockTable). t.waiting) c.self.view_is) loses,
-      subst (λ (es : List Entry). Gains es e c.grant.new.self.holding) (ap (λ (t : LockTable). t.holding) c.self.view_is) gains,
-      subst (Gains c.args.self.now.granted e) (sym granted-is) (Gains-push c.args.self.now.granted e),
-    )
+-- ---- The name has no lane
 
-pub returns-clause-exclusive : goal.returns-clause-exclusive
-returns-clause-exclusive c = stays_conflict_free c.args.self.now _ (Entered c.args.entry.now) (returns-clause-ok c) c.in_ok-place.ensures.exclusive
+pub invariant_of-self : goal.invariant_of-self
+invariant_of-self c = subst (λ (m : IndexMap (List ℕ) LockTable _). IsKept m.entries) (sym c.get_mut.follows.holds-at-none) c.self.invariant
+
+pub returns-in_default-clause-exclusive : goal.returns-in_default-clause-exclusive
+returns-in_default-clause-exclusive c = (invariant_of-self c).conflict_free
+
+pub returns-in_default-clause-err : goal.returns-in_default-clause-err
+returns-in_default-clause-err c = ap (λ (m : IndexMap (List ℕ) LockTable _). table_of m.entries) c.get_mut.follows.holds-at-none ∙ c.self.view_is
+
+pub returns-in_default-clause-not_waiting : goal.returns-in_default-clause-not_waiting
+returns-in_default-clause-not_waiting c = (enter_tells empty_table c.args.self.now c.args.entry.now (none_shown c.self.inside.lanes c.args.self.now c.self.view_is c.self.invariant c.args.entry.now c.in_default.ensures.value) (Err NotWaiting) (nobody_enters c.args.entry.now)).not_waiting
+
+pub returns-in_default-clause-held : goal.returns-in_default-clause-held
+returns-in_default-clause-held c = (enter_tells empty_table c.args.self.now c.args.entry.now (none_shown c.self.inside.lanes c.args.self.now c.self.view_is c.self.invariant c.args.entry.now c.in_default.ensures.value) (Err NotWaiting) (nobody_enters c.args.entry.now)).held
+
+pub returns-in_default-clause-earlier : goal.returns-in_default-clause-earlier
+returns-in_default-clause-earlier c = (enter_tells empty_table c.args.self.now c.args.entry.now (none_shown c.self.inside.lanes c.args.self.now c.self.view_is c.self.invariant c.args.entry.now c.in_default.ensures.value) (Err NotWaiting) (nobody_enters c.args.entry.now)).earlier
+
+pub returns-in_default-clause-allowed : goal.returns-in_default-clause-allowed
+returns-in_default-clause-allowed c = (enter_tells empty_table c.args.self.now c.args.entry.now (none_shown c.self.inside.lanes c.args.self.now c.self.view_is c.self.invariant c.args.entry.now c.in_default.ensures.value) (Err NotWaiting) (nobody_enters c.args.entry.now)).allowed
+
+-- ---- It has one
 
 pub invariant_of-self-2 : goal.invariant_of-self-2
-invariant_of-self-2 c =
-    let e = c.args.entry.now in
-    let are : AreHighest c.make_room.new.highest.entries c.self.inside.granted.items = subst (λ (ns : List (List ℕ × ℕ)). AreHighest ns c.self.inside.granted.items) (sym c.make_room.ensures.same) c.self.invariant.are_highest in
-    record {
-      conflict_free = returns-clause-exclusive c;
-      are_highest = subst (AreHighest c.raise.new.highest.entries) (sym c.and-self-inside.ensures) (c.raise.ensures c.self.inside.granted.items are);
-    }
+invariant_of-self-2 c = (enter_tried c.self.inside.lanes c.args.self.now c.self.view_is c.self.invariant c.args.entry.now (c.get_mut.follows.lender c.enter.new.self) c.in-Some.lane.now c.enter.new.self c.in-Some.ensures.value (c.get_mut.follows.holds c.enter.new.self) c.enter.result c.enter.ensures.ok c.enter.ensures.err).still_kept
 
-made : (c : goal.After-raise) → EnterTells (Ok tt) c.args.self.now c.args.entry.now
-made c = enter_made (Ok tt) c.args.self.now c.args.entry.now (c.in_ok-place.ensures.allowed.0 refl) tt
+pub returns-clause-exclusive : goal.returns-clause-exclusive
+returns-clause-exclusive c = (invariant_of-self-2 c).conflict_free
+
+pub returns-clause-ok : goal.returns-clause-ok
+returns-clause-ok c = (enter_tried c.self.inside.lanes c.args.self.now c.self.view_is c.self.invariant c.args.entry.now (c.get_mut.follows.lender c.enter.new.self) c.in-Some.lane.now c.enter.new.self c.in-Some.ensures.value (c.get_mut.follows.holds c.enter.new.self) c.enter.result c.enter.ensures.ok c.enter.ensures.err).ok
+
+pub returns-clause-err : goal.returns-clause-err
+returns-clause-err c = (enter_tried c.self.inside.lanes c.args.self.now c.self.view_is c.self.invariant c.args.entry.now (c.get_mut.follows.lender c.enter.new.self) c.in-Some.lane.now c.enter.new.self c.in-Some.ensures.value (c.get_mut.follows.holds c.enter.new.self) c.enter.result c.enter.ensures.ok c.enter.ensures.err).err
 
 pub returns-clause-not_waiting : goal.returns-clause-not_waiting
-returns-clause-not_waiting c = (made c).not_waiting
+returns-clause-not_waiting c = (enter_tells c.in-Some.lane.now c.args.self.now c.args.entry.now (shown c.self.inside.lanes c.args.self.now c.self.view_is c.self.invariant c.args.entry.now c.in-Some.lane.now c.in-Some.ensures.value) c.enter.result c.enter.ensures.told).not_waiting
 
 pub returns-clause-held : goal.returns-clause-held
-returns-clause-held c = (made c).held
+returns-clause-held c = (enter_tells c.in-Some.lane.now c.args.self.now c.args.entry.now (shown c.self.inside.lanes c.args.self.now c.self.view_is c.self.invariant c.args.entry.now c.in-Some.lane.now c.in-Some.ensures.value) c.enter.result c.enter.ensures.told).held
 
 pub returns-clause-earlier : goal.returns-clause-earlier
-returns-clause-earlier c = (made c).earlier
+returns-clause-earlier c = (enter_tells c.in-Some.lane.now c.args.self.now c.args.entry.now (shown c.self.inside.lanes c.args.self.now c.self.view_is c.self.invariant c.args.entry.now c.in-Some.lane.now c.in-Some.ensures.value) c.enter.result c.enter.ensures.told).earlier
 
 pub returns-clause-allowed : goal.returns-clause-allowed
-returns-clause-allowed c = (made c).allowed
-
-pub grant-requires : goal.grant-requires
-grant-requires c =
-    subst (λ (es : List Entry). StandsAt (on_name c.args.entry.now.name es) c.in_ok-place.place c.args.entry.now) (sym (ap (λ (t : LockTable). t.waiting) c.self.view_is)) c.in_ok-place.ensures.place
-
--- ---- The entry may not be granted
-
-refused : (c : goal.After-from_residual) → EnterTells c.from_residual.result c.args.self.now c.args.entry.now
-refused c =
-    let fault = c.in_err-place.field-0.0 in
-    let told = c.in_err-place.ensures in
-    let is : c.from_residual.result ≡ Err fault = same_fault fault c.from_residual.result c.from_residual.ensures.1 in
-    subst (λ (result : Result (Unit {0}) EnterError). EnterTells result c.args.self.now c.args.entry.now) (sym is)
-    (enter_refused fault c.args.self.now c.args.entry.now (record { allowed = told.allowed; not_waiting = told.not_waiting; held = told.held; earlier = told.earlier }) told.no_memory)
-
-pub returns-in_err-place-clause-not_waiting : goal.returns-in_err-place-clause-not_waiting
-returns-in_err-place-clause-not_waiting c = (refused c).not_waiting
-
-pub returns-in_err-place-clause-held : goal.returns-in_err-place-clause-held
-returns-in_err-place-clause-held c = (refused c).held
-
-pub returns-in_err-place-clause-earlier : goal.returns-in_err-place-clause-earlier
-returns-in_err-place-clause-earlier c = (refused c).earlier
-
-pub returns-in_err-place-clause-allowed : goal.returns-in_err-place-clause-allowed
-returns-in_err-place-clause-allowed c = (refused c).allowed
-
-pub returns-in_err-place-clause-exclusive : goal.returns-in_err-place-clause-exclusive
-returns-in_err-place-clause-exclusive c = c.in_err-place.ensures.exclusive
+returns-clause-allowed c = (enter_tells c.in-Some.lane.now c.args.self.now c.args.entry.now (shown c.self.inside.lanes c.args.self.now c.self.view_is c.self.invariant c.args.entry.now c.in-Some.lane.now c.in-Some.ensures.value) c.enter.result c.enter.ensures.told).allowed

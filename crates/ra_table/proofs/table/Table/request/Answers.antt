@@ -1,45 +1,54 @@
-use Rattle.std.proofs.Common.{◌≡◌, List, Result, Err, refl, rules, sym, ap, ◌∙◌, subst}
-use Rattle.ra_stamp.specs.declared.entry.Entry.{Entry}
-use Rattle.ra_table.specs.declared.error.RequestError.{RequestError}
-use Rattle.ra_table.specs.Table.{LockTable, Gains}
-use Rattle.ra_table.proofs.Refused.{RequestTells, same_fault, request_refused, kept_as}
+use Rattle.ra_table.specs.Table.{empty_table}
+use Rattle.ra_table.proofs.Checked.{request_tells}
+use Rattle.ra_table.proofs.Kept.{empty_may, shown, none_shown, granted_on, request_tried, open_tried}
+use Rattle.ra_table.proofs.Refused.{request_made}
 use Rattle.ra_table.proofs.table.Table.request.Goals as goal
 
--- ---- The request may not be made
+-- ---- The name has a lane
 
-refused : (c : goal.After-from_residual) → RequestTells c.from_residual.result c.args.self.now c.args.entry
-refused c =
-    let fault = c.in_err-check_request.field-0.0 in
-    let told = c.in_err-check_request.ensures in
-    let is : c.from_residual.result ≡ Err fault = same_fault fault c.from_residual.result c.from_residual.ensures.1 in
-    subst (λ (result : Result (Unit {0}) RequestError). RequestTells result c.args.self.now c.args.entry) (sym is)
-    (request_refused fault c.args.self.now c.args.entry told.node_busy told.not_above told.allowed told.no_memory)
+pub invariant_of-self : goal.invariant_of-self
+invariant_of-self c = (request_tried c.self.inside.lanes c.args.self.now c.self.view_is c.self.invariant c.args.entry (c.get_mut.follows.lender c.request.new.self) c.in-Some.lane.now c.request.new.self c.in-Some.ensures.value (c.get_mut.follows.holds c.request.new.self) c.request.result c.request.ensures.ok c.request.ensures.err).still_kept
 
-pub returns-in_err-check_request-clause-node_busy : goal.returns-in_err-check_request-clause-node_busy
-returns-in_err-check_request-clause-node_busy c = (refused c).node_busy
+pub returns-in-Some-clause-exclusive : goal.returns-in-Some-clause-exclusive
+returns-in-Some-clause-exclusive c = (invariant_of-self c).conflict_free
 
-pub returns-in_err-check_request-clause-not_above : goal.returns-in_err-check_request-clause-not_above
-returns-in_err-check_request-clause-not_above c = (refused c).not_above
+pub returns-in-Some-clause-ok : goal.returns-in-Some-clause-ok
+returns-in-Some-clause-ok c = (request_tried c.self.inside.lanes c.args.self.now c.self.view_is c.self.invariant c.args.entry (c.get_mut.follows.lender c.request.new.self) c.in-Some.lane.now c.request.new.self c.in-Some.ensures.value (c.get_mut.follows.holds c.request.new.self) c.request.result c.request.ensures.ok c.request.ensures.err).ok
 
-pub returns-in_err-check_request-clause-allowed : goal.returns-in_err-check_request-clause-allowed
-returns-in_err-check_request-clause-allowed c = (refused c).allowed
+pub returns-in-Some-clause-err : goal.returns-in-Some-clause-err
+returns-in-Some-clause-err c = (request_tried c.self.inside.lanes c.args.self.now c.self.view_is c.self.invariant c.args.entry (c.get_mut.follows.lender c.request.new.self) c.in-Some.lane.now c.request.new.self c.in-Some.ensures.value (c.get_mut.follows.holds c.request.new.self) c.request.result c.request.ensures.ok c.request.ensures.err).err
 
-pub returns-in_err-check_request-clause-exclusive : goal.returns-in_err-check_request-clause-exclusive
-returns-in_err-check_request-clause-exclusive c = c.in_err-check_request.ensures.exclusive
+pub returns-in-Some-clause-node_busy : goal.returns-in-Some-clause-node_busy
+returns-in-Some-clause-node_busy c = (request_tells c.in-Some.lane.now c.args.self.now c.args.entry (shown c.self.inside.lanes c.args.self.now c.self.view_is c.self.invariant c.args.entry c.in-Some.lane.now c.in-Some.ensures.value) c.request.result c.request.ensures.told).node_busy
 
--- ---- It is made
+pub returns-in-Some-clause-not_above : goal.returns-in-Some-clause-not_above
+returns-in-Some-clause-not_above c = (request_tells c.in-Some.lane.now c.args.self.now c.args.entry (shown c.self.inside.lanes c.args.self.now c.self.view_is c.self.invariant c.args.entry c.in-Some.lane.now c.in-Some.ensures.value) c.request.result c.request.ensures.told).not_above
 
-pub invariant_of-self-2 : goal.invariant_of-self-2
-invariant_of-self-2 c = kept_as _ _ _ _ _ _ c.wait.ensures.holding refl refl c.self.invariant
+pub returns-in-Some-clause-allowed : goal.returns-in-Some-clause-allowed
+returns-in-Some-clause-allowed c = (request_tells c.in-Some.lane.now c.args.self.now c.args.entry (shown c.self.inside.lanes c.args.self.now c.self.view_is c.self.invariant c.args.entry c.in-Some.lane.now c.in-Some.ensures.value) c.request.result c.request.ensures.told).allowed
 
-pub returns-clause-exclusive : goal.returns-clause-exclusive
-returns-clause-exclusive c = (invariant_of-self-2 c).conflict_free
+pub request-requires : goal.request-requires
+request-requires c = granted_on c.self.inside.lanes c.args.self.now c.self.view_is c.self.invariant c.args.entry c.in-Some.lane.now c.in-Some.ensures.value
 
-pub returns-clause-ok : goal.returns-clause-ok
-returns-clause-ok c =
-    let gains : Gains c.self.inside.lanes.waiting c.args.entry c.wait.new.self.waiting = search rules in (
-      c.in_ok-check_request.ensures.allowed.0 refl,
-      subst (λ (es : List Entry). Gains es c.args.entry c.wait.new.self.waiting) (ap (λ (t : LockTable). t.waiting) c.self.view_is) gains,
-      c.wait.ensures.holding ∙ ap (λ (t : LockTable). t.holding) c.self.view_is,
-      ap (λ (t : LockTable). t.granted) c.self.view_is,
-    )
+-- ---- The name gets its first lane
+
+pub invariant_of-self-in-None : goal.invariant_of-self-in-None
+invariant_of-self-in-None c = (open_tried c.self.inside.lanes c.args.self.now c.self.view_is c.self.invariant c.args.entry c.get_mut.follows.lender-at-none c.open.new.lanes c.get_mut.follows.holds-at-none c.in-None.ensures.value c.open.result c.open.ensures.ok c.open.ensures.unique c.open.ensures.err).still_kept
+
+pub returns-in-None-clause-exclusive : goal.returns-in-None-clause-exclusive
+returns-in-None-clause-exclusive c = (invariant_of-self-in-None c).conflict_free
+
+pub returns-in-None-clause-ok : goal.returns-in-None-clause-ok
+returns-in-None-clause-ok c = (open_tried c.self.inside.lanes c.args.self.now c.self.view_is c.self.invariant c.args.entry c.get_mut.follows.lender-at-none c.open.new.lanes c.get_mut.follows.holds-at-none c.in-None.ensures.value c.open.result c.open.ensures.ok c.open.ensures.unique c.open.ensures.err).ok
+
+pub returns-in-None-clause-err : goal.returns-in-None-clause-err
+returns-in-None-clause-err c = (open_tried c.self.inside.lanes c.args.self.now c.self.view_is c.self.invariant c.args.entry c.get_mut.follows.lender-at-none c.open.new.lanes c.get_mut.follows.holds-at-none c.in-None.ensures.value c.open.result c.open.ensures.ok c.open.ensures.unique c.open.ensures.err).err
+
+pub returns-in-None-clause-node_busy : goal.returns-in-None-clause-node_busy
+returns-in-None-clause-node_busy c = (request_tells empty_table c.args.self.now c.args.entry (none_shown c.self.inside.lanes c.args.self.now c.self.view_is c.self.invariant c.args.entry c.in-None.ensures.value) c.open.result (request_made c.open.result empty_table c.args.entry (empty_may c.args.entry) c.open.ensures.memory)).node_busy
+
+pub returns-in-None-clause-not_above : goal.returns-in-None-clause-not_above
+returns-in-None-clause-not_above c = (request_tells empty_table c.args.self.now c.args.entry (none_shown c.self.inside.lanes c.args.self.now c.self.view_is c.self.invariant c.args.entry c.in-None.ensures.value) c.open.result (request_made c.open.result empty_table c.args.entry (empty_may c.args.entry) c.open.ensures.memory)).not_above
+
+pub returns-in-None-clause-allowed : goal.returns-in-None-clause-allowed
+returns-in-None-clause-allowed c = (request_tells empty_table c.args.self.now c.args.entry (none_shown c.self.inside.lanes c.args.self.now c.self.view_is c.self.invariant c.args.entry c.in-None.ensures.value) c.open.result (request_made c.open.result empty_table c.args.entry (empty_may c.args.entry) c.open.ensures.memory)).allowed

@@ -1,0 +1,191 @@
+//! The entries on one name.
+ghost use Rattle.std.specs.Prelude.{◌≡◌, ◌↔◌, max, unwrap_or, Contains, IsTrue, IsOk, IfOk, OnOk, OnErr};
+ghost use Rattle.ra_stamp.specs.declared.entry.Mark.{Mark};
+ghost use Rattle.ra_table.specs.Table.{TableStep};
+ghost use Rattle.ra_table.specs.Refusals.{IsNodeBusy, IsNotAbove};
+ghost use Rattle.ra_table.specs.Answers.{RequestTells, CheckTells, EnterTells, IsAnswered};
+ghost use Rattle.ra_table.specs.Lanes.{AreOn, StandsAt, first_request};
+
+use crate::error::{EnterError, LeaveError, RequestError};
+use crate::lists::{has_earlier, has_excluding, has_node_of, place_of, push_exactly};
+use ra_stamp::{Entry, GhostList, Memory};
+use std::alloc::Global;
+use std::marker::Model;
+
+/// The entries on one name: those that wait, those that hold, and those granted so far. Contracts see them as a lock table.
+/// Each call takes time linear in the number of entries that wait and hold. A lane stays when its last entry has left.
+#[derive(Drop)]
+pub struct Lane {
+    waiting: Vec<Entry>,
+    holding: Vec<Entry>,
+    /// The entries granted so far, for proofs alone.
+    granted: GhostList<Entry>,
+    /// The highest number granted so far.
+    highest: Option<u64>,
+}
+
+impl Model for Lane {
+    ghost use Rattle.std.specs.Prelude.{◌≡◌};
+    ghost use Rattle.ra_table.specs.Table.{LockTable};
+    ghost use Rattle.ra_table.specs.Lanes.{highest_of};
+
+    ghost Value = { LockTable };
+
+    ghost view = { λ l.
+        record { waiting = l.waiting.items; holding = l.holding.items; granted = l.granted.items } };
+
+    ghost invariant = { λ l. l.highest ≡ highest_of l.granted.items };
+}
+
+impl Lane {
+    /// Makes the lane of a name on which nothing was granted yet, and this entry alone waits.
+    ///
+    /// # Errors
+    ///
+    /// `Memory`: memory ran out.
+    pub fn first(alloc: Global, entry: &Entry) -> Result<Lane, Memory>
+        ensures { IfOk result (λ lane. lane ≡ first_request entry.now) }
+    {
+        let mut waiting = Vec::new(alloc);
+        push_exactly(&mut waiting, entry)?;
+        Ok(Lane {
+            waiting,
+            holding: Vec::new(alloc),
+            granted: GhostList::new(),
+            highest: None,
+        })
+    }
+
+    /// Lets the entry wait, which is on the name of the lane.
+    ///
+    /// # Errors
+    ///
+    /// Those of `Table::request`, with the lane as before.
+    pub fn request(&mut self, entry: &Entry) -> Result<(), RequestError>
+        requires { AreOn entry.now.name self.old.granted }
+        ensures ok { OnOk result (TableStep self.old (Mark.Requested entry.now) self.new) }
+        ensures err { OnErr result (self.new ≡ self.old) }
+        ensures told { RequestTells result self.old entry.now }
+    {
+        self.check_request(entry)?;
+        let Ok(()) = push_exactly(&mut self.waiting, entry) else {
+            return Err(RequestError::Memory);
+        };
+        Ok(())
+    }
+
+    /// Grants an entry that waits, so that it holds.
+    ///
+    /// # Errors
+    ///
+    /// Those of `Table::enter`, with the lane as before.
+    pub fn enter(&mut self, entry: &Entry) -> Result<(), EnterError>
+        ensures ok { OnOk result (TableStep self.old (Mark.Entered entry.now) self.new) }
+        ensures err { OnErr result (self.new ≡ self.old) }
+        ensures told { EnterTells result self.old entry.now }
+    {
+        let place = self.check_enter(entry)?;
+        // This is the last that can be refused.
+        let Ok(()) = push_exactly(&mut self.holding, entry) else {
+            return Err(EnterError::Memory);
+        };
+        self.waiting.remove(place);
+        self.highest = Some(raised(self.highest, entry.stamp.seq));
+        self.granted = self.granted.and(entry);
+        Ok(())
+    }
+
+    /// Ends the hold of an entry. It does not allocate.
+    ///
+    /// # Errors
+    ///
+    /// `NotHeld`: it does not hold. The lane is as before.
+    pub fn leave(&mut self, entry: &Entry) -> Result<(), LeaveError>
+        ensures ok { OnOk result (TableStep self.old (Mark.Left entry.now) self.new) }
+        ensures err { OnErr result (self.new ≡ self.old) }
+        ensures held { IsOk result ↔ Contains self.old.holding entry.now }
+    {
+        let Some(place) = place_of(&self.holding, entry) else {
+            return Err(LeaveError::NotHeld);
+        };
+        self.holding.remove(place);
+        Ok(())
+    }
+
+    /// Checks whether the request may be made of an entry on the name of the lane.
+    ///
+    /// # Errors
+    ///
+    /// Those of `request`, except for `Memory`.
+    pub fn check_request(&self, entry: &Entry) -> Result<(), RequestError>
+        requires { AreOn entry.now.name self.now.granted }
+        ensures { CheckTells result self.now entry.now }
+    {
+        if self.is_node_busy(entry) {
+            return Err(RequestError::NodeBusy);
+        }
+        if self.is_not_above(entry) {
+            return Err(RequestError::NotAbove);
+        }
+        Ok(())
+    }
+
+    /// Returns where the entry waits, if it may be granted.
+    ///
+    /// # Errors
+    ///
+    /// Those of `enter`, except for `Memory`.
+    pub fn check_enter(&self, entry: &Entry) -> Result<usize, EnterError>
+        ensures place { IfOk result (λ place. StandsAt self.now.waiting place entry.now) }
+        ensures answered { IsAnswered self.now entry.now result }
+    {
+        let Some(place) = place_of(&self.waiting, entry) else {
+            return Err(EnterError::NotWaiting);
+        };
+        if has_excluding(&self.holding, entry) {
+            return Err(EnterError::Held);
+        }
+        if has_earlier(&self.waiting, entry) {
+            return Err(EnterError::Earlier);
+        }
+        Ok(place)
+    }
+
+    /// Returns whether the entry holds.
+    pub fn holds(&self, entry: &Entry) -> bool
+        ensures { IsTrue result ↔ Contains self.now.holding entry.now }
+    {
+        match place_of(&self.holding, entry) {
+            Some(_) => true,
+            None => false,
+        }
+    }
+
+    /// Returns whether the entry's node waits or holds.
+    fn is_node_busy(&self, entry: &Entry) -> bool
+        ensures { IsTrue result ↔ IsNodeBusy self.now entry.now }
+    {
+        has_node_of(&self.waiting, entry) || has_node_of(&self.holding, entry)
+    }
+
+    /// Returns whether an entry granted so far has the entry's number or a greater one.
+    fn is_not_above(&self, entry: &Entry) -> bool
+        requires { AreOn entry.now.name self.now.granted }
+        ensures { IsTrue result ↔ IsNotAbove self.now entry.now }
+    {
+        match self.highest {
+            Some(number) => number >= entry.stamp.seq,
+            None => false,
+        }
+    }
+}
+
+/// Returns the highest number after this one is granted.
+fn raised(highest: Option<u64>, number: u64) -> u64
+    ensures { result ≡ max number (unwrap_or highest 0) }
+{
+    match highest {
+        Some(before) => before.max(number),
+        None => number,
+    }
+}
