@@ -2,6 +2,7 @@
 use Rattle.std.proofs.Common.{◌≡◌, ◌≢◌, ◌⊎◌, ℕ, ◌≤◌, ◌<◌, List, [], ◌++◌, length, Option, Ok, Err, refl, sym, subst, arith, inl, inr}
 use Rattle.std.specs.Io.KnownBytes.{Consumes, Appends}
 use Rattle.std.proofs.KnownBytes.{Consumes-nil}
+use Rattle.hex.specs.Hex.{decode_of}
 use Rattle.ra_stamp.specs.declared.message.Message.{Message}
 use Rattle.ra_frame.specs.declared.frame.Frame.{Frame}
 use Rattle.ra_world.specs.declared.error.ReadFault.{ReadFault}
@@ -10,7 +11,8 @@ use Rattle.ra_world.specs.Input.{Reads}
 use Rattle.ra_cli.specs.declared.error.AnswerError.{AnswerError}
 use Rattle.ra_cli.specs.declared.error.AnswerError.TheVariants as fault
 use Rattle.ra_cli.specs.Answer.{Carries, IsMember, IsUnwanted, IsAnswered, Refuses}
-use Rattle.ra_cli.specs.AnswerCall.{ComesTo}
+use Rattle.ra_cli.specs.AnswerCall.{ComesTo, IsOfInput}
+use Rattle.ra_cli.specs.Line.{IsLine}
 use Rattle.ra_cli.proofs.Refusals.{for_each, refuses_input, answers_input, not_nil}
 use Rattle.ra_cli.proofs.ClusterRuns.{of_known}
 
@@ -23,12 +25,20 @@ unwanted node nodes input frame why member carries (inr (inl (is, strange))) =
     subst (Refuses node nodes input) (sym is) (member, frame, carries, strange)
 unwanted node nodes input frame why member carries (inr (inr is)) = subst (Refuses node nodes input) (sym is) member
 
--- such a refusal is neither of the writer nor of the reader
-pub of_message : (node nodes : ℕ) (message : Message) (why : AnswerError) → IsUnwanted node nodes message why
-    → (why ≢ fault.Write) × (why ≢ fault.Read)
-of_message node nodes message why (inl (is, other)) = ((λ write. absurd cc), (λ read. absurd cc))
-of_message node nodes message why (inr (inl (is, strange))) = ((λ write. absurd cc), (λ read. absurd cc))
-of_message node nodes message why (inr (inr is)) = ((λ write. absurd cc), (λ read. absurd cc))
+-- such a refusal is neither of the reader nor of the writer
+pub of_message : (node nodes : ℕ) (message : Message) (why : AnswerError) → IsUnwanted node nodes message why → IsOfInput why
+of_message node nodes message why (inl (is, other)) = ((λ read. absurd cc), (λ write. absurd cc))
+of_message node nodes message why (inr (inl (is, strange))) = ((λ read. absurd cc), (λ write. absurd cc))
+of_message node nodes message why (inr (inr is)) = ((λ read. absurd cc), (λ write. absurd cc))
+
+-- digits that are no bytes are refused so
+pub no_bytes : (input digits : List ℕ) (why : AnswerError) → IsLine input digits
+    → (why ≡ fault.Memory) ⊎ ((why ≡ fault.Hex) × ((bytes : List ℕ) → decode_of digits ≡ Ok bytes → ⊥))
+    → ((node nodes : ℕ) → IsMember node nodes → Refuses node nodes input why) × IsOfInput why
+no_bytes input digits why line (inl is) =
+    ((λ node nodes member. subst (Refuses node nodes input) (sym is) member), ((λ read. absurd cc), (λ write. absurd cc)))
+no_bytes input digits why line (inr (is, none)) =
+    ((λ node nodes member. subst (Refuses node nodes input) (sym is) (member, digits, line, none)), ((λ read. absurd cc), (λ write. absurd cc)))
 
 -- nothing was read
 pub no_member : {T : Type 0} (node nodes : ℕ) (old before : Option (List ℕ)) (S W : Type 0) (why : AnswerError)
@@ -104,11 +114,11 @@ no_input node nodes old new before S W given why member from failed at_most w =
 
 -- the input was read, and is not answered
 pub no_answer : {T : Type 0} (node nodes : ℕ) (old new before : Option (List ℕ)) (S W : Type 0) (taken : List ℕ) (why : AnswerError)
-    → IsMember node nodes → Reads old new 258 taken → Refuses node nodes taken why → why ≢ fault.Write → why ≢ fault.Read → W
+    → IsMember node nodes → Reads old new 258 taken → Refuses node nodes taken why → IsOfInput why → W
     → ComesTo {T = T} node nodes old new before before S W (Err why)
-no_answer node nodes old new before S W taken why member reads refuses early unread w = record {
+no_answer node nodes old new before S W taken why member reads refuses (unread, unwritten) w = record {
   ok = tt;
-  refused = refuses_input old new node nodes taken why early reads refuses;
+  refused = refuses_input old new node nodes taken why unwritten reads refuses;
   cause = (taken, refuses);
   member = tt;
   untouched = λ is. elim is [
@@ -116,7 +126,7 @@ no_answer node nodes old new before S W taken why member reads refuses early unr
     | inr none ↦ absurd ((subst (Refuses node nodes taken) none refuses).1 member)
   ];
   unwritten = λ _. w;
-  prefix = λ is. absurd (early (let e : why ≡ fault.Write = cc in e));
+  prefix = λ is. absurd (unwritten (let e : why ≡ fault.Write = cc in e));
   failed = λ is. absurd (unread (let e : why ≡ fault.Read = cc in e));
   at_most = (taken, reads.at_most, reads.taken);
 }

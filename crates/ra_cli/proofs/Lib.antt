@@ -16,4 +16,5 @@ mod Helping
 mod PictureLemmas
 mod TaskLemmas
 mod Orderly
+mod TaskStatuses
 mod Helped

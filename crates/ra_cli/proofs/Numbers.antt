@@ -36,6 +36,9 @@ left_not_1 status h is = absurd (omega (arith, h, is))
 pub left_not_2 : {A : Type 0} (status : ℕ) → status ≡ 3 → status ≡ 2 → A
 left_not_2 status h is = absurd (omega (arith, h, is))
 
+pub broken_at_most_3 : (status : ℕ) → status ≡ 1 → status ≤ 3
+broken_at_most_3 status h = omega arith
+
 pub broken_at_most_2 : (status : ℕ) → status ≡ 1 → status ≤ 2
 broken_at_most_2 status h = omega arith
 

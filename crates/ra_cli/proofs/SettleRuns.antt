@@ -6,9 +6,9 @@ use Rattle.ra_trace.specs.declared.error.TraceError.{TraceError}
 use Rattle.ra_trace.specs.declared.error.TraceError.TheVariants as fault
 use Rattle.ra_task.specs.declared.settle_arguments.SettleTask.{SettleTask}
 use Rattle.ra_cli.specs.declared.refusal_lines.Refusal.TheVariants.{Check}
-use Rattle.ra_cli.specs.Refusals.{IsOfReader, IsOfWriter, refused_line, trace_word, word_of}
+use Rattle.ra_cli.specs.Refusals.{IsOfReader, IsOfWriter, refused_line, trace_word}
 use Rattle.ra_cli.specs.SettleRun.{Contradicts, ReadsBooks, RefusesInput, ServesSettle, Settles, TellsSettled}
-use Rattle.ra_cli.specs.Statuses.{IsRefused, IsSaid}
+use Rattle.ra_cli.specs.Statuses.{IsRefused, IsSaid, PrintsRefusal, Writes}
 use Rattle.ra_cli.proofs.Statuses.{none_of_check}
 
 of_reader : (why : TraceError) → IsOfReader (Check why) → why ≡ fault.Read
@@ -19,9 +19,8 @@ of_reader why (inr (inr (inr (inl is)))) = absurd cc
 of_reader why (inr (inr (inr (inr is)))) = absurd cc
 
 -- what `refuse` says of a refusal of the input
-module _ (why : TraceError) (before after : Option (List ℕ)) (status : ℕ) (range : status ≤ 2) (not_done : 1 ≤ status)
-    (two : status ≡ 2 → (IsOfReader (Check why) → ⊥) × (IsOfWriter (Check why) → ⊥) × Appends before after (refused_line (word_of (Check why))))
-    (one : status ≡ 1 → IsOfWriter (Check why) ⊎ ((IsOfWriter (Check why) → ⊥) × IsSaid (Check why) before after)) where
+module _ (why : TraceError) (before after : Option (List ℕ)) (Unwritten : Type 0) (status : ℕ)
+    (printed : PrintsRefusal (Check why) before after Unwritten status) where
   of_said : IsOfWriter (Check why) ⊎ ((IsOfWriter (Check why) → ⊥) × IsSaid (Check why) before after)
       → ((why ≡ fault.Read) × Appends before after (codes "refused Read\n"))
       ⊎ ((prefix : List ℕ) × (rest : List ℕ) × (rest ≢ []) × Appends before after prefix × (prefix ++ rest ≡ refused_line (trace_word why)))
@@ -32,9 +31,9 @@ module _ (why : TraceError) (before after : Option (List ℕ)) (status : ℕ) (r
 
   pub refuses : RefusesInput why before after status
   refuses = record {
-    range = (not_done, range);
-    refused = λ is. (λ reads. (two is).0 (inr (inr (inl (ap Check reads)))), (two is).2);
-    broken = λ is. of_said (one is);
+    range = (printed.not_done, printed.range);
+    refused = λ is. (λ reads. (printed.refused is).0 (inr (inr (inl (ap Check reads)))), (printed.refused is).2);
+    broken = λ is. of_said (printed.broken is);
   }
 
 -- that memory ran out
@@ -55,39 +54,36 @@ no_memory asked input before after status h = record {
     of_broken (inl read) = absurd (let clash = read.0 in cc)
     of_broken (inr (prefix, rest, left, some, is)) = (prefix, rest, left, some, inr (inr is))
 
--- a text that is written, or of which the writer takes a prefix
-abbrev Writes : List ℕ → (before after : Option (List ℕ)) → (status good : ℕ) → Type 0
-Writes output before after status good = ((status ≡ good) × Appends before after output)
-    ⊎ ((status ≡ 1) × (prefix : List ℕ) × (rest : List ℕ) × (output ≡ prefix ++ rest) × (rest ≢ []) × Appends before after prefix)
+-- ---- A text that is written, or of which the writer takes a prefix
 
-pub shown : (asked : SettleTask) (input output : List ℕ) (before after : Option (List ℕ)) (status : ℕ) → status ≤ 3 → Settles asked input output
-    → Writes output before after status 0 → TellsSettled asked input before after status
-shown asked input output before after status range is (inl (zero, all)) = record {
-  range = range;
+pub shown : (asked : SettleTask) (input output : List ℕ) (before after : Option (List ℕ)) (status : ℕ) → Settles asked input output
+    → Writes output 0 before after status → TellsSettled asked input before after status
+shown asked input output before after status is (inl (zero, all)) = record {
+  range = omega (arith, zero);
   done = λ _. (output, is, all);
   unfinished = λ three. absurd (omega (arith, zero, three));
   refused = λ two. absurd (omega (arith, zero, two));
   broken = λ one. absurd (omega (arith, zero, one));
 }
-shown asked input output before after status range is (inr (one, prefix, rest, parts, left, some)) = record {
-  range = range;
+shown asked input output before after status is (inr (one, prefix, rest, parts, left, some)) = record {
+  range = omega (arith, one);
   done = λ zero. absurd (omega (arith, zero, one));
   unfinished = λ three. absurd (omega (arith, one, three));
   refused = λ two. absurd (omega (arith, one, two));
   broken = λ _. (prefix, rest, left, some, inl (subst (Settles asked input) parts is));
 }
 
-pub contradicted : (asked : SettleTask) (input output : List ℕ) (before after : Option (List ℕ)) (status : ℕ) → status ≤ 3 → Contradicts asked input output
-    → Writes output before after status 3 → TellsSettled asked input before after status
-contradicted asked input output before after status range is (inl (three, all)) = record {
-  range = range;
+pub contradicted : (asked : SettleTask) (input output : List ℕ) (before after : Option (List ℕ)) (status : ℕ) → Contradicts asked input output
+    → Writes output 3 before after status → TellsSettled asked input before after status
+contradicted asked input output before after status is (inl (three, all)) = record {
+  range = omega (arith, three);
   done = λ zero. absurd (omega (arith, three, zero));
   unfinished = λ _. (output, is, all);
   refused = λ two. absurd (omega (arith, three, two));
   broken = λ one. absurd (omega (arith, three, one));
 }
-contradicted asked input output before after status range is (inr (one, prefix, rest, parts, left, some)) = record {
-  range = range;
+contradicted asked input output before after status is (inr (one, prefix, rest, parts, left, some)) = record {
+  range = omega (arith, one);
   done = λ zero. absurd (omega (arith, zero, one));
   unfinished = λ three. absurd (omega (arith, one, three));
   refused = λ two. absurd (omega (arith, one, two));

@@ -1,5 +1,5 @@
 -- What a refusal comes to, and a text of which the writer took a prefix, as the statuses tell it.
-use Rattle.std.proofs.Common.{◌≡◌, ◌≢◌, ◌⊎◌, ℕ, ◌≤◌, Bool, List, [], ◌++◌, Option, sym, ap, subst, refl, ◌∙◌, inl, inr, codes, arith}
+use Rattle.std.proofs.Common.{◌≡◌, ◌≢◌, ◌⊎◌, ℕ, Bool, List, [], ◌++◌, Option, sym, ap, subst, refl, ◌∙◌, inl, inr, codes, arith}
 use Rattle.std.specs.Prelude.{IfSome}
 use Rattle.std.specs.Io.KnownBytes.{Appends}
 use Rattle.ra_schedule.specs.declared.choice.Policy.{Policy}
@@ -29,11 +29,12 @@ use Rattle.ra_cli.specs.Answer.{IsAnswered}
 use Rattle.ra_cli.specs.Checks.{verdict_text, marks_verdict_text}
 use Rattle.ra_cli.specs.ClusterRun.{IsClusterRun}
 use Rattle.ra_cli.specs.Refusals.{IsOfReader, IsOfWriter, refused_line, word_of}
-use Rattle.ra_cli.specs.Statuses.{IsRefused, IsSaid, IsBroken, IsPrinted, BreaksOff}
+use Rattle.ra_cli.specs.Statuses.{IsRefused, IsSaid, IsBroken, IsPrinted, BreaksOff, PrintsRefusal, Writes}
 use Rattle.ra_cli.specs.Surveyed.{IsTold}
 use Rattle.ra_task.specs.Arguments.{GivesNode, HasMarksOption, PrintsBy}
 use Rattle.ra_cli.proofs.ClusterRuns.{of_known}
 use Rattle.ra_cli.proofs.Helping.{for_each}
+use Rattle.ra_cli.proofs.Numbers.{broken_at_least_1, broken_at_most_2, broken_not_2}
 
 -- ---- Who failed
 
@@ -111,32 +112,68 @@ broken arguments old before between after refusal fails stays same (inl writer) 
 broken arguments old before between after refusal fails stays same (inr (other, says)) =
     said arguments old before after refusal (subst (λ (o : Option (List ℕ)). IsSaid refusal o after) (same other) says)
 
--- the line is written, or a prefix of it, if the reader failed
-pub line_of_failed : (refusal : Refusal) (line : List ℕ) (before after : Option (List ℕ)) (result : ℕ) → line ≡ refused_line (word_of refusal) → IsOfReader refusal
-    → ((result ≡ 1) × Appends before after line)
-    ⊎ ((result ≡ 1) × (prefix : List ℕ) × (rest : List ℕ) × (line ≡ prefix ++ rest) × (rest ≢ []) × Appends before after prefix)
-    → (result ≡ 1) × IsSaid refusal before after
-line_of_failed refusal line before after result is reader (inl (one, all)) = (one, inl (reader, subst (Appends before after) is all))
-line_of_failed refusal line before after result is reader (inr (one, prefix, rest, parts, left, some)) = (one, inr (prefix, rest, sym is ∙ parts, left, some))
+-- ---- What comes of a refusal
 
--- and if it did not fail
-pub line_of_refused : (refusal : Refusal) (line : List ℕ) (before after : Option (List ℕ)) (result status : ℕ) → status ≡ result
-    → line ≡ refused_line (word_of refusal)
-    → ((result ≡ 2) × Appends before after line)
-    ⊎ ((result ≡ 1) × (prefix : List ℕ) × (rest : List ℕ) × (line ≡ prefix ++ rest) × (rest ≢ []) × Appends before after prefix)
-    → (status ≤ 2) × (1 ≤ status) × (status ≡ 2 → Appends before after (refused_line (word_of refusal))) × (status ≡ 1 → IsSaid refusal before after)
-line_of_refused refusal line before after result status same is (inl (two, all)) = (
-  omega (arith, same, two),
-  omega (arith, same, two),
-  λ _. subst (Appends before after) is all,
-  λ one. absurd (omega (arith, same, two, one)),
-)
-line_of_refused refusal line before after result status same is (inr (one, prefix, rest, parts, left, some)) = (
-  omega (arith, same, one),
-  omega (arith, same, one),
-  λ two. absurd (omega (arith, same, one, two)),
-  λ _. inr (prefix, rest, sym is ∙ parts, left, some),
-)
+-- nothing is written after the writer failed
+pub of_writer : (refusal : Refusal) (before after : Option (List ℕ)) (Unwritten : Type 0) (status : ℕ) → status ≡ 1 → IsOfWriter refusal → Unwritten
+    → PrintsRefusal refusal before after Unwritten status
+of_writer refusal before after Unwritten status one writer unwritten = record {
+  range = broken_at_most_2 status one;
+  not_done = broken_at_least_1 status one;
+  unwritten = λ _. (one, unwritten);
+  refused = λ two. broken_not_2 status one two;
+  broken = λ _. inl writer;
+}
+
+-- its line is written, or a prefix of it, if the reader failed
+pub of_reader : (refusal : Refusal) (line : List ℕ) (before after : Option (List ℕ)) (Unwritten : Type 0) (result status : ℕ) → status ≡ result
+    → line ≡ refused_line (word_of refusal) → IsOfReader refusal → (IsOfWriter refusal → ⊥) → Writes line 1 before after result
+    → PrintsRefusal refusal before after Unwritten status
+of_reader refusal line before after Unwritten result status same is reader other writes = record {
+  range = broken_at_most_2 status one;
+  not_done = broken_at_least_1 status one;
+  unwritten = λ writer. absurd (other writer);
+  refused = λ two. broken_not_2 status one two;
+  broken = λ _. inr (other, said writes);
+}
+  where
+    is_one : Writes line 1 before after result → result ≡ 1
+    is_one (inl all) = all.0
+    is_one (inr part) = part.0
+
+    one : status ≡ 1
+    one = same ∙ is_one writes
+
+    said : Writes line 1 before after result → IsSaid refusal before after
+    said (inl (_, all)) = inl (reader, subst (Appends before after) is all)
+    said (inr (_, prefix, rest, parts, left, some)) = inr (prefix, rest, sym is ∙ parts, left, some)
+
+-- and if neither failed
+pub of_others : (refusal : Refusal) (line : List ℕ) (before after : Option (List ℕ)) (Unwritten : Type 0) (result status : ℕ) → status ≡ result
+    → line ≡ refused_line (word_of refusal) → (IsOfReader refusal → ⊥) → (IsOfWriter refusal → ⊥) → Writes line 2 before after result
+    → PrintsRefusal refusal before after Unwritten status
+of_others refusal line before after Unwritten result status same is no_reader no_writer (inl (two, all)) = record {
+  range = omega (arith, same, two);
+  not_done = omega (arith, same, two);
+  unwritten = λ writer. absurd (no_writer writer);
+  refused = λ _. (no_reader, no_writer, subst (Appends before after) is all);
+  broken = λ one. absurd (omega (arith, same, two, one));
+}
+of_others refusal line before after Unwritten result status same is no_reader no_writer (inr (one, prefix, rest, parts, left, some)) = record {
+  range = omega (arith, same, one);
+  not_done = omega (arith, same, one);
+  unwritten = λ writer. absurd (no_writer writer);
+  refused = λ two. absurd (omega (arith, same, one, two));
+  broken = λ _. inr (no_writer, inr (prefix, rest, sym is ∙ parts, left, some));
+}
+
+-- ---- What is written
+
+-- a text is written under another name, and its status returned under another
+pub writes_as : (text shown : List ℕ) (wanted : ℕ) (before after : Option (List ℕ)) (result status : ℕ) → status ≡ result → shown ≡ text
+    → Writes shown wanted before after result → Writes text wanted before after status
+writes_as text shown wanted before after result status same is writes =
+    subst (λ (s : ℕ). Writes text wanted before after s) (sym same) (subst (λ (t : List ℕ). Writes t wanted before after result) is writes)
 
 -- of a text of which the writer took a prefix
 pub prefix_of : (arguments : List (List ℕ)) (old before after : Option (List ℕ)) (text prefix rest : List ℕ) → IfSome old (λ input. IsPrinted arguments input text)

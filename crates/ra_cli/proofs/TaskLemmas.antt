@@ -9,6 +9,7 @@ use Rattle.ra_script.specs.declared.error.PerformError.{PerformError}
 use Rattle.ra_script.specs.declared.performing.output_kind.OutputKind.{OutputKind}
 use Rattle.ra_script.specs.Performed.{RefusesAs}
 use Rattle.ra_schedule.specs.declared.choice.Policy.{Policy}
+use Rattle.ra_trace.specs.declared.error.TraceError.{TraceError}
 use Rattle.ra_draw.specs.declared.error.DrawError.{DrawError}
 use Rattle.ra_draw.specs.declared.part.Part.{Part}
 use Rattle.ra_draw.specs.Drawing.{IsInput, IsOfPart, IsUnfit}
@@ -24,7 +25,7 @@ use Rattle.ra_task.specs.declared.command_line.Task.{Task}
 use Rattle.ra_task.specs.declared.command_line.Task.TheVariants as task
 use Rattle.ra_task.specs.declared.command_line.input_kind.InputKind.{InputKind}
 use Rattle.ra_cli.specs.declared.refusal_lines.Refusal.{Refusal}
-use Rattle.ra_cli.specs.declared.refusal_lines.Refusal.TheVariants.{Choices, Draw, Perform}
+use Rattle.ra_cli.specs.declared.refusal_lines.Refusal.TheVariants.{Check, Choices, Draw, Perform}
 use Rattle.ra_cli.proofs.ClusterRuns.{of_known}
 use Rattle.ra_cli.proofs.Helping.{for_each}
 use Rattle.ra_cli.proofs.PictureLemmas.{of_input}
@@ -37,19 +38,12 @@ pub refused_for : (Cause : Refusal → Type 0) (why : Refusal) (before between a
 refused_for Cause why before between after same h cause =
     (why, h.0, h.1, subst (λ (o : Option (List ℕ)). Appends o after (refused_line (word_of why))) (same h.1) h.2, cause)
 
--- one cause is another one, too
-pub refused_as : (One Other : Refusal → Type 0) (before after : Option (List ℕ)) → ((why : Refusal) → One why → Other why)
-    → IsRefusedFor One before after → IsRefusedFor Other before after
-refused_as One Other before after f (why, reader, writer, out, cause) = (why, reader, writer, out, f why cause)
-
 pub without_cause : (Cause : Refusal → Type 0) (before after : Option (List ℕ)) → IsRefusedFor Cause before after → IsRefused before after
 without_cause Cause before after (why, reader, writer, out, cause) = (why, reader, writer, out)
 
--- a cause that says nothing of the input
-pub of_any : (Cause : Refusal → Type 0) (old before after : Option (List ℕ)) → IsRefusedFor Cause before after
-    → IsRefusedFor (λ why. IfSome old (λ input. Cause why)) before after
-of_any Cause old before after (why, reader, writer, out, cause) =
-    (why, reader, writer, out, for_each old (λ input. Cause why) (λ input. cause))
+-- a text is not checked
+pub of_check : (old : Option (List ℕ)) (fault : TraceError) → IfSome old (λ input. (other : TraceError) × (Check fault ≡ Check other))
+of_check old fault = for_each old (λ input. (other : TraceError) × (Check fault ≡ Check other)) (λ input. (fault, refl))
 
 choices_cause : (choices : List ℕ) (fault : ChoicesError) → ((fault ≡ Choice) × (choices_of choices ≡ None)) ⊎ (fault ≡ Memory) → fault ≡ Choice
     → choices_of choices ≡ None

@@ -5,6 +5,10 @@ use Rattle.ra_cli.specs.declared.error.AnswerError.{AnswerError}
 use Rattle.ra_cli.specs.declared.error.AnswerError.TheVariants as fault
 use Rattle.ra_cli.specs.Answer.{IsMember, IsAnswered, Refuses}
 
+-- the refusal is of what was read, or memory ran out: neither the reader nor the writer failed
+abbrev pub IsOfInput : AnswerError → Type 0
+IsOfInput why = (why ≢ fault.Read) × (why ≢ fault.Write)
+
 -- What was read and written, or the cause of a refusal. The caller says what it means that the reader and the writer
 -- stay as they were: two of the propositions are these.
 pub record ComesTo {T : Type 0} (node nodes : ℕ) (old new before after : Option (List ℕ)) (same_reader same_writer : Type 0)

@@ -42,6 +42,11 @@ IsUnfinished arguments old new before after =
     Performs old new before after false ⊎ Judges arguments old new before after false ⊎ IsDenied arguments old new before after
     ⊎ Surveys old new before after false
 
+-- a text was written, and this is the status; or the writer failed, only a prefix of the text was written, and the status is 1
+abbrev pub Writes : (text : List ℕ) → (wanted : ℕ) → (before after : Option (List ℕ)) → (status : ℕ) → Type 0
+Writes text wanted before after status = ((status ≡ wanted) × Appends before after text)
+    ⊎ ((status ≡ 1) × (prefix rest : List ℕ) × (text ≡ prefix ++ rest) × (rest ≢ []) × Appends before after prefix)
+
 -- status 2: the line of a refusal was written and nothing else, and neither the reader nor the writer failed
 abbrev pub IsRefused : (before after : Option (List ℕ)) → Type 0
 IsRefused before after = (refusal : Refusal) × (IsOfReader refusal → ⊥) × (IsOfWriter refusal → ⊥)
@@ -52,6 +57,15 @@ IsRefused before after = (refusal : Refusal) × (IsOfReader refusal → ⊥) × 
 abbrev pub IsSaid : Refusal → (before after : Option (List ℕ)) → Type 0
 IsSaid refusal before after = (IsOfReader refusal × Appends before after (refused_line (word_of refusal)))
     ⊎ ((prefix rest : List ℕ) × (refused_line (word_of refusal) ≡ prefix ++ rest) × (rest ≢ []) × Appends before after prefix)
+
+-- What comes of a refusal, by the status. `Unwritten` says that nothing was written.
+pub record PrintsRefusal (refusal : Refusal) (before after : Option (List ℕ)) (Unwritten : Type 0) (status : ℕ) : Type 0 where
+  pub range : status ≤ 2
+  pub not_done : 1 ≤ status
+  -- after a fault of the writer nothing is written
+  pub unwritten : IsOfWriter refusal → (status ≡ 1) × Unwritten
+  pub refused : status ≡ 2 → (IsOfReader refusal → ⊥) × (IsOfWriter refusal → ⊥) × Appends before after (refused_line (word_of refusal))
+  pub broken : status ≡ 1 → IsOfWriter refusal ⊎ ((IsOfWriter refusal → ⊥) × IsSaid refusal before after)
 
 -- what the arguments print for an input: the line of a refusal, what came of the input, or a text of help
 abbrev pub IsPrinted : (arguments : List (List ℕ)) → (input text : List ℕ) → Type 0

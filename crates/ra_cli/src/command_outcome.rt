@@ -11,7 +11,7 @@ pub const UNFINISHED: u8 = 3;
 
 /// What there is to say to a person of what came of a command. A note is made of it when everything else is done, so that it
 /// takes no part in what is printed.
-#[derive(Drop)]
+#[derive(Clone, Copy)]
 pub enum Remark {
     /// It was refused.
     Refused(Refusal),
@@ -56,7 +56,7 @@ fn ran_to_end(status: u8) -> bool {
 }
 
 /// What came of a command: its exit status, and what there is to say of it to a person, if anything.
-#[derive(Drop)]
+#[derive(Clone, Copy)]
 pub struct Outcome {
     pub status: u8,
     pub remark: Option<Remark>,

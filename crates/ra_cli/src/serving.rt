@@ -1,22 +1,12 @@
-ghost use Rattle.std.specs.Prelude.{true, false, [], ◌++◌, None, ◌≢◌, ◌↔◌, IsTrue, Option, ◌≡◌, ◌≤◌, ◌⊎◌, List, ℕ, map, IfSome, string_bytes};
+ghost use Rattle.std.specs.Prelude.{true, false, [], ◌++◌, None, ◌≢◌, ◌↔◌, IsTrue, ◌≡◌, ◌≤◌, ◌⊎◌, List, ℕ, map, string_bytes};
 ghost use Rattle.std.specs.Io.KnownBytes.{Appends};
-ghost use Rattle.ra_task.specs.Arguments.{ReadsBy, GivesNode, HasMarksOption, PrintsBy};
-ghost use Rattle.ra_cli.specs.Answer.{Refuses};
-ghost use Rattle.ra_cli.specs.Checks.{Checks, ChecksMarks, is_run, is_valid};
-ghost use Rattle.ra_trace.specs.declared.error.TraceError.{TraceError};
-ghost use Rattle.ra_trace.specs.declared.checker.verdict.Verdict.{Verdict};
-ghost use Rattle.ra_draw.specs.declared.error.DrawError.{DrawError};
-ghost use Rattle.ra_cli.specs.ClusterRun.{RefusesRun, RunsCluster};
-ghost use Rattle.ra_cli.specs.Pictures.{IsNotDrawn};
-ghost use Rattle.ra_cli.specs.Statuses.{IsBroken, IsPrinted, IsSaid, Serves};
-ghost use Rattle.ra_cli.specs.Surveyed.{RefusesSurvey, SurveysBy};
-ghost use Rattle.ra_cli.specs.Tasks.{AnswersAs, Does, DrawsPart, IsRefusedFor, PerformsNamed, RefusesNamed, RefusesPart};
+ghost use Rattle.ra_task.specs.declared.command_line.Task.{Task};
+ghost use Rattle.ra_cli.specs.Checks.{is_run, is_valid};
+ghost use Rattle.ra_cli.specs.Statuses.{PrintsRefusal, Serves, Writes};
+ghost use Rattle.ra_cli.specs.Tasks.{Does};
 ghost use Rattle.ra_task.specs.Asked.{Asks};
 ghost use Rattle.ra_script.specs.ChoicesText.{choices_of};
-ghost use Rattle.ra_cli.specs.declared.error.AnswerError.{AnswerError};
-ghost use Rattle.ra_cli.specs.declared.error.RunScriptError.{RunScriptError};
-ghost use Rattle.ra_cli.specs.declared.refusal_lines.Refusal.{Refusal};
-ghost use Rattle.ra_cli.specs.Refusals.{IsOfReader, IsOfWriter, command_word, refused_line, word_of};
+ghost use Rattle.ra_cli.specs.Refusals.{IsOfReader, IsOfWriter, command_word, refused_line};
 
 use crate::command_outcome::{Outcome, Remark, UNFINISHED, marks_remark_of, remark_of};
 use crate::commands::cluster_command::run_script;
@@ -55,11 +45,7 @@ const REFUSED: u8 = 2;
 
 /// Writes a text and returns the status, or that of a fault if the writer fails. It does not allocate.
 pub fn written<W: Write>(writer: &mut W, text: &[u8], status: u8) -> u8
-    requires { status ≤ 3 }
-    ensures range { result ≤ 3 }
-    ensures value { ((result ≡ status) × Appends (W.contents writer.old) (W.contents writer.new) text.now)
-        ⊎ ((result ≡ 1) × (prefix : List ℕ) × (rest : List ℕ) × (text.now ≡ prefix ++ rest) × (rest ≢ [])
-        × Appends (W.contents writer.old) (W.contents writer.new) prefix) }
+    ensures { Writes text.now status (W.contents writer.old) (W.contents writer.new) result }
 {
     match write_out(writer, text) {
         Ok(()) => status,
@@ -97,13 +83,7 @@ fn is_of_the_reader(refusal: Refusal) -> bool
 /// Prints the line of a refusal and returns what came of it, with status 1 if the reader or the writer failed, and
 /// otherwise 2. After a fault of the writer it prints nothing. It does not allocate.
 pub fn refuse<W: Write>(writer: &mut W, refusal: Refusal) -> Outcome
-    ensures range { result.status ≤ 2 }
-    ensures not_done { 1 ≤ result.status }
-    ensures unwritten { IsOfWriter refusal → (result.status ≡ 1) × (writer.new ≡ writer.old) }
-    ensures refused { result.status ≡ 2 → (IsOfReader refusal → ⊥) × (IsOfWriter refusal → ⊥)
-        × Appends (W.contents writer.old) (W.contents writer.new) (refused_line (word_of refusal)) }
-    ensures broken { result.status ≡ 1 → IsOfWriter refusal
-        ⊎ ((IsOfWriter refusal → ⊥) × IsSaid refusal (W.contents writer.old) (W.contents writer.new)) }
+    ensures { PrintsRefusal refusal (W.contents writer.old) (W.contents writer.new) (writer.new ≡ writer.old) result.status }
 {
     if is_of_the_writer(refusal) {
         return Outcome::refused(BROKEN, refusal);
@@ -138,14 +118,8 @@ fn respond<R: Read, W: Write>(
     reader: &mut R,
     writer: &mut W,
 ) -> Outcome
-    ensures range { result.status ≤ 2 }
-    ensures answered { result.status ≡ 0 → AnswersAs node nodes (R.remaining reader.old) (R.remaining reader.new)
-        (W.contents writer.old) (W.contents writer.new) }
-    ensures refused { result.status ≡ 2 → IsRefusedFor (λ why. IfSome (R.remaining reader.old) (λ input.
-        (fault : AnswerError) × (why ≡ Refusal.Answer fault) × Refuses node nodes input fault))
-        (W.contents writer.old) (W.contents writer.new) }
-    ensures broken { (arguments : List (List ℕ)) → GivesNode arguments node nodes → result.status ≡ 1
-        → IsBroken arguments (R.remaining reader.old) (W.contents writer.old) (W.contents writer.new) }
+    ensures { Does (Task.Answer node nodes) (R.remaining reader.old) (R.remaining reader.new)
+        (W.contents writer.old) (W.contents writer.new) (reader.new ≡ reader.old) result.status }
 {
     match answer(alloc, node, nodes, reader, writer) {
         Ok(()) => Outcome::new(DONE, None),
@@ -162,16 +136,8 @@ fn simulate<R: Read, W: Write>(
     reader: &mut R,
     writer: &mut W,
 ) -> Outcome
-    ensures range { result.status ≤ 3 }
-    ensures done { result.status ≡ 0 → PerformsNamed name choices.now format (R.remaining reader.old) (R.remaining reader.new)
-        (W.contents writer.old) (W.contents writer.new) true }
-    ensures unfinished { result.status ≡ 3 → PerformsNamed name choices.now format (R.remaining reader.old)
-        (R.remaining reader.new) (W.contents writer.old) (W.contents writer.new) false }
-    ensures refused { result.status ≡ 2 → IsRefusedFor
-        (λ why. IfSome (R.remaining reader.old) (λ input. RefusesNamed name choices.now format input why))
-        (W.contents writer.old) (W.contents writer.new) }
-    ensures broken { (arguments : List (List ℕ)) → result.status ≡ 1
-        → IsBroken arguments (R.remaining reader.old) (W.contents writer.old) (W.contents writer.new) }
+    ensures does { Does (Task.Sim name choices.entry format) (R.remaining reader.old) (R.remaining reader.new)
+        (W.contents writer.old) (W.contents writer.new) (reader.new ≡ reader.old) result.status }
     // A text that is not a list of choices is refused before anything is read.
     ensures choices_first { choices_of choices.now ≡ None → (1 ≤ result.status) × (reader.new ≡ reader.old) }
 {
@@ -212,16 +178,8 @@ fn survey_seeds<R: Read, W: Write, O: Observer>(
     writer: &mut W,
     observer: &mut O,
 ) -> Outcome
-    ensures range { result.status ≤ 3 }
-    ensures done { result.status ≡ 0 → SurveysBy faults find first last (R.remaining reader.old) (R.remaining reader.new)
-        (W.contents writer.old) (W.contents writer.new) true }
-    ensures unfinished { result.status ≡ 3 → SurveysBy faults find first last (R.remaining reader.old) (R.remaining reader.new)
-        (W.contents writer.old) (W.contents writer.new) false }
-    ensures refused { result.status ≡ 2 → IsRefusedFor (λ why. IfSome (R.remaining reader.old) (λ input.
-        (fault : RunScriptError) × (why ≡ Refusal.Cluster fault) × RefusesSurvey faults find first last input fault))
-        (W.contents writer.old) (W.contents writer.new) }
-    ensures broken { (arguments : List (List ℕ)) → result.status ≡ 1
-        → IsBroken arguments (R.remaining reader.old) (W.contents writer.old) (W.contents writer.new) }
+    ensures { Does (Task.Survey faults find first last) (R.remaining reader.old) (R.remaining reader.new)
+        (W.contents writer.old) (W.contents writer.new) (reader.new ≡ reader.old) result.status }
 {
     match survey_script(alloc, faults, find, first, last, reader, writer, observer) {
         Ok(true) => Outcome::new(DONE, None),
@@ -242,15 +200,8 @@ fn status_of(verdict: &Verdict) -> u8
 
 /// Checks the text of the reader, and writes the lines of its verdict.
 fn judge<R: BufRead, W: Write>(alloc: Global, reader: &mut R, writer: &mut W) -> Outcome
-    ensures range { result.status ≤ 3 }
-    ensures valid { result.status ≡ 0 → Checks (R.remaining reader.old) (R.remaining reader.new)
-        (W.contents writer.old) (W.contents writer.new) true }
-    ensures invalid { result.status ≡ 3 → Checks (R.remaining reader.old) (R.remaining reader.new)
-        (W.contents writer.old) (W.contents writer.new) false }
-    ensures refused { result.status ≡ 2 → IsRefusedFor (λ why. (fault : TraceError) × (why ≡ Refusal.Check fault))
-        (W.contents writer.old) (W.contents writer.new) }
-    ensures broken { (arguments : List (List ℕ)) → (HasMarksOption arguments → ⊥) → result.status ≡ 1
-        → IsBroken arguments (R.remaining reader.old) (W.contents writer.old) (W.contents writer.new) }
+    ensures { Does Task.Check (R.remaining reader.old) (R.remaining reader.new)
+        (W.contents writer.old) (W.contents writer.new) (reader.new ≡ reader.old) result.status }
 {
     let mut due = None;
     let verdict = match check_buffered_with_due(alloc, reader, &mut due) {
@@ -278,15 +229,8 @@ fn marks_status_of(verdict: &MarksVerdict) -> u8
 
 /// Checks the mark log of the reader, and writes the lines of its verdict.
 fn judge_marks<R: BufRead, W: Write>(alloc: Global, reader: &mut R, writer: &mut W) -> Outcome
-    ensures range { result.status ≤ 3 }
-    ensures valid { result.status ≡ 0 → ChecksMarks (R.remaining reader.old) (R.remaining reader.new)
-        (W.contents writer.old) (W.contents writer.new) true }
-    ensures invalid { result.status ≡ 3 → ChecksMarks (R.remaining reader.old) (R.remaining reader.new)
-        (W.contents writer.old) (W.contents writer.new) false }
-    ensures refused { result.status ≡ 2 → IsRefusedFor (λ why. (fault : TraceError) × (why ≡ Refusal.Check fault))
-        (W.contents writer.old) (W.contents writer.new) }
-    ensures broken { (arguments : List (List ℕ)) → HasMarksOption arguments → result.status ≡ 1
-        → IsBroken arguments (R.remaining reader.old) (W.contents writer.old) (W.contents writer.new) }
+    ensures { Does Task.CheckMarks (R.remaining reader.old) (R.remaining reader.new)
+        (W.contents writer.old) (W.contents writer.new) (reader.new ≡ reader.old) result.status }
 {
     let verdict = match check_marks_buffered(alloc, reader) {
         Ok(verdict) => verdict,
@@ -303,12 +247,7 @@ fn judge_marks<R: BufRead, W: Write>(alloc: Global, reader: &mut R, writer: &mut
 
 /// Prints why an input is not drawn.
 fn print_invalid<W: Write>(denial: Denial, writer: &mut W) -> Outcome
-    ensures status { (result.status ≡ 1) ⊎ (result.status ≡ 3) }
-    ensures denied { result.status ≡ 3
-        → Appends (W.contents writer.old) (W.contents writer.new) (string_bytes denial.line) }
-    ensures broken { (arguments : List (List ℕ)) (old : Option (List ℕ))
-        → IfSome old (λ input. IsPrinted arguments input (string_bytes denial.line)) → result.status ≡ 1
-        → IsBroken arguments old (W.contents writer.old) (W.contents writer.new) }
+    ensures { Writes (string_bytes denial.line) 3 (W.contents writer.old) (W.contents writer.new) result.status }
 {
     let Denial { line, remark } = denial;
     let status = written(writer, line.as_bytes(), UNFINISHED);
@@ -325,17 +264,8 @@ fn draw_trace<R: Read, W: Write>(
     writer: &mut W,
     text: &mut Vec<u8>,
 ) -> Outcome
-    ensures range { result.status ≤ 3 }
-    ensures drawn { result.status ≡ 0 → DrawsPart kind part (R.remaining reader.old) (R.remaining reader.new)
-        (W.contents writer.old) (W.contents writer.new) }
-    ensures not_drawn { result.status ≡ 3 → IsNotDrawn kind (R.remaining reader.old) (R.remaining reader.new)
-        (W.contents writer.old) (W.contents writer.new) }
-    // Only a part that has no line, or too many, is refused as such.
-    ensures refused { result.status ≡ 2 → IsRefusedFor (λ why. IfSome (R.remaining reader.old) (λ input.
-        (fault : DrawError) × (why ≡ Refusal.Draw fault) × RefusesPart kind part input fault))
-        (W.contents writer.old) (W.contents writer.new) }
-    ensures broken { (arguments : List (List ℕ)) → ReadsBy arguments kind → result.status ≡ 1
-        → IsBroken arguments (R.remaining reader.old) (W.contents writer.old) (W.contents writer.new) }
+    ensures { Does (Task.Draw kind part) (R.remaining reader.old) (R.remaining reader.new)
+        (W.contents writer.old) (W.contents writer.new) (reader.new ≡ reader.old) result.status }
 {
     match draw_input(alloc, kind, part, reader, writer, text) {
         Ok(None) => Outcome::new(DONE, None),
@@ -352,14 +282,8 @@ fn run_by_threads<T: Threads + Wait + Sync, R: Read, W: Write>(
     reader: &mut R,
     writer: &mut W,
 ) -> Outcome
-    ensures range { result.status ≤ 2 }
-    ensures done { result.status ≡ 0 → RunsCluster printed (R.remaining reader.old) (R.remaining reader.new)
-        (W.contents writer.old) (W.contents writer.new) }
-    ensures refused { result.status ≡ 2 → IsRefusedFor (λ why. IfSome (R.remaining reader.old) (λ input.
-        (fault : RunScriptError) × (why ≡ Refusal.Cluster fault) × RefusesRun input fault))
-        (W.contents writer.old) (W.contents writer.new) }
-    ensures broken { (arguments : List (List ℕ)) → PrintsBy arguments printed → result.status ≡ 1
-        → IsBroken arguments (R.remaining reader.old) (W.contents writer.old) (W.contents writer.new) }
+    ensures { Does (Task.Cluster printed) (R.remaining reader.old) (R.remaining reader.new)
+        (W.contents writer.old) (W.contents writer.new) (reader.new ≡ reader.old) result.status }
 {
     match run_script(rt, alloc, printed, reader, writer) {
         Ok(()) => Outcome::new(DONE, None),

@@ -1,10 +1,10 @@
-ghost use Rattle.std.specs.Prelude.{◌≡◌, ◌≢◌, ◌<◌, ◌≤◌, ◌⊎◌, List, ℕ, ◌∷◌, [], ◌++◌, length, Ok, Some, All, OnOk, IfOk, IfErr, OnErr, IfSome, IsErrOf};
+ghost use Rattle.std.specs.Prelude.{◌≡◌, ◌≢◌, ◌<◌, ◌≤◌, ◌⊎◌, List, ℕ, ◌∷◌, [], ◌++◌, length, Ok, Some, All, OnOk, IfOk, IfErr, OnErr, IfSome, IsErrOf, MatchResult};
 ghost use Rattle.std.specs.Io.KnownBytes.{Consumes, Appends};
 ghost use Rattle.hex.specs.Hex.{decode_of, encode_lower};
 ghost use Rattle.ra_frame.specs.Fits.{Fits};
 ghost use Rattle.ra_frame.specs.FrameText.{IsWrittenText};
 ghost use Rattle.ra_cli.specs.Answer.{Carries, IsMember, IsUnwanted, Reacts, AreLines, IsAnswered, Refuses};
-ghost use Rattle.ra_cli.specs.AnswerCall.{ComesTo};
+ghost use Rattle.ra_cli.specs.AnswerCall.{ComesTo, IsOfInput};
 ghost use Rattle.ra_automaton.specs.State.{IsForNode};
 
 use crate::AnswerError;
@@ -69,12 +69,8 @@ fn bytes_of(alloc: Global, digits: &[u8]) -> Result<Vec<u8>, AnswerError>
 /// 3. `Frame`: the bytes are no frame.
 /// 4. `Memory`: there is none for the bytes.
 fn frame_in(alloc: Global, input: &[u8]) -> Result<Frame, AnswerError>
-    ensures ok { IfOk result (Carries input.now) }
-    ensures fits { IfOk result Fits }
-    ensures err { IfErr result (λ fault.
-        (node nodes : ℕ) → IsMember node nodes → Refuses node nodes input.now fault) }
-    ensures early { IfErr result (λ fault. fault ≢ AnswerError.Write) }
-    ensures unread { IsErrOf result AnswerError.Read → ⊥ }
+    ensures { MatchResult result (λ frame. Carries input.now frame × Fits frame)
+        (λ fault. ((node nodes : ℕ) → IsMember node nodes → Refuses node nodes input.now fault) × IsOfInput fault) }
 {
     let Some(digits) = line_of(input) else {
         return Err(AnswerError::Line);
@@ -167,10 +163,8 @@ fn reaction_to(
 /// Those of `frame_in` and `reaction_to`, and then `ClockFull`, if the node's clock would pass 2^62, and `Memory`.
 fn answer_to(alloc: Global, me: NodeId, nodes: u16, input: &[u8]) -> Result<Vec<u8>, AnswerError>
     requires { IsMember me nodes }
-    ensures ok { IfOk result (λ output. IsAnswered me nodes input.now output.items) }
-    ensures err { IfErr result (Refuses me nodes input.now) }
-    ensures early { IfErr result (λ fault. fault ≢ AnswerError.Write) }
-    ensures unread { IsErrOf result AnswerError.Read → ⊥ }
+    ensures { MatchResult result (λ output. IsAnswered me nodes input.now output.items)
+        (λ fault. Refuses me nodes input.now fault × IsOfInput fault) }
 {
     let frame = frame_in(alloc, input)?;
     let reaction = reaction_to(alloc, me, nodes, &frame.message)?;

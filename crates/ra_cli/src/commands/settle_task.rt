@@ -1,6 +1,6 @@
 //! The command `settle`.
 ghost use Rattle.std.specs.Prelude.{◌≡◌, List, ℕ, string_bytes, IfOk};
-ghost use Rattle.ra_book.specs.Verdicts.{IsSettledText, IsWrong};
+ghost use Rattle.ra_book.specs.Verdicts.{IsSettledText, IsUnsettled};
 ghost use Rattle.ra_task.specs.declared.settle_arguments.SettleOutput.{SettleOutput};
 ghost use Rattle.ra_task.specs.declared.settle_arguments.SettleTask.{SettleTask};
 ghost use Rattle.ra_cli.specs.SettleRun as spec;
@@ -95,11 +95,14 @@ fn show<W: Write>(alloc: Global, asked: SettleTask, text: &SettledText, writer: 
     }
 }
 
-/// Prints the line of a text that does not settle.
-fn contradict<W: Write>(alloc: Global, line: u64, cause: TextCause, writer: &mut W) -> Outcome
-    ensures { (asked : SettleTask) (input : List ℕ) → IsWrong asked.repeats input line cause
+/// Prints the line of a text that does not settle, or that memory ran out.
+fn contradict<W: Write>(alloc: Global, refused: SettleTextError, writer: &mut W) -> Outcome
+    ensures { (asked : SettleTask) (input : List ℕ) → IsUnsettled asked.repeats input refused
         → TellsSettled asked input (W.contents writer.old) (W.contents writer.new) result.status }
 {
+    let SettleTextError::Invalid { line, cause } = refused else {
+        return refuse_memory(writer);
+    };
     match unsettled_text(alloc, line, cause) {
         Ok(text) => {
             let status = written(writer, text.as_bytes(), UNFINISHED);
@@ -115,8 +118,7 @@ fn settle_input<W: Write>(alloc: Global, asked: SettleTask, input: &[u8], writer
 {
     match settle_text(alloc, input, asked.repeats) {
         Ok(text) => show(alloc, asked, &text, writer),
-        Err(SettleTextError::Invalid { line, cause }) => contradict(alloc, line, cause, writer),
-        Err(SettleTextError::Memory) => refuse_memory(writer),
+        Err(refused) => contradict(alloc, refused, writer),
     }
 }
 

@@ -1,15 +1,16 @@
-use Rattle.std.proofs.Common.{◌≡◌, ◌≤◌, sym, ℕ, Bool, true, false, List, length, Option, Some, None, inl, inr, refl, subst, ◌∙◌}
+use Rattle.std.proofs.Common.{◌≡◌, ◌≤◌, ℕ, Bool, true, false, List, length, Option, Some, None, refl, ◌∙◌}
 use Rattle.std.specs.Prelude.{IfSome}
 use Rattle.std.specs.Io.KnownBytes.{Consumes, Appends}
 use Rattle.ra_trace.specs.declared.checker.verdict.Verdict.{Verdict}
 use Rattle.ra_trace.specs.declared.checker.verdict.Verdict.TheVariants.{Valid, Invalid}
 use Rattle.ra_trace.specs.Verdict.{IsVerdict}
-use Rattle.ra_cli.specs.Checks.{Checks, is_valid, verdict_text}
 use Rattle.ra_trace.specs.declared.error.TraceError.TheVariants.{Memory}
+use Rattle.ra_task.specs.declared.command_line.Task.TheVariants as task
+use Rattle.ra_cli.specs.Checks.{Checks, is_valid, verdict_text}
 use Rattle.ra_cli.specs.declared.refusal_lines.Refusal.TheVariants.{Check}
-use Rattle.ra_cli.proofs.Statuses.{none_of_check, of_verdict, broken, prefix_of}
-use Rattle.ra_cli.proofs.TaskLemmas.{refused_for}
-use Rattle.ra_cli.proofs.Numbers.{at_most_3, none_of_done, none_of_3, done_not_1, done_not_2, done_not_3, left_not_0, left_not_1, left_not_2, broken_not_0, broken_not_2, broken_not_3}
+use Rattle.ra_cli.proofs.Statuses.{none_of_check, of_verdict, writes_as}
+use Rattle.ra_cli.proofs.TaskLemmas.{of_check}
+use Rattle.ra_cli.proofs.TaskStatuses.{if_judged, if_refused_at_once}
 use Rattle.ra_cli.proofs.serving.judge.Goals as goal
 
 -- what is valid was read to its end
@@ -30,95 +31,27 @@ checks limit (Some input) new before after verdict valid ok whole alone same out
   (alone.0, verdict, alone.1, same, out),
 )
 
-pub returns-in-Ok-verdict_text-clause-valid : goal.returns-in-Ok-verdict_text-clause-valid
-returns-in-Ok-verdict_text-clause-valid g c is =
-    let before = g.W.Write.contents c.args.writer.now in
-    let after = g.W.Write.contents c.written-status.new.writer in
-    elim c.written-status.ensures.value [
-      | inl all ↦ elim c.status_of.ensures [
-        | inl status ↦ checks 16777216 (g.R.Read.remaining c.args.reader.now) (g.R.Read.remaining c.check_buffered_with_due.new.reader) before after c.in-Ok.verdict true c.in-Ok.ensures.checks.ok
-            c.in-Ok.ensures.checks.valid c.in-Ok.ensures.checks.alone status.1 (subst (Appends before after) (c.as_bytes.ensures.value ∙ c.in-Ok-verdict_text.ensures) all.1)
-        | inr status ↦ left_not_0 _ (c.judged.ensures ∙ all.0 ∙ status.0) is
-      ]
-      | inr part ↦ broken_not_0 _ (c.judged.ensures ∙ part.0) is
-    ]
-
-pub returns-in-Ok-verdict_text-clause-invalid : goal.returns-in-Ok-verdict_text-clause-invalid
-returns-in-Ok-verdict_text-clause-invalid g c is =
-    let before = g.W.Write.contents c.args.writer.now in
-    let after = g.W.Write.contents c.written-status.new.writer in
-    elim c.written-status.ensures.value [
-      | inl all ↦ elim c.status_of.ensures [
-        | inl status ↦ done_not_3 _ (c.judged.ensures ∙ all.0 ∙ status.0) is
-        | inr status ↦ checks 16777216 (g.R.Read.remaining c.args.reader.now) (g.R.Read.remaining c.check_buffered_with_due.new.reader) before after c.in-Ok.verdict false c.in-Ok.ensures.checks.ok
-            c.in-Ok.ensures.checks.valid c.in-Ok.ensures.checks.alone status.1 (subst (Appends before after) (c.as_bytes.ensures.value ∙ c.in-Ok-verdict_text.ensures) all.1)
-      ]
-      | inr part ↦ broken_not_3 _ (c.judged.ensures ∙ part.0) is
-    ]
-
-pub returns-in-Err-clause-refused : goal.returns-in-Err-clause-refused
-returns-in-Err-clause-refused g c two =
-    let before = g.W.Write.contents c.args.writer.now in
-    refused_for _ (Check c.in-Err.fault) before before (g.W.Write.contents c.refuse.new.writer) (λ other. refl) (c.refuse.ensures.refused two) (c.in-Err.fault, refl)
-
-pub returns-in-Err-clause-broken : goal.returns-in-Err-clause-broken
-returns-in-Err-clause-broken g c arguments trace one =
-    let before = g.W.Write.contents c.args.writer.now in
-    let never = none_of_check c.in-Err.fault in
-    broken arguments (g.R.Read.remaining c.args.reader.now) before before (g.W.Write.contents c.refuse.new.writer) (Check c.in-Err.fault)
-    (λ is. absurd (never is)) (λ is. absurd (never is)) (λ other. refl) (c.refuse.ensures.broken one)
-
-pub returns-in-Err-verdict_text-clause-refused : goal.returns-in-Err-verdict_text-clause-refused
-returns-in-Err-verdict_text-clause-refused g c two =
-    let before = g.W.Write.contents c.args.writer.now in
-    refused_for _ (Check Memory) before before (g.W.Write.contents c.refuse-in-Err-verdict_text.new.writer) (λ other. refl)
-    (c.refuse-in-Err-verdict_text.ensures.refused two) (Memory, refl)
-
-pub returns-in-Err-verdict_text-clause-broken : goal.returns-in-Err-verdict_text-clause-broken
-returns-in-Err-verdict_text-clause-broken g c arguments trace one =
-    let before = g.W.Write.contents c.args.writer.now in
-    let never = none_of_check Memory in
-    broken arguments (g.R.Read.remaining c.args.reader.now) before before (g.W.Write.contents c.refuse-in-Err-verdict_text.new.writer) (Check Memory)
-    (λ is. absurd (never is)) (λ is. absurd (never is)) (λ other. refl) (c.refuse-in-Err-verdict_text.ensures.broken one)
-
-pub returns-in-Ok-verdict_text-clause-refused : goal.returns-in-Ok-verdict_text-clause-refused
-returns-in-Ok-verdict_text-clause-refused g c two =
-    elim c.written-status.ensures.value [
-      | inl all ↦ elim c.status_of.ensures [
-        | inl status ↦ done_not_2 _ (c.judged.ensures ∙ all.0 ∙ status.0) two
-        | inr status ↦ left_not_2 _ (c.judged.ensures ∙ all.0 ∙ status.0) two
-      ]
-      | inr part ↦ broken_not_2 _ (c.judged.ensures ∙ part.0) two
-    ]
-
-pub returns-in-Ok-verdict_text-clause-broken : goal.returns-in-Ok-verdict_text-clause-broken
-returns-in-Ok-verdict_text-clause-broken g c arguments trace one =
+pub returns-in-Ok-verdict_text : goal.returns-in-Ok-verdict_text
+returns-in-Ok-verdict_text g c =
     let old = g.R.Read.remaining c.args.reader.now in
-    elim c.written-status.ensures.value [
-      | inl all ↦ elim c.status_of.ensures [
-        | inl status ↦ done_not_1 _ (c.judged.ensures ∙ all.0 ∙ status.0) one
-        | inr status ↦ left_not_1 _ (c.judged.ensures ∙ all.0 ∙ status.0) one
-      ]
-      | inr part ↦
-          let (is_one, prefix, rest, is, left, some) = part in
-          prefix_of arguments old (g.W.Write.contents c.args.writer.now) (g.W.Write.contents c.written-status.new.writer) (verdict_text c.in-Ok.verdict) prefix rest
-          (of_verdict arguments old c.in-Ok.verdict trace c.in-Ok.ensures.checks.ok) (sym (c.as_bytes.ensures.value ∙ c.in-Ok-verdict_text.ensures) ∙ is) left some
-    ]
+    let new = g.R.Read.remaining c.check_buffered_with_due.new.reader in
+    let before = g.W.Write.contents c.args.writer.now in
+    let after = g.W.Write.contents c.written-status.new.writer in
+    let verdict = c.in-Ok.verdict in
+    let known = c.in-Ok.ensures.checks in
+    if_judged task.Check old new before after _ c.judged.result.status (verdict_text verdict) c.status_of.result (is_valid verdict ≡ true) (is_valid verdict ≡ false)
+    c.status_of.ensures
+    (writes_as (verdict_text verdict) c.as_bytes.result.now c.status_of.result before after c.written-status.result c.judged.result.status c.judged.ensures
+    (c.as_bytes.ensures.value ∙ c.in-Ok-verdict_text.ensures) c.written-status.ensures)
+    (checks 16777216 old new before after verdict true known.ok known.valid known.alone)
+    (checks 16777216 old new before after verdict false known.ok known.valid known.alone)
+    (λ arguments fits. of_verdict arguments old verdict fits.1 known.ok)
 
-pub returns-in-Err-clause-range : goal.returns-in-Err-clause-range
-returns-in-Err-clause-range g c = at_most_3 _ c.refuse.ensures.range
+pub returns-in-Err : goal.returns-in-Err
+returns-in-Err g c =
+    let fault = c.in-Err.fault in
+    if_refused_at_once task.Check _ _ _ _ _ _ (Check fault) _ c.refuse.ensures (none_of_check fault) (of_check _ fault)
 
-pub returns-in-Err-clause-valid : goal.returns-in-Err-clause-valid
-returns-in-Err-clause-valid g c is = none_of_done _ c.refuse.ensures.not_done is
-
-pub returns-in-Err-clause-invalid : goal.returns-in-Err-clause-invalid
-returns-in-Err-clause-invalid g c is = none_of_3 _ c.refuse.ensures.range is
-
-pub returns-in-Err-verdict_text-clause-range : goal.returns-in-Err-verdict_text-clause-range
-returns-in-Err-verdict_text-clause-range g c = at_most_3 _ c.refuse-in-Err-verdict_text.ensures.range
-
-pub returns-in-Err-verdict_text-clause-valid : goal.returns-in-Err-verdict_text-clause-valid
-returns-in-Err-verdict_text-clause-valid g c is = none_of_done _ c.refuse-in-Err-verdict_text.ensures.not_done is
-
-pub returns-in-Err-verdict_text-clause-invalid : goal.returns-in-Err-verdict_text-clause-invalid
-returns-in-Err-verdict_text-clause-invalid g c is = none_of_3 _ c.refuse-in-Err-verdict_text.ensures.range is
+pub returns-in-Err-verdict_text : goal.returns-in-Err-verdict_text
+returns-in-Err-verdict_text g c =
+    if_refused_at_once task.Check _ _ _ _ _ _ (Check Memory) _ c.refuse-in-Err-verdict_text.ensures (none_of_check Memory) (of_check _ Memory)

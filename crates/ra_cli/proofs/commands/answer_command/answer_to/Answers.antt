@@ -4,30 +4,21 @@ use Rattle.ra_cli.specs.Answer.{AreLines, clock_after}
 use Rattle.ra_cli.proofs.AnswerCallLemmas.{unwanted, of_message}
 use Rattle.ra_cli.proofs.commands.answer_command.answer_to.Goals as goal
 
-pub returns-in_err-frame-clause-err : goal.returns-in_err-frame-clause-err
-returns-in_err-frame-clause-err c =
+pub returns-in_err-frame : goal.returns-in_err-frame
+returns-in_err-frame c =
     let p = err_from_is_err_and c.from_residual.result c.from_residual.ensures.1 in
-    rw (p.1, p.2) (c.in_err-frame.ensures.err c.args.me c.args.nodes c.requires)
+    rw (p.1, p.2) (c.in_err-frame.ensures.0 c.args.me c.args.nodes c.requires, c.in_err-frame.ensures.1)
 
-pub returns-in_err-reaction-clause-err : goal.returns-in_err-reaction-clause-err
-returns-in_err-reaction-clause-err c =
+pub returns-in_err-reaction : goal.returns-in_err-reaction
+returns-in_err-reaction c =
     let p = err_from_is_err_and c.from_residual-in_err-reaction.result c.from_residual-in_err-reaction.ensures.1 in
-    rw (p.1, p.2) (unwanted c.args.me c.args.nodes c.args.input.now c.in_ok-frame.frame _ c.requires c.in_ok-frame.ensures.ok
-    c.in_err-reaction.ensures.err)
+    rw (p.1, p.2) (
+      unwanted c.args.me c.args.nodes c.args.input.now c.in_ok-frame.frame _ c.requires c.in_ok-frame.ensures.0 c.in_err-reaction.ensures.err,
+      of_message c.args.me c.args.nodes c.in_ok-frame.frame.message _ c.in_err-reaction.ensures.err,
+    )
 
-pub returns-in_err-reaction-clause-early : goal.returns-in_err-reaction-clause-early
-returns-in_err-reaction-clause-early c =
-    let p = err_from_is_err_and c.from_residual-in_err-reaction.result c.from_residual-in_err-reaction.ensures.1 in
-    rw (p.1, p.2) (of_message c.args.me c.args.nodes c.in_ok-frame.frame.message _ c.in_err-reaction.ensures.err).0
-
-pub returns-in_err-reaction-clause-unread : goal.returns-in_err-reaction-clause-unread
-returns-in_err-reaction-clause-unread c =
-    let p = err_from_is_err_and c.from_residual-in_err-reaction.result c.from_residual-in_err-reaction.ensures.1 in
-    let unread = (of_message c.args.me c.args.nodes c.in_ok-frame.frame.message _ c.in_err-reaction.ensures.err).1 in
-    rw (p.1, p.2) (λ is. unread cc)
-
-pub returns-clause-ok : goal.returns-clause-ok
-returns-clause-ok c =
+pub returns : goal.returns
+returns c =
     let sends = c.in_ok-reaction.reaction.sends.items in
     let after : clock_after 0 c.in_ok-frame.frame.clock ≡ c.in_ok-frame.frame.clock + 1 = omega arith in
     record {
@@ -35,7 +26,7 @@ returns-clause-ok c =
       sends = sends;
       entered = c.in_ok-reaction.reaction.entered;
       member = c.requires;
-      carries = c.in_ok-frame.ensures.ok;
+      carries = c.in_ok-frame.ensures.0;
       is_for = c.in_ok-reaction.ensures.addressed;
       clock_left = search rules;
       reacts = c.in_ok-reaction.ensures.ok;

@@ -1,12 +1,18 @@
 use Rattle.std.proofs.Common.{refl}
 use Rattle.std.proofs.lemmas.Result.{err_from_is_err_and}
 use Rattle.ra_cli.specs.Answer.{Spells}
+use Rattle.ra_cli.proofs.AnswerCallLemmas.{no_bytes}
 use Rattle.ra_cli.proofs.commands.answer_command.frame_in.Goals as goal
 
-pub returns-in_err-frame-clause-err : goal.returns-in_err-frame-clause-err
-returns-in_err-frame-clause-err c =
+pub returns-in_err-bytes : goal.returns-in_err-bytes
+returns-in_err-bytes c =
+    let p = err_from_is_err_and c.from_residual.result c.from_residual.ensures.1 in
+    rw (p.1, p.2) (no_bytes c.args.input.now c.in-Some.digits.now _ c.in-Some.ensures.some c.in_err-bytes.ensures.err)
+
+pub returns-in_err-frame : goal.returns-in_err-frame
+returns-in_err-frame c =
     let p = err_from_is_err_and c.from_residual-in_err-frame.result c.from_residual-in_err-frame.ensures.1 in
     let wrong = rw c.deref.ensures.value at (c.in_err-frame.ensures.fault c.in_err-frame.field-0.0).0 refl in
     let spells : Spells c.args.input.now c.in_ok-bytes.bytes.items =
     (c.in-Some.digits.now, c.in-Some.ensures.some, c.in_ok-bytes.ensures.ok) in
-    rw (p.1, p.2) (λ node nodes member. (member, c.in_ok-bytes.bytes.items, spells, wrong))
+    rw (p.1, p.2) ((λ node nodes member. (member, c.in_ok-bytes.bytes.items, spells, wrong)), ((λ read. absurd cc), (λ write. absurd cc)))

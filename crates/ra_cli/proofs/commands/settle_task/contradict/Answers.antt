@@ -4,12 +4,15 @@ use Rattle.ra_cli.proofs.SettleRuns.{contradicted}
 use Rattle.ra_cli.proofs.commands.settle_task.contradict.Goals as goal
 
 pub returns-in-Ok : goal.returns-in-Ok
-returns-in-Ok g c asked input wrong =
+returns-in-Ok g c asked input unsettled =
     let before = g.W.Write.contents c.args.writer.now in
     let after = g.W.Write.contents c.written-status.new.writer in
     subst (λ (status : ℕ). TellsSettled asked input before after status) (sym c.judged.ensures)
-    (contradicted asked input c.as_bytes.result.now before after c.written-status.result c.written-status.ensures.range
-    (c.args.line, c.args.cause, wrong, c.as_bytes.ensures.value ∙ c.in-Ok.ensures) c.written-status.ensures.value)
+    (contradicted asked input c.as_bytes.result.now before after c.written-status.result
+    (c.in-Invalid.line, c.in-Invalid.cause, rw c.in-Invalid.is at unsettled, c.as_bytes.ensures.value ∙ c.in-Ok.ensures) c.written-status.ensures)
 
 pub returns-in-Err : goal.returns-in-Err
-returns-in-Err g c asked input wrong = c.refuse_memory.ensures asked input
+returns-in-Err g c asked input unsettled = c.refuse_memory-in-Err.ensures asked input
+
+pub returns-in_default : goal.returns-in_default
+returns-in_default g c asked input unsettled = c.refuse_memory.ensures asked input

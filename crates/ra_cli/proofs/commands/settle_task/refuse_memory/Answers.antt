@@ -5,4 +5,4 @@ use Rattle.ra_cli.proofs.commands.settle_task.refuse_memory.Goals as goal
 pub returns : goal.returns
 returns g c trace input =
     no_memory trace input _ _ c.refuse.result.status
-    (refuses Memory _ _ c.refuse.result.status c.refuse.ensures.range c.refuse.ensures.not_done c.refuse.ensures.refused c.refuse.ensures.broken)
+    (refuses Memory _ _ _ c.refuse.result.status c.refuse.ensures)

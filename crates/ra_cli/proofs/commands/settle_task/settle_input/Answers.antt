@@ -1,9 +1,7 @@
 use Rattle.ra_cli.proofs.commands.settle_task.settle_input.Goals as goal
 
-pub returns-in-Err-Invalid : goal.returns-in-Err-Invalid
-returns-in-Err-Invalid g c =
-    let tells = rw c.in-Err-Invalid.field-0-is at (c.contradict.ensures c.args.asked c.args.input.now) in
-    tells (rw c.in-Err-Invalid.field-0-is at c.in-Err-Invalid.ensures.refused)
+pub returns-in-Ok : goal.returns-in-Ok
+returns-in-Ok g c = c.show.ensures c.args.input.now c.in-Ok.ensures.settled
 
-pub returns-in-Err-Memory : goal.returns-in-Err-Memory
-returns-in-Err-Memory g c = c.refuse_memory.ensures c.args.asked c.args.input.now
+pub returns-in-Err : goal.returns-in-Err
+returns-in-Err g c = c.contradict.ensures c.args.asked c.args.input.now c.in-Err.ensures.refused

@@ -10,8 +10,8 @@ returns-in-Ok g c input is =
     let asked = c.args.asked in
     let text = c.args.text.now in
     subst (λ (status : ℕ). TellsSettled asked input before after status) (sym c.new.ensures)
-    (shown asked input c.as_bytes.result.now before after c.written.result c.written.ensures.range
-    (text, is, subst (Prints asked.printed text) (sym c.as_bytes.ensures.value) c.in-Ok.ensures) c.written.ensures.value)
+    (shown asked input c.as_bytes.result.now before after c.written.result
+    (text, is, subst (Prints asked.printed text) (sym c.as_bytes.ensures.value) c.in-Ok.ensures) c.written.ensures)
 
 pub returns-in-Err : goal.returns-in-Err
 returns-in-Err g c input is = c.refuse_memory.ensures c.args.asked input
