@@ -1,8 +1,8 @@
+use std::fmt;
 use thiserror::Error;
 
 /// Why a request was refused.
 #[derive(Clone, Copy, Debug, PartialEq, Eq, Error)]
-#[error("{:?}", self)]
 pub enum RequestError {
     /// The entry's node waits or holds on its name.
     NodeBusy,
@@ -12,9 +12,14 @@ pub enum RequestError {
     Memory,
 }
 
+impl fmt::Display for RequestError {
+    fn fmt<W: fmt::Write>(&self, f: &mut fmt::Formatter<W>) -> fmt::Result {
+        fmt::Debug::fmt(self, f)
+    }
+}
+
 /// Why an entry was not granted.
 #[derive(Clone, Copy, Debug, PartialEq, Eq, Error)]
-#[error("{:?}", self)]
 pub enum EnterError {
     /// The entry does not wait.
     NotWaiting,
@@ -26,10 +31,21 @@ pub enum EnterError {
     Memory,
 }
 
+impl fmt::Display for EnterError {
+    fn fmt<W: fmt::Write>(&self, f: &mut fmt::Formatter<W>) -> fmt::Result {
+        fmt::Debug::fmt(self, f)
+    }
+}
+
 /// Why an entry was not given back.
 #[derive(Clone, Copy, Debug, PartialEq, Eq, Error)]
-#[error("{:?}", self)]
 pub enum LeaveError {
     /// The entry does not hold.
     NotHeld,
+}
+
+impl fmt::Display for LeaveError {
+    fn fmt<W: fmt::Write>(&self, f: &mut fmt::Formatter<W>) -> fmt::Result {
+        fmt::Debug::fmt(self, f)
+    }
 }

@@ -1,9 +1,9 @@
 use ra_world::RunError;
+use std::fmt;
 use thiserror::Error;
 
 /// Why a text was not checked.
 #[derive(Clone, Copy, Debug, PartialEq, Eq, Error)]
-#[error("{:?}", self)]
 pub enum TraceError {
     /// The reader failed.
     Read,
@@ -11,6 +11,12 @@ pub enum TraceError {
     Limit,
     /// Memory ran out.
     Memory,
+}
+
+impl fmt::Display for TraceError {
+    fn fmt<W: fmt::Write>(&self, f: &mut fmt::Formatter<W>) -> fmt::Result {
+        fmt::Debug::fmt(self, f)
+    }
 }
 
 /// Why a trace was not written.
