@@ -33,14 +33,14 @@ pub fn refuse_arguments_with_note<W: Write, N: Write>(
     status
 }
 
-/// Does as [`serve`], and then writes lines for a person to `notes`:
+/// Does as [`ra_cli::serve`], and then writes lines for a person to `notes`:
 ///
-/// - If something was refused, a text is no trace, a log is no mark log, books do not settle, or a run ended with something left
-///   to do, a line says what is wrong, where in what was read, and what would be right. Of a run that was shrunk, it is about the
-///   shorter one, and another line says by how much.
+/// - If something was refused, a text is no trace, a log is no mark log, books do not settle, or a run ended with
+///   something left to do, a line says what is wrong, where in what was read, and what would be right. Of a run that was
+///   shrunk, it is about the shorter one, and another line says by how much.
 /// - If a text is a trace or a mark log, a line says what is left at its end, if anything is, or that a log has no mark.
-/// - There is a line for each option that has no effect, if the policy `listed` has no choices, if a finished run leaves names
-///   locked, and for the seed of a run that was found.
+/// - There is a line for each option that has no effect, if the policy `listed` has no choices, if a finished run leaves
+///   names locked, and for the seed of a run that was found.
 /// - There is a line if `writer` failed, unless that is a pipe that is no longer read.
 ///
 /// While many seeds take long, it writes there how far it is. Each line begins with `ra: `. Nothing of it goes to
