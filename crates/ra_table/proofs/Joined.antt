@@ -1,4 +1,4 @@
--- Lanes one after the other, and what becomes of them if one lane changes or comes.
+-- Tables one after the other, and what becomes of them if one table changes or comes.
 use Rattle.std.proofs.Common.{◌≡◌, ℕ, true, false, cond, List, [], ◌∷◌, ◌++◌, All, Any, Contains, ◌↔◌, Some, None, refl, sym, ap, ◌∙◌, subst, arith, inl, inr}
 use Rattle.std.specs.Str.{bytes_eq}
 use Rattle.std.specs.List.{AllByRecursion, IsDistinct}
@@ -11,7 +11,7 @@ use Rattle.std.proofs.lemmas.Option.{same_Some, none-some}
 use Rattle.std.proofs.lemmas.Slice.Eq.{bytes_eq-Decides}
 use Rattle.ra_stamp.specs.declared.entry.Entry.{Entry}
 use Rattle.ra_table.specs.Table.{Gains, Loses}
-use Rattle.ra_table.specs.Lanes.{AreOn, on_name, joined, AreOnTheirNames}
+use Rattle.ra_table.specs.NameTables.{AreOn, on_name, joined, AreOnTheirNames}
 use Rattle.ra_table.proofs.Apart.{All-put, All-taken, Contains-tail, Contains-cons_cases}
 use Rattle.ra_table.proofs.Numbers.{Any-tail, Any-cases}
 
@@ -115,102 +115,102 @@ Gains-behind zs xs ys e gains = (
   ap (λ (l : List Entry). l ++ zs) gains.3 ∙ append_assoc gains.0 (e ∷ gains.1) zs,
 )
 
--- ---- Lanes
+-- ---- Tables
 
 module _ {X : Type 0} (part : X → List Entry) where
-  absent : (name : List ℕ) (lanes : List (List ℕ × X)) → AreOnTheirNames part lanes → AllByRecursion (λ q. bytes_eq name q ≡ false) (keys_of lanes) → on_name name (joined part lanes) ≡ []
+  absent : (name : List ℕ) (name_tables : List (List ℕ × X)) → AreOnTheirNames part name_tables → AllByRecursion (λ q. bytes_eq name q ≡ false) (keys_of name_tables) → on_name name (joined part name_tables) ≡ []
   absent name [] on apart = refl
-  absent name (lane ∷ lanes) on apart =
-      filter-append (λ (x : Entry). bytes_eq name x.name) (part lane.1) (joined part lanes)
-      ∙ (ap (λ (l : List Entry). l ++ on_name name (joined part lanes)) (none_on name lane.0 (part lane.1) apart.0 on.0)
-      ∙ absent name lanes on.1 apart.1)
+  absent name (name_table ∷ name_tables) on apart =
+      filter-append (λ (x : Entry). bytes_eq name x.name) (part name_table.1) (joined part name_tables)
+      ∙ (ap (λ (l : List Entry). l ++ on_name name (joined part name_tables)) (none_on name name_table.0 (part name_table.1) apart.0 on.0)
+      ∙ absent name name_tables on.1 apart.1)
 
-  -- the lane that a look-up finds has all entries on the name
-  pub found : (name : List ℕ) (lanes : List (List ℕ × X)) (lane : X) → IsDistinct bytes_eq (keys_of lanes) → AreOnTheirNames part lanes → Some lane ≡ lookup (bytes_eq name) lanes
-      → part lane ≡ on_name name (joined part lanes)
-  found name [] lane distinct on at = absurd (none-some lane (sym at))
-  found name (first ∷ lanes) lane distinct on at =
-      let rest = joined part lanes in
-      elim (bytes_eq name first.0) as (λ b. bytes_eq name first.0 ≡ b → Some lane ≡ cond b (Some first.1) (lookup (bytes_eq name) lanes) → part lane ≡ on_name name (part first.1 ++ rest)) [
+  -- the table that a look-up finds has all entries on the name
+  pub found : (name : List ℕ) (name_tables : List (List ℕ × X)) (name_table : X) → IsDistinct bytes_eq (keys_of name_tables) → AreOnTheirNames part name_tables → Some name_table ≡ lookup (bytes_eq name) name_tables
+      → part name_table ≡ on_name name (joined part name_tables)
+  found name [] name_table distinct on at = absurd (none-some name_table (sym at))
+  found name (first ∷ name_tables) name_table distinct on at =
+      let rest = joined part name_tables in
+      elim (bytes_eq name first.0) as (λ b. bytes_eq name first.0 ≡ b → Some name_table ≡ cond b (Some first.1) (lookup (bytes_eq name) name_tables) → part name_table ≡ on_name name (part first.1 ++ rest)) [
         | true ↦ λ same here.
             let name_is : first.0 ≡ name = sym ((bytes_eq-Decides name first.0).0 same) in
             let on_first : on_name name (part first.1) ≡ part first.1 = all_on name (part first.1) (subst (λ (q : List ℕ). AreOn q (part first.1)) name_is on.0) in
-            let apart : AllByRecursion (λ q. bytes_eq name q ≡ false) (keys_of lanes) = subst (λ (n : List ℕ). AllByRecursion (λ q. bytes_eq n q ≡ false) (keys_of lanes)) name_is (IsDistinct-head bytes_eq first.0 (keys_of lanes) distinct) in
-            ap part (same_Some lane first.1 here)
+            let apart : AllByRecursion (λ q. bytes_eq name q ≡ false) (keys_of name_tables) = subst (λ (n : List ℕ). AllByRecursion (λ q. bytes_eq n q ≡ false) (keys_of name_tables)) name_is (IsDistinct-head bytes_eq first.0 (keys_of name_tables) distinct) in
+            ap part (same_Some name_table first.1 here)
             ∙ sym (filter-append (λ (x : Entry). bytes_eq name x.name) (part first.1) rest
-            ∙ (ap (λ (l : List Entry). on_name name (part first.1) ++ l) (absent name lanes on.1 apart)
+            ∙ (ap (λ (l : List Entry). on_name name (part first.1) ++ l) (absent name name_tables on.1 apart)
             ∙ (append-nil (on_name name (part first.1)) ∙ on_first)))
         | false ↦ λ apart there.
-            found name lanes lane (IsDistinct-tail bytes_eq first.0 (keys_of lanes) distinct) on.1 there
+            found name name_tables name_table (IsDistinct-tail bytes_eq first.0 (keys_of name_tables) distinct) on.1 there
             ∙ sym (filter-append (λ (x : Entry). bytes_eq name x.name) (part first.1) rest
             ∙ ap (λ (l : List Entry). l ++ on_name name rest) (none_on name first.0 (part first.1) apart on.0))
       ] refl at
 
   -- and if it finds none, no entry is on the name
-  pub missing : (name : List ℕ) (lanes : List (List ℕ × X)) → AreOnTheirNames part lanes → None ≡ lookup (bytes_eq name) lanes → [] ≡ on_name name (joined part lanes)
+  pub missing : (name : List ℕ) (name_tables : List (List ℕ × X)) → AreOnTheirNames part name_tables → None ≡ lookup (bytes_eq name) name_tables → [] ≡ on_name name (joined part name_tables)
   missing name [] on none = refl
-  missing name (first ∷ lanes) on none =
-      let rest = joined part lanes in
-      elim (bytes_eq name first.0) as (λ b. bytes_eq name first.0 ≡ b → None ≡ cond b (Some first.1) (lookup (bytes_eq name) lanes) → [] ≡ on_name name (part first.1 ++ rest)) [
+  missing name (first ∷ name_tables) on none =
+      let rest = joined part name_tables in
+      elim (bytes_eq name first.0) as (λ b. bytes_eq name first.0 ≡ b → None ≡ cond b (Some first.1) (lookup (bytes_eq name) name_tables) → [] ≡ on_name name (part first.1 ++ rest)) [
         | true ↦ λ same here. absurd (none-some first.1 here)
         | false ↦ λ apart there.
-            missing name lanes on.1 there
+            missing name name_tables on.1 there
             ∙ sym (filter-append (λ (x : Entry). bytes_eq name x.name) (part first.1) rest
             ∙ ap (λ (l : List Entry). l ++ on_name name rest) (none_on name first.0 (part first.1) apart on.0))
       ] refl none
 
-  -- the entries of a lane that is found are on its name
-  pub lane_is_on : (name : List ℕ) (lanes : List (List ℕ × X)) (lane : X) → AreOnTheirNames part lanes → Some lane ≡ lookup (bytes_eq name) lanes → AreOn name (part lane)
-  lane_is_on name [] lane on at = absurd (none-some lane (sym at))
-  lane_is_on name (first ∷ lanes) lane on at =
-      elim (bytes_eq name first.0) as (λ b. bytes_eq name first.0 ≡ b → Some lane ≡ cond b (Some first.1) (lookup (bytes_eq name) lanes) → AreOn name (part lane)) [
+  -- the entries of a table that is found are on its name
+  pub name_table_is_on : (name : List ℕ) (name_tables : List (List ℕ × X)) (name_table : X) → AreOnTheirNames part name_tables → Some name_table ≡ lookup (bytes_eq name) name_tables → AreOn name (part name_table)
+  name_table_is_on name [] name_table on at = absurd (none-some name_table (sym at))
+  name_table_is_on name (first ∷ name_tables) name_table on at =
+      elim (bytes_eq name first.0) as (λ b. bytes_eq name first.0 ≡ b → Some name_table ≡ cond b (Some first.1) (lookup (bytes_eq name) name_tables) → AreOn name (part name_table)) [
         | true ↦ λ same here.
-            subst (λ (q : List ℕ). AreOn q (part lane)) (sym ((bytes_eq-Decides name first.0).0 same))
-            (subst (λ (x : X). AreOn first.0 (part x)) (sym (same_Some lane first.1 here)) on.0)
-        | false ↦ λ apart there. lane_is_on name lanes lane on.1 there
+            subst (λ (q : List ℕ). AreOn q (part name_table)) (sym ((bytes_eq-Decides name first.0).0 same))
+            (subst (λ (x : X). AreOn first.0 (part x)) (sym (same_Some name_table first.1 here)) on.0)
+        | false ↦ λ apart there. name_table_is_on name name_tables name_table on.1 there
       ] refl at
 
-  -- what is true of one lane before and after is true of all of them, one after the other
+  -- what is true of one table before and after is true of all of them, one after the other
   carried : (R : List Entry → List Entry → Type 0) → ((zs xs ys : List Entry) → R xs ys → R (zs ++ xs) (zs ++ ys)) → ((zs xs ys : List Entry) → R xs ys → R (xs ++ zs) (ys ++ zs))
-      → (name : List ℕ) (lanes : List (List ℕ × X)) (old new : X) → Some old ≡ lookup (bytes_eq name) lanes → R (part old) (part new) → R (joined part lanes) (joined part (set_value (bytes_eq name) lanes new))
+      → (name : List ℕ) (name_tables : List (List ℕ × X)) (old new : X) → Some old ≡ lookup (bytes_eq name) name_tables → R (part old) (part new) → R (joined part name_tables) (joined part (set_value (bytes_eq name) name_tables new))
   carried R before behind name [] old new at r = absurd (none-some old (sym at))
-  carried R before behind name (first ∷ lanes) old new at r =
-      elim (bytes_eq name first.0) as (λ b. Some old ≡ cond b (Some first.1) (lookup (bytes_eq name) lanes)
-      → R (part first.1 ++ joined part lanes) (joined part (cond b ((first.0, new) ∷ lanes) (first ∷ set_value (bytes_eq name) lanes new)))) [
-        | true ↦ λ here. behind (joined part lanes) (part first.1) (part new) (subst (λ (x : X). R (part x) (part new)) (same_Some old first.1 here) r)
-        | false ↦ λ there. before (part first.1) (joined part lanes) (joined part (set_value (bytes_eq name) lanes new)) (carried R before behind name lanes old new there r)
+  carried R before behind name (first ∷ name_tables) old new at r =
+      elim (bytes_eq name first.0) as (λ b. Some old ≡ cond b (Some first.1) (lookup (bytes_eq name) name_tables)
+      → R (part first.1 ++ joined part name_tables) (joined part (cond b ((first.0, new) ∷ name_tables) (first ∷ set_value (bytes_eq name) name_tables new)))) [
+        | true ↦ λ here. behind (joined part name_tables) (part first.1) (part new) (subst (λ (x : X). R (part x) (part new)) (same_Some old first.1 here) r)
+        | false ↦ λ there. before (part first.1) (joined part name_tables) (joined part (set_value (bytes_eq name) name_tables new)) (carried R before behind name name_tables old new there r)
       ] at
 
-  pub lane_gains : (name : List ℕ) (lanes : List (List ℕ × X)) (old new : X) (e : Entry) → Some old ≡ lookup (bytes_eq name) lanes → Gains (part old) e (part new)
-      → Gains (joined part lanes) e (joined part (set_value (bytes_eq name) lanes new))
-  lane_gains name lanes old new e at gains =
-      carried (λ xs ys. Gains xs e ys) (λ zs xs ys g. Gains-before zs xs ys e g) (λ zs xs ys g. Gains-behind zs xs ys e g) name lanes old new at gains
+  pub name_table_gains : (name : List ℕ) (name_tables : List (List ℕ × X)) (old new : X) (e : Entry) → Some old ≡ lookup (bytes_eq name) name_tables → Gains (part old) e (part new)
+      → Gains (joined part name_tables) e (joined part (set_value (bytes_eq name) name_tables new))
+  name_table_gains name name_tables old new e at gains =
+      carried (λ xs ys. Gains xs e ys) (λ zs xs ys g. Gains-before zs xs ys e g) (λ zs xs ys g. Gains-behind zs xs ys e g) name name_tables old new at gains
 
-  pub lane_loses : (name : List ℕ) (lanes : List (List ℕ × X)) (old new : X) (e : Entry) → Some old ≡ lookup (bytes_eq name) lanes → Loses (part old) e (part new)
-      → Loses (joined part lanes) e (joined part (set_value (bytes_eq name) lanes new))
-  lane_loses name lanes old new e at loses =
-      carried (λ xs ys. Gains ys e xs) (λ zs xs ys g. Gains-before zs ys xs e g) (λ zs xs ys g. Gains-behind zs ys xs e g) name lanes old new at loses
+  pub name_table_loses : (name : List ℕ) (name_tables : List (List ℕ × X)) (old new : X) (e : Entry) → Some old ≡ lookup (bytes_eq name) name_tables → Loses (part old) e (part new)
+      → Loses (joined part name_tables) e (joined part (set_value (bytes_eq name) name_tables new))
+  name_table_loses name name_tables old new e at loses =
+      carried (λ xs ys. Gains ys e xs) (λ zs xs ys g. Gains-before zs ys xs e g) (λ zs xs ys g. Gains-behind zs ys xs e g) name name_tables old new at loses
 
-  pub lane_stays : (name : List ℕ) (lanes : List (List ℕ × X)) (old new : X) → Some old ≡ lookup (bytes_eq name) lanes → part new ≡ part old
-      → joined part (set_value (bytes_eq name) lanes new) ≡ joined part lanes
-  lane_stays name lanes old new at same =
-      carried (λ xs ys. ys ≡ xs) (λ zs xs ys s. ap (λ (l : List Entry). zs ++ l) s) (λ zs xs ys s. ap (λ (l : List Entry). l ++ zs) s) name lanes old new at same
+  pub name_table_stays : (name : List ℕ) (name_tables : List (List ℕ × X)) (old new : X) → Some old ≡ lookup (bytes_eq name) name_tables → part new ≡ part old
+      → joined part (set_value (bytes_eq name) name_tables new) ≡ joined part name_tables
+  name_table_stays name name_tables old new at same =
+      carried (λ xs ys. ys ≡ xs) (λ zs xs ys s. ap (λ (l : List Entry). zs ++ l) s) (λ zs xs ys s. ap (λ (l : List Entry). l ++ zs) s) name name_tables old new at same
 
-  -- the lane that is changed still has entries on its name alone
-  pub stay_on : (name : List ℕ) (lanes : List (List ℕ × X)) (new : X) → AreOnTheirNames part lanes → AreOn name (part new) → AreOnTheirNames part (set_value (bytes_eq name) lanes new)
+  -- the table that is changed still has entries on its name alone
+  pub stay_on : (name : List ℕ) (name_tables : List (List ℕ × X)) (new : X) → AreOnTheirNames part name_tables → AreOn name (part new) → AreOnTheirNames part (set_value (bytes_eq name) name_tables new)
   stay_on name [] new on here = tt
-  stay_on name (first ∷ lanes) new on here =
-      elim (bytes_eq name first.0) as (λ b. bytes_eq name first.0 ≡ b → AreOnTheirNames part (cond b ((first.0, new) ∷ lanes) (first ∷ set_value (bytes_eq name) lanes new))) [
+  stay_on name (first ∷ name_tables) new on here =
+      elim (bytes_eq name first.0) as (λ b. bytes_eq name first.0 ≡ b → AreOnTheirNames part (cond b ((first.0, new) ∷ name_tables) (first ∷ set_value (bytes_eq name) name_tables new))) [
         | true ↦ λ same. (subst (λ (q : List ℕ). AreOn q (part new)) ((bytes_eq-Decides name first.0).0 same) here, on.1)
-        | false ↦ λ _. (on.0, stay_on name lanes new on.1 here)
+        | false ↦ λ _. (on.0, stay_on name name_tables new on.1 here)
       ] refl
 
-  -- ---- One more lane
+  -- ---- One more table
 
-  pub joined_more : (lanes : List (List ℕ × X)) (name : List ℕ) (new : X) → joined part (lanes ++ (name, new) ∷ []) ≡ joined part lanes ++ part new
+  pub joined_more : (name_tables : List (List ℕ × X)) (name : List ℕ) (new : X) → joined part (name_tables ++ (name, new) ∷ []) ≡ joined part name_tables ++ part new
   joined_more [] name new = append-nil (part new)
-  joined_more (first ∷ lanes) name new = ap (λ (l : List Entry). part first.1 ++ l) (joined_more lanes name new) ∙ sym (append_assoc (part first.1) (joined part lanes) (part new))
+  joined_more (first ∷ name_tables) name new = ap (λ (l : List Entry). part first.1 ++ l) (joined_more name_tables name new) ∙ sym (append_assoc (part first.1) (joined part name_tables) (part new))
 
-  pub more_on : (lanes : List (List ℕ × X)) (name : List ℕ) (new : X) → AreOnTheirNames part lanes → AreOn name (part new) → AreOnTheirNames part (lanes ++ (name, new) ∷ [])
+  pub more_on : (name_tables : List (List ℕ × X)) (name : List ℕ) (new : X) → AreOnTheirNames part name_tables → AreOn name (part new) → AreOnTheirNames part (name_tables ++ (name, new) ∷ [])
   more_on [] name new on here = (here, tt)
-  more_on (first ∷ lanes) name new on here = (on.0, more_on lanes name new on.1 here)
+  more_on (first ∷ name_tables) name new on here = (on.0, more_on name_tables name new on.1 here)

@@ -4,7 +4,7 @@ use Rattle.std.specs.Prelude.{max, unwrap_or, ◌⊎◌}
 use Rattle.std.proofs.lemmas.Bool.{cases_lt}
 use Rattle.std.proofs.lemmas.List.Elements.{All-contains}
 use Rattle.ra_stamp.specs.declared.entry.Entry.{Entry}
-use Rattle.ra_table.specs.Lanes.{AreOn, highest_of, Reaches}
+use Rattle.ra_table.specs.NameTables.{AreOn, highest_of, Reaches}
 
 pub Any-tail : (P : Entry → Type 0) (x : Entry) (xs : List Entry) → Any P xs → Any P (x ∷ xs)
 Any-tail P x xs some = (suc some.0, some.1, omega arith, some.3, some.4)

@@ -2,4 +2,4 @@ pub mod Table
 pub mod Refusals
 pub mod Laws
 pub mod Answers
-pub mod Lanes
+pub mod NameTables

@@ -3,9 +3,9 @@
 #![tactic(auto)]
 
 mod error;
-mod lane;
 mod laws;
 mod lists;
+mod name_table;
 mod table;
 
 pub use error::{EnterError, LeaveError, RequestError};

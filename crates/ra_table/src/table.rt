@@ -5,58 +5,58 @@ ghost use Rattle.ra_stamp.specs.declared.entry.Mark.{Mark};
 ghost use Rattle.ra_table.specs.Table.{empty_table, MayRequest, MayEnter, TableStep};
 ghost use Rattle.ra_table.specs.Refusals.{IsNodeBusy, IsNotAbove, IsHeld, HasEarlier};
 ghost use Rattle.ra_table.specs.Laws.{IsConflictFree};
-ghost use Rattle.ra_table.specs.Lanes.{first_request};
+ghost use Rattle.ra_table.specs.NameTables.{first_request};
 
 use crate::error::{EnterError, LeaveError, RequestError};
-use crate::lane::Lane;
+use crate::name_table::NameTable;
 use indexmap::IndexMap;
 use ra_stamp::{Entry, Memory, Name};
 use std::alloc::Global;
 use std::marker::Model;
 
 /// The lock table: which entries wait, which hold, and which were granted so far. No two conflicting entries on
-/// one name hold. A name that was asked for is kept for ever, also once nobody waits or holds on it any more. So the
+/// one name hold. A name that was asked for is kept forever, also when nobody waits for it or holds it any more. So the
 /// table grows with the names, and not with the grants.
 ///
-/// The entries that wait and hold are kept by their names, so that a call looks at those on its entry's name alone, and
-/// looks for the name once. Of the grants the table keeps the highest number on each name, with which a request is
-/// compared. Which they were only clauses and proofs see. A name is found by a fixed hash: among names that someone picked
-/// so that they collide, a look-up is linear in their number.
+/// Each name has a table of its own, so that a call looks at the entries on its entry's name alone. It looks for the name
+/// once, and a first request on a name twice. Of the grants a table keeps the highest number, with which a request is
+/// compared; only clauses and proofs see the grants themselves. A name is found by a fixed hash: among names that someone
+/// picked so that they collide, a look-up is linear in their number.
 #[derive(Drop)]
 pub struct Table {
-    /// A lane for each name on which an entry ever waited.
-    lanes: IndexMap<Name, Lane>,
+    /// A table for each name on which an entry ever waited.
+    name_tables: IndexMap<Name, NameTable>,
 }
 
 impl Model for Table {
     ghost use Rattle.ra_table.specs.Table.{LockTable};
-    ghost use Rattle.ra_table.specs.Lanes.{table_of, IsKept};
+    ghost use Rattle.ra_table.specs.NameTables.{table_of, IsKept};
 
     ghost Value = { LockTable };
 
-    ghost view = { λ t. table_of t.lanes.entries };
+    ghost view = { λ t. table_of t.name_tables.entries };
 
-    ghost invariant = { λ t. IsKept t.lanes.entries };
+    ghost invariant = { λ t. IsKept t.name_tables.entries };
 }
 
-/// Makes the lane of a name that has none yet, in which this entry waits.
+/// Makes the table of a name that has none yet, in which this entry waits.
 ///
 /// # Errors
 ///
-/// `Memory`: the lanes are as before.
-fn open(lanes: &mut IndexMap<Name, Lane>, entry: &Entry) -> Result<(), RequestError>
-    requires { get bytes_eq lanes.old entry.now.name ≡ None }
-    ensures ok { OnOk result (lanes.new.entries
-        ≡ lanes.old.entries ++ (entry.now.name, first_request entry.now) ∷ []) }
-    ensures unique { OnOk result (IsUnique bytes_eq lanes.new) }
-    ensures err { OnErr result (lanes.new.entries ≡ lanes.old.entries) }
+/// `Memory`: the tables are as before.
+fn open(name_tables: &mut IndexMap<Name, NameTable>, entry: &Entry) -> Result<(), RequestError>
+    requires { get bytes_eq name_tables.old entry.now.name ≡ None }
+    ensures ok { OnOk result (name_tables.new.entries
+        ≡ name_tables.old.entries ++ (entry.now.name, first_request entry.now) ∷ []) }
+    ensures unique { OnOk result (IsUnique bytes_eq name_tables.new) }
+    ensures err { OnErr result (name_tables.new.entries ≡ name_tables.old.entries) }
     ensures memory { IfErr result (λ fault. fault ≡ RequestError.Memory) }
 {
-    let alloc = *lanes.allocator();
-    let Ok(lane) = Lane::first(alloc, entry) else {
+    let alloc = *name_tables.allocator();
+    let Ok(name_table) = NameTable::first(alloc, entry) else {
         return Err(RequestError::Memory);
     };
-    match lanes.insert(entry.name, lane) {
+    match name_tables.insert(entry.name, name_table) {
         Ok(_) => Ok(()),
         Err(_) => Err(RequestError::Memory),
     }
@@ -73,7 +73,7 @@ impl Table {
         ensures empty { IfOk result (λ table. table ≡ empty_table) }
     {
         Ok(Table {
-            lanes: IndexMap::new(alloc),
+            name_tables: IndexMap::new(alloc),
         })
     }
 
@@ -99,9 +99,9 @@ impl Table {
         ensures allowed { IsOkUnless result RequestError.Memory ↔ MayRequest self.old entry }
         ensures exclusive { IsConflictFree self.new.holding }
     {
-        match self.lanes.get_mut(&entry.name) {
-            Some(lane) => lane.request(&entry),
-            None => open(&mut self.lanes, &entry),
+        match self.name_tables.get_mut(&entry.name) {
+            Some(name_table) => name_table.request(&entry),
+            None => open(&mut self.name_tables, &entry),
         }
     }
 
@@ -131,10 +131,10 @@ impl Table {
         ensures allowed { IsOkUnless result EnterError.Memory ↔ MayEnter self.old entry.now }
         ensures exclusive { IsConflictFree self.new.holding }
     {
-        let Some(lane) = self.lanes.get_mut(&entry.name) else {
+        let Some(name_table) = self.name_tables.get_mut(&entry.name) else {
             return Err(EnterError::NotWaiting);
         };
-        lane.enter(entry)
+        name_table.enter(entry)
     }
 
     /// Ends the hold of an entry, in expected time linear in the number of entries that hold on its name. It does not
@@ -150,10 +150,10 @@ impl Table {
         ensures not_held { IsErrOf result LeaveError.NotHeld ↔ ¬ Contains self.old.holding entry.now }
         ensures exclusive { IsConflictFree self.new.holding }
     {
-        let Some(lane) = self.lanes.get_mut(&entry.name) else {
+        let Some(name_table) = self.name_tables.get_mut(&entry.name) else {
             return Err(LeaveError::NotHeld);
         };
-        lane.leave(entry)
+        name_table.leave(entry)
     }
 
     /// Returns whether the entry may wait, unless memory runs out: its node neither waits nor holds on its name, and its number is above that of
@@ -163,8 +163,8 @@ impl Table {
         ensures allowed { IsTrue result ↔ MayRequest self.now entry.now }
         ensures exclusive { IsConflictFree self.now.holding }
     {
-        match self.lanes.get(&entry.name) {
-            Some(lane) => lane.check_request(entry).is_ok(),
+        match self.name_tables.get(&entry.name) {
+            Some(name_table) => name_table.check_request(entry).is_ok(),
             None => true,
         }
     }
@@ -176,8 +176,8 @@ impl Table {
         ensures allowed { IsTrue result ↔ MayEnter self.now entry.now }
         ensures exclusive { IsConflictFree self.now.holding }
     {
-        match self.lanes.get(&entry.name) {
-            Some(lane) => lane.check_enter(entry).is_ok(),
+        match self.name_tables.get(&entry.name) {
+            Some(name_table) => name_table.check_enter(entry).is_ok(),
             None => false,
         }
     }
@@ -187,8 +187,8 @@ impl Table {
         ensures held { IsTrue result ↔ Contains self.now.holding entry.now }
         ensures exclusive { IsConflictFree self.now.holding }
     {
-        match self.lanes.get(&entry.name) {
-            Some(lane) => lane.holds(entry),
+        match self.name_tables.get(&entry.name) {
+            Some(name_table) => name_table.holds(entry),
             None => false,
         }
     }

@@ -7,5 +7,5 @@ use Rattle.ra_table.proofs.table.open.Goals as goal
 pub returns-in-Ok-insert-clause-ok : goal.returns-in-Ok-insert-clause-ok
 returns-in-Ok-insert-clause-ok c =
     c.in-Ok-insert.ensures.entries
-    ∙ insert_entry-new bytes_eq c.args.lanes.now c.args.entry.now.name c.in-Ok.lane c.requires
-    ∙ ap (λ (lane : LockTable). c.args.lanes.now.entries ++ (c.args.entry.now.name, lane) ∷ []) c.in-Ok.ensures
+    ∙ insert_entry-new bytes_eq c.args.name_tables.now c.args.entry.now.name c.in-Ok.name_table c.requires
+    ∙ ap (λ (name_table : LockTable). c.args.name_tables.now.entries ++ (c.args.entry.now.name, name_table) ∷ []) c.in-Ok.ensures

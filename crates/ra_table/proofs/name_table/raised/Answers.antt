@@ -1,6 +1,6 @@
 use Rattle.std.proofs.Common.{◌≡◌, ℕ, Option, sym, ap, ◌∙◌, arith}
 use Rattle.std.specs.Prelude.{max, unwrap_or}
-use Rattle.ra_table.proofs.lane.raised.Goals as goal
+use Rattle.ra_table.proofs.name_table.raised.Goals as goal
 
 pub returns-in-Some : goal.returns-in-Some
 returns-in-Some c =

@@ -1,7 +1,7 @@
 use Rattle.std.proofs.Common.{◌≡◌, List, ◌∷◌, [], ◌++◌, ap, ◌∙◌}
 use Rattle.ra_stamp.specs.declared.entry.Entry.{Entry}
 use Rattle.ra_table.proofs.Moves.{of_parts}
-use Rattle.ra_table.proofs.lane.Lane.first.Goals as goal
+use Rattle.ra_table.proofs.name_table.NameTable.first.Goals as goal
 
 pub returns : goal.returns
 returns c =

@@ -1,9 +1,9 @@
 use Rattle.std.proofs.Common.{◌≡◌, ℕ, Option, Some, None, sym, ap, ◌∙◌, subst}
 use Rattle.std.proofs.lemmas.Bool.{false≢true, leb-true, le-leb}
 use Rattle.ra_table.specs.Table.{LockTable}
-use Rattle.ra_table.specs.Lanes.{highest_of, Reaches}
+use Rattle.ra_table.specs.NameTables.{highest_of, Reaches}
 use Rattle.ra_table.proofs.Numbers.{highest_answers}
-use Rattle.ra_table.proofs.lane.Lane.is_not_above.Goals as goal
+use Rattle.ra_table.proofs.name_table.NameTable.is_not_above.Goals as goal
 
 pub returns-in-Some : goal.returns-in-Some
 returns-in-Some c =

@@ -1,10 +1,10 @@
-//! The entries on one name.
+//! The lock table of one name.
 ghost use Rattle.std.specs.Prelude.{◌≡◌, ◌↔◌, max, unwrap_or, Contains, IsTrue, IsOk, IfOk, OnOk, OnErr};
 ghost use Rattle.ra_stamp.specs.declared.entry.Mark.{Mark};
 ghost use Rattle.ra_table.specs.Table.{TableStep};
 ghost use Rattle.ra_table.specs.Refusals.{IsNodeBusy, IsNotAbove};
 ghost use Rattle.ra_table.specs.Answers.{RequestTells, CheckTells, EnterTells, IsAnswered};
-ghost use Rattle.ra_table.specs.Lanes.{AreOn, StandsAt, first_request};
+ghost use Rattle.ra_table.specs.NameTables.{AreOn, IsAt, first_request};
 
 use crate::error::{EnterError, LeaveError, RequestError};
 use crate::lists::{has_earlier, has_excluding, has_node_of, place_of, push_exactly};
@@ -12,10 +12,10 @@ use ra_stamp::{Entry, GhostList, Memory};
 use std::alloc::Global;
 use std::marker::Model;
 
-/// The entries on one name: those that wait, those that hold, and those granted so far. Contracts see them as a lock table.
-/// Each call takes time linear in the number of entries that wait and hold. A lane stays when its last entry has left.
+/// The lock table of one name: the entries that wait, those that hold, and those granted so far. Contracts see a lock table.
+/// Each call takes time linear in the number of entries that wait and hold. The table stays when its last entry has left.
 #[derive(Drop)]
-pub struct Lane {
+pub struct NameTable {
     waiting: Vec<Entry>,
     holding: Vec<Entry>,
     /// The entries granted so far, for proofs alone.
@@ -24,10 +24,10 @@ pub struct Lane {
     highest: Option<u64>,
 }
 
-impl Model for Lane {
+impl Model for NameTable {
     ghost use Rattle.std.specs.Prelude.{◌≡◌};
     ghost use Rattle.ra_table.specs.Table.{LockTable};
-    ghost use Rattle.ra_table.specs.Lanes.{highest_of};
+    ghost use Rattle.ra_table.specs.NameTables.{highest_of};
 
     ghost Value = { LockTable };
 
@@ -37,18 +37,18 @@ impl Model for Lane {
     ghost invariant = { λ l. l.highest ≡ highest_of l.granted.items };
 }
 
-impl Lane {
-    /// Makes the lane of a name on which nothing was granted yet, and this entry alone waits.
+impl NameTable {
+    /// Makes the table of a name on which nothing was granted yet, and for which this entry alone waits.
     ///
     /// # Errors
     ///
     /// `Memory`: memory ran out.
-    pub fn first(alloc: Global, entry: &Entry) -> Result<Lane, Memory>
-        ensures { IfOk result (λ lane. lane ≡ first_request entry.now) }
+    pub fn first(alloc: Global, entry: &Entry) -> Result<NameTable, Memory>
+        ensures { IfOk result (λ name_table. name_table ≡ first_request entry.now) }
     {
         let mut waiting = Vec::new(alloc);
         push_exactly(&mut waiting, entry)?;
-        Ok(Lane {
+        Ok(NameTable {
             waiting,
             holding: Vec::new(alloc),
             granted: GhostList::new(),
@@ -56,11 +56,11 @@ impl Lane {
         })
     }
 
-    /// Lets the entry wait, which is on the name of the lane.
+    /// Lets an entry on the name of this table wait.
     ///
     /// # Errors
     ///
-    /// Those of `Table::request`, with the lane as before.
+    /// Those of `Table::request`, with the table as before.
     pub fn request(&mut self, entry: &Entry) -> Result<(), RequestError>
         requires { AreOn entry.now.name self.old.granted }
         ensures ok { OnOk result (TableStep self.old (Mark.Requested entry.now) self.new) }
@@ -78,14 +78,14 @@ impl Lane {
     ///
     /// # Errors
     ///
-    /// Those of `Table::enter`, with the lane as before.
+    /// Those of `Table::enter`, with the table as before.
     pub fn enter(&mut self, entry: &Entry) -> Result<(), EnterError>
         ensures ok { OnOk result (TableStep self.old (Mark.Entered entry.now) self.new) }
         ensures err { OnErr result (self.new ≡ self.old) }
         ensures told { EnterTells result self.old entry.now }
     {
         let place = self.check_enter(entry)?;
-        // This is the last that can be refused.
+        // Only this can still be refused.
         let Ok(()) = push_exactly(&mut self.holding, entry) else {
             return Err(EnterError::Memory);
         };
@@ -99,7 +99,7 @@ impl Lane {
     ///
     /// # Errors
     ///
-    /// `NotHeld`: it does not hold. The lane is as before.
+    /// `NotHeld`: it does not hold. The table is as before.
     pub fn leave(&mut self, entry: &Entry) -> Result<(), LeaveError>
         ensures ok { OnOk result (TableStep self.old (Mark.Left entry.now) self.new) }
         ensures err { OnErr result (self.new ≡ self.old) }
@@ -112,7 +112,7 @@ impl Lane {
         Ok(())
     }
 
-    /// Checks whether the request may be made of an entry on the name of the lane.
+    /// Checks whether an entry on the name of this table may wait.
     ///
     /// # Errors
     ///
@@ -136,7 +136,7 @@ impl Lane {
     ///
     /// Those of `enter`, except for `Memory`.
     pub fn check_enter(&self, entry: &Entry) -> Result<usize, EnterError>
-        ensures place { IfOk result (λ place. StandsAt self.now.waiting place entry.now) }
+        ensures place { IfOk result (λ place. IsAt self.now.waiting place entry.now) }
         ensures answered { IsAnswered self.now entry.now result }
     {
         let Some(place) = place_of(&self.waiting, entry) else {

@@ -6,7 +6,7 @@ use Rattle.ra_table.specs.Table.{LockTable, Gains}
 use Rattle.ra_table.specs.Answers.{RequestTells}
 use Rattle.ra_table.proofs.Moves.{of_parts, Gains-push}
 use Rattle.ra_table.proofs.Refused.{same_fault, request_refused, request_made}
-use Rattle.ra_table.proofs.lane.Lane.request.Goals as goal
+use Rattle.ra_table.proofs.name_table.NameTable.request.Goals as goal
 
 -- ---- It may not be made
 

@@ -1,4 +1,4 @@
--- How a table keeps its entries: in lanes, one for each name. No public contract speaks of lanes.
+-- How a lock table keeps its entries: in a table for each name. No public contract speaks of these.
 use Rattle.std.specs.Prelude.{◌≡◌, ◌<◌, ◌≤◌, ℕ, List, [], ◌∷◌, ◌++◌, Option, Some, None, All, length, max, slice_index_or, unwrap_or}
 use Rattle.std.specs.List.{filter, AllByRecursion, IsDistinct}
 use Rattle.std.specs.Map.{keys_of}
@@ -7,7 +7,7 @@ use Rattle.ra_stamp.specs.declared.entry.Entry.{Entry}
 use Rattle.ra_table.specs.Table.{LockTable}
 use Rattle.ra_table.specs.Laws.{IsConflictFree}
 
--- ---- One lane, which is the lock table of one name
+-- ---- The table of one name
 
 -- the table in which this entry alone waits
 abbrev pub first_request : Entry → LockTable
@@ -18,8 +18,8 @@ abbrev pub AreOn : List ℕ → List Entry → Type 0
 AreOn name entries = All (λ x. x.name ≡ name) entries
 
 -- the entry is at this place of the list, counted from 0
-abbrev pub StandsAt : List Entry → ℕ → Entry → Type 0
-StandsAt entries place e = (place < length entries) × (slice_index_or entries place e ≡ e)
+abbrev pub IsAt : List Entry → ℕ → Entry → Type 0
+IsAt entries place e = (place < length entries) × (slice_index_or entries place e ≡ e)
 
 -- the highest number of these entries, if there are any
 abbrev pub highest_of : List Entry → Option ℕ
@@ -31,43 +31,43 @@ abbrev pub Reaches : Option ℕ → ℕ → Type 0
 Reaches None number = ⊥
 Reaches (Some highest) number = number ≤ highest
 
--- ---- All lanes
+-- ---- The tables of all names
 
 -- the entries on this name, in order
 abbrev pub on_name : List ℕ → List Entry → List Entry
 on_name name entries = filter (λ x. bytes_eq name x.name) entries
 
 module _ {X : Type 0} (part : X → List Entry) where
-  -- this part of all lanes, one after the other
+  -- this part of all tables, one after the other
   abbrev pub joined : List (List ℕ × X) → List Entry
   joined [] = []
-  joined (lane ∷ lanes) = part lane.1 ++ joined lanes
+  joined (name_table ∷ name_tables) = part name_table.1 ++ joined name_tables
 
-  -- each entry in this part of a lane is on the name of the lane
+  -- each entry in this part of a table is on the name of the table
   abbrev pub AreOnTheirNames : List (List ℕ × X) → Type 0
-  AreOnTheirNames lanes = AllByRecursion (λ lane. AreOn lane.0 (part lane.1)) lanes
+  AreOnTheirNames name_tables = AllByRecursion (λ name_table. AreOn name_table.0 (part name_table.1)) name_tables
 
--- the entries that wait in a lane
+-- the entries that wait in a table
 abbrev pub waiting_of : LockTable → List Entry
-waiting_of lane = lane.waiting
+waiting_of name_table = name_table.waiting
 
--- the entries that hold in a lane
+-- the entries that hold in a table
 abbrev pub holding_of : LockTable → List Entry
-holding_of lane = lane.holding
+holding_of name_table = name_table.holding
 
--- the entries that were granted in a lane
+-- the entries that were granted in a table
 abbrev pub granted_of : LockTable → List Entry
-granted_of lane = lane.granted
+granted_of name_table = name_table.granted
 
--- the table of the entries of all lanes
+-- the table of the entries of all names
 abbrev pub table_of : List (List ℕ × LockTable) → LockTable
-table_of lanes = record { waiting = joined waiting_of lanes; holding = joined holding_of lanes; granted = joined granted_of lanes }
+table_of name_tables = record { waiting = joined waiting_of name_tables; holding = joined holding_of name_tables; granted = joined granted_of name_tables }
 
--- what holds of the lanes of each table: no name has two of them, each entry is in the lane of its name, and no two entries
+-- what is always so of the tables of all names: no name has two, each entry is in the table of its name, and no two entries
 -- hold in conflict
-pub record IsKept (lanes : List (List ℕ × LockTable)) : Type 0 where
-  pub distinct : IsDistinct bytes_eq (keys_of lanes)
-  pub waiting : AreOnTheirNames waiting_of lanes
-  pub holding : AreOnTheirNames holding_of lanes
-  pub granted : AreOnTheirNames granted_of lanes
-  pub conflict_free : IsConflictFree (joined holding_of lanes)
+pub record IsKept (name_tables : List (List ℕ × LockTable)) : Type 0 where
+  pub distinct : IsDistinct bytes_eq (keys_of name_tables)
+  pub waiting : AreOnTheirNames waiting_of name_tables
+  pub holding : AreOnTheirNames holding_of name_tables
+  pub granted : AreOnTheirNames granted_of name_tables
+  pub conflict_free : IsConflictFree (joined holding_of name_tables)

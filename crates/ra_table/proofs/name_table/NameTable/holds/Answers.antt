@@ -2,7 +2,7 @@ use Rattle.std.proofs.Common.{◌≡◌, List, Contains, refl, sym, ap, ◌∙�
 use Rattle.std.proofs.lemmas.Bool.{false≢true}
 use Rattle.ra_stamp.specs.declared.entry.Entry.{Entry}
 use Rattle.ra_table.specs.Table.{LockTable}
-use Rattle.ra_table.proofs.lane.Lane.holds.Goals as goal
+use Rattle.ra_table.proofs.name_table.NameTable.holds.Goals as goal
 
 pub returns-in-Some : goal.returns-in-Some
 returns-in-Some c =

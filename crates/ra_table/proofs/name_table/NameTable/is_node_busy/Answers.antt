@@ -2,7 +2,7 @@ use Rattle.std.proofs.Common.{◌≡◌, Any, sym, ap, ◌∙◌, subst, inl, in
 use Rattle.std.proofs.lemmas.Bool.{false≢true}
 use Rattle.ra_table.specs.Table.{LockTable}
 use Rattle.ra_table.specs.Refusals.{SharesNodeAndName}
-use Rattle.ra_table.proofs.lane.Lane.is_node_busy.Goals as goal
+use Rattle.ra_table.proofs.name_table.NameTable.is_node_busy.Goals as goal
 
 pub returns-then-has_node_of : goal.returns-then-has_node_of
 returns-then-has_node_of c =

@@ -1,7 +1,7 @@
 use Rattle.std.proofs.Common.{sym, ◌∙◌}
 use Rattle.std.proofs.lemmas.Bool.{false≢true}
 use Rattle.ra_table.proofs.Refused.{busy_told, not_above_told, none_told}
-use Rattle.ra_table.proofs.lane.Lane.check_request.Goals as goal
+use Rattle.ra_table.proofs.name_table.NameTable.check_request.Goals as goal
 
 pub returns-then-is_node_busy : goal.returns-then-is_node_busy
 returns-then-is_node_busy c = busy_told c.args.self.now c.args.entry.now (c.is_node_busy.ensures.0 c.if-is_node_busy.true)
