@@ -4,14 +4,17 @@ use Rattle.std.specs.Io.KnownBytes.{Consumes, Appends}
 use Rattle.std.proofs.KnownBytes.{Consumes-nil}
 use Rattle.hex.specs.Hex.{decode_of}
 use Rattle.ra_stamp.specs.declared.message.Message.{Message}
+use Rattle.ra_stamp.specs.Message.{to_of}
+use Rattle.ra_automaton.specs.declared.error.ReceiveError.{ReceiveError}
+use Rattle.ra_automaton.specs.declared.error.ReceiveError.TheVariants as receive
 use Rattle.ra_frame.specs.declared.frame.Frame.{Frame}
 use Rattle.ra_world.specs.declared.error.ReadFault.{ReadFault}
 use Rattle.ra_world.specs.declared.error.ReadFault.TheVariants as read
 use Rattle.ra_world.specs.Input.{Reads}
 use Rattle.ra_cli.specs.declared.error.AnswerError.{AnswerError}
 use Rattle.ra_cli.specs.declared.error.AnswerError.TheVariants as fault
-use Rattle.ra_cli.specs.Answer.{Carries, IsMember, IsUnwanted, IsAnswered, Refuses}
-use Rattle.ra_cli.specs.AnswerCall.{ComesTo, IsOfInput}
+use Rattle.ra_cli.specs.Answer.{Carries, IsMember, IsStrange, IsUnwanted, IsAnswered, Refuses}
+use Rattle.ra_cli.specs.AnswerCall.{ComesTo, IsOfInput, of_receive}
 use Rattle.ra_cli.specs.Line.{IsLine}
 use Rattle.ra_cli.proofs.Refusals.{for_each, refuses_input, answers_input, not_nil}
 use Rattle.ra_cli.proofs.ClusterRuns.{of_known}
@@ -30,6 +33,13 @@ pub of_message : (node nodes : ℕ) (message : Message) (why : AnswerError) → 
 of_message node nodes message why (inl (is, other)) = ((λ read. absurd cc), (λ write. absurd cc))
 of_message node nodes message why (inr (inl (is, strange))) = ((λ read. absurd cc), (λ write. absurd cc))
 of_message node nodes message why (inr (inr is)) = ((λ read. absurd cc), (λ write. absurd cc))
+
+-- a message that an automaton does not take is unwanted
+pub not_taken : (node nodes : ℕ) (message : Message) (why : ReceiveError) → (why ≡ receive.WrongNode → to_of message ≢ node)
+    → (why ≡ receive.Stranger → IsStrange node nodes message) → IsUnwanted node nodes message (of_receive why)
+not_taken node nodes message receive.WrongNode other strange = inl (refl, other refl)
+not_taken node nodes message receive.Stranger other strange = inr (inl (refl, strange refl))
+not_taken node nodes message receive.Memory other strange = inr (inr refl)
 
 -- digits that are no bytes are refused so
 pub no_bytes : (input digits : List ℕ) (why : AnswerError) → IsLine input digits

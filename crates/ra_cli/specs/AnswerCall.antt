@@ -1,9 +1,17 @@
 -- What comes of a call of `answer`.
 use Rattle.std.specs.Prelude.{◌≡◌, ◌≢◌, ◌⊎◌, ℕ, ◌≤◌, ◌<◌, List, [], ◌++◌, length, Result, Option, IfSome, IfErr, OnOk, IsErrOf}
 use Rattle.std.specs.Io.KnownBytes.{Consumes, Appends}
+use Rattle.ra_automaton.specs.declared.error.ReceiveError.{ReceiveError}
+use Rattle.ra_automaton.specs.declared.error.ReceiveError.TheVariants as receive
 use Rattle.ra_cli.specs.declared.error.AnswerError.{AnswerError}
 use Rattle.ra_cli.specs.declared.error.AnswerError.TheVariants as fault
 use Rattle.ra_cli.specs.Answer.{IsMember, IsAnswered, Refuses}
+
+-- the refusal of a frame whose message is not taken
+abbrev pub of_receive : ReceiveError → AnswerError
+of_receive receive.WrongNode = fault.WrongNode
+of_receive receive.Stranger = fault.Stranger
+of_receive receive.Memory = fault.Memory
 
 -- the refusal is of what was read, or memory ran out: neither the reader nor the writer failed
 abbrev pub IsOfInput : AnswerError → Type 0

@@ -4,7 +4,7 @@ ghost use Rattle.hex.specs.Hex.{decode_of, encode_lower};
 ghost use Rattle.ra_frame.specs.Fits.{Fits};
 ghost use Rattle.ra_frame.specs.FrameText.{IsWrittenText};
 ghost use Rattle.ra_cli.specs.Answer.{Carries, IsMember, IsUnwanted, Reacts, AreLines, IsAnswered, Refuses};
-ghost use Rattle.ra_cli.specs.AnswerCall.{ComesTo, IsOfInput};
+ghost use Rattle.ra_cli.specs.AnswerCall.{ComesTo, IsOfInput, of_receive};
 ghost use Rattle.ra_automaton.specs.State.{IsForNode};
 
 use crate::AnswerError;
@@ -150,9 +150,18 @@ fn reaction_to(
     };
     match automaton.receive(alloc, message) {
         Ok(reaction) => Ok(reaction),
-        Err(ReceiveError::WrongNode) => Err(AnswerError::WrongNode),
-        Err(ReceiveError::Stranger) => Err(AnswerError::Stranger),
-        Err(ReceiveError::Memory) => Err(AnswerError::Memory),
+        Err(refused) => Err(refusal_of(refused)),
+    }
+}
+
+/// Returns the refusal of a frame whose message is not taken. It does not allocate.
+fn refusal_of(refused: ReceiveError) -> AnswerError
+    ensures { result ≡ of_receive refused }
+{
+    match refused {
+        ReceiveError::WrongNode => AnswerError::WrongNode,
+        ReceiveError::Stranger => AnswerError::Stranger,
+        ReceiveError::Memory => AnswerError::Memory,
     }
 }
 
