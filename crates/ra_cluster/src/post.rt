@@ -192,9 +192,12 @@ fn open_inbox(
 ) -> Result<(), Memory>
     ensures { OnOk result (vec_len inboxes.new ≡ vec_len inboxes.old + 1) }
 {
+    // Room comes first, so that no exit but the last owns anything.
+    senders.reserve(1)?;
+    inboxes.reserve(1)?;
     let (sender, frames) = unbounded(alloc)?;
-    senders.push(sender)?;
-    inboxes.push(Inbox { frames })?;
+    senders.push_reserved(sender);
+    inboxes.push_reserved(Inbox { frames });
     Ok(())
 }
 

@@ -1,5 +1,5 @@
 //! How far the events of a node are in the run of an auditor.
-ghost use Rattle.std.specs.Prelude.{◌≡◌, ◌≢◌, ◌↔◌, ◌<◌, ◌∷◌, ◌++◌, [], List, Some, length, slice_get, IsTrue, IsErrOf, IfSome, IfErr, OnOk, OnErr, MatchOption};
+ghost use Rattle.std.specs.Prelude.{◌≡◌, ◌≢◌, ◌↔◌, ◌<◌, ◌∷◌, ◌++◌, [], List, Some, length, slice_get, IsTrue, IsErrOf, IfSome, OnOk, OnErr, MatchOption};
 ghost use Rattle.ra_history.specs.History.{clock_of, clock_from};
 ghost use Rattle.ra_history.specs.declared.book.event.BookEvent.{BookEvent};
 ghost use Rattle.ra_frame.specs.declared.frame.Frame.{Frame};
@@ -8,7 +8,7 @@ ghost use Rattle.ra_audit.specs.Audit.{AreNextAt, IsNextAt, IsForNumber, KeptAre
 
 use crate::auditor::noted_losses::Losses;
 use ra_cluster::{BookEvent, BookKind, Events, Handed, Site, TakeError, clock_after};
-use ra_stamp::{GhostList, NodeId};
+use ra_stamp::{GhostList, Memory, NodeId};
 use std::alloc::Global;
 use std::collections::VecDeque;
 use std::marker::Model;
@@ -244,10 +244,9 @@ fn first_of(waiting: &VecDeque<BookEvent>) -> Option<BookEvent>
 }
 
 /// Puts events at the end of those that wait, or, if there is no memory, none.
-fn append(waiting: &mut VecDeque<BookEvent>, events: &[BookEvent]) -> Result<(), TakeError>
+fn append(waiting: &mut VecDeque<BookEvent>, events: &[BookEvent]) -> Result<(), Memory>
     ensures ok { OnOk result (waiting.new.items ≡ waiting.old.items ++ events.now) }
     ensures err { OnErr result (waiting.new.items ≡ waiting.old.items) }
-    ensures memory { IfErr result (λ e. e ≡ TakeError.Memory) }
 {
     waiting.reserve(events.len())?;
     for event in events {

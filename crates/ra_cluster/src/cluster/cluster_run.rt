@@ -14,7 +14,7 @@ use crate::cluster::settled_script::settle_script;
 use crate::{Book, Cluster, Gate, Grant, Settled, Stop};
 use ra_schedule::Script;
 use ra_stamp::Memory;
-use std::alloc::{AllocError, AllocFailed, Global};
+use std::alloc::Global;
 use std::fmt;
 use std::sync::{Mutex, Wait};
 use std::thread::Threads;

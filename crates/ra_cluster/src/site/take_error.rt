@@ -2,7 +2,6 @@ ghost use Rattle.std.specs.Prelude.{◌≡◌};
 ghost use Rattle.ra_cluster.specs.declared.site.take_error.TakeError.TheVariants as take;
 
 use ra_stamp::Memory;
-use std::alloc::{AllocError, AllocFailed};
 use thiserror::Error;
 
 /// Why an auditor did not take events of a node.
@@ -24,22 +23,6 @@ impl From<Memory> for TakeError {
     ghost from_gives = { λ _ e. e ≡ take.Memory };
 
     fn from(_refused: Memory) -> TakeError {
-        TakeError::Memory
-    }
-}
-
-impl From<AllocError> for TakeError {
-    ghost from_gives = { λ _ e. e ≡ take.Memory };
-
-    fn from(_refused: AllocError) -> TakeError {
-        TakeError::Memory
-    }
-}
-
-impl<T: Drop> From<AllocFailed<T>> for TakeError {
-    ghost from_gives = { λ _ e. e ≡ take.Memory };
-
-    fn from(_refused: AllocFailed<T>) -> TakeError {
         TakeError::Memory
     }
 }
