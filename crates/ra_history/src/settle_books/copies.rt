@@ -30,14 +30,16 @@ fn push_back(
     ensures { (placed : List Placed) → HasCome later.old placed → AreWithCopies placed (reverse back.old.items)
         → OnOk result (HasCome later.new (placed_at one.now ∷ placed) × AreWithCopies (placed_at one.now ∷ placed) (reverse back.new.items)) }
 {
-    back.push(step_of(one.node, &one.event.kind))?;
+    // Room for both comes first, so that no step is put whose repeat can't be.
+    back.reserve(2)?;
+    back.push_reserved(step_of(one.node, &one.event.kind));
     let BookKind::Got(frame) = one.event.kind else {
         return Ok(());
     };
     if later.insert(frame_key(&frame))? {
         return Ok(());
     }
-    back.push(Step::Repeat(frame.message))?;
+    back.push_reserved(Step::Repeat(frame.message));
     Ok(())
 }
 

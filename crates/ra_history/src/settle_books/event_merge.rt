@@ -46,8 +46,8 @@ pub fn steps_in_order(alloc: Global, books: &[Book]) -> Result<Steps, Memory>
     ensures { IfOk result (λ steps. (placed : List Placed) × IsSettledOrder books.now placed
         × (steps.items ≡ steps_of placed)) }
 {
-    let mut steps = Steps::new(alloc);
     let mut nexts = first_events(alloc, books)?;
+    let mut steps = Steps::new(alloc);
     while let Some(turn) = take_earliest(books, &mut nexts) {
         steps.push(step_of(books[turn.place].me(), &turn.event.kind))?;
     }
@@ -59,8 +59,8 @@ pub fn events_in_order(alloc: Global, books: &[Book]) -> Result<Sequence<PlacedE
     requires { IsCluster books.now }
     ensures { IfOk result (λ events. IsSettledOrder books.now (all_placed_at events.items)) }
 {
-    let mut events = Sequence::new(alloc);
     let mut nexts = first_events(alloc, books)?;
+    let mut events = Sequence::new(alloc);
     while let Some(turn) = take_earliest(books, &mut nexts) {
         events.push(PlacedEvent {
             node: books[turn.place].me(),

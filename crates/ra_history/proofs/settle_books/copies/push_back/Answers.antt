@@ -11,11 +11,15 @@ use Rattle.ra_history.proofs.KeySets.{when_new, when_old}
 use Rattle.ra_history.proofs.CopiesBack.{none_by, come_same, come_more, comes, comes_not, none_in_front, last_in_front, copy_in_front}
 use Rattle.ra_history.proofs.settle_books.copies.push_back.Goals as goal
 
+-- one step more after the same steps
+put_one : (back steps : List Step) (one step : Step) → back ≡ steps → one ≡ step → back ++ one ∷ [] ≡ steps ++ step ∷ []
+put_one back steps one step same is = ap (λ (ss : List Step). ss ++ one ∷ []) same ∙ ap (λ (s : Step). steps ++ s ∷ []) is
+
 pub returns-in_default : goal.returns-in_default
 returns-in_default c placed has done =
     let p = placed_at c.args.one.now in
     let none = none_by p.event.kind c.in_default.not-Got in
-    let are = c.in_ok-push.ensures.items ∙ ap (λ (s : Step). c.args.back.now.items ++ s ∷ []) c.step_of.ensures in (
+    let are = c.push_reserved.ensures.items ∙ put_one _ c.args.back.now.items _ _ c.reserve.ensures.items c.step_of.ensures in (
       come_same c.args.later.now p placed none has,
       subst (λ (ss : List Step). AreWithCopies (p ∷ placed) (reverse ss)) (sym are) (none_in_front p placed c.args.back.now.items none done),
     )
@@ -27,7 +31,7 @@ returns-then-branch c placed has done =
     let f = c.in-Got.frame in
     let is_new = subst (λ (k : FrameKey). sorted.contains frame_cmp old k ≡ false) c.frame_key.ensures (when_new _ _ c.in_ok-insert.ensures.added c.if-branch.true) in
     let put = subst (λ (k : FrameKey). sorted.Updates frame_cmp old c.insert.new.self k true) c.frame_key.ensures c.in_ok-insert.ensures.updates in
-    let are = c.in_ok-push.ensures.items ∙ ap (λ (s : Step). c.args.back.now.items ++ s ∷ []) c.step_of.ensures in (
+    let are = c.push_reserved.ensures.items ∙ put_one _ c.args.back.now.items _ _ c.reserve.ensures.items c.step_of.ensures in (
       come_more old c.insert.new.self p placed f c.in-Got.is has put,
       subst (λ (ss : List Step). AreWithCopies (p ∷ placed) (reverse ss)) (sym are)
           (last_in_front p placed c.args.back.now.items f c.in-Got.is (comes_not old placed f has is_new) done),
@@ -40,9 +44,9 @@ returns c placed has done =
     let f = c.in-Got.frame in
     let is_old = subst (λ (k : FrameKey). sorted.contains frame_cmp old k ≡ true) c.frame_key.ensures (when_old _ _ c.in_ok-insert.ensures.added c.if-branch.false) in
     let put = subst (λ (k : FrameKey). sorted.Updates frame_cmp old c.insert.new.self k true) c.frame_key.ensures c.in_ok-insert.ensures.updates in
-    let one = c.in_ok-push.ensures.items ∙ ap (λ (s : Step). c.args.back.now.items ++ s ∷ []) c.step_of.ensures in
-    let are : c.push-2.new.self.items ≡ (c.args.back.now.items ++ step_at p.node p.event.kind ∷ []) ++ Repeat f.message ∷ [] =
-    c.in_ok-push-2.ensures.items ∙ ap (λ (ss : List Step). ss ++ Repeat f.message ∷ []) one
+    let one = c.push_reserved.ensures.items ∙ put_one _ c.args.back.now.items _ _ c.reserve.ensures.items c.step_of.ensures in
+    let are : c.push_reserved-2.new.self.items ≡ (c.args.back.now.items ++ step_at p.node p.event.kind ∷ []) ++ Repeat f.message ∷ [] =
+    c.push_reserved-2.ensures.items ∙ ap (λ (ss : List Step). ss ++ Repeat f.message ∷ []) one
     in (
       come_more old c.insert.new.self p placed f c.in-Got.is has put,
       subst (λ (ss : List Step). AreWithCopies (p ∷ placed) (reverse ss)) (sym are)
