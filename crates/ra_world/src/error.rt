@@ -5,7 +5,7 @@ ghost use Rattle.ra_world.specs.declared.error.ReadFault.TheVariants as read;
 
 use ra_node::{AskError, LeaveError};
 use ra_stamp::Memory;
-use std::alloc::{AllocError, AllocFailed};
+use std::alloc::AllocError;
 use std::fmt;
 use thiserror::Error;
 
@@ -98,14 +98,6 @@ impl From<AllocError> for ReadFault {
     ghost from_gives = { λ _ e. e ≡ read.Memory };
 
     fn from(_refused: AllocError) -> ReadFault {
-        ReadFault::Memory
-    }
-}
-
-impl<T: Drop> From<AllocFailed<T>> for ReadFault {
-    ghost from_gives = { λ _ e. e ≡ read.Memory };
-
-    fn from(_refused: AllocFailed<T>) -> ReadFault {
         ReadFault::Memory
     }
 }
