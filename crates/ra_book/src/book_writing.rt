@@ -16,16 +16,22 @@ use ra_history::{Book, BookEvent, BookKind};
 use ra_stamp::{Memory, Mode, Name, NodeId};
 use ra_world::{push_field, push_number};
 use std::alloc::{AllocError, Global};
+use std::fmt;
 use thiserror::Error;
 
 /// Why the text of a book is not written.
 #[derive(Clone, Copy, Debug, PartialEq, Eq, Error)]
-#[error("{:?}", self)]
 pub enum WriteBookError {
     /// A frame that came does not fit, so that it has no text.
     Unfit,
     /// Memory ran out.
     Memory,
+}
+
+impl fmt::Display for WriteBookError {
+    fn fmt<W: fmt::Write>(&self, f: &mut fmt::Formatter<W>) -> fmt::Result {
+        fmt::Debug::fmt(self, f)
+    }
 }
 
 impl From<Memory> for WriteBookError {

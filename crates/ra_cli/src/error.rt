@@ -56,7 +56,6 @@ pub enum RunScriptError {
     Write,
 }
 
-// By hand, since a derived one takes ten times as long to prove.
 impl fmt::Display for AnswerError {
     /// Prints one word: that of the frame's fault, or the name of the variant.
     fn fmt<W: fmt::Write>(&self, f: &mut fmt::Formatter<W>) -> fmt::Result {

@@ -7,12 +7,11 @@ use ra_frame::{Frame, encode};
 use ra_stamp::{Memory, NodeId};
 use std::alloc::Global;
 use std::sync::{RwLock, Wait};
-use std::thread;
+use std::{fmt, thread};
 use thiserror::Error;
 
 /// Why there is no post.
 #[derive(Clone, Copy, Debug, PartialEq, Eq, Error)]
-#[error("{:?}", self)]
 pub enum NewPostError {
     /// The number of nodes is not 1 to 64.
     BadCount,
@@ -20,14 +19,25 @@ pub enum NewPostError {
     Memory,
 }
 
+impl fmt::Display for NewPostError {
+    fn fmt<W: fmt::Write>(&self, f: &mut fmt::Formatter<W>) -> fmt::Result {
+        fmt::Debug::fmt(self, f)
+    }
+}
+
 /// Why a frame was not sent.
 #[derive(Clone, Copy, Debug, PartialEq, Eq, Error)]
-#[error("{:?}", self)]
 pub enum SendError {
     /// The post is closed.
     Closed,
     /// There is no memory for it, or no inbox of its node, or the inbox is gone.
     Refused,
+}
+
+impl fmt::Display for SendError {
+    fn fmt<W: fmt::Write>(&self, f: &mut fmt::Formatter<W>) -> fmt::Result {
+        fmt::Debug::fmt(self, f)
+    }
 }
 
 /// How many frames a node takes from its inbox at most, before others have a turn at its lock.

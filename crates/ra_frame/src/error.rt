@@ -30,7 +30,6 @@ pub enum FrameError {
     Trailing,
 }
 
-// By hand, since a derived one takes ten times as long to prove.
 impl fmt::Display for FrameError {
     /// Prints the name of the variant.
     fn fmt<W: fmt::Write>(&self, f: &mut fmt::Formatter<W>) -> fmt::Result {

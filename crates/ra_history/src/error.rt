@@ -29,7 +29,6 @@ pub enum BookError {
     Memory,
 }
 
-// By hand, since a derived one takes ten times as long to prove.
 impl fmt::Display for BookError {
     /// Prints one word: that of the frame's fault, or the name of the variant.
     fn fmt<W: fmt::Write>(&self, f: &mut fmt::Formatter<W>) -> fmt::Result {
@@ -56,12 +55,17 @@ impl From<AskError> for BookError {
 
 /// Why a frame was not flagged as lost.
 #[derive(Clone, Copy, Debug, PartialEq, Eq, Error)]
-#[error("{:?}", self)]
 pub enum MarkLostError {
     /// It is not among the sent frames.
     NotSent,
     /// It was flagged before.
     AlreadyLost,
+}
+
+impl fmt::Display for MarkLostError {
+    fn fmt<W: fmt::Write>(&self, f: &mut fmt::Formatter<W>) -> fmt::Result {
+        fmt::Debug::fmt(self, f)
+    }
 }
 
 /// Why books did not settle, in the order in which the causes are looked for.
@@ -79,7 +83,6 @@ pub enum SettleError {
     Memory,
 }
 
-// By hand, since a derived one takes ten times as long to prove.
 impl fmt::Display for SettleError {
     /// Prints the name of the variant.
     fn fmt<W: fmt::Write>(&self, f: &mut fmt::Formatter<W>) -> fmt::Result {

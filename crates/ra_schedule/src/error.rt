@@ -53,7 +53,6 @@ pub enum AddOpError {
     Memory,
 }
 
-// By hand, since a derived one takes ten times as long to prove.
 impl fmt::Display for AddOpError {
     /// Prints the name of the variant.
     fn fmt<W: fmt::Write>(&self, f: &mut fmt::Formatter<W>) -> fmt::Result {

@@ -1,3 +1,4 @@
+use std::fmt;
 use thiserror::Error;
 
 /// Why a text of books does not settle, in the order in which the causes are looked for.
@@ -19,10 +20,15 @@ pub enum TextCause {
 
 /// Why a text of books was not settled.
 #[derive(Clone, Copy, Debug, PartialEq, Eq, Error)]
-#[error("{:?}", self)]
 pub enum SettleTextError {
     /// It does not settle: the line that is wrong, counted from 1, and the cause.
     Invalid { line: u64, cause: TextCause },
     /// Memory ran out.
     Memory,
+}
+
+impl fmt::Display for SettleTextError {
+    fn fmt<W: fmt::Write>(&self, f: &mut fmt::Formatter<W>) -> fmt::Result {
+        fmt::Debug::fmt(self, f)
+    }
 }

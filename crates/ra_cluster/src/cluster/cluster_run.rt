@@ -41,7 +41,6 @@ pub enum ClusterError {
     Memory,
 }
 
-// By hand, since a derived one takes ten times as long to prove.
 impl fmt::Display for ClusterError {
     /// Prints the name of the variant.
     fn fmt<W: fmt::Write>(&self, f: &mut fmt::Formatter<W>) -> fmt::Result {

@@ -2,11 +2,11 @@ ghost use Rattle.std.specs.Prelude.{◌≡◌};
 ghost use Rattle.ra_cluster.specs.declared.site.take_error.TakeError.TheVariants as take;
 
 use ra_stamp::Memory;
+use std::fmt;
 use thiserror::Error;
 
 /// Why an auditor did not take events of a node.
 #[derive(Clone, Copy, Debug, PartialEq, Eq, Error)]
-#[error("{:?}", self)]
 pub enum TakeError {
     /// The cluster has no such node.
     NoNode,
@@ -17,6 +17,12 @@ pub enum TakeError {
     NotNext,
     /// Memory ran out.
     Memory,
+}
+
+impl fmt::Display for TakeError {
+    fn fmt<W: fmt::Write>(&self, f: &mut fmt::Formatter<W>) -> fmt::Result {
+        fmt::Debug::fmt(self, f)
+    }
 }
 
 impl From<Memory> for TakeError {

@@ -22,7 +22,6 @@ pub enum Stop {
     Spawn,
 }
 
-// By hand, since a derived one takes ten times as long to prove.
 impl fmt::Display for Stop {
     /// Prints the name of the variant.
     fn fmt<W: fmt::Write>(&self, f: &mut fmt::Formatter<W>) -> fmt::Result {
