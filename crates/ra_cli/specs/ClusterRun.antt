@@ -16,7 +16,7 @@ use Rattle.ra_script.specs.declared.error.ScriptError.TheVariants as text
 use Rattle.ra_script.specs.ScriptText.{script_of}
 use Rattle.ra_cluster.specs.declared.cluster.cluster_run.ClusterError.{ClusterError}
 use Rattle.ra_cluster.specs.declared.cluster.cluster_run.ClusterError.TheVariants as cluster
-use Rattle.ra_cluster.specs.LockOrder.{IsOutOfOrder, IsUnreleased}
+use Rattle.ra_schedule.specs.LockOrder.{IsOutOfOrder, IsUnreleased}
 use Rattle.ra_cluster.specs.Outcome.{IsRecord}
 use Rattle.ra_history.specs.declared.settle_books.settled.Settled.{Settled}
 use Rattle.ra_history.specs.Book.{BookState}

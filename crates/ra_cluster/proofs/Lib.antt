@@ -1,5 +1,3 @@
-mod Holding
-mod LockOrderLemmas
 mod Endings
 mod SiteNumbers
 mod LostFrames

@@ -1,7 +1,6 @@
 pub mod StopCauses
 pub mod Sites
 pub mod ClientGrant
-pub mod LockOrder
 pub mod Outcome
 pub mod Cluster
 pub mod Losses

@@ -3,7 +3,6 @@ pub mod all_sites;
 pub mod book_room;
 pub mod cluster_run;
 pub mod gate;
-pub mod lock_order;
 pub mod script_threads;
 pub mod settled_script;
 

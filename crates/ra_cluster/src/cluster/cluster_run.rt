@@ -3,16 +3,15 @@ ghost use Rattle.ra_world.specs.Traffic.{Move};
 ghost use Rattle.ra_world.specs.Run.{IsRun};
 ghost use Rattle.ra_world.specs.World.{Reports};
 ghost use Rattle.ra_world.specs.MainTheorem.{MainTheorem};
-ghost use Rattle.ra_cluster.specs.LockOrder.{IsOutOfOrder, IsUnreleased};
+ghost use Rattle.ra_schedule.specs.LockOrder.{IsOutOfOrder, IsUnreleased};
 ghost use Rattle.ra_history.specs.Book.{HasHistory};
 ghost use Rattle.ra_history.specs.Plan.{MeetsPlan, IsQuietEnd, locks_of};
 ghost use Rattle.ra_cluster.specs.Outcome.{IsOfThreads, IsRecord};
 
-use crate::cluster::lock_order::check_script;
 use crate::cluster::script_threads::{ScriptRun, run_threads};
 use crate::cluster::settled_script::settle_script;
 use crate::{Book, Cluster, Gate, Grant, Settled, Stop};
-use ra_schedule::Script;
+use ra_schedule::{Script, first_out_of_order, first_unreleased};
 use ra_stamp::Memory;
 use std::alloc::Global;
 use std::fmt;
@@ -144,6 +143,29 @@ pub fn record_cluster<R: Threads + Wait + Sync, G: Gate>(
 {
     check_script(script)?;
     record_in_order(rt, alloc, script, gate)
+}
+
+/// Checks whether threads can run a script: whether each client takes its names in ascending order and holds none at its
+/// end. It does not allocate. The cost is that of [`first_out_of_order`] and [`first_unreleased`].
+///
+/// # Errors
+///
+/// The first that holds:
+///
+/// 1. `OutOfOrder`: a client locks a name that is not above, by bytes, each name that it holds then.
+/// 2. `Unreleased`: a client holds a name at its end.
+fn check_script(script: &Script) -> Result<(), ClusterError>
+    ensures out_of_order { IsErrOf result ClusterError.OutOfOrder ↔ IsOutOfOrder script.now }
+    ensures unreleased { IsErrOf result ClusterError.Unreleased
+        ↔ ((IsOutOfOrder script.now → ⊥) × IsUnreleased script.now) }
+{
+    if first_out_of_order(script).is_some() {
+        return Err(ClusterError::OutOfOrder);
+    }
+    if first_unreleased(script).is_some() {
+        return Err(ClusterError::Unreleased);
+    }
+    Ok(())
 }
 
 /// Runs a script that threads can run, and settles the books.
