@@ -1,6 +1,9 @@
-//! Whole clusters, with clients on threads of their own.
+//! Whole clusters, and what all tests of this crate share: values, how a test ends, and threads that have to end.
 pub mod asleep;
+pub mod cluster_asserting;
 pub mod cluster_calls;
 pub mod cluster_clients;
 pub mod cluster_ends;
+pub mod cluster_values;
 pub mod owned_cluster;
+pub mod plays;

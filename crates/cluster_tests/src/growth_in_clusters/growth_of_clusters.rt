@@ -1,10 +1,10 @@
 //! Each growth of a whole cluster is refused: its calls answer that memory ran out, in the thread of the client or in one
 //! that carries frames, and do what they should when they are made again.
-use crate::cluster_values::{WANTING, node};
-use crate::growth_in_clusters::growth_of_books::end;
 use crate::thread_scripts::letter_scripts::{Client, TWO_WRITERS, USES_R, script_of};
 use crate::thread_scripts::own_threads::run_in;
+use crate::whole_clusters::cluster_asserting::assert_grown;
 use crate::whole_clusters::cluster_calls::{books_at_the_end, clusters_of, site, use_name};
+use crate::whole_clusters::cluster_values::{WANTING, node};
 use ra_cluster::{
     BookError, CallError, Cluster, ClusterError, OpenGate, SiteError, Stop, run_cluster,
 };
@@ -139,7 +139,7 @@ fn try_work<R: AllocGlobal + Threads + Wait + Abort + Sync>(
 
 /// Does so, and does it anew if memory ran out.
 fn grow<R: AllocGlobal + Threads + Wait + Abort + Sync>(rt: &R, work: Work) {
-    end(rt, again(try_work(rt, work), try_work(rt, work)));
+    assert_grown(rt, again(try_work(rt, work), try_work(rt, work)));
 }
 
 #[test]
@@ -179,7 +179,7 @@ fn try_cluster<R: Threads + Wait + Sync>(rt: &R, alloc: Global) -> Result<Tried,
 #[test]
 fn growth_of_a_cluster(rt: HostRuntime) {
     let alloc = rt.alloc();
-    end(&rt, again(try_cluster(&rt, alloc), try_cluster(&rt, alloc)));
+    assert_grown(&rt, again(try_cluster(&rt, alloc), try_cluster(&rt, alloc)));
 }
 
 #[test]

@@ -1,10 +1,9 @@
 //! Each growth of a post or a site is refused: the call answers that memory ran out, and does what it should when it is
 //! made again; or a frame is lost, and all sites are stopped.
-use crate::cluster_asserting::assert_same;
-use crate::cluster_values::{WANTING, request};
-use crate::growth_in_clusters::growth_of_books::end;
 use crate::site_tests::shown::{Ended, assert_ended};
 use crate::site_tests::site_cluster::{Cluster, books_at_the_end, loses_inbox, make_cluster, send};
+use crate::whole_clusters::cluster_asserting::{assert_grown, assert_same};
+use crate::whole_clusters::cluster_values::{WANTING, request};
 use ra_cluster::{Book, Inbox, NewPostError, OpenGate, Post, SendError, Site, SiteError, Stop};
 use ra_stamp::{Entry, Mode};
 use std::alloc::Global;
@@ -37,7 +36,7 @@ fn try_post<R: Wait + Abort>(rt: &R, alloc: Global) -> Result<Tried, bool> {
 #[test]
 fn growth_of_a_post(rt: HostRuntime) {
     let alloc = rt.alloc();
-    end(&rt, again(try_post(&rt, alloc), try_post(&rt, alloc)));
+    assert_grown(&rt, again(try_post(&rt, alloc), try_post(&rt, alloc)));
 }
 
 /// Returns what a site shows: its events, the holder of `r`, and how many requests wait, how many clients are queued, and the fault.
@@ -87,7 +86,7 @@ fn try_sites<R: Wait + Abort>(rt: &R, alloc: Global) -> Result<Tried, bool> {
 #[test]
 fn growth_of_a_site(rt: HostRuntime) {
     let alloc = rt.alloc();
-    end(&rt, again(try_sites(&rt, alloc), try_sites(&rt, alloc)));
+    assert_grown(&rt, again(try_sites(&rt, alloc), try_sites(&rt, alloc)));
 }
 
 /// Has a site take all frames that are left in an inbox. Returns how many events it has then, or `None` if it is stopped since memory
@@ -182,5 +181,5 @@ fn try_losing<R: AllocGlobal + Wait + Abort>(rt: &R) -> Result<Tried, bool> {
 /// A frame for which there is no memory is flagged as lost, and the others of its event are sent.
 #[test]
 fn growth_of_lost_frames(rt: HostRuntime) {
-    end(&rt, again(try_losing(&rt), try_losing(&rt)));
+    assert_grown(&rt, again(try_losing(&rt), try_losing(&rt)));
 }

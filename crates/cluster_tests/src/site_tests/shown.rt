@@ -1,15 +1,14 @@
 //! What is shown when a cluster of sites has done its steps.
-use crate::cluster_asserting::{assert_same, assert_so, fail_at};
-use crate::cluster_values::{books_of, entry, settled};
-use crate::kept_books::book_steps::Wire::Asks;
-use crate::kept_books::book_steps::frame;
-use crate::settled_books::settled_runs::{LOST_ONCE, assert_comes};
 use crate::site_tests::site_cluster::{Answer, Cluster};
-use ra_cluster::{Book, Grant, Sent, SiteError, Stop};
+use crate::whole_clusters::cluster_asserting::{assert_same, assert_so, fail_at};
+use crate::whole_clusters::cluster_values::{books_of, entry, node, settled};
+use ra_cluster::{Book, Grant, Sent, Settled, SiteError, Stop};
+use ra_frame::Frame;
 use ra_stamp::Mode;
+use ra_world::{Report, Step, report_text};
 use std::alloc::Global;
 use std::process::Abort;
-use test_support::{At, r};
+use test_support::{At, r, request};
 
 /// A book at the end: its fault, and how many events it has.
 #[derive(Clone, Copy)]
@@ -24,7 +23,8 @@ pub enum Shown {
     Fault(usize, Stop),
     /// The frame that node 1 sent at this place is lost, or is not.
     Sent(u64, bool),
-    /// Node 1 sent the REQUEST of [`ASKS`](crate::kept_books::book_steps::ASKS) and nothing else, and that was lost, and the books settle into its loss.
+    /// Client 1 of node 1 asked for `r`, exclusively, at clock 1. Node 1 sent its REQUEST and nothing else, and that was lost, and the books
+    /// settle into its loss.
     OneLoss,
     /// Client 1 of node 1 holds `r`.
     Held,
@@ -74,12 +74,41 @@ fn is_lost(one: &Book, place: u64) -> Option<bool> {
     }
 }
 
+/// The report of the run in which client 1 of node 1 asks, and its REQUEST is lost.
+const LOST_ONCE: &str =
+    "request 1 1 r X 1\nrequests 1\nmessages 1\nunder-way 0\nlost 1\nwaiting 1\nqueued 0\n";
+
+/// Asserts that this is the report of that run.
+fn assert_report(rt: &impl Abort, alloc: Global, at: At<'_>, report: &Report) {
+    match report_text(alloc, report) {
+        Ok(came) => assert_same(rt, at, &came.as_str(), &LOST_ONCE),
+        Err(_) => fail_at(rt, at, "the report finds no memory"),
+    }
+}
+
+/// Asserts that books settled into that run: the ask, and the loss of its REQUEST.
+fn assert_loss(rt: &impl Abort, alloc: Global, at: At<'_>, settled: &Settled) {
+    let asks = Step::Ask {
+        node: node(rt, 1),
+        client: 1,
+        name: r(),
+        mode: Mode::Exclusive,
+    };
+    let due = [asks, Step::Lose(request(1, 2, 1))];
+    assert_same(rt, at, &settled.steps.as_slice(), &due.as_slice());
+    assert_report(rt, alloc, at, &settled.report);
+}
+
 /// Asserts that node 1 sent the one REQUEST, which is lost, and that the books settle into its loss.
 fn assert_one_loss(rt: &impl Abort, alloc: Global, at: At<'_>, one: &Book, books: &[Book]) {
-    let (frame, lost) = (frame(rt, 1, Asks), true);
+    let (message, lost) = (request(1, 2, 1), true);
+    let frame = Frame { clock: 1, message };
     assert_same(rt, at, &one.sent(0), &Some(Sent { frame, lost }));
     assert_same(rt, at, &one.sent(1), &None);
-    assert_comes(rt, alloc, at.0, books, &[], LOST_ONCE);
+    match settled(alloc, books, &[]) {
+        Some(settled) => assert_loss(rt, alloc, at, &settled),
+        None => fail_at(rt, at, "the books do not settle"),
+    }
 }
 
 /// What a run tells into which books settle: whether messages were lost, and how many clients are queued and how many requests wait.
@@ -88,11 +117,11 @@ type Told = (bool, u128, u128);
 /// Returns what the run tells into which the books settle with grants, or `None` if they do not.
 fn told(alloc: Global, books: &[Book], grants: &[Grant]) -> Option<Told> {
     match settled(alloc, books, grants) {
-        Ok(settled) => {
+        Some(settled) => {
             let report = &settled.report;
             Some((report.lost > 0, report.queued, report.waiting))
         }
-        Err(_) => None,
+        None => None,
     }
 }
 

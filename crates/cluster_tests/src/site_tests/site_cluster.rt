@@ -1,5 +1,5 @@
 //! The sites of a cluster with a post, and what is done with them.
-use crate::cluster_values::{Counting, books_of, comes_to, sites_of};
+use crate::whole_clusters::cluster_values::{Counting, books_of, comes_to, sites_of};
 use ra_cluster::{
     Book, BookError, BookEvent, Gate, Grant, Inbox, OpenGate, Post, SendError, Site, SiteError,
     is_site_of,

@@ -1,9 +1,9 @@
 //! What a cluster of sites with a post does and shows, step by step, with clients on threads of their own.
-use crate::cluster_asserting::{assert_same, assert_so, fail_at};
-use crate::cluster_values::{comes_to, entry, request};
-use crate::plays::{Acts, follow};
 use crate::site_tests::shown::{Shown, after_all, assert_all_shown};
 use crate::site_tests::site_cluster::{Cluster, cluster_behind, loses_inbox, send, taken_from};
+use crate::whole_clusters::cluster_asserting::{assert_same, assert_so, fail_at};
+use crate::whole_clusters::cluster_values::{comes_to, entry, request};
+use crate::whole_clusters::plays::{Acts, follow};
 use Step::{
     ClosesPost, ComesToBeStopped, ComesToStep, HasLeft, HasLeftOne, HasStepped, HaveEnded, LetsGo,
     LetsSleep, Locks, Pumps, RefusesToLock, RefusesToSend, RefusesToUnlock, Sends, Starts, Stays,

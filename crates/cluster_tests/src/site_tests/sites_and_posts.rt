@@ -1,12 +1,12 @@
 //! Sites, and the post between them.
-use crate::cluster_asserting::{assert_prints, assert_same};
-use crate::plays::play_sites;
 use crate::site_tests::shown::{Ended, Shown};
 use crate::site_tests::site_steps::Step::{
     ClosesPost, HasLeft, HasLeftOne, HasStepped, Locks, Pumps, RefusesToLock, RefusesToSend,
     RefusesToUnlock, Sends, Stops, Unlocks,
 };
 use crate::site_tests::site_steps::{Gone, Row, TWO_NODES};
+use crate::whole_clusters::cluster_asserting::{assert_prints, assert_same};
+use crate::whole_clusters::plays::play_sites;
 use ra_cluster::{BookError, NewPostError, Post, SendError, SiteError, Stop};
 use ra_frame::FrameError;
 use std::alloc::Global;

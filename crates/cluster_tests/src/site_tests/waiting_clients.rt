@@ -1,5 +1,4 @@
 //! Clients that wait at sites which threads share.
-use crate::plays::play_sites;
 use crate::site_tests::shown::{Ended, Shown};
 use crate::site_tests::site_steps::Step::{
     ClosesPost, ComesToBeStopped, ComesToStep, HasLeft, HaveEnded, LetsGo, LetsSleep, Locks,
@@ -7,6 +6,7 @@ use crate::site_tests::site_steps::Step::{
 };
 use crate::site_tests::site_steps::Task::{Asks, Carries, Uses, UsesOften};
 use crate::site_tests::site_steps::{Gone, Row, TWO_NODES};
+use crate::whole_clusters::plays::play_sites;
 use ra_cluster::{BookError, SiteError, Stop};
 
 /// A cluster of a single node.

@@ -1,7 +1,7 @@
 //! How a script that threads run comes to its end, or fails to.
-use crate::cluster_asserting::{assert_same, assert_so};
-use crate::cluster_values::{entry, ran};
 use crate::thread_scripts::letter_scripts::{Client, script_of};
+use crate::whole_clusters::cluster_asserting::{assert_same, assert_so};
+use crate::whole_clusters::cluster_values::{entry, ran};
 use ra_cluster::{ClusterError, Gate, Settled};
 use ra_stamp::{Entry, Mark, Mode};
 use ra_world::Step;

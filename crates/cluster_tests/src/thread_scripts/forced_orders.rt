@@ -1,9 +1,9 @@
 //! Scripts whose clients a gate brings into an order that no policy chooses. The report has to tell what the threads
 //! did, and not what a simulation of the script would do.
-use crate::cluster_values::comes_to;
 use crate::thread_scripts::endings::{End, assert_ends};
 use crate::thread_scripts::letter_scripts::Client;
 use crate::thread_scripts::letter_scripts::Does::{Locks, Unlocks};
+use crate::whole_clusters::cluster_values::comes_to;
 use ra_cluster::Gate;
 use ra_stamp::{Entry, Name, NodeId};
 use std::sync::atomic::{AtomicU64, Ordering};

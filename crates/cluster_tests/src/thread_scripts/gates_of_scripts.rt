@@ -1,8 +1,8 @@
 //! Scripts that threads do with gates that hold them up, and gates that stop them.
-use crate::cluster_asserting::assert_same;
-use crate::cluster_values::{Counting, comes_to};
 use crate::thread_scripts::endings::{End, assert_ends};
 use crate::thread_scripts::letter_scripts::{Client, READS_R, TWO_WRITERS, USES_A, USES_B, USES_R};
+use crate::whole_clusters::cluster_asserting::assert_same;
+use crate::whole_clusters::cluster_values::{Counting, comes_to};
 use ra_cluster::{ClusterError, Gate, Stop};
 use ra_stamp::{Entry, NodeId};
 use std::process::Abort;

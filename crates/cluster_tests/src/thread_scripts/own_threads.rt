@@ -1,12 +1,11 @@
 //! The threads that do a script, in a cluster that the test makes.
-use crate::cluster_asserting::{assert_same, fail_at};
-use crate::cluster_values::entry;
-use crate::kept_books::histories::Granted;
-use crate::plays::{Scene, play};
 use crate::site_tests::shown::{Ended, assert_ended};
 use crate::thread_scripts::letter_scripts::Does::{Locks, Shares, Unlocks};
 use crate::thread_scripts::letter_scripts::{Client, USES_R, script_of};
+use crate::whole_clusters::cluster_asserting::{assert_same, fail_at};
 use crate::whole_clusters::cluster_calls::{books_at_the_end, clusters_of, site};
+use crate::whole_clusters::cluster_values::entry;
+use crate::whole_clusters::plays::{Scene, play};
 use ra_cluster::{Cluster, Grant, OpenGate, ScriptRun, Stop, run_threads};
 use ra_schedule::Script;
 use ra_stamp::Mode;
@@ -15,6 +14,10 @@ use std::process::Abort;
 use std::sync::{Mutex, Wait};
 use std::thread::Threads;
 use test_support::At;
+
+/// The grant of `r` that is kept of a request: its node, client, mode and number.
+#[derive(Clone, Copy)]
+pub struct Granted(u16, u32, Mode, u64);
 
 /// Has threads do a script in this cluster, and returns the grants that are kept.
 pub fn run_in<R: Threads + Wait + Sync>(

@@ -1,9 +1,9 @@
 //! Scripts that threads run.
-use crate::cluster_asserting::{assert_prints, assert_same};
-use crate::cluster_values::Counting;
 use crate::thread_scripts::endings::{End, assert_ends};
 use crate::thread_scripts::letter_scripts::Does::{Locks, Shares, Unlocks};
 use crate::thread_scripts::letter_scripts::{Client, Does, LOCKS_R, READS_R, TWO_WRITERS, USES_R};
+use crate::whole_clusters::cluster_asserting::{assert_prints, assert_same};
+use crate::whole_clusters::cluster_values::Counting;
 use ra_cluster::{ClusterError, OpenGate, Stop};
 use std::process::Abort;
 use std::sync::Wait;

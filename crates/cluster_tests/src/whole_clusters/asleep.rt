@@ -1,11 +1,11 @@
 //! Several clients asleep at one node of a cluster: what a watchdog sees of them, and which client wakes when.
-use crate::cluster_values::CAUSES;
-use crate::plays::{Scene, play};
 use crate::whole_clusters::cluster_clients::Act::{
     HaveEnded, LetsSleep, Locks, RefusesToLock, Sees, Starts, Stops, Unlocks,
 };
 use crate::whole_clusters::cluster_clients::Task::{Gets, IsTold, IsToldOfS};
 use crate::whole_clusters::cluster_clients::{QUIET, Row, Seen};
+use crate::whole_clusters::cluster_values::CAUSES;
+use crate::whole_clusters::plays::{Scene, play};
 use ra_cluster::{BookError, CallError, SiteError, Stop};
 
 /// The clients of node 1 of two ask for one of two names, one after the other. Node 2 takes no frame, so nobody is let in: the first to

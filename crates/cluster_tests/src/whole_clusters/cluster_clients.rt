@@ -1,10 +1,10 @@
 //! Clients of a whole cluster on threads of their own, and what a watchdog sees of them.
-use crate::cluster_asserting::{assert_same, assert_so, fail_at};
-use crate::cluster_values::{comes_to, entry, node, settled};
-use crate::plays::{Acts, follow};
+use crate::whole_clusters::cluster_asserting::{assert_same, assert_so, fail_at};
 use crate::whole_clusters::cluster_calls::{
     books_at_the_end, clusters_of, lock, site, site_of, unlock, use_name,
 };
+use crate::whole_clusters::cluster_values::{comes_to, entry, node, settled};
+use crate::whole_clusters::plays::{Acts, follow};
 use Act::{
     ClosesPost, HasGranted, HasNoNode, HaveEnded, LetsSleep, Locks, RefusesToLock, RefusesToUnlock,
     RefusesToUse, Sees, Starts, Stops, Unlocks, UsesUntilAStop,
@@ -328,8 +328,8 @@ fn act_through<R: AllocGlobal + Threads + Wait + Abort + Sync>(
 /// Returns how many requests and messages the run has into which the books settle with a grant, or `None` if they do not.
 fn totals_of(alloc: Global, books: &[Book], grant: Grant) -> Option<(u128, u128)> {
     match settled(alloc, books, &[grant]) {
-        Ok(settled) => Some((settled.report.requests, settled.report.sent)),
-        Err(_) => None,
+        Some(settled) => Some((settled.report.requests, settled.report.sent)),
+        None => None,
     }
 }
 

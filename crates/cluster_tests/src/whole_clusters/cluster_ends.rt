@@ -1,8 +1,8 @@
 //! What a whole cluster answers if its gate or a stop ends it, and what its clients get.
-use crate::cluster_asserting::{assert_prints, assert_same, assert_so};
-use crate::cluster_values::{CAUSES, Counting, node};
-use crate::plays::{Scene, play};
+use crate::whole_clusters::cluster_asserting::{assert_prints, assert_same, assert_so};
 use crate::whole_clusters::cluster_calls::{books_at_the_end, clusters_of, lock, site, use_name};
+use crate::whole_clusters::cluster_values::{CAUSES, Counting, node};
+use crate::whole_clusters::plays::{Scene, play};
 use ra_cluster::{Book, BookError, CallError, Cluster, OpenGate, SiteError, Stop};
 use ra_stamp::Mode;
 use std::alloc::Global;

@@ -1,7 +1,5 @@
 //! A cluster whose sites, post and gate are kept in one value.
-use crate::cluster_asserting::assert_same;
-use crate::cluster_values::closed;
-use crate::plays::{Scene, play};
+use crate::whole_clusters::cluster_asserting::assert_same;
 use crate::whole_clusters::cluster_calls::new_cluster;
 use crate::whole_clusters::cluster_clients::Act::{
     ClosesPost, HasGranted, HasNoNode, HaveEnded, Locks, RefusesToLock, RefusesToUnlock,
@@ -9,6 +7,8 @@ use crate::whole_clusters::cluster_clients::Act::{
 };
 use crate::whole_clusters::cluster_clients::Task::{Carries, Uses};
 use crate::whole_clusters::cluster_clients::{QUIET, Row, Seen};
+use crate::whole_clusters::cluster_values::closed;
+use crate::whole_clusters::plays::{Scene, play};
 use ra_cluster::{BookError, CallError, NewPostError, OpenGate, SiteError, Stop};
 use std::alloc::Global;
 use test_support::At;

@@ -2,9 +2,9 @@
 //! it should when it is made again. If that happens in the middle of a round, the events before are in the run.
 use crate::audit_tests::audits::Act::{AdvancesInParts, Gets, Has, Leaves};
 use crate::audit_tests::audits::{Act, EVENT_BY_EVENT, LOST, Part, Shown, audited};
-use crate::growth_in_clusters::growth_of_books::end;
-use crate::growth_in_clusters::growth_of_settling::ONE_LOCK;
+use crate::growth_in_histories::growth_of_settling::ONE_LOCK;
 use crate::kept_books::histories::{ONE, TWO, books_after};
+use crate::kept_books::history_asserting::assert_grown;
 use std::process::Abort;
 use test_support::{Tried, again};
 
@@ -20,7 +20,7 @@ fn try_auditor(rt: &(impl Abort + AllocGlobal), all: &[Act]) -> Result<Tried, bo
 
 /// Tries it, and tries it anew if memory ran out before it began.
 fn grow(rt: &(impl Abort + AllocGlobal), all: &[Act]) {
-    end(rt, again(try_auditor(rt, all), try_auditor(rt, all)));
+    assert_grown(rt, again(try_auditor(rt, all), try_auditor(rt, all)));
 }
 
 #[test]

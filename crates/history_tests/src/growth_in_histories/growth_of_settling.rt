@@ -1,14 +1,13 @@
 //! Each growth of a settling is refused: it answers that memory ran out, and does what it should when it is done again.
-use crate::cluster_asserting::assert_same;
-use crate::cluster_values::settled;
-use crate::growth_in_clusters::growth_of_books::end;
 use crate::kept_books::book_steps::Step::Takes;
 use crate::kept_books::book_steps::{ASK, LEAVE, refusal};
 use crate::kept_books::histories::Done::{AtNode, Loses, Passes};
 use crate::kept_books::histories::{
     Done, Granted, Made, ONE, TWO, books_after, grants_of, new_books,
 };
-use ra_cluster::{Book, Grant, SettleError, Settled};
+use crate::kept_books::history_asserting::{assert_grown, assert_same};
+use crate::kept_books::history_values::settled;
+use ra_history::{Book, Grant, SettleError, Settled};
 use ra_stamp::Mode;
 use std::alloc::Global;
 use std::process::Abort;
@@ -69,7 +68,7 @@ fn try_settling(rt: &impl Abort, alloc: Global) -> Result<Tried, bool> {
 #[test]
 fn growth_of_settling(rt: HostRuntime) {
     let alloc = rt.alloc();
-    end(
+    assert_grown(
         &rt,
         again(try_settling(&rt, alloc), try_settling(&rt, alloc)),
     );
@@ -102,7 +101,7 @@ fn try_settling_a_loss(rt: &impl Abort, alloc: Global) -> Result<Tried, bool> {
 #[test]
 fn growth_of_settling_with_a_grant_and_a_loss(rt: HostRuntime) {
     let alloc = rt.alloc();
-    end(
+    assert_grown(
         &rt,
         again(
             try_settling_a_loss(&rt, alloc),
@@ -155,7 +154,7 @@ fn try_large_settling(rt: &impl Abort, alloc: Global) -> Result<Tried, bool> {
 #[test]
 fn large_growth_of_settling(rt: HostRuntime) {
     let alloc = rt.alloc();
-    end(
+    assert_grown(
         &rt,
         again(
             try_large_settling(&rt, alloc),

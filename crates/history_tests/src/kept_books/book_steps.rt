@@ -1,19 +1,18 @@
 //! What the tests of books share: the steps that a book does or shows, one after another.
-use crate::cluster_asserting::{assert_same, fail_at};
-use crate::cluster_values;
-use crate::cluster_values::bytes_of;
+use crate::kept_books::history_asserting::{assert_same, fail_at};
+use crate::kept_books::history_values::bytes_of;
 use Call::{Ask, Leave, Receive};
 use Step::{
     Asked, Fails, Gave, Got, Has, HasFault, IsFree, IsHeld, IsNew, Loses, Posts, Refuses,
     RefusesToLose, Takes, WasSent,
 };
 use Wire::{Asks, Replies};
-use ra_cluster::{Book, BookError, BookEvent, BookKind, MarkLostError, Posted, Sent, Stop};
 use ra_frame::Frame;
-use ra_stamp::{Entry, Mark, Message, Mode};
+use ra_history::{Book, BookError, BookEvent, BookKind, MarkLostError, Posted, Sent, Stop};
+use ra_stamp::{Entry, Mark, Mode};
 use std::alloc::Global;
 use std::process::Abort;
-use test_support::{At, r};
+use test_support::{At, r, reply, request, writer};
 
 /// A REQUEST with number 1 from node 1 to node 2 for `r`, exclusively, at clock 1.
 pub const ASKS: [u8; 25] = [
@@ -108,21 +107,16 @@ pub enum Step<'a> {
 }
 
 /// Returns client 1's request.
-fn entry(rt: &impl Abort) -> Entry {
-    cluster_values::entry(rt, 1, 1, Mode::Exclusive, 1)
-}
-
-/// Returns the message.
-fn message(rt: &impl Abort, wire: Wire) -> Message {
-    match wire {
-        Wire::Asks => cluster_values::request(rt, 1, 2, Mode::Exclusive),
-        Wire::Replies => cluster_values::reply(rt, 2, 1),
-    }
+fn entry() -> Entry {
+    writer(1, 1, 1)
 }
 
 /// Returns the message in a frame with this clock.
-pub fn frame(rt: &impl Abort, clock: u64, wire: Wire) -> Frame {
-    let message = message(rt, wire);
+pub fn frame(clock: u64, wire: Wire) -> Frame {
+    let message = match wire {
+        Wire::Asks => request(1, 2, 1),
+        Wire::Replies => reply(2, 1, 1),
+    };
     Frame { clock, message }
 }
 
@@ -183,8 +177,8 @@ fn assert_sent(
 }
 
 /// Returns the mark for what becomes of client 1's request.
-fn mark(rt: &impl Abort, turn: Turn) -> Mark {
-    let entry = entry(rt);
+fn mark(turn: Turn) -> Mark {
+    let entry = entry();
     match turn {
         Turn::Requested => Mark::Requested(entry),
         Turn::Entered => Mark::Entered(entry),
@@ -196,7 +190,7 @@ fn mark(rt: &impl Abort, turn: Turn) -> Mark {
 fn assert_marked(rt: &impl Abort, at: At<'_>, marks: &[Mark], turn: Option<Turn>) {
     assert_same(rt, at, &marks.len(), &usize::from(turn.is_some()));
     if let (Some(came), Some(turn)) = (marks.first(), turn) {
-        assert_same(rt, at, came, &mark(rt, turn));
+        assert_same(rt, at, came, &mark(turn));
     }
 }
 
@@ -225,8 +219,8 @@ fn posts(
 }
 
 /// Flags the REQUEST of [`ASKS`] at this clock as lost. Returns why that is refused, or `None` if it is not.
-fn mark_lost(rt: &impl Abort, book: &mut Book, clock: u64) -> Option<MarkLostError> {
-    book.mark_lost(&frame(rt, clock, Asks)).err()
+fn mark_lost(book: &mut Book, clock: u64) -> Option<MarkLostError> {
+    book.mark_lost(&frame(clock, Asks)).err()
 }
 
 /// Returns how many events and sent frames a book has, and its clock.
@@ -254,7 +248,7 @@ fn assert_happened(rt: &impl Abort, at: At<'_>, book: &Book, step: Step<'_>) {
     let (client, name, mode) = (1, r(), Mode::Exclusive);
     match step {
         WasSent(place, clock, wire, lost) => {
-            let frame = frame(rt, clock, wire);
+            let frame = frame(clock, wire);
             assert_same(rt, at, &book.sent(place), &Some(Sent { frame, lost }));
         }
         Asked(place, clock) => {
@@ -271,7 +265,7 @@ fn assert_happened(rt: &impl Abort, at: At<'_>, book: &Book, step: Step<'_>) {
             assert_event(rt, at, book, place, clock, BookKind::Gave { client, name })
         }
         Got(place, clock, other, wire) => {
-            let frame = frame(rt, other, wire);
+            let frame = frame(other, wire);
             assert_event(rt, at, book, place, clock, BookKind::Got(frame));
         }
         _ => fail_at(rt, at, "this is nothing that happened"),
@@ -284,7 +278,7 @@ fn shows(rt: &impl Abort, at: At<'_>, book: &Book, step: Step<'_>) {
         HasFault(stop) => assert_same(rt, at, &book.fault(), &Some(stop)),
         Has(events, sent, clock) => assert_same(rt, at, &counts_of(book), &(events, sent, clock)),
         IsFree => assert_same(rt, at, &book.holder(&r()), &None),
-        IsHeld => assert_same(rt, at, &book.holder(&r()), &Some(entry(rt))),
+        IsHeld => assert_same(rt, at, &book.holder(&r()), &Some(entry())),
         IsNew => assert_new(rt, at, book),
         happened => assert_happened(rt, at, book, happened),
     }
@@ -298,9 +292,9 @@ pub fn does(rt: &impl Abort, alloc: Global, at: At<'_>, book: &mut Book, step: S
         Refuses(call, fault) => return takes(rt, alloc, at, book, call, Some(fault)),
         Posts(call, text, turn) => return posts(rt, alloc, at, book, call, text, turn),
         Fails(stop) => book.fail(stop),
-        Loses(clock) => assert_same(rt, at, &mark_lost(rt, book, clock), &None),
+        Loses(clock) => assert_same(rt, at, &mark_lost(book, clock), &None),
         RefusesToLose(clock, fault) => {
-            assert_same(rt, at, &mark_lost(rt, book, clock), &Some(fault))
+            assert_same(rt, at, &mark_lost(book, clock), &Some(fault))
         }
         shown => shows(rt, at, book, shown),
     }

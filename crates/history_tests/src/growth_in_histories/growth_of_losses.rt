@@ -2,13 +2,11 @@
 //! of an auditor notes it once, whichever memory it is refused.
 use crate::audit_tests::audit_acts::Act::{Asks, Audits, Ends, HandsOver, HasLosses, Shows};
 use crate::audit_tests::audit_acts::Answer::Fine;
-use crate::audit_tests::audit_acts::{Act, LOSING, Row, Sends, TWO_NODES, clusters_as, hand_over};
+use crate::audit_tests::audit_acts::{Act, LOSING, Row, Sends, hand_over};
+use crate::audit_tests::audited_clusters::{clusters_of, refusal_of_lock, refusal_of_unlock, site};
 use crate::audit_tests::audits::Shown;
-use crate::cluster_asserting::assert_so;
-use crate::cluster_values::{node, reply, request};
-use crate::growth_in_clusters::growth_of_books::end;
-use crate::growth_in_clusters::growth_of_rounds::grow;
-use crate::whole_clusters::cluster_calls::{lock, site, unlock};
+use crate::growth_in_histories::growth_of_rounds::grow;
+use crate::kept_books::history_asserting::{assert_grown, assert_so};
 use ra_cluster::{Cluster, OpenGate, Stop};
 use ra_frame::Frame;
 use ra_stamp::Mode;
@@ -16,7 +14,7 @@ use std::alloc::Global;
 use std::process::Abort;
 use std::sync::Wait;
 use std::thread::Threads;
-use test_support::{At, Tried, again, both, r};
+use test_support::{At, Tried, again, both, reply, request};
 
 /// What two nodes handed over so far: what became of the calls, the clock of the last event of node 1 and of node 2, 0 before the first, and
 /// how many frames were lost.
@@ -35,10 +33,10 @@ const NO_ROUND: Rounds = Rounds {
 };
 
 /// Returns whether this frame is sent if a client of node 1 locks the name: its REQUEST, or the REPLY of node 2.
-fn was_sent(rt: &impl Abort, frame: Frame) -> bool {
+fn was_sent(frame: Frame) -> bool {
     match frame.clock {
-        1 => frame.message == request(rt, 1, 2, Mode::Exclusive),
-        2 => frame.message == reply(rt, 2, 1),
+        1 => frame.message == request(1, 2, 1),
+        2 => frame.message == reply(2, 1, 1),
         _ => false,
     }
 }
@@ -57,7 +55,7 @@ fn node_after<R: AllocGlobal + Wait + Abort>(
     );
     let (tried, (latest, lost, first)) = hand_over(rt, at, cluster, number, clock);
     let is_right = match first {
-        Some(frame) => lost == 1 && was_sent(rt, frame),
+        Some(frame) => lost == 1 && was_sent(frame),
         None => true,
     };
     assert_so(rt, at, "just a frame that was sent is lost", is_right);
@@ -81,9 +79,8 @@ fn round_after<R: AllocGlobal + Wait + Abort>(
 
 /// Has client 1 of node 1 lock the name and unlock it. What became of it, a round shows.
 fn use_once<R: Wait + Abort>(rt: &R, alloc: Global, cluster: &Cluster<OpenGate>) {
-    let one = node(rt, 1);
-    if lock(rt, alloc, cluster, one, 1, r(), Mode::Exclusive).is_ok() {
-        let _unlocked = unlock(rt, alloc, cluster, one, 1).is_ok();
+    if refusal_of_lock(rt, alloc, cluster, 1, Mode::Exclusive).is_none() {
+        let _unlocked = refusal_of_unlock(rt, alloc, cluster, 1).is_none();
     }
 }
 
@@ -118,7 +115,7 @@ fn try_cluster<R: AllocGlobal + Threads + Wait + Abort + Sync>(
 
 /// Makes the cluster, and does so. If it cannot be made, memory ran out.
 fn try_running<R: AllocGlobal + Threads + Wait + Abort + Sync>(rt: &R) -> Result<Tried, bool> {
-    let clusters = clusters_as(rt.alloc(), TWO_NODES);
+    let clusters = clusters_of(rt.alloc(), 2, true);
     match clusters.first() {
         Some(cluster) => try_cluster(rt, cluster),
         None => Err(true),
@@ -128,7 +125,7 @@ fn try_running<R: AllocGlobal + Threads + Wait + Abort + Sync>(rt: &R) -> Result
 /// A frame for which there is no memory is handed over as lost.
 #[test]
 fn growth_of_lost_frames_that_are_audited(rt: HostRuntime) {
-    end(&rt, again(try_running(&rt), try_running(&rt)));
+    assert_grown(&rt, again(try_running(&rt), try_running(&rt)));
 }
 
 /// The client asks in vain. Its REQUEST is lost.

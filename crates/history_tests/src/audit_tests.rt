@@ -1,5 +1,6 @@
 //! Auditors, which put what happens at books into one run.
 pub mod audit_acts;
+pub mod audited_clusters;
 pub mod audits;
 pub mod frame_clocks;
 pub mod lost_frames;

@@ -1,11 +1,10 @@
 //! What a cluster, its clients and its auditor do and show, act by act. Frames come that no node sent.
+use crate::audit_tests::audited_clusters::{
+    Ended, assert_ended, closed, clusters_of, comes, refusal_of_lock, refusal_of_unlock, site,
+};
 use crate::audit_tests::audits::{Came, Shown, assert_losses, fault_of, loses};
-use crate::cluster_asserting::{assert_same, fail_at};
-use crate::cluster_values::{WANTING, node, request_with};
-use crate::site_tests::shown::{Ended, assert_ended};
-use crate::site_tests::site_cluster;
-use crate::site_tests::site_cluster::{make_cluster, send};
-use crate::whole_clusters::cluster_calls::{books_at_the_end, clusters_of, lock, site, unlock};
+use crate::kept_books::history_asserting::{assert_same, assert_so, fail_at};
+use crate::kept_books::history_values::{node, request};
 use Act::{
     Asks, Audits, AuditsAnew, Comes, Ends, Enters, HandsOver, HasAt, HasLosses, IsRefused, Leaves,
     Loses, Shows, Stops, Waits,
@@ -15,13 +14,18 @@ use Mode::Exclusive;
 use ra_audit::{Auditor, FinishError, RoundError, TakeError, Told};
 use ra_cluster::{BookError, CallError, Cluster, Handed, OpenGate, Site, SiteError, Stop};
 use ra_frame::Frame;
-use ra_stamp::{Message, Mode};
+use ra_stamp::Mode;
 use ra_world::NewError;
 use std::alloc::Global;
 use std::process::Abort;
 use std::sync::Wait;
+use std::sync::atomic::{AtomicU64, Ordering};
+use std::thread;
 use std::thread::Threads;
-use test_support::{At, Tried, both, r};
+use test_support::{At, Tried, both};
+
+/// The answer of a call that found no memory and did nothing.
+const WANTING: SiteError = SiteError::Refused(BookError::Memory);
 
 /// The REQUEST of an exclusive request with the last number, in a frame with this clock, from the first node to the second.
 #[derive(Clone, Copy)]
@@ -179,7 +183,7 @@ fn last_round<R: Wait>(
 /// Returns the frame.
 fn frame_of(rt: &impl Abort, sends: Sends) -> Frame {
     let Sends(clock, from, to, seq) = sends;
-    let message = request_with(rt, from, to, Exclusive, seq);
+    let message = request(rt, from, to, Exclusive, seq);
     Frame { clock, message }
 }
 
@@ -271,17 +275,6 @@ fn audits_anew<R: AllocGlobal + Wait + Abort>(
     }
 }
 
-/// Has client 1 of a node lock the name. Returns why it does not, or `None` if it does.
-fn refusal_of_lock<R: Wait + Abort>(
-    rt: &R,
-    alloc: Global,
-    cluster: &Cluster<OpenGate>,
-    number: u16,
-    mode: Mode,
-) -> Option<CallError> {
-    lock(rt, alloc, cluster, node(rt, number), 1, r(), mode).err()
-}
-
 /// Asserts that client 1 of a node locks the name, or does not, for this reason. If memory runs out, it tries again.
 fn locks<R: AllocGlobal + Wait + Abort>(
     rt: &R,
@@ -303,54 +296,6 @@ fn locks<R: AllocGlobal + Wait + Abort>(
     };
     assert_same(rt, at, &came, &due);
     tried
-}
-
-/// Has a message come to a site by the post of this cluster, which is not its own, in a frame with this clock. What the site answers
-/// goes to the sites of others.
-fn carry<R: AllocGlobal + Wait + Abort>(
-    rt: &R,
-    at: At<'_>,
-    carrier: &site_cluster::Cluster,
-    others: &site_cluster::Cluster,
-    site: &Site,
-    clock: u64,
-    message: Message,
-) {
-    let sent = send(rt, rt.alloc(), &carrier.post, clock, message);
-    assert_same(rt, at, &sent, &Ok(()));
-    carrier.post.close(rt);
-    let place = usize::from(site.node().get()).wrapping_sub(1);
-    match carrier.inboxes.get(place) {
-        Some(inbox) => others.pump_at(rt, site, inbox, &OpenGate),
-        None => fail_at(rt, at, "there is no such inbox"),
-    }
-}
-
-/// Has a REQUEST come to the second node, in a frame with this clock, as if the first had sent it.
-fn comes<R: AllocGlobal + Wait + Abort>(
-    rt: &R,
-    at: At<'_>,
-    cluster: &Cluster<OpenGate>,
-    clock: u64,
-    from: u16,
-    to: u16,
-) {
-    let message = request_with(rt, from, to, Exclusive, 1);
-    let (carriers, others) = (make_cluster(rt.alloc(), 2), make_cluster(rt.alloc(), 2));
-    match (carriers.first(), others.first()) {
-        (Some(carrier), Some(others)) => {
-            carry(
-                rt,
-                at,
-                carrier,
-                others,
-                site(rt, cluster, to),
-                clock,
-                message,
-            )
-        }
-        _ => fail_at(rt, at, "there is no memory for a post"),
-    }
 }
 
 /// The clock of the last event that was handed over, how many frames were lost, and the first of these.
@@ -443,10 +388,10 @@ fn happens<R: AllocGlobal + Wait + Abort>(
 ) {
     match act {
         Leaves(number) => {
-            let came = unlock(rt, rt.alloc(), cluster, node(rt, number), 1);
-            assert_same(rt, at, &came, &Ok(()));
+            let came = refusal_of_unlock(rt, rt.alloc(), cluster, number);
+            assert_same(rt, at, &came, &None);
         }
-        Comes(clock, from, to) => comes(rt, at, cluster, clock, from, to),
+        Comes(clock, from, to) => comes(rt, at, cluster, &frame_of(rt, Sends(clock, from, to, 1))),
         Shows(shown) => assert_run(rt, at, auditor, shown),
         Waits(events) => assert_same(rt, at, &auditor.waiting(), &events),
         HasAt(number, clock, events) => assert_at_site(rt, at, cluster, number, (clock, events)),
@@ -533,36 +478,23 @@ fn done<R: AllocGlobal + Threads + Wait + Abort + Sync>(
     tried
 }
 
-/// Makes a cluster of this many nodes that is audited, or none if it cannot be made.
-fn audited_clusters(alloc: Global, nodes: u16) -> Vec<Cluster<OpenGate>> {
-    let mut all = Vec::new(alloc);
-    if let Ok(cluster) = Cluster::new_audited(alloc, nodes, 0, OpenGate) {
-        let _added = all.push(cluster);
-    }
-    all
-}
-
-/// Makes a cluster, audited or not, or none if it cannot be made.
-pub fn clusters_as(alloc: Global, made: Made) -> Vec<Cluster<OpenGate>> {
-    if made.is_audited {
-        audited_clusters(alloc, made.nodes)
-    } else {
-        clusters_of(alloc, made.nodes, 0, OpenGate)
-    }
-}
-
 /// Has a cluster and this auditor do and show all of a row, and closes the cluster. If there is none, memory ran out.
 fn done_with<R: AllocGlobal + Threads + Wait + Abort + Sync>(
     rt: &R,
     auditor: &mut Auditor,
     row: &Row,
 ) -> Result<Tried, bool> {
-    let mut clusters = clusters_as(rt.alloc(), row.made);
+    let Made {
+        nodes,
+        is_audited,
+        ..
+    } = row.made;
+    let mut clusters = clusters_of(rt.alloc(), nodes, is_audited);
     let tried = match clusters.get_mut(0) {
         Some(cluster) => Ok(done(rt, cluster, auditor, row)),
         None => Err(true),
     };
-    let books = books_at_the_end(rt.alloc(), clusters);
+    let books = closed(rt.alloc(), clusters);
     if tried.is_ok() {
         assert_ended(rt, row.words, &books, row.ended);
     }
@@ -583,7 +515,43 @@ pub fn try_row<R: AllocGlobal + Threads + Wait + Abort + Sync>(
 }
 
 /// Asserts that a cluster and an auditor do and show all of a row.
-pub fn perform<R: AllocGlobal + Threads + Wait + Abort + Sync>(rt: &R, row: &Row) {
+fn perform<R: AllocGlobal + Threads + Wait + Abort + Sync>(rt: &R, row: &Row) {
     let at = At(row.words, "after act", row.acts.len());
     assert_same(rt, at, &try_row(rt, row), &Ok(Tried::NoFailure));
+}
+
+/// How often it is looked for the end of the thread of a row.
+const MOST_LOOKS: u64 = 20_000_000;
+
+/// Returns whether a thread has counted its end, for which it is looked many times.
+fn has_ended(ends: &AtomicU64) -> bool {
+    for _ in 0..MOST_LOOKS {
+        if ends.load(Ordering::SeqCst) > 0 {
+            return true;
+        }
+        thread::yield_now();
+    }
+    false
+}
+
+/// Has a thread of its own do and show all of a row. If it does not end, the test ends after many looks.
+fn play<R: AllocGlobal + Threads + Wait + Abort + Sync>(rt: &R, row: &Row) {
+    let (at, ends) = (At(row.words, "the thread of row", 0), AtomicU64::new(0));
+    let ends = &ends;
+    let ((), ()) = thread::join(
+        rt,
+        move || {
+            perform(rt, row);
+            ends.fetch_add(1, Ordering::SeqCst);
+        },
+        // Without it `join` would wait forever for a thread that does not end.
+        move || assert_so(rt, at, "it ends", has_ended(ends)),
+    );
+}
+
+/// Has clusters and their auditors do and show these rows.
+pub fn play_audits<R: AllocGlobal + Threads + Wait + Abort + Sync>(rt: &R, rows: &[Row]) {
+    for row in rows {
+        play(rt, row);
+    }
 }

@@ -1,18 +1,18 @@
 //! The book of a node: what it keeps and sends, what it refuses, and the words for its refusals.
-use crate::cluster_asserting::{assert_prints, assert_same};
-use crate::cluster_values::new_book;
 use crate::kept_books::book_steps::{
     ASK, ASKS, ASKS_1, Call, LEAVE, REPLIES, REPLIES_1, Step, Turn, Wire,
 };
 use crate::kept_books::histories::{Made, ONE, TWO, TWO_OF_THREE, assert_follows};
+use crate::kept_books::history_asserting::{assert_prints, assert_same};
+use crate::kept_books::history_values::new_book;
 use Call::{Ask, Receive};
 use Step::{
     Asked, Fails, Gave, Got, Has, HasFault, IsFree, IsHeld, IsNew, Loses, Posts, Refuses,
     RefusesToLose, Takes, WasSent,
 };
 use Wire::{Asks, Replies};
-use ra_cluster::{BookError, MarkLostError, NewError, Stop};
 use ra_frame::FrameError;
+use ra_history::{BookError, MarkLostError, NewError, Stop};
 use ra_stamp::Mode;
 use std::process::Abort;
 use test_support::{At, assert_words};

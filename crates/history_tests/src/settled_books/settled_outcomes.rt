@@ -1,17 +1,27 @@
 //! Outcomes of settling books in which a script was run, or was not.
-use crate::cluster_asserting::{assert_same, fail_at};
 use crate::kept_books::book_steps::Call::{Ask, Leave, Receive};
 use crate::kept_books::book_steps::Step::{Fails, Loses, Posts, Takes};
 use crate::kept_books::book_steps::{ASK, ASKS, LEAVE, Turn};
 use crate::kept_books::histories::Done::AtNode;
 use crate::kept_books::histories::{Done, Granted, Made, ONE, TWO, books_after, grants_of};
-use crate::thread_scripts::letter_scripts::{Client, LOCKS_R, USES_R, script_of};
-use ra_cluster::{Book, ClusterError, Grant, Stop, settle_script};
-use ra_schedule::Script;
+use crate::kept_books::history_asserting::{assert_same, fail_at};
+use Client::{Locks, Uses};
+use ra_cluster::{ClusterError, settle_script};
+use ra_history::{Book, Grant, Stop};
+use ra_schedule::{Op, Script};
 use ra_stamp::Mode;
 use std::alloc::Global;
 use std::process::Abort;
-use test_support::At;
+use test_support::{At, r};
+
+/// What a client of node 1 does with `r`.
+#[derive(Clone, Copy)]
+enum Client {
+    /// It locks it exclusively.
+    Locks,
+    /// It locks it exclusively, and unlocks it.
+    Uses,
+}
 
 /// A script, books to which something was done, and grants that clients got.
 struct Case {
@@ -23,6 +33,33 @@ struct Case {
     granted: &'static [Granted],
     /// Why the books and grants do not settle into the end of the script, or `None` if they do.
     refusal: Option<ClusterError>,
+}
+
+/// Adds a client to a script. Returns whether that succeeds.
+fn adds_client(alloc: Global, script: &mut Script, client: Client) -> bool {
+    let is_added = script.add_client(alloc, 1).is_ok();
+    let locks = is_added && script.add_op(Op::Lock(r(), Mode::Exclusive)).is_ok();
+    match client {
+        Locks => locks,
+        Uses => locks && script.add_op(Op::Unlock(r())).is_ok(),
+    }
+}
+
+/// Adds all clients to a script. Returns whether that succeeds.
+fn adds_all(alloc: Global, script: &mut Script, clients: &[Client]) -> bool {
+    for client in clients {
+        if !adds_client(alloc, script, *client) {
+            return false;
+        }
+    }
+    true
+}
+
+/// Makes the script of a case, or none if memory runs out.
+fn script_of(alloc: Global, case: &Case) -> Option<Script> {
+    let mut script = Script::new(alloc, case.nodes).ok()?;
+    let is_whole = adds_all(alloc, &mut script, case.clients);
+    if is_whole { Some(script) } else { None }
 }
 
 /// Settles books and grants into the end of a script. Returns why they do not, or `None` if they do. The contract of
@@ -53,7 +90,7 @@ fn assert_outcome(rt: &impl Abort, alloc: Global, case: &Case, script: &Script) 
 /// Ends the test if a case has another outcome.
 fn assert_outcomes<R: Abort + AllocGlobal>(rt: &R, cases: &[Case]) {
     for case in cases {
-        match script_of(rt.alloc(), case.nodes, case.clients) {
+        match script_of(rt.alloc(), case) {
             Some(script) => assert_outcome(rt, rt.alloc(), case, &script),
             None => fail_at(rt, At(case.shows, "row", 0), "there is no such script"),
         }
@@ -228,12 +265,6 @@ const FIRST: Granted = Granted(1, 1, Mode::Exclusive, 1);
 /// The grant of client 2.
 const SECOND: Granted = Granted(1, 2, Mode::Exclusive, 2);
 
-/// A client locks `r`.
-const LOCKS: Client = Client(1, LOCKS_R);
-
-/// A client uses `r`.
-const USES: Client = Client(1, USES_R);
-
 /// A script of a single node, whose plan is met.
 const MET: Case = Case {
     nodes: 1,
@@ -251,12 +282,12 @@ const UNMET: Case = Case {
 const PLANS: &[Case] = &[
     Case {
         shows: "no lock",
-        clients: &[LOCKS],
+        clients: &[Locks],
         ..UNMET
     },
     Case {
         shows: "a lock",
-        clients: &[LOCKS],
+        clients: &[Locks],
         done: &[ENTERS],
         granted: &[FIRST],
         ..MET
@@ -264,42 +295,42 @@ const PLANS: &[Case] = &[
     Case {
         // Client 2, which is not in the script, is queued; no mark reports that.
         shows: "a lock, and another client is queued",
-        clients: &[LOCKS],
+        clients: &[Locks],
         done: &[ENTERS, QUEUES],
         granted: &[FIRST],
         ..UNMET
     },
     Case {
         shows: "a lock that is not given back",
-        clients: &[USES],
+        clients: &[Uses],
         done: &[ENTERS],
         granted: &[FIRST],
         ..UNMET
     },
     Case {
         shows: "two uses in place of one",
-        clients: &[USES],
+        clients: &[Uses],
         done: &[ENTERS, QUEUES, LEAVES, ENDS],
         granted: &[FIRST, SECOND],
         ..UNMET
     },
     Case {
         shows: "the second lock is not given back",
-        clients: &[USES, USES],
+        clients: &[Uses, Uses],
         done: &[ENTERS, QUEUES, LEAVES],
         granted: &[FIRST, SECOND],
         ..UNMET
     },
     Case {
         shows: "the second lock is to be kept",
-        clients: &[USES, LOCKS],
+        clients: &[Uses, Locks],
         done: &[ENTERS, QUEUES, LEAVES],
         granted: &[FIRST, SECOND],
         ..MET
     },
     Case {
         shows: "two uses",
-        clients: &[USES, USES],
+        clients: &[Uses, Uses],
         done: &[ENTERS, QUEUES, LEAVES, ENDS],
         granted: &[FIRST, SECOND],
         ..MET
@@ -313,7 +344,7 @@ fn a_plan_is_met_by_its_marks_in_order_and_an_empty_queue(rt: HostRuntime) {
 
 /// A client of node 1 of two uses `r`.
 const USED: Case = Case {
-    clients: &[USES],
+    clients: &[Uses],
     refusal: Some(ClusterError::PlanUnmet),
     ..IDLE
 };
@@ -348,14 +379,14 @@ fn what_is_missing_at_two_nodes_leaves_the_plan_unmet(rt: HostRuntime) {
 const GRANTS: &[Case] = &[
     Case {
         shows: "a grant that was got",
-        clients: &[LOCKS],
+        clients: &[Locks],
         done: &[ENTERS],
         granted: &[FIRST],
         ..MET
     },
     Case {
         shows: "another one",
-        clients: &[LOCKS],
+        clients: &[Locks],
         done: &[ENTERS],
         granted: &[Granted(1, 1, Mode::Exclusive, 2)],
         refusal: Some(ClusterError::Settle),
@@ -363,7 +394,7 @@ const GRANTS: &[Case] = &[
     },
     Case {
         shows: "a grant twice",
-        clients: &[LOCKS],
+        clients: &[Locks],
         done: &[ENTERS],
         granted: &[FIRST, FIRST],
         refusal: Some(ClusterError::Settle),

@@ -1,9 +1,8 @@
 //! What tests do on threads that may wait for one another, so that a test fails if they do not end.
-use crate::audit_tests::audit_acts;
-use crate::cluster_asserting::assert_so;
-use crate::cluster_values::{comes_to, in_a_thread};
 use crate::site_tests::site_steps;
 use crate::thread_scripts::own_threads;
+use crate::whole_clusters::cluster_asserting::assert_so;
+use crate::whole_clusters::cluster_values::{comes_to, in_a_thread};
 use crate::whole_clusters::{cluster_clients, cluster_ends};
 use ra_cluster::Stop;
 use std::process::Abort;
@@ -58,8 +57,6 @@ pub enum Scene {
     Sites(&'static site_steps::Row),
     /// A whole cluster does, and if it is stopped, that is for this cause.
     Clients(&'static cluster_clients::Row, Stop),
-    /// A cluster and its auditor do.
-    Audit(&'static audit_acts::Row),
     /// Threads do a script in a cluster.
     Script(&'static own_threads::Row),
     /// The gate of a cluster lets some steps pass.
@@ -75,7 +72,6 @@ fn perform<R: AllocGlobal + Threads + Wait + Abort + Sync>(rt: &R, scene: Scene)
     match scene {
         Scene::Sites(row) => site_steps::perform(rt, row),
         Scene::Clients(row, cause) => cluster_clients::perform(rt, row, cause),
-        Scene::Audit(row) => audit_acts::perform(rt, row),
         Scene::Script(row) => own_threads::perform(rt, row),
         Scene::Gate(row) => cluster_ends::pass(rt, row),
         Scene::Stop(nodes, cause) => cluster_ends::stop(rt, nodes, cause),
@@ -86,16 +82,6 @@ fn perform<R: AllocGlobal + Threads + Wait + Abort + Sync>(rt: &R, scene: Scene)
 /// Does this on a thread of its own. Ends the test if something else comes of it, or the thread does not end.
 pub fn play<R: AllocGlobal + Threads + Wait + Abort + Sync>(rt: &R, scene: Scene) {
     in_a_thread(rt, move || perform(rt, scene));
-}
-
-/// Has clusters and their auditors do and show these rows.
-pub fn play_audits<R: AllocGlobal + Threads + Wait + Abort + Sync>(
-    rt: &R,
-    rows: &'static [audit_acts::Row],
-) {
-    for row in rows {
-        play(rt, Scene::Audit(row));
-    }
 }
 
 /// Has clusters of sites do and show these rows.

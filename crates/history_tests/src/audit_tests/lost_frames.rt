@@ -4,9 +4,8 @@ use crate::audit_tests::audit_acts::Act::{
     Asks, Audits, Ends, Enters, HandsOver, HasLosses, Leaves, Shows,
 };
 use crate::audit_tests::audit_acts::Answer::Fine;
-use crate::audit_tests::audit_acts::{LOSING, Row, Sends};
+use crate::audit_tests::audit_acts::{LOSING, Row, Sends, play_audits};
 use crate::audit_tests::audits::Shown;
-use crate::plays::play_audits;
 use ra_stamp::Mode;
 
 /// The REQUEST with number 2 of node 1.

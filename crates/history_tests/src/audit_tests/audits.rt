@@ -1,16 +1,16 @@
 //! An auditor, which takes what has happened at books and puts it into one run, round after round.
-use crate::cluster_asserting::{assert_same, assert_so, fail_at};
-use crate::cluster_values::{entry, node};
-use crate::growth_in_clusters::growth_of_settling::ONE_LOCK;
+use crate::growth_in_histories::growth_of_settling::ONE_LOCK;
 use crate::kept_books::book_steps::Call::{Ask, Receive};
 use crate::kept_books::book_steps::Step::Takes;
 use crate::kept_books::book_steps::{ASK, ASKS, Wire, frame};
 use crate::kept_books::histories::Done::AtNode;
 use crate::kept_books::histories::{Done, ONE, TWO, books_after};
+use crate::kept_books::history_asserting::{assert_same, assert_so, fail_at};
+use crate::kept_books::history_values::{entry, node};
 use Act::{Advances, AdvancesInParts, Finds, FindsNotLost, Gets, Has, HasLosses, Leaves, Loses};
 use ra_audit::{AuditError, AuditFault, Auditor, MarkObserver, TakeError, Told};
-use ra_cluster::{Book, BookEvent, BookKind};
 use ra_frame::Frame;
+use ra_history::{Book, BookEvent, BookKind};
 use ra_stamp::{Entry, Mark, Mode, NodeId};
 use std::alloc::Global;
 use std::process::Abort;
@@ -172,7 +172,7 @@ fn advances(
 /// Returns the event with its node.
 pub fn fault_of(rt: &impl Abort, came: Came) -> AuditFault {
     let Came(number, clock, sent, wire) = came;
-    let kind = BookKind::Got(frame(rt, sent, wire));
+    let kind = BookKind::Got(frame(sent, wire));
     AuditFault {
         node: node(rt, number),
         event: BookEvent { clock, kind },
@@ -241,13 +241,13 @@ fn acts(
         Gets(part) => return gets_part(rt, at, auditor, observer, books, part),
         Advances => return advances(rt, alloc, at, auditor, observer, false),
         AdvancesInParts => return advances(rt, alloc, at, auditor, observer, true),
-        Loses(clock, wire) => return loses(rt, at, auditor, &frame(rt, clock, wire)),
+        Loses(clock, wire) => return loses(rt, at, auditor, &frame(clock, wire)),
         Finds(came) => {
             let due = Err(AuditError::Fault(fault_of(rt, came)));
             assert_same(rt, at, &advance(alloc, auditor, observer), &due);
         }
         FindsNotLost(clock, wire) => {
-            let due = Err(AuditError::NotLost(frame(rt, clock, wire)));
+            let due = Err(AuditError::NotLost(frame(clock, wire)));
             assert_same(rt, at, &advance(alloc, auditor, observer), &due);
         }
         Leaves(came) => assert_left(rt, alloc, at, auditor, observer, came),

@@ -1,11 +1,11 @@
 //! Frames of which one byte is another, or of which the last bytes are missing: whether a book takes them, and that it is as
 //! before if it does not.
-use crate::cluster_asserting::assert_same;
 use crate::kept_books::book_steps::Call::Receive;
 use crate::kept_books::book_steps::{ASK, ASKS, ASKS_1, counts_of, refusal};
 use crate::kept_books::histories::{TWO_OF_THREE, new_books};
-use ra_cluster::{Book, BookError};
+use crate::kept_books::history_asserting::assert_same;
 use ra_frame::FrameError;
+use ra_history::{Book, BookError};
 use std::alloc::Global;
 use std::process::Abort;
 use test_support::{At, r};

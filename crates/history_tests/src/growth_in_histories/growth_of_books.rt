@@ -1,23 +1,14 @@
 //! Each growth of a book is refused: the call answers that memory ran out, leaves everything as it was, and does what it
 //! should when it is made again.
-use crate::cluster_asserting::assert_same;
-use crate::cluster_values::new_book;
 use crate::kept_books::book_steps::Call::{Ask, Receive};
 use crate::kept_books::book_steps::{ASK, ASKS, Call, LEAVE, REPLIES, counts_of, refusal};
-use ra_cluster::{Book, BookError};
+use crate::kept_books::history_asserting::{assert_grown, assert_same};
+use crate::kept_books::history_values::new_book;
+use ra_history::{Book, BookError};
 use ra_stamp::Mode;
 use std::alloc::Global;
 use std::process::Abort;
 use test_support::{At, Tried, both};
-
-/// Ends a test.
-pub fn end(rt: &(impl Abort), tried: Tried) {
-    match tried {
-        Tried::NoFailure => {}
-        Tried::RetrySucceeded => panic!(rt; "a growth was refused, and the call made again"),
-        Tried::Broken => panic!(rt; "a refused growth had another answer, or changed something"),
-    }
-}
 
 /// Makes a call of a book, and makes it again if memory ran out and the book has these events, sent frames and clock, as before. A
 /// leave needs no memory: it may not be refused, whichever growth is.
@@ -120,15 +111,15 @@ fn try_many(alloc: Global) -> Tried {
 
 #[test]
 fn growth_of_a_book(rt: HostRuntime) {
-    end(&rt, try_book(&rt, 1, 2, LOCKS, (3, 1, 4)));
+    assert_grown(&rt, try_book(&rt, 1, 2, LOCKS, (3, 1, 4)));
 }
 
 #[test]
 fn growth_of_a_book_that_answers_and_defers(rt: HostRuntime) {
-    end(&rt, try_book(&rt, 2, 2, ANSWERS, (6, 4, 10)));
+    assert_grown(&rt, try_book(&rt, 2, 2, ANSWERS, (6, 4, 10)));
 }
 
 #[test]
 fn large_growth_of_a_book(rt: HostRuntime) {
-    end(&rt, try_many(rt.alloc()));
+    assert_grown(&rt, try_many(rt.alloc()));
 }

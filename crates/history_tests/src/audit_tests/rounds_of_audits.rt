@@ -7,12 +7,11 @@ use crate::audit_tests::audit_acts::Answer::{
     Finds, Fine, LostUnsent, NeverSent, NotAudited, NotLost, OtherCluster, OutOfTurn,
 };
 use crate::audit_tests::audit_acts::{
-    LOSING, LOST, Made, OF_ONE, OF_TWO, ONE_NODE, Row, Sends, TWO_NODES,
+    LOSING, LOST, Made, OF_ONE, OF_TWO, ONE_NODE, Row, Sends, TWO_NODES, play_audits,
 };
+use crate::audit_tests::audited_clusters::Ended;
 use crate::audit_tests::audits::{Came, Shown};
 use crate::kept_books::book_steps::Wire;
-use crate::plays::play_audits;
-use crate::site_tests::shown::Ended;
 use ra_cluster::{BookError, Stop};
 use ra_stamp::Mode;
 

@@ -1,7 +1,7 @@
 //! How a test ends that does not find what it should. It prints what was expected and what came.
 use std::fmt::{Debug, Display};
 use std::process::Abort;
-use test_support::{At, printed};
+use test_support::{At, Tried, printed};
 
 /// Asserts that what came there is what was expected.
 pub fn assert_same<T: Debug + PartialEq>(rt: &impl Abort, at: At<'_>, came: &T, expected: &T) {
@@ -18,6 +18,11 @@ pub fn assert_so(rt: &impl Abort, at: At<'_>, expected: &str, so: bool) {
 /// Ends the test: nothing like this was expected there.
 pub fn fail_at(rt: &impl Abort, at: At<'_>, came: &str) -> ! {
     panic!(rt; "{at}: {came}");
+}
+
+/// Asserts that calls of which a growth was refused had the right answer, and changed nothing.
+pub fn assert_grown(rt: &impl Abort, tried: Tried) {
+    assert_same(rt, At("calls", "try", 0), &tried.fault(), &None);
 }
 
 /// Asserts that each of these values prints as the text beside it.

@@ -1,6 +1,4 @@
 //! The run into which books settle.
-use crate::cluster_asserting::{assert_prints, assert_same, assert_so, fail_at};
-use crate::cluster_values::{node, reply, request, settled};
 use crate::kept_books::book_steps::Call::{Ask, Leave, Receive};
 use crate::kept_books::book_steps::Step::{Loses, Takes};
 use crate::kept_books::book_steps::{ASK, ASKS, LEAVE};
@@ -8,19 +6,21 @@ use crate::kept_books::histories::Done::{AtNode, Passes};
 use crate::kept_books::histories::{
     Done, Granted, Made, ONE, TWO, books_after, grants_of, new_books,
 };
+use crate::kept_books::history_asserting::{assert_prints, assert_same, assert_so, fail_at};
+use crate::kept_books::history_values::{node, request, settled};
 use Mode::{Exclusive, Shared};
 use Outcome::{Refused, Settles};
 use Seen::{Asked, Left, Lost, Replied, Requested};
-use ra_cluster::{Book, Grant, SettleError, Settled, is_cluster};
+use ra_history::{Book, Grant, SettleError, Settled, is_cluster};
 use ra_stamp::Mode;
 use ra_world::{Report, Step, report_text};
 use std::alloc::Global;
 use std::process::Abort;
-use test_support::{At, assert_words, r};
+use test_support::{At, assert_words, message_between, r};
 
 /// A step of the run. All steps are about `r`, and the client of each node has the node's number.
 #[derive(Clone, Copy)]
-pub enum Seen {
+enum Seen {
     /// The client of this node asks.
     Asked(u16, Mode),
     /// The client of this node leaves.
@@ -35,7 +35,7 @@ pub enum Seen {
 
 /// The outcome of settling books.
 #[derive(Clone, Copy)]
-pub enum Outcome {
+enum Outcome {
     /// They are refused for this reason.
     Refused(SettleError),
     /// They settle into these steps, with a report that prints as this text.
@@ -57,9 +57,15 @@ fn step(rt: &impl Abort, seen: Seen) -> Step {
             client: u32::from(number),
             name,
         },
-        Requested(from, to, mode) => Step::Deliver(request(rt, from, to, mode)),
-        Replied(from, to) => Step::Deliver(reply(rt, from, to)),
-        Lost(from, to, mode) => Step::Lose(request(rt, from, to, mode)),
+        Requested(from, to, mode) => Step::Deliver(request(rt, from, to, mode, 1)),
+        Replied(from, to) => Step::Deliver(message_between(
+            node(rt, from),
+            node(rt, to),
+            name,
+            None,
+            1,
+        )),
+        Lost(from, to, mode) => Step::Lose(request(rt, from, to, mode, 1)),
     }
 }
 
@@ -112,7 +118,7 @@ fn assert_refused(rt: &impl Abort, words: &str, found: Option<SettleError>, outc
 }
 
 /// Asserts that books are a cluster and settle with grants into this outcome.
-pub fn assert_comes(
+fn assert_comes(
     rt: &impl Abort,
     alloc: Global,
     words: &str,
@@ -190,7 +196,7 @@ const LOCKED_ONCE: &[Seen] = &[
 ];
 
 /// The run in which client 1 of node 1 asks, and the REQUEST to node 2 is lost.
-pub const LOST_ONCE: Outcome = Settles(
+const LOST_ONCE: Outcome = Settles(
     &[Asked(1, Exclusive), Lost(1, 2, Exclusive)],
     "request 1 1 r X 1\nrequests 1\nmessages 1\nunder-way 0\nlost 1\nwaiting 1\nqueued 0\n",
 );

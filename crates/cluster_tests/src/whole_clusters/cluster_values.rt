@@ -1,9 +1,8 @@
 //! What several files of tests use.
 use ra_cluster::{
-    Book, BookError, Cluster, ClusterError, Gate, Grant, NewError, SettleError, Settled, Site,
-    SiteError, Stop, is_cluster, run_cluster, settle,
+    Book, BookError, Cluster, ClusterError, Gate, Grant, Settled, Site, SiteError, Stop,
+    is_cluster, run_cluster, settle,
 };
-use ra_frame::{Frame, encode};
 use ra_schedule::Script;
 use ra_stamp::{Entry, Message, Mode, NodeId};
 use std::alloc::Global;
@@ -91,38 +90,7 @@ pub fn entry(rt: &impl Abort, number: u16, client: u32, mode: Mode, seq: u64) ->
 
 /// Returns the REQUEST for the name `r` with number 1, which goes between these nodes.
 pub fn request(rt: &impl Abort, from: u16, to: u16, mode: Mode) -> Message {
-    request_with(rt, from, to, mode, 1)
-}
-
-/// Returns such a REQUEST with this number.
-pub fn request_with(rt: &impl Abort, from: u16, to: u16, mode: Mode, seq: u64) -> Message {
-    message_between(node(rt, from), node(rt, to), r(), Some(mode), seq)
-}
-
-/// Returns the REPLY to a REQUEST for the name `r` with number 1, which goes between these nodes.
-pub fn reply(rt: &impl Abort, from: u16, to: u16) -> Message {
-    message_between(node(rt, from), node(rt, to), r(), None, 1)
-}
-
-/// Makes the book of a node of this many, in which each name begins with the number `start`.
-///
-/// # Errors
-///
-/// Why there is none, or `BadNode` if there is no such number.
-pub fn new_book(alloc: Global, number: u16, nodes: u16, start: u64) -> Result<Book, NewError> {
-    match NodeId::new(number) {
-        Some(me) => Book::new(alloc, me, nodes, start),
-        None => Err(NewError::BadNode),
-    }
-}
-
-/// Returns the bytes of a frame, or `None` if it does not fit or memory runs out.
-pub fn bytes_of(alloc: Global, frame: &Frame) -> Option<Vec<u8>> {
-    if frame.fits() {
-        encode(alloc, frame).ok()
-    } else {
-        None
-    }
+    message_between(node(rt, from), node(rt, to), r(), Some(mode), 1)
 }
 
 /// Makes the site of a node of this many, from number `start`, and adds it to the others. Returns whether that succeeds.
@@ -164,22 +132,12 @@ pub fn closed<G: Gate + Drop>(alloc: Global, cluster: Cluster<G>) -> Vec<Book> {
     cluster.close(alloc)
 }
 
-/// Settles books with grants.
-///
-/// # Errors
-///
-/// Why they do not settle, or `None` if they are not a cluster.
-pub fn settled(
-    alloc: Global,
-    books: &[Book],
-    grants: &[Grant],
-) -> Result<Settled, Option<SettleError>> {
-    if !is_cluster(books) {
-        return Err(None);
-    }
-    match settle(alloc, books, grants) {
-        Ok(settled) => Ok(settled),
-        Err(refused) => Err(Some(refused)),
+/// Settles books with grants, or returns `None` if they are not a cluster or do not settle.
+pub fn settled(alloc: Global, books: &[Book], grants: &[Grant]) -> Option<Settled> {
+    if is_cluster(books) {
+        settle(alloc, books, grants).ok()
+    } else {
+        None
     }
 }
 

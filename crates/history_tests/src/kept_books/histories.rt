@@ -1,11 +1,11 @@
 //! Books to which something was done, and grants that clients got.
-use crate::cluster_asserting::{assert_so, fail_at};
-use crate::cluster_values::{bytes_of, entry, new_book};
 use crate::kept_books::book_steps::Call::Receive;
 use crate::kept_books::book_steps::{Step, does, takes};
+use crate::kept_books::history_asserting::{assert_so, fail_at};
+use crate::kept_books::history_values::{bytes_of, entry, new_book};
 use Done::{AtNode, Loses, Passes};
-use ra_cluster::{Book, Grant};
 use ra_frame::Frame;
+use ra_history::{Book, Grant};
 use ra_stamp::Mode;
 use std::alloc::Global;
 use std::process::Abort;

@@ -1,0 +1,65 @@
+//! Books, and values that are in them, as several files of tests use them.
+use ra_frame::{Frame, encode};
+use ra_history::{Book, Grant, NewError, SettleError, Settled, is_cluster, settle};
+use ra_stamp::{Entry, Message, Mode, NodeId};
+use std::alloc::Global;
+use std::process::Abort;
+use test_support::{entry_of, message_between, r};
+
+/// Makes the book of a node of this many, in which each name begins with the number `start`.
+///
+/// # Errors
+///
+/// Why there is none, or `BadNode` if there is no such number.
+pub fn new_book(alloc: Global, number: u16, nodes: u16, start: u64) -> Result<Book, NewError> {
+    match NodeId::new(number) {
+        Some(me) => Book::new(alloc, me, nodes, start),
+        None => Err(NewError::BadNode),
+    }
+}
+
+/// Settles books with grants. The contract of `settle` is long, so its callers call it by this function, which has none.
+///
+/// # Errors
+///
+/// Why they do not settle, or `None` if they are not a cluster.
+pub fn settled(
+    alloc: Global,
+    books: &[Book],
+    grants: &[Grant],
+) -> Result<Settled, Option<SettleError>> {
+    if !is_cluster(books) {
+        return Err(None);
+    }
+    match settle(alloc, books, grants) {
+        Ok(settled) => Ok(settled),
+        Err(refused) => Err(Some(refused)),
+    }
+}
+
+/// Returns the bytes of a frame, or `None` if it does not fit or memory runs out.
+pub fn bytes_of(alloc: Global, frame: &Frame) -> Option<Vec<u8>> {
+    if frame.fits() {
+        encode(alloc, frame).ok()
+    } else {
+        None
+    }
+}
+
+/// Returns the node with this number.
+pub fn node(rt: &impl Abort, number: u16) -> NodeId {
+    match NodeId::new(number) {
+        Some(node) => node,
+        None => panic!(rt; "there is no node with this number"),
+    }
+}
+
+/// Returns the REQUEST for the name `r` with this number, which goes between these nodes.
+pub fn request(rt: &impl Abort, from: u16, to: u16, mode: Mode, seq: u64) -> Message {
+    message_between(node(rt, from), node(rt, to), r(), Some(mode), seq)
+}
+
+/// Returns the request of a client on the name `r` at a node, with this number.
+pub fn entry(rt: &impl Abort, number: u16, client: u32, mode: Mode, seq: u64) -> Entry {
+    entry_of(node(rt, number), client, r(), mode, seq)
+}
