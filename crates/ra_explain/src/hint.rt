@@ -3,55 +3,43 @@
 /// A prefix of lines, and the text for them.
 type Hint = (&'static str, &'static str);
 
-/// The hint for a text that begins with a byte order mark.
-const ENCODED: &str = "the text begins with a byte order mark, which is not allowed";
-
 /// The hint for a line of a script.
 const SCRIPT: &str = "this looks like a script, which ra sim and ra cluster read";
-
-/// The hint for a line of a report.
-const REPORT: &str =
-    "this looks like the output of ra sim without --trace: ra check --marks reads its marks, without the six totals";
 
 /// The hint for a line of a survey.
 const SURVEY: &str =
     "this looks like the output of ra sim --seeds: use --seed and --trace to print the trace of one seed";
 
-/// The hint for the line that says that no run was found.
-const NONE: &str =
-    "this looks like the output of ra sim --find, which found no such run and so printed no trace";
-
-/// The hint for a line of a book.
-const BOOK: &str = "this looks like a book, which ra node and ra settle read";
-
 /// What is said of a tab in a line.
 pub const TAB: &str = "a tab does not separate fields: fields are separated by one space";
-
-/// The hint for a refusal.
-const REFUSAL: &str = "this looks like a refusal by the command that should have printed the text";
-
-/// The hint for a line of a trace in a mark log.
-const TRACE: &str = "this looks like a trace, which ra check reads without --marks";
-
-/// The hint for the totals of a report in a mark log.
-const TOTALS: &str = "this looks like the six totals of a report, which a mark log does not have";
-
-/// The hint for a first line that begins with `trace`.
-const FIRST: &str =
-    "expected trace VERSION NODES START: version 1 or 2, at most 16 nodes in version 1 and 64 in version 2, and the number that each name begins with";
 
 /// The hint for a message without its kind.
 const KINDS: &str = "expected request or reply after deliver, lose or repeat";
 
+/// The hint for a line of a trace in a mark log.
+const TRACE: &str = "this looks like a trace, which ra check reads without --marks";
+
 /// The hints for the first line of a trace and for a line of a mark log.
 pub const AT_BOTH: &[Hint] = &[
-    ("\u{feff}", ENCODED),
+    (
+        "\u{feff}",
+        "the text begins with a byte order mark, which is not allowed",
+    ),
     ("nodes", SCRIPT),
     ("client", SCRIPT),
     ("[[client]]", SCRIPT),
-    ("none", NONE),
-    ("book ", BOOK),
-    ("refused ", REFUSAL),
+    (
+        "none",
+        "this looks like the output of ra sim --find, which found no such run and so printed no trace",
+    ),
+    (
+        "book ",
+        "this looks like a book, which ra node and ra settle read",
+    ),
+    (
+        "refused ",
+        "this looks like a refusal by the command that should have printed the text",
+    ),
 ];
 
 /// Further hints for the first line of a trace.
@@ -59,15 +47,28 @@ pub const AT_FIRST: &[Hint] = &[
     ("trace\t", TAB),
     ("trace 1\t", TAB),
     ("trace 2\t", TAB),
-    ("trace", FIRST),
-    ("request", REPORT),
+    (
+        "trace",
+        "expected trace VERSION NODES START: version 1 or 2, at most 16 nodes in version 1 and 64 in version 2, and the number that each name begins with",
+    ),
+    (
+        "request",
+        "this looks like the output of ra sim without --trace: ra check --marks reads its marks, without the six totals",
+    ),
     ("finished ", SURVEY),
     ("stuck ", SURVEY),
     ("limit ", SURVEY),
 ];
 
 /// Further hints for a line of a mark log.
-pub const AT_MARKS: &[Hint] = &[("trace ", TRACE), ("ask ", TRACE), ("requests ", TOTALS)];
+pub const AT_MARKS: &[Hint] = &[
+    ("trace ", TRACE),
+    ("ask ", TRACE),
+    (
+        "requests ",
+        "this looks like the six totals of a report, which a mark log does not have",
+    ),
+];
 
 /// The hints for a later line of a trace.
 pub const AT_LATER: &[Hint] = &[("deliver ", KINDS), ("lose ", KINDS), ("repeat ", KINDS)];

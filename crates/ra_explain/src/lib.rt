@@ -17,4 +17,6 @@ pub use script_notes::choosing::choices_note;
 pub use script_notes::order::order_note;
 pub use script_notes::script_end::script_end_note;
 pub use trace_notes::line_cause::{LineCause, line_note};
+pub use trace_notes::open_request::Stage;
+pub use trace_notes::refused_step::{push_exhausted, push_not_held, push_stage};
 pub use trace_notes::text_end::end_note;

@@ -1,4 +1,5 @@
 //! What is said of a line of a trace or a mark log, and of its end.
+pub mod blockers;
 pub mod due;
 pub mod line_cause;
 pub mod line_fault;
@@ -9,10 +10,8 @@ pub mod not_under_way;
 pub mod obstacle;
 pub mod open_request;
 pub mod open_text;
-pub mod past;
 pub mod refused_step;
 pub mod replay;
 pub mod table_steps;
 pub mod text_end;
 pub mod text_line;
-pub mod traffic;

@@ -1,26 +1,20 @@
 //! Where the fault of a frame is in its line of digits.
-use crate::frame_notes::digits::no_name_byte;
-use crate::frame_notes::frame_field::{Field, NAME, field_at, index_of};
+use crate::frame_notes::digits::{no_name_byte, part};
+use crate::frame_notes::frame_field::{NAME, extent_of, index_of, name_of, range_of};
 use crate::frame_notes::hexadecimal::first_line;
 use ra_frame::FrameError;
 use ra_stamp::Memory;
 use ra_world::Note;
 use std::alloc::Global;
 
-/// Adds a field, the offsets of its bytes, and what it contains.
-pub fn push_field(note: &mut Note, digits: &[u8], field: &Field) {
-    push_offsets(note, field);
-    note.push("is ");
-    note.bytes(field.in_digits(digits));
-}
-
-/// Adds a field and the offsets of its bytes.
-fn push_offsets(note: &mut Note, field: &Field) {
-    note.push(field.name);
-    let last = field.place.saturating_add(field.width).saturating_sub(1);
-    if field.place < last {
+/// Adds the name of a field and the offsets of its bytes, of which there are `width` from `place` on.
+fn push_offsets(note: &mut Note, name: &str, extent: (usize, usize)) {
+    let (place, width) = extent;
+    note.push(name);
+    let last = place.saturating_add(width).saturating_sub(1);
+    if place < last {
         note.push(" at offsets ");
-        note.number(field.place as u64);
+        note.number(place as u64);
         note.push(" to ");
     } else {
         note.push(" at offset ");
@@ -29,75 +23,59 @@ fn push_offsets(note: &mut Note, field: &Field) {
     note.push(" ");
 }
 
-/// Adds a field, what it contains and, after a joint, what it may contain.
-fn push_range(note: &mut Note, digits: &[u8], field: &Field, joint: &str, range: &str) {
-    push_field(note, digits, field);
-    note.push(joint);
-    note.push(range);
+/// Adds the name of a field, the offsets of its bytes, and what they are.
+pub fn push_field(note: &mut Note, digits: &[u8], name: &str, extent: (usize, usize)) {
+    push_offsets(note, name, extent);
+    note.push("is ");
+    note.bytes(part(digits, extent.0, extent.1));
 }
 
-/// Returns the first field that is incomplete, or the name if all before it are complete.
-fn short_field(digits: &[u8]) -> Field {
+/// Returns the index of the first field that is incomplete, or of the name if all before it are complete.
+fn short_index(digits: &[u8]) -> usize {
     for index in 0..NAME {
-        let field = field_at(digits, index);
-        if field.in_digits(digits).len() < field.width.saturating_mul(2) {
-            return field;
+        let (place, width) = extent_of(digits, index);
+        if part(digits, place, width).len() < width.saturating_mul(2) {
+            return index;
         }
     }
-    field_at(digits, NAME)
+    NAME
 }
 
 /// Adds the field at which a frame ends, this text, and the number of bytes in the frame.
-fn push_end(note: &mut Note, digits: &[u8], field: &Field, text: &str) {
-    push_offsets(note, field);
+fn push_end(note: &mut Note, digits: &[u8], index: usize, text: &str) {
+    push_offsets(note, name_of(index), extent_of(digits, index));
     note.push(text);
     let bytes = (digits.len() / 2) as u64;
     note.number(bytes);
     note.push(if bytes == 1 { " byte" } else { " bytes" });
 }
 
-/// Returns the first byte of a name that is not allowed in names, as a field of its own.
-fn name_byte(digits: &[u8], name: &Field) -> Field {
-    Field {
-        name: "the name byte",
-        place: no_name_byte(digits, name.place, name.width),
-        width: 1,
-        range: name.range,
-    }
-}
-
 /// Adds the description of a frame's fault: which field of these hexadecimal digits it is, where its bytes are, what they are, and
 /// what is allowed there.
 pub fn push_frame_fault(note: &mut Note, digits: &[u8], fault: FrameError) {
-    let field = field_at(digits, index_of(fault));
+    let index = index_of(fault);
+    let (place, width) = extent_of(digits, index);
     match fault {
-        FrameError::Short => push_end(
-            note,
-            digits,
-            &short_field(digits),
-            "is missing or incomplete: the frame has ",
-        ),
-        FrameError::Trailing => push_end(
-            note,
-            digits,
-            &field,
-            "is the last field, but the frame has ",
-        ),
-        FrameError::NameByte => push_range(
-            note,
-            digits,
-            &name_byte(digits, &field),
-            ": ",
-            field.range,
-        ),
-        FrameError::SameNode => push_range(
-            note,
-            digits,
-            &field,
-            ", the same as the sender: ",
-            "a node sends no message to itself",
-        ),
-        _ => push_range(note, digits, &field, ": ", field.range),
+        FrameError::Short => {
+            let text = "is missing or incomplete: the frame has ";
+            push_end(note, digits, short_index(digits), text);
+            return;
+        }
+        FrameError::Trailing => {
+            push_end(note, digits, index, "is the last field, but the frame has ");
+            return;
+        }
+        FrameError::NameByte => {
+            let wrong = no_name_byte(digits, place, width);
+            push_field(note, digits, "the name byte", (wrong, 1));
+        }
+        _ => push_field(note, digits, name_of(index), (place, width)),
+    }
+    if let FrameError::SameNode = fault {
+        note.push(", the same as the sender: a node sends no message to itself");
+    } else {
+        note.push(": ");
+        note.push(range_of(digits, index));
     }
 }
 

@@ -1,18 +1,6 @@
 //! The fields of a frame, where they are, and what they may contain.
-use crate::frame_notes::digits::{byte_at, part};
+use crate::frame_notes::digits::byte_at;
 use ra_frame::{Format, FrameError, format_of};
-
-/// A field of a frame.
-#[derive(Clone, Copy)]
-pub struct Field {
-    pub name: &'static str,
-    /// Where it begins, in bytes counted from 0.
-    pub place: usize,
-    /// How many bytes it has.
-    pub width: usize,
-    /// What it may contain.
-    pub range: &'static str,
-}
 
 /// The number of fields before the name, and so the index of the name.
 pub const NAME: usize = 8;
@@ -54,30 +42,30 @@ fn format_in(digits: &[u8]) -> Format {
     format_of(&[byte_at(digits, 0)]).unwrap_or(Format::V2)
 }
 
-/// Returns what the field with this index may contain in a version.
-fn range_of(format: Format, index: usize) -> &'static str {
-    match (format, index) {
+/// Returns the name of the field with this index.
+pub fn name_of(index: usize) -> &'static str {
+    NAMES.get(index).unwrap_or(&"")
+}
+
+/// Returns what the field with this index may contain in the frame of these digits.
+pub fn range_of(digits: &[u8], index: usize) -> &'static str {
+    match (format_in(digits), index) {
         (Format::V1, 2 | 3) => NODE_1,
         (Format::V1, 4) => MODE_1,
         _ => RANGES.get(index).unwrap_or(&""),
     }
 }
 
-/// Returns the field with this index in the frame of these digits. The name is as long as the byte before it says.
-pub fn field_at(digits: &[u8], index: usize) -> Field {
-    let format = format_in(digits);
-    let places = format.places();
+/// Returns where the field with this index begins in the frame of these digits, in bytes counted from 0, and how many bytes it has. The
+/// name is as long as the byte before it says.
+pub fn extent_of(digits: &[u8], index: usize) -> (usize, usize) {
+    let places = format_in(digits).places();
     let place = *places.get(index).unwrap_or(&0);
     let width = match places.get(index.saturating_add(1)) {
         Some(next) => next.saturating_sub(place),
         None => usize::from(byte_at(digits, place.saturating_sub(1))),
     };
-    Field {
-        name: NAMES.get(index).unwrap_or(&""),
-        place,
-        width,
-        range: range_of(format, index),
-    }
+    (place, width)
 }
 
 /// Returns the index of the field that has the fault, which is that of the name if none before it has.
@@ -92,12 +80,5 @@ pub fn index_of(fault: FrameError) -> usize {
         FrameError::Clock => 6,
         FrameError::NameLength => 7,
         FrameError::Short | FrameError::NameByte | FrameError::Trailing => NAME,
-    }
-}
-
-impl Field {
-    /// Returns the digits of the field, as many as there are.
-    pub fn in_digits<'a>(&self, digits: &'a [u8]) -> &'a [u8] {
-        part(digits, self.place, self.width)
     }
 }

@@ -12,33 +12,17 @@ pub fn first_line(input: &[u8]) -> (&[u8], bool) {
     (line, matches!(after, None | Some(b"")))
 }
 
-/// Returns the place and the value of the first byte that is not a hexadecimal digit, or `None`.
-fn no_digit(line: &[u8]) -> Option<(usize, u8)> {
-    for (place, byte) in line.iter().enumerate() {
-        if !byte.is_ascii_hexdigit() {
-            return Some((place, *byte));
-        }
-    }
-    None
-}
-
-/// Adds that a line ends with a carriage return, in which so many bytes come before the digits of a frame.
-fn push_return(note: &mut Note, before: usize) {
-    // A line that has the digits alone may be the last one of its text without a line feed.
-    note.push(if before == 0 {
-        "a carriage return (end the line with a line feed alone, or with nothing)"
-    } else {
-        "a carriage return (end the line with a line feed alone)"
-    });
-}
-
-/// Adds which byte of a line is not a hexadecimal digit, by its place in the digits, before which so many other bytes come.
+/// Adds which byte of a line is not a hexadecimal digit, by its place in the digits, before which this many other bytes come.
 fn push_no_digit(note: &mut Note, before: usize, place: usize, byte: u8) {
     note.push("not a hexadecimal digit at offset ");
     note.number(place.saturating_add(before) as u64);
     note.push(" of the line: ");
     match byte {
-        b'\r' => push_return(note, before),
+        // A line that has the digits alone may be the last one of its text without a line feed.
+        b'\r' if before == 0 => {
+            note.push("a carriage return (end the line with a line feed alone, or with nothing)");
+        }
+        b'\r' => note.push("a carriage return (end the line with a line feed alone)"),
         b'\t' => note.push("a tab"),
         b' '..=b'~' => note.quoted(&[byte]),
         _ => {
@@ -51,9 +35,13 @@ fn push_no_digit(note: &mut Note, before: usize, place: usize, byte: u8) {
 /// Adds why the bytes of a line after so many others are not an even number of hexadecimal digits: which byte is none, or how many
 /// digits there are.
 pub fn push_digits_fault(note: &mut Note, digits: &[u8], before: usize) {
-    if let Some((place, byte)) = no_digit(digits) {
-        push_no_digit(note, before, place, byte);
-    } else if digits.len() % 2 == 1 {
+    for (place, byte) in digits.iter().enumerate() {
+        if !byte.is_ascii_hexdigit() {
+            push_no_digit(note, before, place, *byte);
+            return;
+        }
+    }
+    if digits.len() % 2 == 1 {
         note.push("the line has ");
         note.number(digits.len() as u64);
         note.push(" hexadecimal digits, an odd number: each byte of a frame takes two");

@@ -1,7 +1,7 @@
 //! Which field of a frame is the reason that a node does not answer it.
 use crate::frame_notes::digits::byte_at;
 use crate::frame_notes::frame_fault::push_field;
-use crate::frame_notes::frame_field::{Field, field_at, index_of};
+use crate::frame_notes::frame_field::{extent_of, index_of, name_of};
 use crate::frame_notes::hexadecimal::first_line;
 use ra_frame::FrameError;
 use ra_stamp::Memory;
@@ -9,7 +9,7 @@ use ra_world::Note;
 use std::alloc::Global;
 
 /// Why a node does not answer a frame.
-#[derive(Clone, Copy, Debug)]
+#[derive(Clone, Copy)]
 pub enum Unanswered {
     /// It is for another node.
     WrongNode,
@@ -19,33 +19,24 @@ pub enum Unanswered {
     ClockFull,
 }
 
-impl Unanswered {
-    /// Returns the fault that a frame would have in the field that is the reason.
-    fn fault(self) -> FrameError {
-        match self {
-            Unanswered::WrongNode => FrameError::To,
-            Unanswered::Stranger => FrameError::From,
-            Unanswered::ClockFull => FrameError::Clock,
-        }
-    }
-}
-
-/// Returns the node that a field names.
-fn node_in(digits: &[u8], field: &Field) -> u64 {
-    let mut node: u64 = 0;
-    for place in field.place..field.place.saturating_add(field.width) {
-        node = node
+/// Adds the number that some bytes of a frame are, between two texts, and what is expected.
+fn push_number(
+    note: &mut Note,
+    digits: &[u8],
+    extent: (usize, usize),
+    texts: (&str, &str),
+    expected: &str,
+) {
+    let (place, width) = extent;
+    let mut number: u64 = 0;
+    for place in place..place.saturating_add(width) {
+        number = number
             .wrapping_mul(256)
             .wrapping_add(u64::from(byte_at(digits, place)));
     }
-    node
-}
-
-/// Adds the node that a field names, and the one that is expected, which is a text.
-fn push_nodes(note: &mut Note, what: &str, named: u64, but: &str, expected: &str) {
-    note.push(what);
-    note.number(named);
-    note.push(but);
+    note.push(texts.0);
+    note.number(number);
+    note.push(texts.1);
     note.push(expected);
 }
 
@@ -65,29 +56,23 @@ pub fn unanswered_note(
 ) -> Result<Option<String>, Memory> {
     let mut note = Note::new(alloc);
     let (digits, _) = first_line(input);
-    let field = field_at(digits, index_of(why.fault()));
-    push_field(&mut note, digits, &field);
-    let named = node_in(digits, &field);
+    let index = index_of(match why {
+        Unanswered::WrongNode => FrameError::To,
+        Unanswered::Stranger => FrameError::From,
+        Unanswered::ClockFull => FrameError::Clock,
+    });
+    let extent = extent_of(digits, index);
+    push_field(&mut note, digits, name_of(index), extent);
     match why {
         Unanswered::WrongNode => {
-            push_nodes(
-                &mut note,
-                ": the frame is for node ",
-                named,
-                ", but --node is ",
-                node,
-            );
+            let texts = (": the frame is for node ", ", but --node is ");
+            push_number(&mut note, digits, extent, texts, node);
         }
         // The sender is not this node: a frame from its own receiver is faulty, and one for another node is not
         // answered.
         Unanswered::Stranger => {
-            push_nodes(
-                &mut note,
-                ": the frame is from node ",
-                named,
-                ", but --nodes is ",
-                nodes,
-            );
+            let texts = (": the frame is from node ", ", but --nodes is ");
+            push_number(&mut note, digits, extent, texts, nodes);
         }
         Unanswered::ClockFull => note.push(", the greatest: no clock is left for an answer"),
     }

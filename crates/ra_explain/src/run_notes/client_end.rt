@@ -1,6 +1,7 @@
 //! The states of the clients of a script when a run of it ends.
-use crate::trace_notes::open_request::{OpenRequest, Stage, requests_after};
-use ra_schedule::{Choice, Choices, Op, Policy, Script};
+use crate::trace_notes::open_request::{OpenRequest, Stage};
+use crate::trace_notes::open_text::OpenText;
+use ra_schedule::{Choice, Op, Policy, Script};
 use ra_stamp::{Entry, Mark, Mode, Name};
 use ra_world::{Note, Report};
 use std::alloc::Global;
@@ -11,12 +12,12 @@ pub struct RunEnd<'a> {
     pub script: &'a Script,
     pub policy: &'a Policy,
     pub report: &'a Report,
-    /// The requests that wait and hold then.
-    pub requests: Vec<OpenRequest>,
+    /// The requests that wait and hold then, each with the place of the mark of its request.
+    pub requests: OpenText,
 }
 
 /// The state of a client.
-#[derive(Clone, Copy)]
+#[derive(Drop)]
 pub enum ClientEnd {
     /// It has done all its operations.
     Done,
@@ -51,38 +52,19 @@ impl ClientEnd {
     }
 }
 
-/// Returns how many operations of a client these marks complete.
-fn done_by(marks: &[Mark], client: u32) -> u64 {
-    let mut done = 0;
-    for mark in marks {
-        if let Mark::Entered(entry) | Mark::Left(entry) = mark {
-            if entry.client == client {
-                done = u64::saturating_add(done, 1);
-            }
-        }
+/// Returns what waits and holds after these marks, each since the place of its request among them, counted from 1. If memory ran out,
+/// the note records it. The cost is linear in the marks.
+fn requests_after(alloc: Global, note: &mut Note, marks: &[Mark]) -> OpenText {
+    let mut open = OpenText::new(alloc);
+    for (before, mark) in marks.iter().enumerate() {
+        let since = match open.request_of(mark.entry()) {
+            Some(request) => request.since,
+            None => (before as u64).saturating_add(1),
+        };
+        open.take_mark(mark, since);
     }
-    done
-}
-
-/// Returns how many of these choices are operations of a client.
-fn begun_by(choices: &Choices, client: u32) -> u64 {
-    let mut begun = 0;
-    for choice in choices.as_slice() {
-        if *choice == Choice::Client(client) {
-            begun = u64::saturating_add(begun, 1);
-        }
-    }
-    begun
-}
-
-/// Returns the waiting request of a client, if it has one.
-fn waiting_of(requests: &[OpenRequest], client: u32) -> Option<Entry> {
-    for request in requests {
-        if request.entry.client == client && request.stage.is(Stage::Waits) {
-            return Some(request.entry);
-        }
-    }
-    None
+    note.refuse_if(!open.is_whole);
+    open
 }
 
 impl<'a> RunEnd<'a> {
@@ -103,30 +85,76 @@ impl<'a> RunEnd<'a> {
         }
     }
 
+    /// Returns how many operations of a client the marks of the run complete.
+    fn done_by(&self, client: u32) -> u64 {
+        let mut done = 0;
+        for mark in self.report.marks.as_slice() {
+            if let Mark::Entered(entry) | Mark::Left(entry) = mark {
+                if entry.client == client {
+                    done = u64::saturating_add(done, 1);
+                }
+            }
+        }
+        done
+    }
+
     /// Returns whether a client has begun more than `done` operations. If the choices are not listed, each client goes
     /// on as long as it can.
     fn has_begun(&self, client: u32, done: u64) -> bool {
-        match self.policy {
-            Policy::Listed(choices) => begun_by(choices, client) > done,
-            _ => true,
+        let Policy::Listed(choices) = self.policy else {
+            return true;
+        };
+        let mut begun = 0;
+        for choice in choices.as_slice() {
+            if *choice == Choice::Client(client) {
+                begun = u64::saturating_add(begun, 1);
+            }
+        }
+        begun > done
+    }
+
+    /// Returns the entry of a client that waits for the name of this operation, if it does.
+    fn waiting_for(&self, client: u32, op: &Op) -> Option<Entry> {
+        let Op::Lock(name, _) = op else {
+            return None;
+        };
+        let node = self.script.node_of(client)?;
+        let request = self.requests.clients.get(&(node, client, *name))?;
+        if request.stage.is(Stage::Waits) {
+            Some(request.entry)
+        } else {
+            None
         }
     }
 
     /// Returns the state of a client.
     pub fn client_end(&self, client: u32) -> ClientEnd {
-        let done = done_by(self.report.marks.as_slice(), client);
+        let done = self.done_by(client);
         let Some(op) = self.script.op(client, done) else {
             return ClientEnd::Done;
         };
-        if let Some(entry) = waiting_of(&self.requests, client) {
+        if let Some(entry) = self.waiting_for(client, &op) {
             return ClientEnd::Waits(entry);
         }
         match op {
-            Op::Lock(name, mode) if self.has_begun(client, done) => ClientEnd::Queued {
-                name,
-                mode,
-            },
+            Op::Lock(name, mode) if self.has_begun(client, done) => {
+                ClientEnd::Queued { name, mode }
+            }
             _ => ClientEnd::Idle(done.saturating_add(1)),
         }
+    }
+
+    /// Adds that a request is in the way.
+    pub fn push_blocker(&self, note: &mut Note, request: &OpenRequest) {
+        note.client(request.entry.client);
+        if request.holds() {
+            if let ClientEnd::Done = self.client_end(request.entry.client) {
+                note.push(", which has finished,");
+            }
+            note.push(" holds it");
+        } else {
+            note.push(" asked earlier");
+        }
+        note.mode(request.entry.mode);
     }
 }

@@ -30,13 +30,6 @@ fn push_counts(note: &mut Note, before: u64, after: u64) {
     }
 }
 
-/// Adds to how many choices a policy's run of a script is shrunk. If memory ran out, the note records it.
-fn push_count_of(alloc: Global, note: &mut Note, script: &Script, policy: &Policy, after: u64) {
-    if let Some(summary) = run_of(alloc, note, script, policy) {
-        push_counts(note, summary.turns, after);
-    }
-}
-
 /// Returns the choices to which a policy's run of a script is shrunk, or `None` if it is not stuck or refused. If memory ran out,
 /// the note records it.
 fn shorter(alloc: Global, note: &mut Note, script: &Script, policy: &Policy) -> Option<Choices> {
@@ -59,7 +52,9 @@ fn push_shrunk(
 ) {
     match shorter(alloc, counts, script, policy) {
         Some(choices) => {
-            push_count_of(alloc, counts, script, policy, choices.len());
+            if let Some(summary) = run_of(alloc, counts, script, policy) {
+                push_counts(counts, summary.turns, choices.len());
+            }
             push_run(alloc, left, script, &Policy::Listed(choices));
         }
         None => push_run(alloc, left, script, policy),

@@ -1,63 +1,19 @@
 //! Which clients wait for which others at the end of a run.
 use crate::run_notes::client_end::{ClientEnd, RunEnd};
 use crate::script_notes::script_text::{run_of, script_in};
-use crate::trace_notes::open_request::{OpenRequest, want_text};
+use crate::trace_notes::blockers::{push_blockers, want_text};
+use crate::trace_notes::open_text::{OpenText, Sought};
 use ra_schedule::{Policy, Script};
-use ra_stamp::{Entry, Memory, Name, NodeId};
+use ra_stamp::{Memory, Name, NodeId};
 use ra_world::Note;
 use std::alloc::Global;
 
 /// The most clients that are described.
 const MAX_CLIENTS: u64 = 4;
 
-/// The most requests that are named as blocking one request.
-const MAX_BLOCKERS: u64 = 3;
-
-/// Adds that a request is in the way.
-fn push_blocker(note: &mut Note, ending: &RunEnd<'_>, request: &OpenRequest) {
-    note.client(request.entry.client);
-    if request.holds() {
-        if let ClientEnd::Done = ending.client_end(request.entry.client) {
-            note.push(", which has finished,");
-        }
-        note.push(" holds it");
-    } else {
-        note.push(" asked earlier");
-    }
-    note.mode(request.entry.mode);
-}
-
-/// Adds what blocks a request.
-fn push_blockers(note: &mut Note, ending: &RunEnd<'_>, entry: &Entry) {
-    let mut count = 0;
-    for request in &ending.requests {
-        if request.blocks(entry) {
-            if count < MAX_BLOCKERS {
-                note.push(if count == 0 { ": " } else { ", " });
-                push_blocker(note, ending, request);
-            }
-            count = u64::saturating_add(count, 1);
-        }
-    }
-    note.push_more(" and ", count, MAX_BLOCKERS);
-    if count == 0 {
-        note.push(want_text(ending.report.under_way, ending.report.lost));
-    }
-}
-
-/// Returns the request of a node that waits for or holds a name, if there is one.
-fn first_at(requests: &[OpenRequest], node: NodeId, name: &Name) -> Option<OpenRequest> {
-    for request in requests {
-        if request.is_at(node, name) {
-            return Some(*request);
-        }
-    }
-    None
-}
-
 /// Adds the client that is ahead of the clients of this node queued for a name.
-fn push_first(note: &mut Note, requests: &[OpenRequest], node: NodeId, name: &Name) {
-    let Some(first) = first_at(requests, node, name) else {
+fn push_first(note: &mut Note, requests: &OpenText, node: NodeId, name: &Name) {
+    let Some(first) = requests.next_of(0, &Sought::AtNode(node, *name)) else {
         return;
     };
     note.push(" after ");
@@ -80,18 +36,18 @@ fn push_client(note: &mut Note, ending: &RunEnd<'_>, client: u32, client_end: &C
     note.number(u64::from(node.get()));
     client_end.push(note);
     match client_end {
-        ClientEnd::Waits(entry) => push_blockers(note, ending, entry),
+        ClientEnd::Waits(entry) => {
+            if !push_blockers(
+                note,
+                &ending.requests,
+                &Sought::Blocking(*entry),
+                Some(ending),
+            ) {
+                note.push(want_text(ending.report.under_way, ending.report.lost));
+            }
+        }
         ClientEnd::Queued { name, .. } => push_first(note, &ending.requests, node, name),
         ClientEnd::Done | ClientEnd::Idle(_) => {}
-    }
-}
-
-/// Returns whether a client has something left to do, and waits or is queued as told.
-fn is_left(client_end: &ClientEnd, waits: bool) -> bool {
-    match client_end {
-        ClientEnd::Waits(_) | ClientEnd::Queued { .. } => waits,
-        ClientEnd::Idle(_) => !waits,
-        ClientEnd::Done => false,
     }
 }
 
@@ -102,7 +58,8 @@ fn push_clients(note: &mut Note, ending: &RunEnd<'_>, waits: bool, before: u64) 
     for place in 0..ending.script.clients() {
         let client = place + 1;
         let client_end = ending.client_end(client);
-        if !is_left(&client_end, waits) {
+        let is_waiting = matches!(client_end, ClientEnd::Waits(_) | ClientEnd::Queued { .. });
+        if is_waiting != waits || matches!(client_end, ClientEnd::Done) {
             continue;
         }
         if count < MAX_CLIENTS {

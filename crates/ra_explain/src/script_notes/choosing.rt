@@ -37,18 +37,6 @@ fn makeable(alloc: Global, note: &mut Note, script: &Script, choices: &Choices) 
     low
 }
 
-/// Adds a choice as it is written.
-fn push_choice(note: &mut Note, choice: Choice) {
-    let (letter, number) = match choice {
-        Choice::Client(client) => ("c", u64::from(client)),
-        Choice::Message(place) => ("m", place),
-        Choice::Lost(place) => ("l", place),
-        Choice::Repeated(place) => ("r", place),
-    };
-    note.push(letter);
-    note.number(number);
-}
-
 /// Adds why the choice of a client can't be made.
 fn push_client(note: &mut Note, ending: &RunEnd<'_>, client: u32) {
     let clients = ending.script.clients();
@@ -78,31 +66,33 @@ fn push_messages(note: &mut Note, count: u64) {
     }
 }
 
-/// Adds why a choice can't be made after a run that ends so.
-fn push_cause(note: &mut Note, ending: &RunEnd<'_>, choice: Choice) {
-    match choice {
-        Choice::Client(client) => push_client(note, ending, client),
-        _ => push_messages(
-            note,
-            u64::try_from(ending.report.under_way).unwrap_or(u64::MAX),
-        ),
-    }
-}
-
 /// Adds which choice can't be made, and why.
 fn push_choice_at(alloc: Global, note: &mut Note, script: &Script, choices: &Choices, place: u64) {
     let Some(choice) = choices.at(place) else {
         return;
     };
+    let (letter, number) = match choice {
+        Choice::Client(client) => ("c", u64::from(client)),
+        Choice::Message(number) => ("m", number),
+        Choice::Lost(number) => ("l", number),
+        Choice::Repeated(number) => ("r", number),
+    };
     note.push("choice ");
     note.number(place.saturating_add(1));
     note.push(" of --choices, ");
-    push_choice(note, choice);
+    note.push(letter);
+    note.number(number);
     note.push(", is not possible: ");
     let policy = first_of(alloc, note, choices, place);
     if let Some(summary) = run_of(alloc, note, script, &policy) {
         let ending = RunEnd::new(alloc, note, script, &policy, &summary.report);
-        push_cause(note, &ending, choice);
+        match choice {
+            Choice::Client(client) => push_client(note, &ending, client),
+            _ => push_messages(
+                note,
+                u64::try_from(ending.report.under_way).unwrap_or(u64::MAX),
+            ),
+        }
     }
 }
 

@@ -41,34 +41,22 @@ impl ClientLocks {
     fn take(&mut self, note: &mut Note, op: Op, place: u64) {
         match op {
             Op::Lock(name, mode) => {
-                let lock = Lock { name, mode, place };
-                if self.out_of_order.is_none() {
-                    self.out_of_order = self.not_below(&lock);
+                for held in &self.locks {
+                    if self.out_of_order.is_none() && held.name >= name {
+                        self.out_of_order = Some((Lock { name, mode, place }, *held));
+                    }
                 }
-                let pushed = self.locks.push(lock);
+                let pushed = self.locks.push(Lock { name, mode, place });
                 note.refuse_if(pushed.is_err());
             }
-            Op::Unlock(name) => self.unlock(&name),
-        }
-    }
-
-    /// Takes away a name.
-    fn unlock(&mut self, name: &Name) {
-        for place in 0..self.locks.len() {
-            if self.locks[place].name == *name {
-                self.locks.remove(place);
-                return;
+            Op::Unlock(name) => {
+                for place in 0..self.locks.len() {
+                    if self.locks[place].name == name {
+                        self.locks.remove(place);
+                        return;
+                    }
+                }
             }
         }
-    }
-
-    /// Returns a lock and the first name held that is not below its own, if there is one.
-    fn not_below(&self, next: &Lock) -> Option<(Lock, Lock)> {
-        for held in &self.locks {
-            if held.name >= next.name {
-                return Some((*next, *held));
-            }
-        }
-        None
     }
 }

@@ -15,50 +15,33 @@ fn push_lock(note: &mut Note, client: u32, lock: &Lock) {
     note.name(&lock.name);
 }
 
-/// Adds where a client locks a name while it holds that name or a greater one, and returns whether it does.
-fn says_order(note: &mut Note, client: u32, held: &ClientLocks) -> bool {
-    let Some((lock, other)) = &held.out_of_order else {
-        return false;
-    };
-    push_lock(note, client, lock);
-    note.push(" while holding ");
-    note.name(&other.name);
-    note.push(
-        ", which does not sort before it, so clients could deadlock: lock names in ascending byte order, or run the script with ra sim",
-    );
-    true
-}
-
-/// Adds which name a client still holds at its end, and returns whether it holds one.
-fn says_kept(note: &mut Note, client: u32, held: &ClientLocks) -> bool {
-    let Some(lock) = held.locks.first() else {
-        return false;
-    };
-    push_lock(note, client, lock);
-    note.push(
-        " and never unlocks it, so others could wait for it forever: unlock the name, or run the script with ra sim",
-    );
-    true
-}
-
-/// Adds what is wrong with the order in which the clients of a script lock names, and returns whether anything is.
-fn says_any_order(alloc: Global, note: &mut Note, script: &Script) -> bool {
+/// Adds where a client of a script is the first to lock a name while it holds that name or a greater one. If none does, it adds which
+/// name the first client still holds at its end that holds one.
+fn push_order(alloc: Global, note: &mut Note, script: &Script) {
+    let mut kept = None;
     for place in 0..script.clients() {
-        let held = ClientLocks::at_end(alloc, note, script, place + 1);
-        if says_order(note, place + 1, &held) {
-            return true;
-        }
-    }
-    false
-}
-
-/// Adds which name is still held at the end by the first client that holds one.
-fn push_any_kept(alloc: Global, note: &mut Note, script: &Script) {
-    for place in 0..script.clients() {
-        let held = ClientLocks::at_end(alloc, note, script, place + 1);
-        if says_kept(note, place + 1, &held) {
+        let client = place + 1;
+        let held = ClientLocks::at_end(alloc, note, script, client);
+        if let Some((lock, other)) = &held.out_of_order {
+            push_lock(note, client, lock);
+            note.push(" while holding ");
+            note.name(&other.name);
+            note.push(
+                ", which does not sort before it, so clients could deadlock: lock names in ascending byte order, or run the script with ra sim",
+            );
             return;
         }
+        if kept.is_none()
+            && let Some(lock) = held.locks.first()
+        {
+            kept = Some((client, *lock));
+        }
+    }
+    if let Some((client, lock)) = &kept {
+        push_lock(note, *client, lock);
+        note.push(
+            " and never unlocks it, so others could wait for it forever: unlock the name, or run the script with ra sim",
+        );
     }
 }
 
@@ -73,9 +56,7 @@ fn push_any_kept(alloc: Global, note: &mut Note, script: &Script) {
 pub fn order_note(alloc: Global, script: &[u8]) -> Result<Option<String>, Memory> {
     let mut note = Note::new(alloc);
     if let Some(script) = script_in(alloc, &mut note, script) {
-        if !says_any_order(alloc, &mut note, &script) {
-            push_any_kept(alloc, &mut note, &script);
-        }
+        push_order(alloc, &mut note, &script);
     }
     note.finish()
 }

@@ -3,6 +3,7 @@ use crate::trace_notes::open_request::Stage;
 use crate::trace_notes::replay::Replay;
 use crate::trace_notes::text_line::TextLine;
 use ra_stamp::{Entry, Mark};
+use ra_trace::Line;
 use ra_world::{Note, mark_line};
 use std::alloc::Global;
 
@@ -18,8 +19,16 @@ fn push_mark(alloc: Global, note: &mut Note, mark: &Mark) {
     }
 }
 
-/// Adds that the client of an entry still awaits the REPLY of a node, and of others if it awaits so many.
-fn push_missing(note: &mut Note, entry: &Entry, first: u64, count: u64) {
+/// Adds that the client of an entry still awaits the REPLY of a node, and of how many others, if its request waits and it does.
+fn push_awaited(note: &mut Note, entry: &Entry, replay: &Replay) {
+    let (first, count) = replay.missing(entry);
+    let waits = match replay.open.request_of(entry) {
+        Some(request) => request.stage.is(Stage::Waits),
+        None => false,
+    };
+    if !waits || count == 0 {
+        return;
+    }
     note.push(": ");
     note.client(entry.client);
     note.push(" at node ");
@@ -37,17 +46,6 @@ fn push_missing(note: &mut Note, entry: &Entry, first: u64, count: u64) {
     }
 }
 
-/// Adds whose REPLY the client of an entry still awaits, if its request waits.
-fn push_awaited(note: &mut Note, entry: &Entry, replay: &Replay) {
-    let (first, count) = replay.traffic.missing(entry, replay.nodes);
-    if count > 0
-        && let Some(request) = replay.open.request_of(entry)
-        && request.stage.is(Stage::Waits)
-    {
-        push_missing(note, entry, first, count);
-    }
-}
-
 /// Adds which mark is due at a line of a trace. If none is, it adds that, and which REPLY the client still awaits that the line lets
 /// in, if it does that. The cost is linear in the lines before.
 pub fn push_due(alloc: Global, note: &mut Note, line: &TextLine<'_>, due: &Option<Mark>) {
@@ -58,7 +56,7 @@ pub fn push_due(alloc: Global, note: &mut Note, line: &TextLine<'_>, due: &Optio
         return;
     }
     note.push("expected no mark here");
-    if let Some(Mark::Entered(entry)) = &line.mark() {
+    if let Some(Line::Marked(Mark::Entered(entry))) = &Line::parse(line.bytes) {
         push_awaited(note, entry, &Replay::before(alloc, line));
     }
 }

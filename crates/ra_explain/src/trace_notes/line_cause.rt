@@ -11,23 +11,12 @@ use ra_world::Note;
 use std::alloc::Global;
 
 /// Why a line is wrong: of a trace, or of a mark log.
-#[derive(Clone, Copy, Debug)]
+#[derive(Clone, Copy)]
 pub enum LineCause {
     Trace(Cause),
     /// It is wrong for its marks: this mark is due, or none is.
     Due(Option<Mark>),
     Marks(MarkCause),
-}
-
-/// Adds which line it is, and the line itself.
-fn push_line(note: &mut Note, line: &TextLine<'_>) {
-    note.push("line ");
-    note.number(line.number);
-    if line.has_feed || !line.bytes.is_empty() {
-        note.push(", ");
-        note.quoted(line.bytes);
-    }
-    note.push(": ");
 }
 
 /// Adds why a line is wrong, which is `other` if nothing more precise is found.
@@ -38,10 +27,9 @@ fn push_cause(alloc: Global, note: &mut Note, line: &TextLine<'_>, cause: LineCa
         LineCause::Due(due) => push_due(alloc, note, line, &due),
         LineCause::Trace(Cause::Refused) => push_refused(alloc, note, line, other),
         LineCause::Trace(Cause::NotUnderWay) => push_not_under_way(alloc, note, line, other),
+        LineCause::Trace(Cause::Table) => push_obstacle(alloc, note, line, None, other),
         LineCause::Marks(MarkCause::Line) => push_mark_text(note, line, other),
-        LineCause::Trace(_) | LineCause::Marks(_) => {
-            push_obstacle(alloc, note, line, cause, other);
-        }
+        LineCause::Marks(why) => push_obstacle(alloc, note, line, Some(why), other),
     }
 }
 
@@ -63,7 +51,13 @@ pub fn line_note(
 ) -> Result<Option<String>, Memory> {
     let mut note = Note::new(alloc);
     let line = TextLine::at(text, line);
-    push_line(&mut note, &line);
+    note.push("line ");
+    note.number(line.number);
+    if line.has_feed || !line.bytes.is_empty() {
+        note.push(", ");
+        note.quoted(line.bytes);
+    }
+    note.push(": ");
     push_cause(alloc, &mut note, &line, cause, other);
     note.finish()
 }

@@ -22,13 +22,6 @@ fn push_wrong(note: &mut Note, field: &LineField, text: &[u8], version: Option<V
     note.push(field.range(version));
 }
 
-/// Adds what is wrong with the number of fields of a line, which is of this form.
-fn push_count(note: &mut Note, form: &LineForm, name: &str, what: &str) {
-    note.push(name);
-    note.push(what);
-    form.push(note);
-}
-
 /// Adds what is wrong with the fields of a line of this form, and returns whether anything is.
 pub fn push_fields(
     note: &mut Note,
@@ -39,7 +32,9 @@ pub fn push_fields(
     let mut rest = fields;
     for field in form.1 {
         let Some(left) = rest else {
-            push_count(note, form, field.0, " is missing: expected ");
+            note.push(field.0);
+            note.push(" is missing: expected ");
+            form.push(note);
             return true;
         };
         let (text, after) = cut(left, b' ');
@@ -50,7 +45,8 @@ pub fn push_fields(
         rest = after;
     }
     if rest.is_some() {
-        push_count(note, form, "too many fields", ": expected ");
+        note.push("too many fields: expected ");
+        form.push(note);
     }
     rest.is_some()
 }

@@ -2,11 +2,9 @@
 use ra_trace::{Version, client_of, mode_of, name_of, node_of, seq_of, start_of};
 
 /// A field of a line: its name, and what it contains.
-#[derive(Clone, Copy)]
 pub struct LineField(pub &'static str, FieldKind);
 
 /// What a field contains.
-#[derive(Clone, Copy)]
 enum FieldKind {
     Node,
     Client,
@@ -34,26 +32,10 @@ pub const MODE: LineField = LineField("MODE", FieldKind::Mode);
 
 pub const SEQ: LineField = LineField("SEQ", FieldKind::Seq);
 
-/// Returns whether a text is a node of a version.
-fn is_node(version: Version, text: &[u8]) -> bool {
-    match node_of(text) {
-        Some(node) => version.has_node(node),
-        None => false,
-    }
-}
-
-/// Returns whether a text is a mode of a version.
-fn is_mode(version: Version, text: &[u8]) -> bool {
-    match mode_of(text) {
-        Some(mode) => version.has_mode(mode),
-        None => false,
-    }
-}
-
 impl LineField {
     /// Returns what it may contain in this version, or in each version if the version is not known.
-    pub fn range(self, version: Option<Version>) -> &'static str {
-        match (self.1, version) {
+    pub fn range(&self, version: Option<Version>) -> &'static str {
+        match (&self.1, version) {
             (FieldKind::Node, Some(Version::One)) => "1 to 16 in version 1, without leading zeros",
             (FieldKind::Node, Some(Version::Two)) => "1 to 64, without leading zeros",
             (FieldKind::Node, None) => {
@@ -70,13 +52,13 @@ impl LineField {
     }
 
     /// Returns whether it may be this text in this version, or in version 2 if the version is not known.
-    pub fn may_be(self, text: &[u8], version: Option<Version>) -> bool {
+    pub fn may_be(&self, text: &[u8], version: Option<Version>) -> bool {
         let version = version.unwrap_or(Version::Two);
-        match self.1 {
-            FieldKind::Node => is_node(version, text),
+        match &self.1 {
+            FieldKind::Node => matches!(node_of(text), Some(node) if version.has_node(node)),
             FieldKind::Client => client_of(text).is_some(),
             FieldKind::Name => name_of(text).is_some(),
-            FieldKind::Mode => is_mode(version, text),
+            FieldKind::Mode => matches!(mode_of(text), Some(mode) if version.has_mode(mode)),
             FieldKind::Seq => seq_of(text).is_some(),
             FieldKind::Start => start_of(text).is_some(),
         }

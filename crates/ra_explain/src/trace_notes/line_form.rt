@@ -5,7 +5,6 @@ use crate::trace_notes::line_field::{
 use ra_world::Note;
 
 /// How the lines of a kind are made: by these words, and then these fields, with one space before each.
-#[derive(Clone, Copy)]
 pub struct LineForm(&'static str, pub &'static [LineField]);
 
 /// The fields of the first line.

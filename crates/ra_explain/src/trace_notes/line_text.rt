@@ -20,41 +20,29 @@ const FIRST_AGAIN: &str = "only the first line of a trace may begin with trace";
 /// The text for a repeat in version 1.
 const NO_REPEATS: &str = "version 1 has no repeats";
 
-/// Returns the text for a line whose line feed was not read.
-fn unended_text(line: &[u8]) -> &'static str {
-    if line.is_empty() {
+/// Returns the text for a line that does not end as lines must, or `None`.
+fn end_text(line: &TextLine<'_>) -> Option<&'static str> {
+    if line.has_feed {
+        return match line.bytes {
+            [.., b'\r'] => Some(
+                "this line ends with a carriage return and a line feed, but each line must end with a line feed alone",
+            ),
+            _ => None,
+        };
+    }
+    Some(if line.bytes.is_empty() {
         "the text ends before this line, but the last line of a trace must be end"
-    } else if line.len() < MAX_LINE {
+    } else if line.bytes.len() < MAX_LINE {
         "the text ends in this line, without a line feed"
     } else {
         "this line has no line feed in its first 128 bytes"
-    }
-}
-
-/// Returns the text for a line that does not end as lines must, or `None`.
-fn end_text(line: &TextLine<'_>) -> Option<&'static str> {
-    if !line.has_feed {
-        Some(unended_text(line.bytes))
-    } else if let [.., b'\r'] = line.bytes {
-        Some(
-            "this line ends with a carriage return and a line feed, but each line must end with a line feed alone",
-        )
-    } else {
-        None
-    }
+    })
 }
 
 /// Returns what is said of a line that has none of the words that it may begin with: that a tab does not separate fields if it has
 /// one, and otherwise `text`.
 fn unless_tab<'a>(line: &[u8], text: &'a str) -> &'a str {
     if line.contains(&b'\t') { TAB } else { text }
-}
-
-/// Adds the text for a first line that does not begin a trace.
-fn push_first_line(note: &mut Note, text: &[u8]) {
-    if !push_line_fault(note, FIRST_FORMS, text, version_of(text)) {
-        note.push(hint_at(&[AT_BOTH, AT_FIRST], text).unwrap_or(NOT_FIRST));
-    }
 }
 
 /// Returns the version that the first line of a text names, or `None` if it does not name one.
@@ -68,21 +56,14 @@ pub fn version_of(text: &[u8]) -> Option<Version> {
     }
 }
 
-/// Returns why a line may not follow the first line of a trace of this version, whatever its fields, or `None`.
-fn misplaced_text(text: &[u8], version: Option<Version>) -> Option<&'static str> {
-    if form_of(FIRST_FORMS, text).is_some() {
-        Some(FIRST_AGAIN)
-    } else if matches!(version, Some(Version::One)) && text.starts_with(b"repeat ") {
-        Some(NO_REPEATS)
-    } else {
-        None
-    }
-}
-
 /// Adds the text for a later line of a trace, or `other` if nothing is found.
 fn push_later_line(note: &mut Note, text: &[u8], version: Option<Version>, other: &str) {
-    if let Some(misplaced) = misplaced_text(text, version) {
-        note.push(misplaced);
+    if form_of(FIRST_FORMS, text).is_some() {
+        note.push(FIRST_AGAIN);
+        return;
+    }
+    if matches!(version, Some(Version::One)) && text.starts_with(b"repeat ") {
+        note.push(NO_REPEATS);
         return;
     }
     match form_of(MARK_FORMS, text).or(form_of(STEP_FORMS, text)) {
@@ -102,9 +83,12 @@ pub fn push_trace_text(note: &mut Note, line: &TextLine<'_>, other: &str) {
     } else if let Some(text) = end_text(line) {
         note.push(text);
     } else if line.number == 1 {
-        push_first_line(note, line.bytes);
+        let text = line.bytes;
+        if !push_line_fault(note, FIRST_FORMS, text, version_of(text)) {
+            note.push(hint_at(&[AT_BOTH, AT_FIRST], text).unwrap_or(NOT_FIRST));
+        }
     } else {
-        push_later_line(note, line.bytes, line.version(), other);
+        push_later_line(note, line.bytes, version_of(line.before), other);
     }
 }
 

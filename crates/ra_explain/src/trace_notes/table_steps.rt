@@ -1,53 +1,40 @@
 //! What a lock table says of a mark of a trace.
-use ra_stamp::{Mark, Memory};
-use ra_table::{EnterError, LeaveError, RequestError, Table};
-use ra_trace::{Line, MarkCause};
+use crate::trace_notes::text_line::TextLine;
+use ra_stamp::Memory;
+use ra_trace::{Line, MarkCause, MarksVerdict, check_marks_buffered};
 use ra_world::cut;
 use std::alloc::Global;
 
-/// Makes the step of a mark, or returns why the table refuses it.
-fn refusal(table: &mut Table, mark: &Mark) -> Result<Option<MarkCause>, Memory> {
-    match mark {
-        Mark::Requested(entry) => match table.request(*entry) {
-            Ok(()) => Ok(None),
-            Err(RequestError::NodeBusy) => Ok(Some(MarkCause::NodeBusy)),
-            Err(RequestError::NotAbove) => Ok(Some(MarkCause::NotAbove)),
-            Err(RequestError::Memory) => Err(Memory),
-        },
-        Mark::Entered(entry) => match table.enter(entry) {
-            Ok(()) => Ok(None),
-            Err(EnterError::NotWaiting) => Ok(Some(MarkCause::NotWaiting)),
-            Err(EnterError::Held) => Ok(Some(MarkCause::Held)),
-            Err(EnterError::Earlier) => Ok(Some(MarkCause::Earlier)),
-            Err(EnterError::Memory) => Err(Memory),
-        },
-        Mark::Left(entry) => match table.leave(entry) {
-            Ok(()) => Ok(None),
-            Err(LeaveError::NotHeld) => Ok(Some(MarkCause::NotHeld)),
-        },
-    }
+/// Adds a line to a log.
+fn add_line(log: &mut Vec<u8>, line: &[u8]) -> Result<(), Memory> {
+    log.extend_from_slice(line)?;
+    log.push(b'\n')?;
+    Ok(())
 }
 
-/// Makes the steps of the marks in these lines, of which the table refuses none in a trace, and returns why it refuses one after them.
-fn refusal_by(table: &mut Table, lines: &[u8], mark: &Mark) -> Result<Option<MarkCause>, Memory> {
-    let mut rest = lines;
+/// Adds the marks of the lines before one to a log, and then that line, which is a mark.
+fn add_marks(log: &mut Vec<u8>, line: &TextLine<'_>) -> Result<(), Memory> {
+    let mut rest = line.before;
     for _ in 0..u64::MAX {
-        let (line, Some(after)) = cut(rest, b'\n') else {
+        let (before, Some(after)) = cut(rest, b'\n') else {
             break;
         };
-        if let Some(Line::Marked(before)) = &Line::parse(line) {
-            refusal(table, before)?;
+        if let Some(Line::Marked(_)) = Line::parse(before) {
+            add_line(log, before)?;
         }
         rest = after;
     }
-    refusal(table, mark)
+    add_line(log, line.bytes)
 }
 
-/// Returns why a lock table refuses a mark after those in these lines, or `None` if it does not or memory runs out. The cost is that
-/// of the table, and linear in the lines.
-pub fn refusal_after(alloc: Global, lines: &[u8], mark: &Mark) -> Option<MarkCause> {
-    match Table::new(alloc) {
-        Ok(mut table) => refusal_by(&mut table, lines, mark).unwrap_or(None),
-        Err(_) => None,
+/// Returns why a lock table refuses the mark in a line of a trace after those before it, none of which it refuses, or `None` if it does
+/// not or memory runs out. The cost is that of a check of these marks as a mark log.
+pub fn refusal_at(alloc: Global, line: &TextLine<'_>) -> Option<MarkCause> {
+    let mut log = Vec::new(alloc);
+    let added = add_marks(&mut log, line);
+    let mut unread = log.as_slice();
+    match check_marks_buffered(alloc, &mut unread) {
+        Ok(MarksVerdict::Invalid { cause, .. }) if added.is_ok() => Some(cause),
+        _ => None,
     }
 }

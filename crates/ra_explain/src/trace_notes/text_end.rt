@@ -1,7 +1,8 @@
 //! What is left at the end of a trace or of a mark log.
 ghost use Rattle.std.specs.Prelude.{◌≤◌, length};
 
-use crate::trace_notes::open_request::{OpenRequest, Stage, want_text};
+use crate::trace_notes::blockers::{push_blockers, want_text};
+use crate::trace_notes::open_request::{OpenRequest, Stage};
 use crate::trace_notes::open_text::{OpenText, Sought};
 use crate::trace_notes::replay::Replay;
 use crate::trace_notes::text_line::TextLine;
@@ -14,11 +15,8 @@ use std::simd::prelude::*;
 /// The most clients that are named at each stage.
 const MAX_CLIENTS: u64 = 4;
 
-/// The most requests that are named as blocking one request.
-const MAX_BLOCKERS: u64 = 3;
-
 /// How much is left at the end of a text.
-#[derive(Clone, Copy)]
+#[derive(Drop)]
 struct LeftOver {
     /// How many messages and copies are under way, and how many were lost.
     under_way: u128,
@@ -37,7 +35,7 @@ impl LeftOver {
 }
 
 /// How many lines came of those that change what is left.
-#[derive(Clone, Copy)]
+#[derive(Drop)]
 struct Counts {
     asks: u64,
     requests: u64,
@@ -59,11 +57,6 @@ fn feeds_of(block: &[u8]) -> u64
     u8x64::from_slice(block)
         .simd_eq(u8x64::splat(b'\n'))
         .to_bitmask()
-}
-
-/// Returns what follows the first line feed of a text, if there is one.
-fn after_line(text: &[u8]) -> Option<&[u8]> {
-    text.get(memchr(b'\n', text)?.saturating_add(1)..)
 }
 
 impl Counts {
@@ -88,11 +81,11 @@ impl Counts {
             rest = after;
         }
         for _ in 0..BLOCK {
-            let Some(after) = after_line(rest) else {
+            let Some(place) = memchr(b'\n', rest) else {
                 break;
             };
-            counts.add(after);
-            rest = after;
+            rest = rest.get(place.saturating_add(1)..).unwrap_or(b"");
+            counts.add(rest);
         }
         counts
     }
@@ -142,32 +135,22 @@ impl Counts {
     }
 }
 
-/// Adds which requests are in the way of one that waits or is queued, and returns whether any is.
-fn push_in_the_way(note: &mut Note, open: &OpenText, sought: &Sought) -> bool {
-    let mut after = 0;
-    for named in 0..MAX_BLOCKERS {
-        let Some(other) = open.next_of(after, sought) else {
-            break;
-        };
-        note.push(if named == 0 { ": " } else { ", " });
-        other.push_in_the_way(note);
-        after = other.since;
-    }
-    note.push_more(" and ", open.count_of(sought), MAX_BLOCKERS);
-    after > 0
-}
-
 /// Adds what a request waits for: `want` if no other one blocks it.
 fn push_wants(note: &mut Note, open: &OpenText, request: &OpenRequest, want: &str) {
     let entry = &request.entry;
     match request.stage {
         Stage::Waits => {
-            if !push_in_the_way(note, open, &Sought::Blocking(*entry)) {
+            if !push_blockers(note, open, &Sought::Blocking(*entry), None) {
                 note.push(want);
             }
         }
         Stage::Queued => {
-            push_in_the_way(note, open, &Sought::AtNode(entry.stamp.node, entry.name));
+            push_blockers(
+                note,
+                open,
+                &Sought::AtNode(entry.stamp.node, entry.name),
+                None,
+            );
         }
         Stage::Holds => {}
     }
@@ -182,27 +165,11 @@ fn push_clients(note: &mut Note, open: &OpenText, stage: Stage, before: u64, wan
         };
         note.push(if named == 0 { ": " } else { "; " });
         request.push(note, stage.done(), " since line ");
-        push_wants(note, open, &request, want);
+        push_wants(note, open, request, want);
         after = request.since;
         named = u64::saturating_add(named, 1);
     }
     named
-}
-
-/// Adds how many there are of something and what becomes of them, if there are any. `is_next` says whether others were named before.
-/// Returns whether any are named now.
-fn push_count(note: &mut Note, is_next: bool, count: u128, thing: &str, what: &str) -> bool {
-    if count == 0 {
-        return is_next;
-    }
-    if is_next {
-        note.push(", ");
-    }
-    note.number(count);
-    note.push(thing);
-    note.push(if count == 1 { " " } else { "s " });
-    note.push(what);
-    true
 }
 
 /// Adds how much is left, which is not nothing. A mark log has neither messages nor clients that are queued.
@@ -212,23 +179,23 @@ fn push_counts(note: &mut Note, left: &LeftOver, is_trace: bool) {
     } else {
         "the log ends with "
     });
-    let is_next = push_count(note, false, left.under_way, " message", "under way");
-    let is_next = push_count(note, is_next, left.lost, " message", "lost");
-    let is_next = push_count(
-        note,
-        is_next,
-        u128::from(left.waiting),
-        " request",
-        "waiting",
-    );
-    let is_next = push_count(note, is_next, u128::from(left.queued), " client", "queued");
-    push_count(
-        note,
-        is_next,
-        u128::from(left.holding),
-        " request",
-        "holding",
-    );
+    let mut is_next = false;
+    for &(count, thing, what) in &[
+        (left.under_way, " message", "under way"),
+        (left.lost, " message", "lost"),
+        (u128::from(left.waiting), " request", "waiting"),
+        (u128::from(left.queued), " client", "queued"),
+        (u128::from(left.holding), " request", "holding"),
+    ] {
+        if count > 0 {
+            note.push(if is_next { ", " } else { "" });
+            note.number(count);
+            note.push(thing);
+            note.push(if count == 1 { " " } else { "s " });
+            note.push(what);
+            is_next = true;
+        }
+    }
 }
 
 /// Adds what is left at the end of a text.
@@ -240,7 +207,14 @@ fn push_end(alloc: Global, note: &mut Note, text: &[u8], left: &LeftOver) {
     } else {
         ": no client blocks it"
     };
-    let open = &Replay::before(alloc, &TextLine::after(text)).open;
+    let end = TextLine {
+        number: 0,
+        before: text,
+        bytes: b"",
+        has_feed: false,
+        is_after_end: false,
+    };
+    let open = &Replay::before(alloc, &end).open;
     if open.is_whole {
         let mut named = 0;
         for stage in [Stage::Waits, Stage::Queued, Stage::Holds] {
