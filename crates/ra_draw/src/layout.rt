@@ -59,13 +59,24 @@ impl Layout {
         let steps = short(timeline.rows.len());
         let left = timeline.paths.still_under_way.min(UNDER_WAY_ROWS);
         let cut = name_cut_of(timeline);
+        let (mut most, mut has_copies) = (0, false);
+        for path in &timeline.paths.drawn {
+            most = u64::max(most, path.message.seq());
+            has_copies = has_copies || path.copied;
+        }
+        // A label is about as wide as this at most: letters have different widths.
+        let letters = Buffer::new()
+            .format(most)
+            .len()
+            .saturating_add(cut.letters_of(cut.longest))
+            .saturating_add(LABEL_LETTERS);
         Layout {
             nodes: timeline.nodes,
             steps,
             end: steps.saturating_add(left).saturating_add(1),
             cut,
-            label: label_width(timeline, &cut),
-            has_copies: has_copies(timeline),
+            label: (letters as u64).saturating_mul(MEAN_LETTER),
+            has_copies,
             lanes: Vec::new(alloc),
             bars: Vec::new(alloc),
         }
@@ -73,19 +84,13 @@ impl Layout {
 
     /// Lays it out.
     pub fn fill(&mut self, alloc: Global, spans: &[LockSpan]) -> Result<(), Memory> {
-        self.open_lanes(alloc)?;
+        for _node in 0..self.nodes {
+            self.lanes.push(NodeLane::new(alloc))?;
+        }
         for span in spans {
             self.add_bar(span)?;
         }
         self.place_lanes();
-        Ok(())
-    }
-
-    /// Makes a lane for each node.
-    fn open_lanes(&mut self, alloc: Global) -> Result<(), Memory> {
-        for _node in 0..self.nodes {
-            self.lanes.push(NodeLane::new(alloc))?;
-        }
         Ok(())
     }
 
@@ -171,14 +176,9 @@ impl Layout {
         self.y(self.end)
     }
 
-    /// Returns the lane of a node, if it has one.
-    fn lane(&self, node: NodeId) -> Option<&NodeLane> {
-        self.lanes.get(node.place())
-    }
-
     /// Returns how far to the right a node is.
     pub fn x(&self, node: NodeId) -> u64 {
-        match self.lane(node) {
+        match self.lanes.get(node.place()) {
             Some(lane) => lane.x,
             None => 0,
         }
@@ -194,7 +194,7 @@ impl Layout {
 
     /// Returns the columns of a node.
     pub fn columns(&self, node: NodeId) -> &[Column] {
-        match self.lane(node) {
+        match self.lanes.get(node.place()) {
             Some(lane) => lane.columns.as_slice(),
             None => &[],
         }
@@ -202,7 +202,7 @@ impl Layout {
 
     /// Returns how wide the bars of a node are, with what is between them and the lane.
     pub fn gutter(&self, node: NodeId) -> u64 {
-        match self.lane(node) {
+        match self.lanes.get(node.place()) {
             Some(lane) => lane.gutter(),
             None => 0,
         }
@@ -255,27 +255,4 @@ impl Layout {
     pub fn height(&self) -> u64 {
         self.bottom().saturating_add(BOTTOM_MARGIN)
     }
-}
-
-/// Returns how wide a label is at most, or about that: letters have different widths.
-fn label_width(timeline: &Timeline, cut: &NameCut) -> u64 {
-    let mut most = 0;
-    for path in &timeline.paths.drawn {
-        most = u64::max(most, path.message.seq());
-    }
-    let digits = Buffer::new().format(most).len();
-    let letters = digits
-        .saturating_add(cut.letters_of(cut.longest))
-        .saturating_add(LABEL_LETTERS);
-    (letters as u64).saturating_mul(MEAN_LETTER)
-}
-
-/// Returns whether the copy of a message is drawn.
-fn has_copies(timeline: &Timeline) -> bool {
-    for path in &timeline.paths.drawn {
-        if path.start.copied {
-            return true;
-        }
-    }
-    false
 }

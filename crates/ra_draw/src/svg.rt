@@ -22,7 +22,7 @@ use svg_writer::SvgWriter;
 use wording::ending_of;
 
 /// What the headline counts of the whole run.
-#[derive(Clone, Copy)]
+#[derive(Drop)]
 pub struct Totals {
     pub requests: u128,
     /// What else is counted: messages of a trace, or grants of a mark log.

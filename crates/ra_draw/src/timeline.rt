@@ -8,7 +8,7 @@ mod moment;
 use crate::part::Part;
 pub use deferral::{Deferral, Deferrals};
 pub use lock_span::{LockKey, LockSpan, LockSpans};
-pub use message_path::{Fate, MessagePath, MessagePaths, PathStart, UnderWayPlace};
+pub use message_path::{Fate, MessagePath, MessagePaths};
 pub use moment::Moment;
 use ra_stamp::{Mark, Memory, Message, Mode};
 use ra_trace::Line;
@@ -19,7 +19,7 @@ use std::alloc::Global;
 const MOST_MARKS: u32 = 3;
 
 /// What a client does by a step: it asks for a name in a mode, or leaves it.
-#[derive(Clone, Copy)]
+#[derive(Drop)]
 pub struct ClientAct {
     pub key: LockKey,
     /// The mode in which it asks.
@@ -27,7 +27,7 @@ pub struct ClientAct {
 }
 
 /// The line of a step, and what a client does by it, if anything.
-#[derive(Clone, Copy)]
+#[derive(Drop)]
 pub struct Row {
     pub line: u64,
     pub act: Option<ClientAct>,
@@ -55,7 +55,12 @@ fn act_of(step: &Step) -> Option<ClientAct> {
 
 /// Returns what a client does by a mark of a log: to be granted a name is shown by its bar alone.
 fn act_of_mark(mark: &Mark) -> Option<ClientAct> {
-    let key = LockKey::of(mark);
+    let entry = mark.entry();
+    let key = LockKey {
+        node: entry.stamp.node,
+        client: entry.client,
+        name: entry.name,
+    };
     match mark {
         Mark::Requested(entry) => Some(ClientAct {
             key,
@@ -66,23 +71,12 @@ fn act_of_mark(mark: &Mark) -> Option<ClientAct> {
     }
 }
 
-/// Returns the number of nodes and that with which each resource begins, if this is the first line of a trace.
-fn opening_of(line: &Line) -> Option<(u16, u64)> {
-    match line {
-        Line::First { nodes, start, .. } => Some((nodes.get(), *start)),
-        Line::Stepped(_) | Line::Marked(_) | Line::Last => None,
-    }
-}
-
 /// Returns a world for the run of a trace with this first line, or `None` if it is that of a mark log.
 fn world_of(alloc: Global, first: &[u8]) -> Result<Option<MarklessWorld>, Memory> {
-    let Some(line) = Line::parse(first) else {
+    let Some(Line::First { nodes, start, .. }) = Line::parse(first) else {
         return Ok(None);
     };
-    let Some((nodes, start)) = opening_of(&line) else {
-        return Ok(None);
-    };
-    match MarklessWorld::new(alloc, nodes, start) {
+    match MarklessWorld::new(alloc, nodes.get(), start) {
         Ok(world) => Ok(Some(world)),
         // A trace has 1 to 64 nodes, so memory ran out.
         Err(_) => Err(Memory),
@@ -117,93 +111,57 @@ impl Timeline {
     }
 
     /// Begins the line of a step or of a mark of a log, with a row if it is in the part. The lock span of a client that asks begins.
-    fn begin(&mut self, line: u64, act: &Option<ClientAct>, is_drawn: bool) -> Result<(), Memory> {
+    fn begin(&mut self, line: u64, act: Option<ClientAct>, is_drawn: bool) -> Result<(), Memory> {
         self.now.line = line;
         if is_drawn {
             self.now.row = self.now.row.saturating_add(1);
-            self.rows.push(Row { line, act: *act })?;
         }
         if let Some(
             ClientAct {
                 key,
                 mode: Some(mode),
             },
-        ) = act
+        ) = &act
         {
             self.spans.ask(key, *mode, self.now)?;
+        }
+        if is_drawn {
+            self.rows.push(Row { line, act })?;
         }
         Ok(())
     }
 
     /// Notes what a step does with the message that it takes.
     fn note_message(&mut self, alloc: Global, step: &Step) -> Result<(), Memory> {
-        let moment = self.now;
         match step {
-            Step::Deliver(message) => self.paths.end(message, Fate::Delivered(moment)),
-            Step::Lose(message) => self.paths.end(message, Fate::Lost(moment)),
-            Step::Repeat(message) => {
-                let start = PathStart {
-                    moment,
-                    copied: true,
-                };
-                self.paths.begin(alloc, message, start)
-            }
+            Step::Deliver(message) => self.paths.end(message, self.now, false),
+            Step::Lose(message) => self.paths.end(message, self.now, true),
+            Step::Repeat(message) => self.paths.begin(alloc, message, self.now, true),
             Step::Ask { .. } | Step::Leave { .. } => Ok(()),
         }
     }
 
-    /// Notes the messages that a step sends.
-    fn note_sends(&mut self, alloc: Global, sends: &[Message]) -> Result<(), Memory> {
-        let start = PathStart {
-            moment: self.now,
-            copied: false,
-        };
+    /// Notes the messages that a step sends, and the deferrals that it begins and ends: a delivered REQUEST without a REPLY is
+    /// deferred, and a client that leaves sends what was deferred.
+    fn note_sends(&mut self, alloc: Global, step: &Step, sends: &[Message]) -> Result<(), Memory> {
+        if let Step::Deliver(request) = step
+            && let Message::Request { .. } = request
+            && sends.is_empty()
+        {
+            if self.now.row > 0 {
+                self.paths.defer_last();
+            }
+            self.deferrals.begin(request, self.now)?;
+        }
         for message in sends {
-            self.paths.begin(alloc, message, start)?;
+            if let Step::Leave { .. } = step
+                && let Message::Reply { from, to, name, .. } = message
+            {
+                self.deferrals.end((*from, *to, *name), self.now);
+            }
+            self.paths.begin(alloc, message, self.now, false)?;
         }
         Ok(())
-    }
-
-    /// Notes that a REQUEST that was delivered is deferred.
-    fn note_deferral(&mut self, request: &Message) -> Result<(), Memory> {
-        if self.now.row > 0 {
-            self.paths.defer_last();
-        }
-        self.deferrals.begin(request, self.now)
-    }
-
-    /// Notes which deferral a step begins, and which ones it ends. A delivered REQUEST without a REPLY is deferred, and a client
-    /// that leaves sends what was deferred.
-    fn note_deferrals(&mut self, step: &Step, sends: &[Message]) -> Result<(), Memory> {
-        match step {
-            Step::Deliver(message) => {
-                if let Message::Request { .. } = message
-                    && sends.is_empty()
-                {
-                    self.note_deferral(message)?;
-                }
-            }
-            Step::Leave { .. } => {
-                for message in sends {
-                    if let Message::Reply { .. } = message {
-                        self.deferrals.end(message, self.now);
-                    }
-                }
-            }
-            _ => {}
-        }
-        Ok(())
-    }
-
-    /// Notes what a step sends, and the deferrals that it begins and ends.
-    fn note_outcome(
-        &mut self,
-        alloc: Global,
-        step: &Step,
-        sends: &[Message],
-    ) -> Result<(), Memory> {
-        self.note_deferrals(step, sends)?;
-        self.note_sends(alloc, sends)
     }
 
     /// Makes a step of a trace, and notes what it takes and what it sends.
@@ -218,7 +176,7 @@ impl Timeline {
             return Ok(());
         };
         match world.step(alloc, step) {
-            Ok(outcome) => self.note_outcome(alloc, step, outcome.sends.as_slice()),
+            Ok(outcome) => self.note_sends(alloc, step, outcome.sends.as_slice()),
             // No step of a trace is refused, so memory ran out.
             Err(_) => Err(Memory),
         }
@@ -236,13 +194,13 @@ impl Timeline {
         match line {
             Line::First { nodes, .. } => self.nodes = nodes.get(),
             Line::Stepped(step) => {
-                self.begin(number, &act_of(step), is_drawn)?;
+                self.begin(number, act_of(step), is_drawn)?;
                 self.make_step(alloc, world, step)?;
             }
             Line::Marked(mark) => {
                 if world.is_none() {
-                    self.begin(number, &act_of_mark(mark), is_drawn)?;
-                    self.nodes = self.nodes.max(LockKey::of(mark).node.get());
+                    self.begin(number, act_of_mark(mark), is_drawn)?;
+                    self.nodes = self.nodes.max(mark.entry().stamp.node.get());
                 }
                 self.spans.take(mark, self.now);
             }

@@ -22,7 +22,7 @@ pub struct NameCut {
 }
 
 /// What names have in common.
-#[derive(Clone, Copy)]
+#[derive(Drop)]
 struct CommonLetters {
     first: Option<Name>,
     before: usize,
@@ -59,52 +59,23 @@ fn worth(letters: usize) -> usize {
 }
 
 impl CommonLetters {
-    /// Begins with the first name.
-    fn begin(&mut self, name: &Name) {
-        let letters = name.bytes().len();
-        *self = CommonLetters {
-            first: Some(*name),
-            before: letters,
-            after: letters,
-            shortest: letters,
-            longest: letters,
-        };
-    }
-
-    /// Goes on with another name.
-    fn go_on(&mut self, first: &Name, name: &Name) {
-        let (one, other) = (first.bytes(), name.bytes());
-        self.before = self.before.min(same_before(one, other));
-        self.after = self.after.min(same_after(one, other));
-        self.shortest = self.shortest.min(other.len());
-        self.longest = self.longest.max(other.len());
-    }
-
     /// Takes a name.
     fn take(&mut self, name: &Name) {
-        match self.first {
-            Some(first) => self.go_on(&first, name),
-            None => self.begin(name),
-        }
-    }
-
-    /// Returns what is left out.
-    fn cut(&self) -> NameCut {
-        if self.longest <= WHOLE {
-            return NameCut {
-                before: 0,
-                after: 0,
-                longest: self.longest,
+        let other = name.bytes();
+        let Some(first) = self.first else {
+            *self = CommonLetters {
+                first: Some(*name),
+                before: other.len(),
+                after: other.len(),
+                shortest: other.len(),
+                longest: other.len(),
             };
-        }
-        let spare = self.shortest.saturating_sub(LEAST_KEPT);
-        let before = worth(self.before.min(spare));
-        let after = worth(self.after.min(spare.saturating_sub(before)));
-        NameCut {
-            before,
-            after,
-            longest: self.longest,
-        }
+            return;
+        };
+        self.before = self.before.min(same_before(first.bytes(), other));
+        self.after = self.after.min(same_after(first.bytes(), other));
+        self.shortest = self.shortest.min(other.len());
+        self.longest = self.longest.max(other.len());
     }
 }
 
@@ -125,7 +96,22 @@ pub fn name_cut_of(timeline: &Timeline) -> NameCut {
             common.take(&act.key.name);
         }
     }
-    common.cut()
+    let longest = common.longest;
+    if longest <= WHOLE {
+        return NameCut {
+            before: 0,
+            after: 0,
+            longest,
+        };
+    }
+    let spare = common.shortest.saturating_sub(LEAST_KEPT);
+    let before = worth(common.before.min(spare));
+    let after = worth(common.after.min(spare.saturating_sub(before)));
+    NameCut {
+        before,
+        after,
+        longest,
+    }
 }
 
 impl NameCut {

@@ -5,7 +5,7 @@ use ra_stamp::Memory;
 use std::alloc::Global;
 
 /// A column of bars, all of one client.
-#[derive(Clone, Copy)]
+#[derive(Drop)]
 pub struct Column {
     pub client: u32,
     /// The row down to which there are bars.

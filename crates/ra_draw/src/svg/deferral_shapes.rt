@@ -4,37 +4,36 @@ use crate::layout::sizes::{DEFERRAL_STEP, FARTHEST_DEFERRAL, NEAREST_DEFERRAL};
 use crate::svg::layers::Layers;
 use crate::svg::svg_writer::Piece::{Node, Number, Text, Whole};
 use crate::timeline::Deferral;
-use ra_stamp::{Message, Name};
 
 impl Layers {
-    /// Says what a deferral is.
-    fn name_deferral(&mut self, deferral: &Deferral, request: &Message, name: &Name) {
+    /// Draws the line of a deferral, this far to the left of the lane, from where the REQUEST came to where the REPLY is sent, and says
+    /// what it is.
+    fn draw_deferral(&mut self, layout: &Layout, deferral: &Deferral, beside: u64) {
+        let request = &deferral.request;
+        let name = request.name();
         self.shapes.write(
             "<g><title>node $ defers its reply to request $ of node $ for $, from line $",
             &[
                 Node(request.to()),
                 Number(request.seq()),
                 Node(request.from()),
-                Whole(name),
+                Whole(&name),
                 Number(deferral.came.line),
             ],
         );
-        match deferral.ended {
-            Some(ended) => self
-                .shapes
-                .write(" to line $</title>", &[Number(ended.line)]),
-            None => self.shapes.put(b" on</title>"),
-        }
-    }
-
-    /// Draws the line of a deferral, this far to the left of the lane, from where the REQUEST came to where the REPLY is sent.
-    fn draw_deferral(&mut self, layout: &Layout, deferral: &Deferral, beside: u64) {
-        let from = layout.at(deferral.request.to(), deferral.came.row);
+        let from = layout.at(request.to(), deferral.came.row);
         let (down, back) = match deferral.ended {
-            Some(ended) => (layout.y(ended.row), beside),
-            None => (layout.bottom(), 0),
+            Some(ended) => {
+                self.shapes.write(" to line $", &[Number(ended.line)]);
+                (layout.y(ended.row), beside)
+            }
+            None => {
+                self.shapes.put(b" on");
+                (layout.bottom(), 0)
+            }
         };
-        for look in ["hit", "deferral"] {
+        self.shapes.put(b"</title>");
+        for &look in &["hit", "deferral"] {
             self.shapes.write(
                 "<path class=\"$\" d=\"M$ $h-$V$h$\"/>",
                 &[
@@ -61,8 +60,6 @@ impl Layers {
         let mut beside = NEAREST_DEFERRAL;
         for deferral in deferrals {
             if deferral.is_drawn() {
-                let request = &deferral.request;
-                self.name_deferral(deferral, request, &request.name());
                 self.draw_deferral(layout, deferral, beside);
                 beside = if beside < FARTHEST_DEFERRAL {
                     u64::saturating_add(beside, DEFERRAL_STEP)

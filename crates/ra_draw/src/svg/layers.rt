@@ -91,16 +91,7 @@ impl Layers {
         }
     }
 
-    /// Draws the lane from which copies come.
-    fn draw_copies_lane(&mut self, layout: &Layout) {
-        let x = layout.copies_x();
-        self.shapes.put(b"<g><title>copies</title>");
-        self.draw_lane(layout, x, "copies");
-        self.begin_text(x, NODES_Y);
-        self.labels.put(b"node\">copies</text>\n");
-    }
-
-    /// Draws the lanes.
+    /// Draws the lanes, and after them that from which copies come.
     fn draw_lanes(&mut self, layout: &Layout) {
         for number in 0..layout.nodes {
             if let Some(node) = NodeId::new(number + 1) {
@@ -108,26 +99,16 @@ impl Layers {
             }
         }
         if layout.has_copies {
-            self.draw_copies_lane(layout);
+            let x = layout.copies_x();
+            self.shapes.put(b"<g><title>copies</title>");
+            self.draw_lane(layout, x, "copies");
+            self.begin_text(x, NODES_Y);
+            self.labels.put(b"node\">copies</text>\n");
         }
     }
 
-    /// Ends the words of what a client does, and draws a dot, and beneath it a larger one that is not seen, so that a pointer hits it
+    /// Draws a dot where a client asks or leaves, and labels it. Beneath it is a larger one that is not seen, so that a pointer hits it
     /// easily.
-    fn draw_dot(&mut self, place: Point, class: &'static str) {
-        self.shapes.write(
-            "</title><circle cx=\"$\" cy=\"$\" r=\"10\" class=\"touch\"/><circle cx=\"$\" cy=\"$\" r=\"4\" class=\"$\"/></g>\n",
-            &[
-                Number(place.x),
-                Number(place.y),
-                Number(place.x),
-                Number(place.y),
-                Text(class),
-            ],
-        );
-    }
-
-    /// Draws a dot where a client asks or leaves, and labels it.
     fn draw_act(&mut self, layout: &Layout, act: &ClientAct, row: u32) {
         let place = layout.at(act.key.node, row);
         let (what, word, class) = match act.mode {
@@ -138,7 +119,16 @@ impl Layers {
         if let Some(mode) = act.mode {
             self.shapes.write(", $", &[Text(mode_text(mode))]);
         }
-        self.draw_dot(place, class);
+        self.shapes.write(
+            "</title><circle cx=\"$\" cy=\"$\" r=\"10\" class=\"touch\"/><circle cx=\"$\" cy=\"$\" r=\"4\" class=\"$\"/></g>\n",
+            &[
+                Number(place.x),
+                Number(place.y),
+                Number(place.x),
+                Number(place.y),
+                Text(class),
+            ],
+        );
         self.begin_text(place.x.saturating_add(8), place.y.saturating_sub(4));
         self.labels.write(
             "label to-right\">$ $",

@@ -7,7 +7,6 @@ use crate::svg::wording::mode_text;
 use crate::timeline::Moment;
 
 /// A phase of a bar: what the client does then, and how that looks.
-#[derive(Clone, Copy)]
 struct BarPhase {
     what: &'static str,
     look: &'static str,
@@ -38,48 +37,8 @@ const INSIDE: BarPhase = BarPhase {
 };
 
 impl Layers {
-    /// Begins the shape of a phase: what the client does, and from which line to which.
-    fn begin_phase(
-        &mut self,
-        bar: &LockBar,
-        phase: &BarPhase,
-        first: Moment,
-        last: Option<Moment>,
-    ) {
-        self.begin_act(&bar.span.key, phase.what);
-        self.shapes.write(
-            ", $, from line $",
-            &[Text(mode_text(bar.span.mode)), Number(first.line)],
-        );
-        match last {
-            Some(last) => self.shapes.write(" to line $", &[Number(last.line)]),
-            None => self.shapes.put(b" on"),
-        }
-    }
-
-    /// Draws a phase down to this row, and beneath it one as wide as its column that is not seen, so that a pointer hits it easily.
-    fn draw_bar(&mut self, layout: &Layout, bar: &LockBar, phase: &BarPhase, rows: (u32, u32)) {
-        let x = layout.column_x(bar.span.key.node, bar.column);
-        let y = layout.y(rows.0);
-        let height = layout.y(rows.1).saturating_sub(y);
-        self.shapes.write(
-            "</title><rect x=\"$\" y=\"$\" width=\"$\" height=\"$\" class=\"touch\"/>",
-            &[Number(x), Number(y), Number(COLUMN_WIDTH), Number(height)],
-        );
-        self.shapes.write(
-            "<rect x=\"$\" y=\"$\" width=\"$\" height=\"$\" class=\"$ $\"/></g>\n",
-            &[
-                Number(x.saturating_add(phase.inset)),
-                Number(y),
-                Number(phase.width),
-                Number(height),
-                Text(phase.look),
-                Text(bar.span.mode.word()),
-            ],
-        );
-    }
-
-    /// Draws a phase from one moment to another, or to the end of the bar, if it has a row.
+    /// Draws a phase from one moment to another, or to the end of the bar, if it has a row, and says what the client does. Beneath it is
+    /// one as wide as its column that is not seen, so that a pointer hits it easily.
     fn draw_phase(
         &mut self,
         layout: &Layout,
@@ -92,10 +51,37 @@ impl Layers {
             Some(last) => last.row,
             None => bar.end,
         };
-        if end > first.row {
-            self.begin_phase(bar, phase, first, last);
-            self.draw_bar(layout, bar, phase, (first.row, end));
+        if end <= first.row {
+            return;
         }
+        let mode = bar.span.mode;
+        let x = layout.column_x(bar.span.key.node, bar.column);
+        let y = layout.y(first.row);
+        let height = layout.y(end).saturating_sub(y);
+        self.begin_act(&bar.span.key, phase.what);
+        self.shapes.write(
+            ", $, from line $",
+            &[Text(mode_text(mode)), Number(first.line)],
+        );
+        match last {
+            Some(last) => self.shapes.write(" to line $", &[Number(last.line)]),
+            None => self.shapes.put(b" on"),
+        }
+        self.shapes.write(
+            "</title><rect x=\"$\" y=\"$\" width=\"$\" height=\"$\" class=\"touch\"/><rect x=\"$\" y=\"$\" width=\"$\" height=\"$\" class=\"$ $\"/></g>\n",
+            &[
+                Number(x),
+                Number(y),
+                Number(COLUMN_WIDTH),
+                Number(height),
+                Number(x.saturating_add(phase.inset)),
+                Number(y),
+                Number(phase.width),
+                Number(height),
+                Text(phase.look),
+                Text(mode.word()),
+            ],
+        );
     }
 
     /// Writes the name and the mode of a lock along its bar, from the beginning or the top of the page on, if there is room.

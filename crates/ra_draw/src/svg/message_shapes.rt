@@ -2,8 +2,8 @@
 use crate::layout::{Layout, Point};
 use crate::svg::layers::Layers;
 use crate::svg::svg_writer::Piece::{Node, Number, Short, Text, Whole};
-use crate::svg::wording::{kind_of, mode_text, start_word};
-use crate::timeline::{Fate, MessagePath, Moment, UnderWayPlace};
+use crate::svg::wording::{kind_of, mode_text};
+use crate::timeline::{Fate, MessagePath, Moment};
 use ra_stamp::{Message, Name};
 
 impl Layers {
@@ -68,8 +68,10 @@ impl Layers {
         self.shapes.write("$ $\"/>", &[Text(look), Text(kind)]);
     }
 
-    /// Begins the shape of a message: which one it is.
-    fn name_message(&mut self, message: &Message, name: &Name) {
+    /// Begins the shape of a message: which one it is, and when it came under way.
+    fn begin_message(&mut self, path: &MessagePath) {
+        let message = &path.message;
+        let name = message.name();
         self.shapes.write(
             "<g><title>$ $ from node $ to node $ for $",
             &[
@@ -77,22 +79,15 @@ impl Layers {
                 Number(message.seq()),
                 Node(message.from()),
                 Node(message.to()),
-                Whole(name),
+                Whole(&name),
             ],
         );
-    }
-
-    /// Begins the shape of a message: which one it is, and when it came under way.
-    fn begin_message(&mut self, path: &MessagePath) {
-        let message = &path.message;
-        self.name_message(message, &message.name());
         if let Message::Request { mode, .. } = message {
             self.shapes.write(", $", &[Text(mode_text(*mode))]);
         }
-        self.shapes.write(
-            ", $ at line $",
-            &[Text(start_word(path.start)), Number(path.start.moment.line)],
-        );
+        let start = if path.copied { "repeated" } else { "sent" };
+        self.shapes
+            .write(", $ at line $", &[Text(start), Number(path.start.line)]);
     }
 
     /// Draws the arrow of a message that is delivered.
@@ -133,15 +128,16 @@ impl Layers {
         layout: &Layout,
         message: &Message,
         from: Point,
-        place: &UnderWayPlace,
+        place: u32,
+        is_first: bool,
     ) {
-        let (row, has_row) = layout.under_way_row(place.number);
+        let (row, has_row) = layout.under_way_row(place);
         let to = layout.at(message.to(), row);
         let end = before_lane(layout, message, from, to);
         self.shapes.put(b", still under way</title>");
         self.draw_line(from, end, kind_of(message), "under-way");
         self.shapes.put(b"</g>\n");
-        if has_row && place.is_first && layout.is_wide() {
+        if has_row && is_first && layout.is_wide() {
             self.begin_head(layout, message, from, to);
             self.labels
                 .write(" to node $</text>\n", &[Node(message.to())]);
@@ -171,18 +167,19 @@ impl Layers {
 
     /// Draws a message, from where it came under way to what became of it.
     pub fn draw_path(&mut self, layout: &Layout, path: &MessagePath) {
-        let start = &path.start;
-        let mut from = layout.at(path.message.from(), start.moment.row);
-        if start.copied {
+        let mut from = layout.at(path.message.from(), path.start.row);
+        if path.copied {
             from.x = layout.copies_x();
         }
         self.begin_message(path);
         match path.fate {
             Fate::Delivered(end) => self.draw_delivered(layout, path, from, end),
             Fate::Lost(end) => self.draw_lost(layout, &path.message, from, end),
-            Fate::UnderWay(place) => self.draw_under_way(layout, &path.message, from, &place),
+            Fate::UnderWay { place, is_first } => {
+                self.draw_under_way(layout, &path.message, from, place, is_first);
+            }
         }
-        if start.copied && start.moment.row > 0 {
+        if path.copied && path.start.row > 0 {
             self.draw_copy(layout, path, from);
         }
     }

@@ -6,7 +6,7 @@ use ra_world::cut;
 use std::alloc::Global;
 
 /// What is put in a place of a pattern.
-#[derive(Clone, Copy)]
+#[derive(Drop)]
 pub enum Piece<'a> {
     Number(u64),
     Node(NodeId),
@@ -48,25 +48,22 @@ impl SvgWriter {
         self.put(Buffer::new().format(number).as_bytes());
     }
 
-    /// Adds a name, with dots in place of what is left out.
-    fn put_short(&mut self, name: &[u8], cut: NameCut) {
-        if cut.before > 0 {
-            self.put(b"..");
-        }
-        self.put(cut.shown(name));
-        if cut.after > 0 {
-            self.put(b"..");
-        }
-    }
-
-    /// Adds a piece.
+    /// Adds a piece. In a short name, two dots take the place of what is left out at an end.
     fn put_piece(&mut self, piece: &Piece) {
         match piece {
             Piece::Number(number) => self.put_number(*number),
             Piece::Node(node) => self.put_number(u64::from(node.get())),
             Piece::Text(text) => self.put(text.as_bytes()),
             Piece::Whole(name) => self.put(name.bytes()),
-            Piece::Short(name, cut) => self.put_short(name.bytes(), *cut),
+            Piece::Short(name, cut) => {
+                if cut.before > 0 {
+                    self.put(b"..");
+                }
+                self.put(cut.shown(name.bytes()));
+                if cut.after > 0 {
+                    self.put(b"..");
+                }
+            }
         }
     }
 

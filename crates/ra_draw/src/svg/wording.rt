@@ -1,5 +1,4 @@
 //! What shapes say in words.
-use crate::timeline::PathStart;
 use ra_stamp::{Message, Mode};
 
 /// Returns a mode in words.
@@ -24,9 +23,4 @@ pub fn kind_of(message: &Message) -> &'static str {
 /// Returns the ending of a word for this many things.
 pub fn ending_of(count: u64) -> &'static str {
     if count == 1 { "" } else { "s" }
-}
-
-/// Returns how a message came under way.
-pub fn start_word(start: PathStart) -> &'static str {
-    if start.copied { "repeated" } else { "sent" }
 }

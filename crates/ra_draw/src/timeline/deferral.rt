@@ -4,16 +4,11 @@ use indexmap::IndexMap;
 use ra_stamp::{Memory, Message, Name, NodeId};
 use std::alloc::Global;
 
-/// A REPLY that a node owes to another.
-#[derive(Clone, Copy, PartialEq, Eq, Hash)]
-struct OwedReply {
-    from: NodeId,
-    to: NodeId,
-    name: Name,
-}
+/// A REPLY that a node owes to another, for a name.
+type OwedReply = (NodeId, NodeId, Name);
 
 /// A deferral: the REQUEST, when it came, and when the REPLY was sent or a later REQUEST took its place, as far as the run goes.
-#[derive(Clone, Copy)]
+#[derive(Drop)]
 pub struct Deferral {
     pub request: Message,
     pub came: Moment,
@@ -46,23 +41,10 @@ impl Deferrals {
         }
     }
 
-    /// Ends the deferral of a REPLY that is owed, if there is one.
-    fn end_owed(&mut self, owed: &OwedReply, ended: Moment) {
-        if let Some(place) = self.open.swap_remove(owed) {
-            if let Some(deferral) = self.all.get_mut(place) {
-                deferral.ended = Some(ended);
-            }
-        }
-    }
-
     /// Notes that a REQUEST is deferred. An earlier one of the same node for the same name ends with it, since one REPLY answers both.
     pub fn begin(&mut self, request: &Message, came: Moment) -> Result<(), Memory> {
-        let owed = OwedReply {
-            from: request.to(),
-            to: request.from(),
-            name: request.name(),
-        };
-        self.end_owed(&owed, came);
+        let owed = (request.to(), request.from(), request.name());
+        self.end(owed, came);
         self.open.insert(owed, self.all.len())?;
         self.all.push(Deferral {
             request: *request,
@@ -72,13 +54,12 @@ impl Deferrals {
         Ok(())
     }
 
-    /// Notes that a deferred REPLY is sent.
-    pub fn end(&mut self, reply: &Message, sent: Moment) {
-        let owed = OwedReply {
-            from: reply.from(),
-            to: reply.to(),
-            name: reply.name(),
-        };
-        self.end_owed(&owed, sent);
+    /// Ends the deferral of a REPLY that is owed, if there is one.
+    pub fn end(&mut self, owed: OwedReply, ended: Moment) {
+        if let Some(place) = self.open.swap_remove(&owed) {
+            if let Some(deferral) = self.all.get_mut(place) {
+                deferral.ended = Some(ended);
+            }
+        }
     }
 }

@@ -5,23 +5,11 @@ use ra_stamp::{Mark, Memory, Mode, Name, NodeId};
 use std::alloc::Global;
 
 /// A client at a node, and a name that it asks for.
-#[derive(Clone, Copy, PartialEq, Eq, Hash)]
+#[derive(Clone, Copy)]
 pub struct LockKey {
     pub node: NodeId,
     pub client: u32,
     pub name: Name,
-}
-
-impl LockKey {
-    /// Returns that of a mark.
-    pub fn of(mark: &Mark) -> LockKey {
-        let entry = mark.entry();
-        LockKey {
-            node: entry.stamp.node,
-            client: entry.client,
-            name: entry.name,
-        }
-    }
 }
 
 /// A client asks for a name, gets a number for its request, is granted the name and gives it back, as far as the run goes.
@@ -40,7 +28,7 @@ pub struct LockSpan {
 #[derive(Drop)]
 pub struct LockSpans {
     pub all: Vec<LockSpan>,
-    open: IndexMap<LockKey, usize>,
+    open: IndexMap<(NodeId, u32, Name), usize>,
 }
 
 impl LockSpans {
@@ -54,7 +42,8 @@ impl LockSpans {
 
     /// Notes that a client asks.
     pub fn ask(&mut self, key: &LockKey, mode: Mode, asked: Moment) -> Result<(), Memory> {
-        self.open.insert(*key, self.all.len())?;
+        let open = (key.node, key.client, key.name);
+        self.open.insert(open, self.all.len())?;
         self.all.push(LockSpan {
             key: *key,
             mode,
@@ -68,7 +57,8 @@ impl LockSpans {
 
     /// Notes what becomes of a client that asked: its request gets a number, it is granted the name, or it gives the name back.
     pub fn take(&mut self, mark: &Mark, now: Moment) {
-        let key = LockKey::of(mark);
+        let entry = mark.entry();
+        let key = (entry.stamp.node, entry.client, entry.name);
         let Some(place) = self.open.get(&key) else {
             return;
         };

@@ -4,63 +4,33 @@ use indexmap::IndexMap;
 use ra_stamp::{Memory, Message};
 use std::alloc::Global;
 
-/// How a message came under way.
-#[derive(Clone, Copy)]
-pub struct PathStart {
-    pub moment: Moment,
-    /// It is a copy that a repeat made. Otherwise it was sent.
-    pub copied: bool,
-}
-
 /// What became of a message.
-#[derive(Clone, Copy)]
+#[derive(Drop)]
 pub enum Fate {
     Delivered(Moment),
     Lost(Moment),
-    UnderWay(UnderWayPlace),
-}
-
-/// The place of a message among those that are under way at the end: equal ones have the same place, and the first of them has the label.
-#[derive(Clone, Copy)]
-pub struct UnderWayPlace {
-    pub number: u32,
-    pub is_first: bool,
-}
-
-impl Fate {
-    /// Returns whether it is not before the part that is drawn.
-    fn is_drawn(&self) -> bool {
-        match self {
-            Fate::Delivered(end) | Fate::Lost(end) => end.row > 0,
-            Fate::UnderWay(_) => true,
-        }
-    }
+    /// It is still under way, at this place among those that are. Equal ones have the same place, and the first of them has the label.
+    UnderWay { place: u32, is_first: bool },
 }
 
 /// The path of a message.
-#[derive(Clone, Copy)]
+#[derive(Drop)]
 pub struct MessagePath {
     pub message: Message,
-    pub start: PathStart,
+    /// When it came under way.
+    pub start: Moment,
+    /// It is a copy that a repeat made. Otherwise it was sent.
+    pub copied: bool,
     pub fate: Fate,
     /// It is a REQUEST, and the node to which it was delivered deferred its REPLY.
     pub is_deferred: bool,
 }
 
-/// How equal messages came under way, the first one first, of which some were taken since.
+/// Equal messages: when each came under way and whether as a copy, the first one first, and how many were taken since.
 #[derive(Drop)]
 struct EqualMessages {
-    starts: Vec<PathStart>,
+    starts: Vec<(Moment, bool)>,
     taken: usize,
-}
-
-impl EqualMessages {
-    /// Takes the first one that is left.
-    fn take(&mut self) -> Option<PathStart> {
-        let start = *self.starts.get(self.taken)?;
-        self.taken = self.taken.saturating_add(1);
-        Some(start)
-    }
 }
 
 /// The messages under way, and the paths of messages that are drawn so far.
@@ -82,12 +52,13 @@ impl MessagePaths {
         }
     }
 
-    /// Notes that a message came under way.
+    /// Notes that a message came under way: it was sent, or it is a copy.
     pub fn begin(
         &mut self,
         alloc: Global,
         message: &Message,
-        start: PathStart,
+        start: Moment,
+        copied: bool,
     ) -> Result<(), Memory> {
         if !self.under_way.contains_key(message) {
             let none = EqualMessages {
@@ -97,31 +68,36 @@ impl MessagePaths {
             self.under_way.insert(*message, none)?;
         }
         if let Some(equals) = self.under_way.get_mut(message) {
-            equals.starts.push(start)?;
+            equals.starts.push((start, copied))?;
         }
         Ok(())
     }
 
-    /// Takes the first of these messages, and returns how it came under way.
-    fn take(&mut self, message: &Message) -> Option<PathStart> {
+    /// Takes the first of these messages, and returns when it came under way, and whether it is a copy.
+    fn take(&mut self, message: &Message) -> Option<(Moment, bool)> {
         let equals = self.under_way.get_mut(message)?;
-        let start = equals.take()?;
+        let start = *equals.starts.get(equals.taken)?;
+        equals.taken = equals.taken.saturating_add(1);
         if equals.taken == equals.starts.len() {
             self.under_way.swap_remove(message);
         }
         Some(start)
     }
 
-    /// Notes what became of a message. It is drawn unless that is before the part.
-    pub fn end(&mut self, message: &Message, fate: Fate) -> Result<(), Memory> {
-        let Some(start) = self.take(message) else {
-            return Ok(());
-        };
-        if fate.is_drawn() {
+    /// Notes that a message was delivered or lost. It is drawn unless that is before the part.
+    pub fn end(&mut self, message: &Message, end: Moment, is_lost: bool) -> Result<(), Memory> {
+        if let Some((start, copied)) = self.take(message)
+            && end.row > 0
+        {
             self.drawn.push(MessagePath {
                 message: *message,
                 start,
-                fate,
+                copied,
+                fate: if is_lost {
+                    Fate::Lost(end)
+                } else {
+                    Fate::Delivered(end)
+                },
                 is_deferred: false,
             })?;
         }
@@ -151,16 +127,17 @@ fn push_under_way(
     drawn: &mut Vec<MessagePath>,
     message: &Message,
     equals: &EqualMessages,
-    number: u32,
+    place: u32,
 ) -> Result<bool, Memory> {
     let mut is_first = true;
-    for place in equals.taken..equals.starts.len() {
-        let start = equals.starts[place];
-        if start.moment.row > 0 {
+    for at in equals.taken..equals.starts.len() {
+        let (start, copied) = equals.starts[at];
+        if start.row > 0 {
             drawn.push(MessagePath {
                 message: *message,
                 start,
-                fate: Fate::UnderWay(UnderWayPlace { number, is_first }),
+                copied,
+                fate: Fate::UnderWay { place, is_first },
                 is_deferred: false,
             })?;
             is_first = false;
