@@ -1,6 +1,7 @@
 //! The notes that tell a person what came of a command, and the reader and the writer that remember what they need.
 #![tactic(auto)]
 
+mod book_openings;
 mod command_notes;
 mod input_places;
 mod note_texts;
@@ -11,7 +12,6 @@ mod seed_progress;
 mod seen;
 mod settle_notes;
 mod shrunk_notes;
-mod wrong_line;
 
 pub use command_notes::{
     of_check, of_choices, of_command, of_drawing, of_end, of_performance, range_note,

@@ -1,0 +1,70 @@
+//! The first lines of the books of a text.
+use ra_book::{First, MAX_LINE};
+use ra_world::cut;
+
+/// How many numbers there are from 0 to the highest node.
+const NODE_NUMBERS: usize = 65;
+
+/// The first line of a book, its number, counted from 1, and the text after it.
+#[derive(Clone, Copy)]
+pub struct Opening<'a> {
+    pub first: First,
+    pub line: u64,
+    pub after: &'a [u8],
+}
+
+/// The first lines of books.
+#[derive(Drop)]
+pub struct Openings<'a> {
+    /// The first of them, if there is one.
+    pub first: Option<Opening<'a>>,
+    /// The last of them, if there is one.
+    pub last: Option<Opening<'a>>,
+    /// The line at which the book of each node begins, by its number, or 0 if it has none.
+    lines: [u64; NODE_NUMBERS],
+}
+
+/// Returns what a line says as the first one of a book, or `None` if it is not one.
+pub fn first_in(line: &[u8]) -> Option<First> {
+    if line.len() > MAX_LINE {
+        return None;
+    }
+    First::parse(line)
+}
+
+impl<'a> Openings<'a> {
+    /// Returns the first lines of books before the line of this number, counted from 1, and the text from there on, or from its last
+    /// line on if it ends before.
+    pub fn before(text: &'a [u8], number: u64) -> (Openings<'a>, &'a [u8]) {
+        let mut openings = Openings {
+            first: None,
+            last: None,
+            lines: [0; NODE_NUMBERS],
+        };
+        let mut rest = text;
+        for line in 1..number {
+            let (shown, Some(after)) = cut(rest, b'\n') else {
+                break;
+            };
+            if let Some(first) = first_in(shown) {
+                openings.note(&Opening { first, line, after });
+            }
+            rest = after;
+        }
+        (openings, rest)
+    }
+
+    /// Notes that a book begins.
+    fn note(&mut self, opening: &Opening<'a>) {
+        if self.first.is_none() {
+            self.first = Some(*opening);
+        }
+        self.last = Some(*opening);
+        self.lines[usize::from(opening.first.node.get())] = opening.line;
+    }
+
+    /// Returns the line at which the book of a node begins, or 0 if it has none.
+    pub fn line_of(&self, node: u16) -> u64 {
+        *self.lines.get(usize::from(node)).unwrap_or(&0)
+    }
+}
