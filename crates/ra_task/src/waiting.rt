@@ -7,7 +7,7 @@ use std::io::Write;
 struct Input {
     command: &'static str,
     text: &'static str,
-    /// What it reads with `--marks`.
+    /// What it reads with `--marks`, if it has that option.
     marks_text: &'static str,
 }
 
@@ -15,61 +15,44 @@ struct Input {
 const SCRIPT_TEXT: &str =
     "reading a script from standard input: type it and then Ctrl-D, or redirect a file with < FILE";
 
-/// What is said if a trace is read.
-const TRACE_TEXT: &str =
-    "reading a trace from standard input: type it and then Ctrl-D, or redirect a file with < FILE";
+/// A command that reads a trace, or with `--marks` a mark log.
+const TRACE_INPUT: Input = Input {
+    command: "check",
+    text: "reading a trace from standard input: type it and then Ctrl-D, or redirect a file with < FILE",
+    marks_text: "reading a mark log from standard input: type it and then Ctrl-D, or redirect a file with < FILE",
+};
 
-/// What is said if a mark log is read.
-const MARKS_TEXT: &str =
-    "reading a mark log from standard input: type it and then Ctrl-D, or redirect a file with < FILE";
-
-/// What is said if a frame is read.
-const FRAME_TEXT: &str =
-    "reading a frame from standard input: type its digits and Enter, then Ctrl-D";
-
-/// What is said if a book is read.
-const BOOK_TEXT: &str = "reading a book from standard input: type its lines, and Ctrl-D at the end";
-
-/// What is said if several books are read.
-const BOOKS_TEXT: &str =
-    "reading books from standard input: redirect a file with < FILE, or several with cat FILE .. |";
-
-/// What each command reads. Only `check` and `draw` have the option `--marks`.
+/// What each command reads.
 const INPUTS: &[Input] = &[
     Input {
         command: "answer",
-        text: FRAME_TEXT,
-        marks_text: FRAME_TEXT,
+        text: "reading a frame from standard input: type its digits and Enter, then Ctrl-D",
+        marks_text: "",
     },
     Input {
         command: "sim",
         text: SCRIPT_TEXT,
-        marks_text: SCRIPT_TEXT,
+        marks_text: "",
     },
     Input {
         command: "cluster",
         text: SCRIPT_TEXT,
-        marks_text: SCRIPT_TEXT,
+        marks_text: "",
     },
-    Input {
-        command: "check",
-        text: TRACE_TEXT,
-        marks_text: MARKS_TEXT,
-    },
+    TRACE_INPUT,
     Input {
         command: "draw",
-        text: TRACE_TEXT,
-        marks_text: MARKS_TEXT,
+        ..TRACE_INPUT
     },
     Input {
         command: "node",
-        text: BOOK_TEXT,
-        marks_text: BOOK_TEXT,
+        text: "reading a book from standard input: type its lines, and Ctrl-D at the end",
+        marks_text: "",
     },
     Input {
         command: "settle",
-        text: BOOKS_TEXT,
-        marks_text: BOOKS_TEXT,
+        text: "reading books from standard input: redirect a file with < FILE, or several with cat FILE .. |",
+        marks_text: "",
     },
 ];
 
@@ -88,9 +71,17 @@ pub fn reads_input(argument: &str) -> bool {
     input_of(argument).is_some()
 }
 
-/// Writes what a command reads, if there is such a command.
-fn write_input<N: Write>(command: &str, reads_marks: bool, notes: &mut N) {
-    if let Some(input) = input_of(command) {
+/// Tells the user at a terminal what the command waits for, if it reads something. It does not allocate, and ignores a
+/// failure of the writer.
+pub fn write_waiting_note<N: Write>(arguments: &[String], notes: &mut N) {
+    if asks_for_help(arguments) {
+        return;
+    }
+    let Some(command) = arguments.get(1) else {
+        return;
+    };
+    if let Some(input) = input_of(command.as_str()) {
+        let reads_marks = has_argument(arguments, "--marks") && !input.marks_text.is_empty();
         write_line(
             notes,
             if reads_marks {
@@ -99,16 +90,5 @@ fn write_input<N: Write>(command: &str, reads_marks: bool, notes: &mut N) {
                 input.text
             },
         );
-    }
-}
-
-/// Tells the user at a terminal what the command waits for, if it reads something. It does not allocate, and ignores a
-/// failure of the writer.
-pub fn write_waiting_note<N: Write>(arguments: &[String], notes: &mut N) {
-    if asks_for_help(arguments) {
-        return;
-    }
-    if let Some(command) = arguments.get(1) {
-        write_input(command.as_str(), has_argument(arguments, "--marks"), notes);
     }
 }

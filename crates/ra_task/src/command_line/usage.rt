@@ -10,47 +10,9 @@ use clap::{ArgMatches, Command, Error as ParseError};
 use ra_world::Note;
 use std::alloc::Global;
 
-/// What is said about rates of faults that are out of range.
-const FAULTS_TEXT: &str =
-    "--repeat must be at most 400, and --lose and --repeat together at most 1000; see ra sim --help";
-
-/// What is said about seeds under a policy that draws none.
-const SEEDS_POLICY_TEXT: &str = "--seeds requires --policy seeded or faulty; see ra sim --help";
-
-/// What is said about seeds with an option that prints one run.
-const SEEDS_FORMAT_TEXT: &str =
-    "--seeds takes --trace, --as-choices or --shrink only with --find; see ra sim --help";
-
-/// What is said if an end is looked for without seeds.
-const FIND_TEXT: &str = "--find requires --seeds; see ra sim --help";
-
-/// What is said about choices that can't be printed.
-const AS_CHOICES_TEXT: &str =
-    "--as-choices cannot be used with --trace, nor with --policy faulty unless --repeat is 0; see ra sim --help";
-
-/// What is said about a run that can't be shrunk.
-const SHRINK_TEXT: &str =
-    "--shrink cannot be used with --trace, --as-choices or --state, nor with --policy faulty unless --repeat is 0; see ra sim --help";
-
-/// What is said about a run to be shrunk that is not stuck.
-const SHRINK_FIND_TEXT: &str = "--shrink cannot be used with --find finished; see ra sim --help";
-
 /// What is said about a state that can't be printed.
 const STATE_TEXT: &str =
     "--state cannot be used with --trace, --as-choices, --shrink or --seeds; see ra sim --help";
-
-/// What is said about a part of a trace that has no lines.
-const PART_TEXT: &str = "--from must be at least 1, and at most --to; see ra draw --help";
-
-/// What is said if `cluster` is asked for two things.
-const CLUSTER_TEXT: &str = "--books cannot be used with --trace; see ra cluster --help";
-
-/// What is said if `node` has an argument that the parser passes over, which only `--` is.
-const NODE_TEXT: &str = "node takes no arguments; see ra node --help";
-
-/// What is said if `settle` has an argument that the parser passes over, which only `--` is.
-const SETTLE_TEXT: &str =
-    "settle takes no arguments but --repeats and --trace; see ra settle --help";
 
 /// What is said of the seeds that --seeds takes.
 const SEEDS_RANGE: &str = "A..B, such as 1..1000, with two numbers from 0 to 18446744073709551615";
@@ -119,22 +81,15 @@ fn range_of(option: &str) -> Option<&'static str> {
     None
 }
 
-/// Returns whether the parser takes an argument for an option, though it is none, such as a negative number.
-fn is_no_option(argument: &str) -> bool {
-    match argument.as_bytes() {
-        [b'-', next, ..] => !matches!(next, b'-' | b'h' | b'V'),
-        _ => false,
-    }
-}
-
-/// Returns the option that takes a value and is followed by an argument that the parser takes for an option, and that
-/// argument, or `None`.
+/// Returns the option that takes a value and is followed by an argument that the parser takes for an option, though it is
+/// none, such as a negative number, and that argument, or `None`.
 fn no_option_in(arguments: &[String]) -> Option<(&str, &str)> {
     for place in 1..arguments.len() {
         let option = arguments[place].as_str();
         if range_of(option).is_some()
             && let Some(next) = arguments.get(place + 1)
-            && is_no_option(next.as_str())
+            && let [b'-', letter, ..] = next.as_bytes()
+            && !matches!(letter, b'-' | b'h' | b'V')
         {
             return Some((option, next.as_str()));
         }
@@ -215,16 +170,11 @@ fn push_line(note: &mut Note, line: &str) {
     note.shown(shown);
 }
 
-/// Returns whether a line of what the parser says begins the usage, or what follows it.
-fn is_usage(line: &str) -> bool {
-    line.starts_with("Usage:") || line.starts_with("For more information")
-}
-
 /// Adds what the parser says, without the lines of the usage and what follows them.
 fn push_said(note: &mut Note, said: &str) {
     let said = said.strip_prefix("error: ").unwrap_or(said);
     for line in said.lines() {
-        if is_usage(line) {
+        if line.starts_with("Usage:") || line.starts_with("For more information") {
             return;
         }
         push_line(note, line.trim());
@@ -296,47 +246,39 @@ fn push_error(alloc: Global, note: &mut Note, arguments: &[String], error: &Pars
     }
 }
 
-/// Adds what is wrong with the text of `--seeds`.
-fn push_seeds(note: &mut Note, seeds: &str) {
-    if is_range(seeds) {
-        note.push("--seeds is ");
-        note.quoted_text(seeds);
-        note.push(": the first seed is above the last");
-    } else {
-        push_range(note, "--seeds", seeds, SEEDS_RANGE);
-    }
-    note.push("; see ra sim --help");
-}
-
-/// Returns whether a text is two seeds with two dots between them.
-fn is_range(seeds: &str) -> bool {
-    match cut_at(seeds, "..") {
-        Some((first, last)) => is_seed(first) && is_seed(last),
-        None => false,
-    }
-}
-
 /// Returns whether a text is a seed.
 fn is_seed(text: &str) -> bool {
     let seed: Option<u64> = text.parse().ok();
     seed.is_some()
 }
 
-/// Returns whether the trace or choices of one run are to be printed.
-fn prints_one_run(sim: &ArgMatches) -> bool {
-    sim.get_flag("trace") || sim.get_flag("as-choices") || sim.get_flag("shrink")
+/// Adds what is wrong with the text of `--seeds`: two seeds with two dots between them are in the wrong order.
+fn push_seeds(note: &mut Note, seeds: &str) {
+    match cut_at(seeds, "..") {
+        Some((first, last)) if is_seed(first) && is_seed(last) => {
+            note.push("--seeds is ");
+            note.quoted_text(seeds);
+            note.push(": the first seed is above the last");
+        }
+        _ => push_range(note, "--seeds", seeds, SEEDS_RANGE),
+    }
+    note.push("; see ra sim --help");
 }
 
 /// Adds what is wrong with arguments of the command `sim` that ask for many seeds.
 fn push_survey(note: &mut Note, arguments: &[String], policy: &PolicyName, sim: &ArgMatches) {
     if !matches!(policy, PolicyName::Seeded(_) | PolicyName::Faulty { .. }) {
-        note.push(SEEDS_POLICY_TEXT);
+        note.push("--seeds requires --policy seeded or faulty; see ra sim --help");
     } else if sim.get_flag("state") {
         note.push(STATE_TEXT);
-    } else if prints_one_run(sim) && !is_given(arguments, "--find") {
-        note.push(SEEDS_FORMAT_TEXT);
+    } else if (sim.get_flag("trace") || sim.get_flag("as-choices") || sim.get_flag("shrink"))
+        && !is_given(arguments, "--find")
+    {
+        note.push(
+            "--seeds takes --trace, --as-choices or --shrink only with --find; see ra sim --help",
+        );
     } else if sim.get_flag("shrink") && text_of(arguments, "--find") == Some("finished") {
-        note.push(SHRINK_FIND_TEXT);
+        note.push("--shrink cannot be used with --find finished; see ra sim --help");
     } else {
         push_seeds(note, text_of(arguments, "--seeds").unwrap_or(""));
     }
@@ -348,34 +290,34 @@ fn push_under(note: &mut Note, arguments: &[String], policy: &PolicyName, sim: &
         note.push(if sim.get_flag("state") {
             STATE_TEXT
         } else if sim.get_flag("shrink") {
-            SHRINK_TEXT
+            "--shrink cannot be used with --trace, --as-choices or --state, nor with --policy faulty unless --repeat is 0; see ra sim --help"
         } else {
-            AS_CHOICES_TEXT
+            "--as-choices cannot be used with --trace, nor with --policy faulty unless --repeat is 0; see ra sim --help"
         });
     } else if is_given(arguments, "--seeds") {
         push_survey(note, arguments, policy, sim);
     } else {
-        note.push(FIND_TEXT);
+        note.push("--find requires --seeds; see ra sim --help");
     }
 }
 
-/// Adds what is wrong with arguments of the command `sim` in which the parser finds nothing wrong. The causes are tried
+/// Adds what is wrong with arguments of a command in which the parser finds nothing wrong. The causes for `sim` are tried
 /// in the order in which a task is made from the arguments.
-fn push_unseen(note: &mut Note, arguments: &[String], sim: &ArgMatches) {
-    match policy_name(arguments, sim) {
-        Some(policy) => push_under(note, arguments, &policy, sim),
-        None => note.push(FAULTS_TEXT),
-    }
-}
-
-/// Adds what is wrong with arguments of a command in which the parser finds nothing wrong.
-fn push_unseen_of(note: &mut Note, arguments: &[String], command: &str, given: &ArgMatches) {
+fn push_unseen(note: &mut Note, arguments: &[String], command: &str, given: &ArgMatches) {
+    // `node` and `settle` have an argument that the parser passes over, which only `--` is.
     match command {
-        "draw" => note.push(PART_TEXT),
-        "cluster" => note.push(CLUSTER_TEXT),
-        "node" => note.push(NODE_TEXT),
-        "settle" => note.push(SETTLE_TEXT),
-        _ => push_unseen(note, arguments, given),
+        "draw" => note.push("--from must be at least 1, and at most --to; see ra draw --help"),
+        "cluster" => note.push("--books cannot be used with --trace; see ra cluster --help"),
+        "node" => note.push("node takes no arguments; see ra node --help"),
+        "settle" => note.push(
+            "settle takes no arguments but --repeats and --trace; see ra settle --help",
+        ),
+        _ => match policy_name(arguments, given) {
+            Some(policy) => push_under(note, arguments, &policy, given),
+            None => note.push(
+                "--repeat must be at most 400, and --lose and --repeat together at most 1000; see ra sim --help",
+            ),
+        },
     }
 }
 
@@ -383,7 +325,7 @@ fn push_unseen_of(note: &mut Note, arguments: &[String], command: &str, given: &
 /// not check.
 fn push_unchecked(note: &mut Note, arguments: &[String], matches: &ArgMatches) {
     match matches.subcommand() {
-        Some((command, given)) => push_unseen_of(note, arguments, command, given),
+        Some((command, given)) => push_unseen(note, arguments, command, given),
         None => push_help(note, arguments),
     }
 }
