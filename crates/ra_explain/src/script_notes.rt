@@ -1,6 +1,5 @@
 //! What is said of a script.
 pub mod choosing;
-pub mod client_locks;
 pub mod order;
 pub mod script_end;
 pub mod script_text;

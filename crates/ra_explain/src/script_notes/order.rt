@@ -1,44 +1,37 @@
 //! Why threads may not run a script, and where in the script the reason is.
-use crate::script_notes::client_locks::{ClientLocks, Lock};
 use crate::script_notes::script_text::script_in;
-use ra_schedule::Script;
+use ra_schedule::{Op, Script, first_out_of_order, first_unreleased};
 use ra_stamp::Memory;
 use ra_world::Note;
 use std::alloc::Global;
 
-/// Adds which operation of a client locks which name.
-fn push_lock(note: &mut Note, client: u32, lock: &Lock) {
-    note.client(client);
-    note.push(", operation ");
-    note.number(lock.place.saturating_add(1));
-    note.push(": locks ");
-    note.name(&lock.name);
+/// Adds the name that the operation of a client at this place locks.
+fn push_name(note: &mut Note, script: &Script, client: u32, place: u64) {
+    if let Some(Op::Lock(name, _)) = &script.op(client, place) {
+        note.name(name);
+    }
 }
 
-/// Adds where a client of a script is the first to lock a name while it holds that name or a greater one. If none does, it adds which
-/// name the first client still holds at its end that holds one.
-fn push_order(alloc: Global, note: &mut Note, script: &Script) {
-    let mut kept = None;
-    for place in 0..script.clients() {
-        let client = place + 1;
-        let held = ClientLocks::at_end(alloc, note, script, client);
-        if let Some((lock, other)) = &held.out_of_order {
-            push_lock(note, client, lock);
-            note.push(" while holding ");
-            note.name(&other.name);
-            note.push(
-                ", which does not sort before it, so clients could deadlock: lock names in ascending byte order, or run the script with ra sim",
-            );
-            return;
-        }
-        if kept.is_none()
-            && let Some(lock) = held.locks.first()
-        {
-            kept = Some((client, *lock));
-        }
-    }
-    if let Some((client, lock)) = &kept {
-        push_lock(note, *client, lock);
+/// Adds which operation of a client locks which name.
+fn push_lock(note: &mut Note, script: &Script, client: u32, place: u64) {
+    note.client(client);
+    note.push(", operation ");
+    note.number(place.saturating_add(1));
+    note.push(": locks ");
+    push_name(note, script, client, place);
+}
+
+/// Adds where the order of names is first broken in a script. If it is nowhere, it adds where a name is first kept.
+fn push_order(note: &mut Note, script: &Script) {
+    if let Some(found) = &first_out_of_order(script) {
+        push_lock(note, script, found.client, found.place);
+        note.push(" while holding ");
+        push_name(note, script, found.client, found.since);
+        note.push(
+            ", which does not sort before it, so clients could deadlock: lock names in ascending byte order, or run the script with ra sim",
+        );
+    } else if let Some(kept) = &first_unreleased(script) {
+        push_lock(note, script, kept.client, kept.place);
         note.push(
             " and never unlocks it, so others could wait for it forever: unlock the name, or run the script with ra sim",
         );
@@ -56,7 +49,7 @@ fn push_order(alloc: Global, note: &mut Note, script: &Script) {
 pub fn order_note(alloc: Global, script: &[u8]) -> Result<Option<String>, Memory> {
     let mut note = Note::new(alloc);
     if let Some(script) = script_in(alloc, &mut note, script) {
-        push_order(alloc, &mut note, &script);
+        push_order(&mut note, &script);
     }
     note.finish()
 }

@@ -1,7 +1,6 @@
 //! Which names a script leaves locked.
-use crate::script_notes::client_locks::{ClientLocks, Lock};
 use crate::script_notes::script_text::script_in;
-use ra_schedule::Script;
+use ra_schedule::{Op, Script, is_unreleased};
 use ra_stamp::Memory;
 use ra_world::Note;
 use std::alloc::Global;
@@ -11,12 +10,14 @@ const MOST: u64 = 4;
 
 /// Adds the names that a client holds at its end, after this many other clients that hold names. Returns how many
 /// clients hold names so far.
-fn push_kept(alloc: Global, note: &mut Note, script: &Script, client: u32, clients: u64) -> u64 {
-    let held = ClientLocks::at_end(alloc, note, script, client);
+fn push_kept(note: &mut Note, script: &Script, client: u32, clients: u64) -> u64 {
     let mut names = 0;
-    for lock in &held.locks {
+    for place in 0..script.ops_of(client).unwrap_or(0) {
+        if !is_unreleased(script, client, place) {
+            continue;
+        }
         if clients < MOST && names < MOST {
-            push_lock(note, client, lock, clients, names);
+            push_lock(note, client, &script.op(client, place), clients, names);
         }
         names = u64::saturating_add(names, 1);
     }
@@ -27,7 +28,10 @@ fn push_kept(alloc: Global, note: &mut Note, script: &Script, client: u32, clien
 }
 
 /// Adds a name that a client holds, after this many other clients and this many other names of this one.
-fn push_lock(note: &mut Note, client: u32, lock: &Lock, clients: u64, names: u64) {
+fn push_lock(note: &mut Note, client: u32, op: &Option<Op>, clients: u64, names: u64) {
+    let Some(Op::Lock(name, mode)) = op else {
+        return;
+    };
     if names > 0 {
         note.push(", ");
     } else {
@@ -39,15 +43,15 @@ fn push_lock(note: &mut Note, client: u32, lock: &Lock, clients: u64, names: u64
         note.client(client);
         note.push(" holds ");
     }
-    note.name(&lock.name);
-    note.mode(lock.mode);
+    note.name(name);
+    note.mode(*mode);
 }
 
 /// Adds which clients hold names at their ends.
-fn push_holders(alloc: Global, note: &mut Note, script: &Script) {
+fn push_holders(note: &mut Note, script: &Script) {
     let mut clients = 0;
     for place in 0..script.clients() {
-        clients = push_kept(alloc, note, script, place + 1, clients);
+        clients = push_kept(note, script, place + 1, clients);
     }
     note.push_more("; and ", clients, MOST);
 }
@@ -62,7 +66,7 @@ fn push_holders(alloc: Global, note: &mut Note, script: &Script) {
 pub fn script_end_note(alloc: Global, script: &[u8]) -> Result<Option<String>, Memory> {
     let mut note = Note::new(alloc);
     if let Some(script) = script_in(alloc, &mut note, script) {
-        push_holders(alloc, &mut note, &script);
+        push_holders(&mut note, &script);
     }
     note.finish()
 }
