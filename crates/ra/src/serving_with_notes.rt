@@ -17,7 +17,7 @@ use std::sync::Wait;
 use std::thread::Threads;
 
 /// Does as [`refuse_arguments`], and then writes a line for a person to `notes`. It writes another if `writer` failed,
-/// unless that is a pipe that is no longer read. That `notes` fails changes nothing else.
+/// unless that is a pipe that is no longer read. A failure of `notes` changes nothing else.
 pub fn refuse_arguments_with_note<W: Write, N: Write>(
     writer: &mut SeenWriter<W>,
     fault: CommandFault,

@@ -1,5 +1,5 @@
-//! The line that is printed of each refusal, as a constant: so it is printed whatever is lacking. The words are here
-//! and where each error says how it prints, since no contract says what a derived `Display` writes.
+//! The line that is printed for each refusal, as a constant: so it can be printed even if memory is lacking. The words
+//! are here and also in each error's `Display`, since no contract says what a `Display` writes.
 ghost use Rattle.std.specs.Prelude.{◌≡◌};
 ghost use Rattle.ra_cli.specs.Refusals as spec;
 

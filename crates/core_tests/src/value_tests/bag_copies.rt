@@ -9,7 +9,7 @@ use Wire::Asks;
 /// Messages that are copied.
 const COPIES: &[Scene] = &[
     Scene(
-        "a copy of a message stands behind all others",
+        "a copy of a message comes after all others",
         &[
             Puts(&[ASKED, REPLIED]),
             Copies(ASKED),
@@ -71,6 +71,6 @@ const COPIES: &[Scene] = &[
 ];
 
 #[test]
-fn copies_stand_behind_all_others(rt: HostRuntime) {
+fn copies_come_after_all_others(rt: HostRuntime) {
     follow(&rt, COPIES);
 }

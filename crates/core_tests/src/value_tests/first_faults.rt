@@ -59,7 +59,7 @@ const CASES_2: &[Case] = &[
 fn assert_refused(rt: &impl Abort, row: usize, bytes: &[u8], count: usize, fault: FrameError) {
     match bytes.get(..count) {
         Some(bytes) => assert_row(rt, row, &read(bytes).err(), &Some(fault)),
-        None => panic!(rt; "there are not so many bytes"),
+        None => panic!(rt; "there are fewer bytes"),
     }
 }
 

@@ -85,7 +85,7 @@ pub enum Act {
     Stops(Stop),
     /// This frame is noted as lost.
     Loses(Sends),
-    /// So many losses are in the run, and so many wait.
+    /// How many losses are in the run, and how many wait.
     HasLosses(u64, usize),
 }
 

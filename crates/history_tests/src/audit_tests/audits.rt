@@ -47,7 +47,7 @@ pub enum Act {
     Loses(u64, Wire),
     /// It finds that this frame was not lost.
     FindsNotLost(u64, Wire),
-    /// So many losses are in the run, and so many wait.
+    /// How many losses are in the run, and how many wait.
     HasLosses(u64, usize),
 }
 
@@ -199,7 +199,7 @@ fn assert_left(
     }
 }
 
-/// Asserts that so many losses are in the run, and so many wait.
+/// Asserts how many losses are in the run, and how many wait.
 pub fn assert_losses(rt: &impl Abort, at: At<'_>, auditor: &Auditor, due: (u64, usize)) {
     assert_same(rt, at, &(auditor.lost(), auditor.losing()), &due);
 }

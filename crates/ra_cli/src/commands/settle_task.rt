@@ -137,7 +137,7 @@ fn refuse_input<W: Write>(writer: &mut W, fault: TraceError) -> Outcome
 /// Reads the books of all nodes, one after the other in one text, and prints the report of the run into which they
 /// settle as asked, or its trace, with status 0. If they do not settle, it prints the line that is wrong, and the
 /// cause, with status 3. The status is 2 if the text has more than 1,073,741,824 bytes or memory ran out, and 1 if the
-/// reader or the writer failed. A text that has no more bytes is left in `text`.
+/// reader or the writer failed. A text of at most the allowed length is left in `text`.
 pub fn settle_books<R: Read, W: Write>(
     alloc: Global,
     asked: SettleTask,

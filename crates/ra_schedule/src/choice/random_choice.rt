@@ -12,7 +12,7 @@ use ra_world::World;
 use rand_core::utils::NextWord;
 use rand_pcg::Lcg128Xsl64;
 
-/// RandomState a word and returns the choice that it names. If there is no choice, it draws none and returns `None`.
+/// Draws a word and returns the choice that it names. If there is no choice, it draws none and returns `None`.
 fn draw(
     generator: &mut Lcg128Xsl64,
     script: &Script,
@@ -42,7 +42,7 @@ fn draw(
     }
 }
 
-/// RandomState the words of a turn, and returns the choice that the policy makes by them. At the end it draws none and returns `None`.
+/// Draws the words of a turn and returns the choice that the policy makes by them. At the end it draws none and returns `None`.
 pub fn choose(
     policy: &Policy,
     generator: &mut Lcg128Xsl64,

@@ -97,7 +97,7 @@ fn assert_unread(rt: &(impl Abort + AllocGlobal), format: OutputKind) {
 
 /// A row is here the number of bytes before the fault.
 #[test]
-fn a_reader_that_fails_behind_any_byte_is_a_fault(rt: HostRuntime) {
+fn a_reader_that_fails_after_any_byte_is_a_fault(rt: HostRuntime) {
     assert_unread(&rt, Lines);
     assert_unread(&rt, Trace);
     assert_unread(&rt, Choices);
@@ -140,7 +140,7 @@ fn assert_unwritten(rt: &(impl Abort + AllocGlobal), format: OutputKind, length:
 
 /// A row is here the number of bytes before the fault.
 #[test]
-fn a_writer_that_fails_behind_any_byte_has_those_before(rt: HostRuntime) {
+fn a_writer_that_fails_after_any_byte_has_those_before(rt: HostRuntime) {
     assert_unwritten(&rt, Lines, ONE_LOCK_LINES_LENGTH);
     assert_unwritten(&rt, Trace, ONE_LOCK_LENGTH);
     assert_unwritten(&rt, Choices, ONE_LOCK_CHOICES_LENGTH);

@@ -56,7 +56,7 @@ fn a_reader_of_a_log_that_failed_is_not_tried_again(rt: HostRuntime) {
 }
 
 #[test]
-fn nothing_behind_the_first_wrong_mark_is_read(rt: HostRuntime) {
+fn nothing_after_the_first_wrong_mark_is_read(rt: HostRuntime) {
     const LOG: &[Part] = &[Text(BOTH_INSIDE)];
     const HELD: Checked = Ok(MarksVerdict::Invalid {
         line: 4,

@@ -171,7 +171,7 @@ end
 ";
 
 #[test]
-fn nothing_behind_the_first_wrong_line_is_read(rt: HostRuntime) {
+fn nothing_after_the_first_wrong_line_is_read(rt: HostRuntime) {
     const TEXT: &[Part] = &[Text(EXCHANGED)];
     const MARKS: Checked = Ok(Verdict::Invalid {
         line: 5,
@@ -206,7 +206,7 @@ fn at_most_128_bytes_of_a_line_are_read(rt: HostRuntime) {
 }
 
 #[test]
-fn one_byte_behind_the_last_line_is_read(rt: HostRuntime) {
+fn one_byte_after_the_last_line_is_read(rt: HostRuntime) {
     const TEXT: &[Part] = &[Text(ONE_LOCK), Text("xy")];
     const TENTH: Checked = Ok(Verdict::Invalid {
         line: 10,

@@ -59,7 +59,7 @@ fn assert_read<R: Read>(
 
 /// One more read would fail. A row is the limit.
 #[test]
-fn nothing_is_read_behind_the_limit(rt: HostRuntime) {
+fn nothing_is_read_after_the_limit(rt: HostRuntime) {
     for limit in 0..=3 {
         let mut reader = failing_reader(limit, io::ErrorKind::BrokenPipe);
         assert_read(

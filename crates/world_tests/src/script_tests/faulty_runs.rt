@@ -38,7 +38,7 @@ fn faults_are_at_most_all_messages_and_few_repeats(rt: HostRuntime) {
 const BY_CHANCE: &[Scene] = &[
     // With seed 0, the second random word names the REQUEST, and the third one is 81 modulo 1,000.
     Scene(
-        "the word behind the one that names a message says what becomes of it",
+        "the word after the one that names a message says what becomes of it",
         2,
         &[
             AddsLocker(1, Exclusive),
