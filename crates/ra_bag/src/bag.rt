@@ -317,7 +317,7 @@ fn first_of(
         return Some(0);
     }
     if places.are_known() {
-        return places.tell(message);
+        return places.find(message);
     }
     places.want(slots.len());
     filled.want(slots.len());

@@ -1,11 +1,12 @@
 //! In which slots each message is.
-ghost use Rattle.std.specs.Prelude.{◌≡◌, ◌≢◌, ◌+◌, ◌↔◌, ◌++◌, ◌∷◌, [], List, Option, Some, None, map, length, slice_set, Contains, IsSome, IsNone, IfSome, OnOk, IsTrue, false, option_to_list, ℕ};
+ghost use Rattle.std.specs.Prelude.{◌≡◌, ◌≢◌, ◌+◌, ◌↔◌, ◌++◌, ◌∷◌, [], List, Option, Some, None, map, length, slice_get, slice_set, Contains, IsSome, IsNone, IfSome, OnOk, IsTrue, false, option_to_list, ℕ};
 ghost use Rattle.std.specs.Map.{lookup};
 ghost use Rattle.std.specs.VecDeque.{deque_items};
 ghost use Rattle.ra_stamp.specs.declared.message.Message.{Message};
 ghost use Rattle.ra_bag.specs.Bag.{StandsIn, messages_in};
 ghost use Rattle.ra_bag.specs.Places.{IsFirstSlot, IsTold, Tells, Learns, Unlearns, later_numbers};
 
+use crate::slots::is_same;
 use indexmap::IndexMap;
 use ra_stamp::{Memory, Message, equal_is_same};
 use std::alloc::Global;
@@ -29,6 +30,9 @@ pub struct Places {
     first: u64,
     /// Whether a message was looked for among many while no slots were known.
     wanted: bool,
+    /// Where in `numbers` the message was that was found last, so that it is taken without being hashed again. No clause
+    /// relies on it.
+    sought: usize,
 }
 
 impl Places {
@@ -41,6 +45,7 @@ impl Places {
             later: IndexMap::new(alloc),
             first: 0,
             wanted: false,
+            sought: 0,
         }
     }
 
@@ -52,19 +57,35 @@ impl Places {
         !self.numbers.is_empty()
     }
 
-    /// Returns the first slot that has a message, or `None` if no slot does. The slots of each message are known. It
-    /// does not allocate.
-    pub fn tell(&self, message: &Message) -> Option<usize>
+    /// Returns the first slot that has a message and where in `numbers` it is, or `None` if no slot has it. The slots of
+    /// each message are known. It does not allocate.
+    pub fn tell(&self, message: &Message) -> Option<(usize, usize)>
         requires { length self.now.numbers.entries ≢ 0 }
         ensures some { (slots : List (Option Message)) → IsTold ⟦<Message as PartialEq>⟧.eq self.now slots
             → IsSome result ↔ Contains (messages_in slots) message.now }
         ensures first { (slots : List (Option Message)) → IsTold ⟦<Message as PartialEq>⟧.eq self.now slots
-            → IfSome result (IsFirstSlot slots message.now) }
+            → IfSome result (λ told. IsFirstSlot slots message.now told.0) }
     {
         equal_is_same();
-        let number = *self.numbers.get(message)?;
+        let (entry, _, number) = self.numbers.get_full(message)?;
         let slot = number.checked_sub(self.first)?;
-        Some(slot as usize)
+        Some((slot as usize, entry))
+    }
+
+    /// Returns the first slot that has a message, or `None` if no slot has it, as `tell` does, and notes where the message
+    /// was found.
+    pub fn find(&mut self, message: &Message) -> Option<usize>
+        requires { length self.old.numbers.entries ≢ 0 }
+        ensures told { (slots : List (Option Message)) → IsTold ⟦<Message as PartialEq>⟧.eq self.old slots
+            → IsTold ⟦<Message as PartialEq>⟧.eq self.new slots }
+        ensures some { (slots : List (Option Message)) → IsTold ⟦<Message as PartialEq>⟧.eq self.old slots
+            → IsSome result ↔ Contains (messages_in slots) message.now }
+        ensures first { (slots : List (Option Message)) → IsTold ⟦<Message as PartialEq>⟧.eq self.old slots
+            → IfSome result (IsFirstSlot slots message.now) }
+    {
+        let (slot, entry) = self.tell(message)?;
+        self.sought = entry;
+        Some(slot)
     }
 
     /// Notes that a message was looked for among this many slots. If they are many, the slots of each message are to be learned.
@@ -198,7 +219,7 @@ impl Places {
     {
         match take_later(&mut self.later, message) {
             Some(next) => Some(replace(self.numbers.get_mut(message)?, next)),
-            None => self.numbers.swap_remove(message),
+            None => take_number(&mut self.numbers, self.sought, message),
         }
     }
 
@@ -225,6 +246,37 @@ impl Places {
         self.later.truncate(0);
         self.first = 0;
     }
+}
+
+/// Takes the number of a message, or returns `None` if it has none. Only if the message is not in this entry, it is looked
+/// up. It does not allocate.
+fn take_number(numbers: &mut IndexMap<Message, u64>, entry: usize, message: &Message) -> Option<u64>
+    ensures taken { result ≡ lookup (⟦<Message as PartialEq>⟧.eq message.now) numbers.old.entries }
+    ensures gone { lookup (⟦<Message as PartialEq>⟧.eq message.now) numbers.new.entries ≡ None }
+    ensures others { (other : Message) → ⟦<Message as PartialEq>⟧.eq message.now other ≡ false
+        → lookup (⟦<Message as PartialEq>⟧.eq other) numbers.new.entries
+        ≡ lookup (⟦<Message as PartialEq>⟧.eq other) numbers.old.entries }
+{
+    match number_in(numbers, entry, message) {
+        Some(number) => {
+            numbers.swap_remove_index(entry);
+            Some(number)
+        }
+        None => numbers.swap_remove(message),
+    }
+}
+
+/// Returns the number in an entry, or `None` if it is not the entry of this message.
+#[inline(always)]
+fn number_in(numbers: &IndexMap<Message, u64>, entry: usize, message: &Message) -> Option<u64>
+    ensures at { IfSome result (λ number. slice_get numbers.now.entries entry ≡ Some (message.now, number)) }
+    ensures found { IfSome result (λ number. lookup (⟦<Message as PartialEq>⟧.eq message.now) numbers.now.entries ≡ Some number) }
+{
+    let (kept, number) = numbers.get_index(entry)?;
+    if is_same(kept, message) {
+        return Some(*number);
+    }
+    None
 }
 
 /// Adds a number to a message, after its later ones.

@@ -191,7 +191,7 @@ fn is_of(kept: &Option<Message>, message: &Message) -> bool
 /// Returns whether two messages are equal. Most unequal messages differ in their numbers or nodes, which are compared
 /// first.
 #[inline(always)]
-fn is_same(a: &Message, b: &Message) -> bool
+pub fn is_same(a: &Message, b: &Message) -> bool
     ensures { IsTrue result ↔ (a.now ≡ b.now) }
 {
     // Each `*` saves the step of comparing references.

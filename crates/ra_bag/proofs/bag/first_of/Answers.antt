@@ -18,20 +18,20 @@ returns-then-has-clause-first c = (c.if-has.ensures.value.0 refl, first_of_all c
 
 -- ---- As the places tell
 
-pub tell-requires : goal.tell-requires
-tell-requires c = c.if-are_known.ensures.0 refl
+pub find-requires : goal.find-requires
+find-requires c = c.if-are_known.ensures.0 refl
 
 pub returns-then-are_known-clause-told : goal.returns-then-are_known-clause-told
-returns-then-are_known-clause-told c = c.requires.told
+returns-then-are_known-clause-told c = c.find.ensures.told c.args.slots.now.items c.requires.told
 
 pub returns-then-are_known-clause-shown : goal.returns-then-are_known-clause-shown
 returns-then-are_known-clause-shown c = c.requires.shown
 
 pub returns-then-are_known-clause-some : goal.returns-then-are_known-clause-some
-returns-then-are_known-clause-some c = c.tell.ensures.some c.args.slots.now.items c.requires.told
+returns-then-are_known-clause-some c = c.find.ensures.some c.args.slots.now.items c.requires.told
 
 pub returns-then-are_known-clause-first : goal.returns-then-are_known-clause-first
-returns-then-are_known-clause-first c = c.tell.ensures.first c.args.slots.now.items c.requires.told
+returns-then-are_known-clause-first c = c.find.ensures.first c.args.slots.now.items c.requires.told
 
 -- ---- As all slots are looked at
 
