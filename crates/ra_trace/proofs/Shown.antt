@@ -41,7 +41,7 @@ some_in_part most shown count (inside, few, (before, none, is)) =
 -- a line that is shown whole
 pub whole_line : (left most : ℕ) (old new : Option (List ℕ)) (shown prefix : List ℕ) (count : ℕ) (came : Option Line) → most ≡ min left 128
     → IsPart most shown count true → Consumes old new (take count shown) → prefix ≡ take (count - 1) shown → came ≡ line_in prefix
-    → ReadsSome left old new count (Ok came)
+    → ReadsSome left old new count came (Ok tt)
 whole_line left most old new shown prefix count came most_is (inside, few, (before, none, is)) taken cuts reads =
     let bytes = take count shown in
     let long : length bytes ≡ count = length-take-le count shown inside in

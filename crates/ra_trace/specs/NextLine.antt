@@ -77,10 +77,10 @@ ReadsNext left old new bytes (Ok (Some line)) = TakesBytes left old new bytes ×
 ReadsNext left old new bytes (Ok None) = TakesBytes left old new bytes × HasNone bytes new
 ReadsNext left old new bytes (Err fault) = FailsWithin left old new bytes fault
 
--- what was read of the next line, and of how many bytes that is
-abbrev pub ReadsSome : ℕ → Option (List ℕ) → Option (List ℕ) → ℕ → Result (Option Line) TraceError → Type 0
-ReadsSome left old new count (Ok line) = (bytes : List ℕ) × (length bytes ≡ count) × ReadsNext left old new bytes (Ok line)
-ReadsSome left old new count (Err fault) = (bytes : List ℕ) × ReadsNext left old new bytes (Err fault)
+-- which line was read, of how many bytes, or that a fault came
+abbrev pub ReadsSome : ℕ → Option (List ℕ) → Option (List ℕ) → ℕ → Option Line → Result (Unit {0}) TraceError → Type 0
+ReadsSome left old new count line (Ok read) = (bytes : List ℕ) × (length bytes ≡ count) × ReadsNext left old new bytes (Ok line)
+ReadsSome left old new count line (Err fault) = (bytes : List ℕ) × ReadsNext left old new bytes (Err fault)
 
 -- What follows the last line of a trace whose run the checker knows: nothing, or one byte, which would begin the line
 -- of this number.

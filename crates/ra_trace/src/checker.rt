@@ -187,8 +187,8 @@ impl Checker {
         ensures other { result ≡ false → (others : List Mark) → due_of self.now ≢ mark.now ∷ others }
     {
         equal_is_same();
-        match self.marks.at(self.come) {
-            Some(due) => due == *mark,
+        match self.marks.as_slice().get(self.come as usize) {
+            Some(due) => *due == *mark,
             None => false,
         }
     }

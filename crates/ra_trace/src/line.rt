@@ -9,7 +9,7 @@ ghost use Rattle.ra_trace.specs.declared.line.Line.{Line};
 ghost use Rattle.ra_trace.specs.Forms.{IsReadable};
 ghost use Rattle.ra_trace.specs.TraceText.{line_text};
 
-use crate::line::forms::line_of;
+use crate::line::forms::read_line_of;
 use crate::line::version::Version;
 use ra_stamp::{Mark, NodeId};
 use ra_world::Step;
@@ -39,6 +39,8 @@ impl Line {
         ensures line { IfSome result (λ line. IsReadable line × (text.now ++ codes "\n" ≡ line_text line)) }
         ensures none { result ≡ None → (line : Line) → IsReadable line → text.now ++ codes "\n" ≡ line_text line → ⊥ }
     {
-        line_of(text)
+        let mut line = None;
+        read_line_of(text, &mut line);
+        line
     }
 }

@@ -14,7 +14,7 @@ ghost use Rattle.ra_trace.specs.MarksReading.{AnswersMarks};
 
 use crate::laws::{each_mark_log_has_one_verdict, mark_logs_rest_on_tables};
 use crate::line::Line;
-use crate::line_source::{ByBytes, FromBuffer, LineSource};
+use crate::line_source::{ByBytes, FromBuffer, LineRoom, LineSource};
 use crate::mark_log::marks_table::try_mark;
 use crate::{MarkCause, MarksVerdict, TraceError};
 use ra_stamp::Mark;
@@ -136,6 +136,7 @@ fn missing(taken: usize) -> NextMark
 /// `Read`, `Limit`, `Memory`.
 fn take_next<R: Read, S: LineSource<R>>(
     reader: &mut R,
+    room: &mut LineRoom,
     taken: &mut usize,
     log: &mut Log,
     left: usize,
@@ -148,8 +149,9 @@ fn take_next<R: Read, S: LineSource<R>>(
     ensures some { IfOk result (λ next. SomeMarkTaken left taken.new next) }
 {
     mark_logs_rest_on_tables();
-    match S::next_line(reader, taken, left)? {
-        Some(line) => log.take_line(&line),
+    S::next_line(reader, room, taken, left)?;
+    match &room.line {
+        Some(line) => log.take_line(line),
         None => Ok(missing(*taken)),
     }
 }
@@ -170,10 +172,11 @@ fn verdict_behind<R: Read, S: LineSource<R>>(
 {
     mark_logs_rest_on_tables();
     let mut taken = 0;
+    let mut room = LineRoom::new();
     let mut left = limit;
     let mut line = 1;
     loop {
-        let next = take_next::<R, S>(reader, &mut taken, log, left)?;
+        let next = take_next::<R, S>(reader, &mut room, &mut taken, log, left)?;
         if let NextMark::Wrong(cause) = next {
             return Ok(MarksVerdict::Invalid { line, cause });
         }

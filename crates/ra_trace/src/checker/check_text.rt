@@ -12,7 +12,7 @@ ghost use Rattle.ra_trace.specs.Reading.{Answers};
 use crate::checker::{Checker, Next};
 use crate::laws::{each_text_has_one_verdict, traces_rest_on_runs};
 use crate::line_source::byte_lines::is_at_end;
-use crate::line_source::{ByBytes, FromBuffer, LineSource};
+use crate::line_source::{ByBytes, FromBuffer, LineRoom, LineSource};
 use crate::{Cause, TraceError, Verdict};
 use ra_stamp::Mark;
 use std::alloc::Global;
@@ -66,8 +66,10 @@ fn take_first<R: Read, S: LineSource<R>>(
     ensures opened { Opens limit (R.remaining reader.old) (R.remaining reader.new) taken.new result }
     ensures within { IfOk result (λ opened. taken.new ≤ limit) }
 {
-    match S::next_line(reader, taken, limit)? {
-        Some(line) => Checker::behind_first(alloc, &line),
+    let mut room = LineRoom::new();
+    S::next_line(reader, &mut room, taken, limit)?;
+    match &room.line {
+        Some(line) => Checker::behind_first(alloc, line),
         None => Ok(None),
     }
 }
@@ -81,6 +83,7 @@ fn take_first<R: Read, S: LineSource<R>>(
 fn take_next<R: Read, S: LineSource<R>>(
     alloc: Global,
     reader: &mut R,
+    room: &mut LineRoom,
     taken: &mut usize,
     checker: &mut Checker,
     left: usize,
@@ -92,8 +95,9 @@ fn take_next<R: Read, S: LineSource<R>>(
     ensures due { IfOk result (λ next. (cause : Cause) → next ≡ Next.Wrong cause → HasSameDue checker.old checker.new) }
 {
     traces_rest_on_runs();
-    match S::next_line(reader, taken, left)? {
-        Some(line) => checker.take(alloc, &line),
+    S::next_line(reader, room, taken, left)?;
+    match &room.line {
+        Some(line) => checker.take(alloc, line),
         None => Ok(Next::Wrong(Cause::Line)),
     }
 }
@@ -124,8 +128,9 @@ fn verdict_behind<R: Read, S: LineSource<R>>(
     let mut left = limit - first;
     let mut number = 2;
     let mut taken = 0;
+    let mut room = LineRoom::new();
     loop {
-        let next = take_next::<R, S>(alloc, reader, &mut taken, checker, left)?;
+        let next = take_next::<R, S>(alloc, reader, &mut room, &mut taken, checker, left)?;
         if let Next::Wrong(cause) = next {
             *due = checker.due();
             return Ok(Verdict::Invalid {

@@ -264,131 +264,151 @@ enum Kind {
     Last,
 }
 
-/// Reads the line of a request.
-fn request_line(way: Way, text: &[u8]) -> Option<Line>
-    ensures { result ≡ spec.read_as (Kind.Request way) text.now }
+/// Reads the line of an ask.
+fn read_ask(text: &[u8], line: &mut Option<Line>)
+    ensures { line.new ≡ spec.read_as Kind.Ask text.now }
 {
-    let message = request_of(text)?;
-    Some(way.line_of(message))
+    *line = ask_of(text);
+}
+
+/// Reads the line of a release.
+fn read_leave(text: &[u8], line: &mut Option<Line>)
+    ensures { line.new ≡ spec.read_as Kind.Leave text.now }
+{
+    *line = leave_of(text);
+}
+
+/// Reads the line of a request.
+fn read_request(way: Way, text: &[u8], line: &mut Option<Line>)
+    ensures { line.new ≡ spec.read_as (Kind.Request way) text.now }
+{
+    *line = match request_of(text) {
+        Some(message) => Some(way.line_of(message)),
+        None => None,
+    };
 }
 
 /// Reads the line of a reply.
-fn reply_line(way: Way, text: &[u8]) -> Option<Line>
-    ensures { result ≡ spec.read_as (Kind.Reply way) text.now }
+fn read_reply(way: Way, text: &[u8], line: &mut Option<Line>)
+    ensures { line.new ≡ spec.read_as (Kind.Reply way) text.now }
 {
-    let message = reply_of(text)?;
-    Some(way.line_of(message))
+    *line = match reply_of(text) {
+        Some(message) => Some(way.line_of(message)),
+        None => None,
+    };
 }
 
 /// Reads the line of a mark.
-fn mark_line(change: Change, text: &[u8]) -> Option<Line>
-    ensures { result ≡ spec.read_as (Kind.Mark change) text.now }
+fn read_mark(change: Change, text: &[u8], line: &mut Option<Line>)
+    ensures { line.new ≡ spec.read_as (Kind.Mark change) text.now }
 {
-    let entry = entry_of(text)?;
-    Some(change.line_of(entry))
+    *line = match entry_of(text) {
+        Some(entry) => Some(change.line_of(entry)),
+        None => None,
+    };
 }
 
 impl Kind {
     /// Reads what is after the first words of such a line.
     #[inline(always)]
-    fn read(self, rest: &[u8]) -> Option<Line>
-        ensures { result ≡ spec.read_as self rest.now }
+    fn read(self, rest: &[u8], line: &mut Option<Line>)
+        ensures { line.new ≡ spec.read_as self rest.now }
     {
         match self {
-            Kind::First(version) => first_of(version, rest),
-            Kind::Ask => ask_of(rest),
-            Kind::Leave => leave_of(rest),
-            Kind::Request(way) => request_line(way, rest),
-            Kind::Reply(way) => reply_line(way, rest),
-            Kind::Mark(change) => mark_line(change, rest),
-            Kind::Last => last_of(rest),
+            Kind::First(version) => *line = first_of(version, rest),
+            Kind::Ask => read_ask(rest, line),
+            Kind::Leave => read_leave(rest, line),
+            Kind::Request(way) => read_request(way, rest, line),
+            Kind::Reply(way) => read_reply(way, rest, line),
+            Kind::Mark(change) => read_mark(change, rest, line),
+            Kind::Last => *line = last_of(rest),
         }
     }
 }
 
-/// Returns the line that a text with no line feed is, or `None` if it is not one. Whether its version allows it is not asked. It
-/// does not allocate, and the cost is linear in the text.
+/// Puts the line that a text with no line feed is into `line`, or `None` if it is not one. Whether its version allows it is not
+/// asked. It does not allocate, and the cost is linear in the text. A line is long to move, so it is made where it is needed.
 ///
 /// No two forms of lines begin alike. Those of most lines come first.
 #[inline(always)]
-pub fn line_of(text: &[u8]) -> Option<Line>
-    ensures { result ≡ spec.line_in text.now }
+pub fn read_line_of(text: &[u8], line: &mut Option<Line>)
+    ensures { line.new ≡ spec.line_in text.now }
 {
     if let Some(rest) = behind(b"request ", text) {
-        return Kind::Mark(Change::Requested).read(rest);
+        return Kind::Mark(Change::Requested).read(rest, line);
     }
     if let Some(rest) = behind(b"enter ", text) {
-        return Kind::Mark(Change::Entered).read(rest);
+        return Kind::Mark(Change::Entered).read(rest, line);
     }
     if let Some(rest) = behind(b"leave ", text) {
-        return Kind::Mark(Change::Left).read(rest);
+        return Kind::Mark(Change::Left).read(rest, line);
     }
-    line_without_mark_of(text)
+    read_line_without_mark(text, line);
 }
 
-/// Returns the line that a text is if it is not that of a mark.
+/// Reads the line that a text is if it is not that of a mark.
 #[tactic(auto, using(crate::proofs::Deliveries::delivered))]
 #[inline(always)]
-fn line_without_mark_of(text: &[u8]) -> Option<Line>
-    ensures { result ≡ spec.line_by (drop 3 spec.forms) text.now }
+fn read_line_without_mark(text: &[u8], line: &mut Option<Line>)
+    ensures { line.new ≡ spec.line_by (drop 3 spec.forms) text.now }
 {
     if let Some(rest) = behind(b"ask ", text) {
-        return Kind::Ask.read(rest);
+        return Kind::Ask.read(rest, line);
     }
     if let Some(rest) = behind(b"release ", text) {
-        return Kind::Leave.read(rest);
+        return Kind::Leave.read(rest, line);
     }
     if let Some(rest) = behind(b"deliver ", text) {
-        return delivery_of(rest);
+        return read_delivery(rest, line);
     }
-    rare_line_of(text)
+    read_rare_line(text, line);
 }
 
-/// Returns the line that the word `deliver`, a space and this text are.
+/// Reads the line that the word `deliver`, a space and this text are.
 #[inline(always)]
-fn delivery_of(message: &[u8]) -> Option<Line>
-    ensures { result ≡ spec.line_by (drop 5 spec.forms) (codes "deliver " ++ message.now) }
+fn read_delivery(message: &[u8], line: &mut Option<Line>)
+    ensures { line.new ≡ spec.line_by (drop 5 spec.forms) (codes "deliver " ++ message.now) }
 {
     if let Some(rest) = behind(b"request ", message) {
-        return Kind::Request(Way::Delivered).read(rest);
+        return Kind::Request(Way::Delivered).read(rest, line);
     }
     if let Some(rest) = behind(b"reply ", message) {
-        return Kind::Reply(Way::Delivered).read(rest);
+        return Kind::Reply(Way::Delivered).read(rest, line);
     }
-    None
+    *line = None;
 }
 
-/// Returns the line that a text is if it is a loss or a repeat, or the first or the last line of a trace.
-fn rare_line_of(text: &[u8]) -> Option<Line>
-    ensures { result ≡ spec.line_by (drop 7 spec.forms) text.now }
+/// Reads the line that a text is if it is a loss or a repeat, or the first or the last line of a trace.
+fn read_rare_line(text: &[u8], line: &mut Option<Line>)
+    ensures { line.new ≡ spec.line_by (drop 7 spec.forms) text.now }
 {
     if let Some(rest) = behind(b"lose request ", text) {
-        return Kind::Request(Way::Lost).read(rest);
+        return Kind::Request(Way::Lost).read(rest, line);
     }
     if let Some(rest) = behind(b"lose reply ", text) {
-        return Kind::Reply(Way::Lost).read(rest);
+        return Kind::Reply(Way::Lost).read(rest, line);
     }
     if let Some(rest) = behind(b"repeat request ", text) {
-        return Kind::Request(Way::Repeated).read(rest);
+        return Kind::Request(Way::Repeated).read(rest, line);
     }
     if let Some(rest) = behind(b"repeat reply ", text) {
-        return Kind::Reply(Way::Repeated).read(rest);
+        return Kind::Reply(Way::Repeated).read(rest, line);
     }
-    end_line_of(text)
+    read_end_line(text, line);
 }
 
-/// Returns the line that a text is if it is the first or the last line of a trace.
-fn end_line_of(text: &[u8]) -> Option<Line>
-    ensures { result ≡ spec.line_by (drop 11 spec.forms) text.now }
+/// Reads the line that a text is if it is the first or the last line of a trace.
+fn read_end_line(text: &[u8], line: &mut Option<Line>)
+    ensures { line.new ≡ spec.line_by (drop 11 spec.forms) text.now }
 {
     if let Some(rest) = behind(b"trace 1 ", text) {
-        return Kind::First(Version::One).read(rest);
+        return Kind::First(Version::One).read(rest, line);
     }
     if let Some(rest) = behind(b"trace 2 ", text) {
-        return Kind::First(Version::Two).read(rest);
+        return Kind::First(Version::Two).read(rest, line);
     }
     if let Some(rest) = behind(b"end", text) {
-        return Kind::Last.read(rest);
+        return Kind::Last.read(rest, line);
     }
-    None
+    *line = None;
 }

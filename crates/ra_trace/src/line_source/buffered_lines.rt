@@ -5,9 +5,9 @@ ghost use Rattle.ra_trace.specs.NextLine.{EndsPart, ReadsSoFar, ReadsSome, IsPar
 ghost use Rattle.ra_trace.specs.Reading.{IsOpenLine};
 
 use crate::TraceError;
-use crate::line::Line;
-use crate::line::forms::line_of;
-use crate::line_source::byte_lines::{LineBytes, LineEnd, MAX_LINE, line_at, next_byte};
+use crate::line::forms::read_line_of;
+use crate::line_source::LineRoom;
+use crate::line_source::byte_lines::{LineBytes, LineEnd, MAX_LINE, next_byte, read_line_at};
 use memchr::memchr;
 use std::io::{BufRead, Read};
 
@@ -200,7 +200,7 @@ fn take_from_part<B: BufRead>(
     }
 }
 
-/// Reads the next line, of which these bytes came, as `end_or_byte` says.
+/// Reads the next line, of which the bytes in `room` came, as `end_or_byte` says.
 ///
 /// # Errors
 ///
@@ -208,19 +208,20 @@ fn take_from_part<B: BufRead>(
 #[inline(never)]
 fn next_line_in_parts<B: BufRead>(
     reader: &mut B,
-    bytes: &mut LineBytes,
+    room: &mut LineRoom,
     taken: &mut usize,
     left: usize,
-) -> Result<Option<Line>, TraceError>
-    requires part { EndsPart bytes.old.items false }
-    requires short { length bytes.old.items ≤ 128 }
-    requires within { length bytes.old.items ≤ left }
-    ensures { (old : Option (List ℕ)) → Consumes old (B.remaining reader.old) bytes.old.items
-        → ReadsSome left old (B.remaining reader.new) taken.new result }
+) -> Result<(), TraceError>
+    requires part { EndsPart room.old.bytes.items false }
+    requires short { length room.old.bytes.items ≤ 128 }
+    requires within { length room.old.bytes.items ≤ left }
+    ensures { (old : Option (List ℕ)) → Consumes old (B.remaining reader.old) room.old.bytes.items
+        → ReadsSome left old (B.remaining reader.new) taken.new room.new.line result }
 {
-    let end = take_from_part(reader, bytes, left)?;
-    *taken = bytes.len();
-    Ok(line_at(end, bytes))
+    let end = take_from_part(reader, &mut room.bytes, left)?;
+    *taken = room.bytes.len();
+    read_line_at(end, &room.bytes, &mut room.line);
+    Ok(())
 }
 
 /// Reads the next line, as [`LineSource::next_line`](crate::line_source::LineSource::next_line) says, from what the reader has in its
@@ -232,10 +233,11 @@ fn next_line_in_parts<B: BufRead>(
 #[inline(always)]
 pub fn next_shown_line<B: BufRead>(
     reader: &mut B,
+    room: &mut LineRoom,
     taken: &mut usize,
     left: usize,
-) -> Result<Option<Line>, TraceError>
-    ensures { ReadsSome left (B.remaining reader.old) (B.remaining reader.new) taken.new result }
+) -> Result<(), TraceError>
+    ensures { ReadsSome left (B.remaining reader.old) (B.remaining reader.new) taken.new room.new.line result }
 {
     let shown = match reader.fill_buf() {
         Ok(shown) => shown,
@@ -243,13 +245,13 @@ pub fn next_shown_line<B: BufRead>(
     };
     let (len, is_over) = part_of(shown, left.min(MAX_LINE));
     if is_over {
-        let line = line_of(&shown[..len - 1]);
+        read_line_of(&shown[..len - 1], &mut room.line);
         reader.consume(len);
         *taken = len;
-        return Ok(line);
+        return Ok(());
     }
-    let mut bytes = LineBytes::new();
-    bytes.try_extend_from_slice(&shown[..len]).unwrap();
+    room.bytes.clear();
+    room.bytes.try_extend_from_slice(&shown[..len]).unwrap();
     reader.consume(len);
-    next_line_in_parts(reader, &mut bytes, taken, left)
+    next_line_in_parts(reader, room, taken, left)
 }

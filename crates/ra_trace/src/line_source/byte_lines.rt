@@ -7,7 +7,8 @@ ghost use Rattle.ra_trace.specs.declared.line_source.byte_lines.LineEnd.{LineEnd
 
 use crate::TraceError;
 use crate::line::Line;
-use crate::line::forms::line_of;
+use crate::line::forms::read_line_of;
+use crate::line_source::LineRoom;
 use arrayvec::ArrayVec;
 use std::io::Read;
 
@@ -77,16 +78,17 @@ pub fn read_line<R: Read>(
     Ok(LineEnd::Length)
 }
 
-/// Returns the line that these bytes are, which end so, or `None` if they are not one. The bytes of a line end with its line feed.
+/// Puts the line that these bytes are, which end so, into `line`, or `None` if they are not one. The bytes of a line end with its
+/// line feed.
 #[inline(always)]
-pub fn line_at(end: LineEnd, bytes: &LineBytes) -> Option<Line>
+pub fn read_line_at(end: LineEnd, bytes: &LineBytes, line: &mut Option<Line>)
     requires { end ≡ LineEnd.Feed → 1 ≤ length bytes.now.items }
     ensures { (left : ℕ) (old new : Option (List ℕ)) → ReadsLine left old new bytes.now.items (Ok end)
-        → ReadsNext left old new bytes.now.items (Ok result) }
+        → ReadsNext left old new bytes.now.items (Ok line.new) }
 {
     match end {
-        LineEnd::Feed => line_of(&bytes[..bytes.len() - 1]),
-        LineEnd::Length | LineEnd::Input => None,
+        LineEnd::Feed => read_line_of(&bytes[..bytes.len() - 1], line),
+        LineEnd::Length | LineEnd::Input => *line = None,
     }
 }
 
@@ -97,15 +99,16 @@ pub fn line_at(end: LineEnd, bytes: &LineBytes) -> Option<Line>
 /// `Read`: the reader failed. `Limit`: there is a byte after those that are left.
 pub fn next_read_line<R: Read>(
     reader: &mut R,
+    room: &mut LineRoom,
     taken: &mut usize,
     left: usize,
-) -> Result<Option<Line>, TraceError>
-    ensures { ReadsSome left (R.remaining reader.old) (R.remaining reader.new) taken.new result }
+) -> Result<(), TraceError>
+    ensures { ReadsSome left (R.remaining reader.old) (R.remaining reader.new) taken.new room.new.line result }
 {
-    let mut bytes = LineBytes::new();
-    let end = read_line(reader, &mut bytes, left)?;
-    *taken = bytes.len();
-    Ok(line_at(end, &bytes))
+    let end = read_line(reader, &mut room.bytes, left)?;
+    *taken = room.bytes.len();
+    read_line_at(end, &room.bytes, &mut room.line);
+    Ok(())
 }
 
 /// Returns whether the input is at its end, for which it reads one byte. A text may still have `left` bytes.

@@ -11,8 +11,8 @@ returns-in_err-end g c old earlier =
     rw (p.1, p.2) (c.take_from_part.new.bytes.items, c.in_err-end.ensures old earlier)
 
 -- of bytes that are not known, each may have been taken
-pub line_at-requires : goal.line_at-requires
-line_at-requires g c is =
+pub read_line_at-requires : goal.read_line_at-requires
+read_line_at-requires g c is =
     let bytes = c.take_from_part.new.bytes.items in
     let new = g.B.Read.remaining c.take_from_part.new.reader in
     some_bytes_at_feed bytes new (subst (λ (end : LineEnd). EndsSo end bytes new) is (c.in_ok-end.ensures None tt).1)
@@ -21,5 +21,5 @@ pub returns : goal.returns
 returns g c old earlier = (
   c.take_from_part.new.bytes.items,
   sym c.len.ensures.value,
-  c.line_at.ensures c.args.left old (g.B.Read.remaining c.take_from_part.new.reader) (c.in_ok-end.ensures old earlier),
+  c.read_line_at.ensures c.args.left old (g.B.Read.remaining c.take_from_part.new.reader) (c.in_ok-end.ensures old earlier),
 )

@@ -1,4 +1,4 @@
-use Rattle.std.proofs.Common.{rules, ◌≡◌, ℕ, List, [], false, length, take, refl, sym, ap, subst, arith, length-take-le}
+use Rattle.std.proofs.Common.{rules, ◌≡◌, ℕ, List, [], ◌++◌, false, length, take, refl, sym, ap, subst, ◌∙◌, arith, length-take-le}
 use Rattle.std.specs.Io.BufRead.{FillKeeps}
 use Rattle.std.specs.Io.KnownBytes.{Consumes}
 use Rattle.std.proofs.KnownBytes.{Consumes-nil, Consumes-kept}
@@ -20,7 +20,7 @@ returns-then-is_over g c =
     let rested = c.fill_buf.follows.lender-at-none in
     let filled = subst (FillKeeps _ (g.B.Read.remaining rested) (g.B.BufRead.consumable_len rested)) c.in-Ok.is c.fill_buf.follows.holds-at-none in
     let moved = Consumes_shown _ _ _ _ shown count part.0 c.in-Ok.ensures.front c.in-Ok.ensures.end filled.0 filled.1 c.consume.ensures.bytes in
-    whole_line c.args.left c.min.result _ _ shown _ count c.line_of-line.result c.min.ensures part moved.0 refl c.line_of-line.ensures
+    whole_line c.args.left c.min.result _ _ shown _ count c.read_line_of.new.line c.min.ensures part moved.0 refl c.read_line_of.ensures
 
 -- ---- It is not
 
@@ -29,7 +29,8 @@ next_line_in_parts-requires-clause-part g c =
     let shown = c.in-Ok.shown.now in
     let count = c.part_of-len.result.0 in
     let part = subst (IsPart c.min.result shown count) c.if-is_over.false c.part_of-len.ensures in
-    let items : c.try_extend_from_slice.new.self.items ≡ take count shown = search rules in
+    let more : c.try_extend_from_slice.new.self.items ≡ c.clear.new.self.items ++ take count shown = search rules in
+    let items = more ∙ ap (λ (bs : List ℕ). bs ++ take count shown) c.clear.ensures in
     subst (λ (bs : List ℕ). EndsPart bs false) (sym items) part.2
 
 pub next_line_in_parts-requires-clause-short : goal.next_line_in_parts-requires-clause-short
@@ -37,7 +38,8 @@ next_line_in_parts-requires-clause-short g c =
     let shown = c.in-Ok.shown.now in
     let count = c.part_of-len.result.0 in
     let part = c.part_of-len.ensures in
-    let items : c.try_extend_from_slice.new.self.items ≡ take count shown = search rules in
+    let more : c.try_extend_from_slice.new.self.items ≡ c.clear.new.self.items ++ take count shown = search rules in
+    let items = more ∙ ap (λ (bs : List ℕ). bs ++ take count shown) c.clear.ensures in
     omega (arith, ap length items, length-take-le count shown part.0, part.1, c.min.ensures)
 
 pub next_line_in_parts-requires-clause-within : goal.next_line_in_parts-requires-clause-within
@@ -45,7 +47,8 @@ next_line_in_parts-requires-clause-within g c =
     let shown = c.in-Ok.shown.now in
     let count = c.part_of-len.result.0 in
     let part = c.part_of-len.ensures in
-    let items : c.try_extend_from_slice.new.self.items ≡ take count shown = search rules in
+    let more : c.try_extend_from_slice.new.self.items ≡ c.clear.new.self.items ++ take count shown = search rules in
+    let items = more ∙ ap (λ (bs : List ℕ). bs ++ take count shown) c.clear.ensures in
     omega (arith, ap length items, length-take-le count shown part.0, part.1, c.min.ensures)
 
 pub returns : goal.returns
@@ -57,5 +60,6 @@ returns g c =
     let rested = c.fill_buf.follows.lender-at-none in
     let filled = subst (FillKeeps _ (g.B.Read.remaining rested) (g.B.BufRead.consumable_len rested)) c.in-Ok.is c.fill_buf.follows.holds-at-none in
     let moved = Consumes_shown _ _ _ _ shown count part.0 c.in-Ok.ensures.front c.in-Ok.ensures.end filled.0 filled.1 c.consume-2.ensures.bytes in
-    let items : c.try_extend_from_slice.new.self.items ≡ take count shown = search rules in
+    let more : c.try_extend_from_slice.new.self.items ≡ c.clear.new.self.items ++ take count shown = search rules in
+    let items = more ∙ ap (λ (bs : List ℕ). bs ++ take count shown) c.clear.ensures in
     c.next_line_in_parts.ensures old (subst (Consumes old _) (sym items) moved.0)

@@ -10,8 +10,8 @@ returns-in_err-end g c =
     let p = err_from_is_err_and c.from_residual.result c.from_residual.ensures.1 in
     rw (p.1, p.2) (c.read_line.new.bytes.items, c.in_err-end.ensures)
 
-pub line_at-requires : goal.line_at-requires
-line_at-requires g c is =
+pub read_line_at-requires : goal.read_line_at-requires
+read_line_at-requires g c is =
     let bytes = c.read_line.new.bytes.items in
     let new = g.R.Read.remaining c.read_line.new.reader in
     some_bytes_at_feed bytes new (subst (λ (end : LineEnd). EndsSo end bytes new) is c.in_ok-end.ensures.1)
@@ -20,5 +20,5 @@ pub returns : goal.returns
 returns g c = (
   c.read_line.new.bytes.items,
   sym c.len.ensures.value,
-  c.line_at.ensures c.args.left (g.R.Read.remaining c.args.reader.now) (g.R.Read.remaining c.read_line.new.reader) c.in_ok-end.ensures,
+  c.read_line_at.ensures c.args.left (g.R.Read.remaining c.args.reader.now) (g.R.Read.remaining c.read_line.new.reader) c.in_ok-end.ensures,
 )

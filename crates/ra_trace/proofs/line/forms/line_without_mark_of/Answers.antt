@@ -1,7 +1,0 @@
-use Rattle.ra_trace.proofs.Deliveries.{not_delivered}
-use Rattle.ra_trace.proofs.line.forms.line_without_mark_of.Goals as goal
-
-pub returns : goal.returns
-returns c =
-    let none = not_delivered c.args.text.now c.in_default-behind-2.ensures in
-    rw (c.in_default.ensures, c.in_default-behind.ensures, none.0, none.1) c.rare_line_of.ensures
