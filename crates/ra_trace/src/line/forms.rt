@@ -282,30 +282,30 @@ fn read_leave(text: &[u8], line: &mut Option<Line>)
 fn read_request(way: Way, text: &[u8], line: &mut Option<Line>)
     ensures { line.new ≡ spec.read_as (Kind.Request way) text.now }
 {
-    *line = match request_of(text) {
-        Some(message) => Some(way.line_of(message)),
-        None => None,
-    };
+    match request_of(text) {
+        Some(message) => *line = Some(way.line_of(message)),
+        None => *line = None,
+    }
 }
 
 /// Reads the line of a reply.
 fn read_reply(way: Way, text: &[u8], line: &mut Option<Line>)
     ensures { line.new ≡ spec.read_as (Kind.Reply way) text.now }
 {
-    *line = match reply_of(text) {
-        Some(message) => Some(way.line_of(message)),
-        None => None,
-    };
+    match reply_of(text) {
+        Some(message) => *line = Some(way.line_of(message)),
+        None => *line = None,
+    }
 }
 
 /// Reads the line of a mark.
 fn read_mark(change: Change, text: &[u8], line: &mut Option<Line>)
     ensures { line.new ≡ spec.read_as (Kind.Mark change) text.now }
 {
-    *line = match entry_of(text) {
-        Some(entry) => Some(change.line_of(entry)),
-        None => None,
-    };
+    match entry_of(text) {
+        Some(entry) => *line = Some(change.line_of(entry)),
+        None => *line = None,
+    }
 }
 
 impl Kind {
