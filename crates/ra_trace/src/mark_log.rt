@@ -117,7 +117,7 @@ impl Log {
     }
 }
 
-/// Returns what these bytes are, so many, which are not a line: nothing more, or a wrong line.
+/// Returns what follows if no line does: nothing more if no byte was taken, and otherwise a wrong line.
 fn missing(taken: usize) -> NextMark
     ensures { IsMissing taken result }
 {

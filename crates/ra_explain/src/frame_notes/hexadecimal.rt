@@ -33,8 +33,7 @@ fn push_no_digit(note: &mut Note, before: usize, place: usize, byte: u8) {
 }
 
 /// Adds why the bytes of a line, after this many others, are not an even number of hexadecimal digits: which byte is not
-/// one, or how many
-/// digits there are.
+/// one, or how many digits there are.
 pub fn push_digits_fault(note: &mut Note, digits: &[u8], before: usize) {
     for (place, byte) in digits.iter().enumerate() {
         if !byte.is_ascii_hexdigit() {
