@@ -73,10 +73,10 @@ fn act_of_mark(mark: &Mark) -> Option<ClientAct> {
 
 /// Returns a world for the run of a trace with this first line, or `None` if it is that of a mark log.
 fn world_of(alloc: Global, first: &[u8]) -> Result<Option<MarklessWorld>, Memory> {
-    let Some(Line::First { nodes, start, .. }) = Line::parse(first) else {
+    let Some(Line::First { nodes, start, .. }) = &Line::parse(first) else {
         return Ok(None);
     };
-    match MarklessWorld::new(alloc, nodes.get(), start) {
+    match MarklessWorld::new(alloc, nodes.get(), *start) {
         Ok(world) => Ok(Some(world)),
         // A trace has 1 to 64 nodes, so memory ran out.
         Err(_) => Err(Memory),
