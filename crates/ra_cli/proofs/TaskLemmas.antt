@@ -11,7 +11,7 @@ use Rattle.ra_script.specs.Performed.{RefusesAs}
 use Rattle.ra_schedule.specs.declared.choice.Policy.{Policy}
 use Rattle.ra_trace.specs.declared.error.TraceError.{TraceError}
 use Rattle.ra_draw.specs.declared.error.DrawError.{DrawError}
-use Rattle.ra_draw.specs.declared.part.Part.{Part}
+use Rattle.ra_draw.specs.declared.drawn_part.Part.{Part}
 use Rattle.ra_draw.specs.Drawing.{IsInput, IsOfPart, IsUnfit}
 use Rattle.ra_cli.specs.ClusterRun.{RunsBy}
 use Rattle.ra_task.specs.Named.{IsNamed}

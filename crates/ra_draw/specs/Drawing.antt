@@ -12,7 +12,7 @@ use Rattle.ra_trace.specs.Marks.{IsMarksVerdict}
 use Rattle.ra_trace.specs.Verdict.{IsVerdict}
 use Rattle.ra_draw.specs.declared.error.DrawError.{DrawError}
 use Rattle.ra_draw.specs.declared.error.DrawError.TheVariants.{Read, Limit, NoLines, TooLong, Memory, Write}
-use Rattle.ra_draw.specs.declared.part.Part.{Part}
+use Rattle.ra_draw.specs.declared.drawn_part.Part.{Part}
 use Rattle.ra_draw.specs.Lines.{line_count, lines_between}
 
 -- the refusal that one of a check becomes

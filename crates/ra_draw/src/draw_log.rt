@@ -4,7 +4,7 @@ ghost use Rattle.ra_draw.specs.Drawing.{DrawsLog};
 
 use crate::DrawError;
 use crate::draw_text::{MAX_TEXT, read_text, write_picture};
-use crate::part::Part;
+use crate::drawn_part::Part;
 use crate::svg::Totals;
 use ra_trace::{MarksVerdict, check_marks_within};
 use std::alloc::Global;

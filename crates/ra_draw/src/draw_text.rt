@@ -6,7 +6,7 @@ ghost use Rattle.ra_draw.specs.PictureSteps.{IsUnread, IsUnwritten};
 ghost use Rattle.ra_draw.specs.Lines as spec;
 
 use crate::DrawError;
-use crate::part::Part;
+use crate::drawn_part::Part;
 use crate::svg::{Totals, picture_of};
 use ra_world::{ReadFault, read_up_to, write_out};
 use std::alloc::Global;

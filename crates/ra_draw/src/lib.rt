@@ -7,13 +7,13 @@
 mod draw_log;
 mod draw_text;
 mod draw_trace;
+mod drawn_part;
 mod error;
 mod layout;
-mod part;
 mod svg;
 mod timeline;
 
 pub use draw_log::draw_marks;
 pub use draw_trace::draw;
+pub use drawn_part::Part;
 pub use error::DrawError;
-pub use part::Part;

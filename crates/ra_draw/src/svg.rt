@@ -10,14 +10,14 @@ mod message_shapes;
 mod svg_writer;
 mod wording;
 
+use crate::drawn_part::Part;
 use crate::layout::Layout;
-use crate::part::Part;
 use crate::timeline::Timeline;
 use layers::Layers;
 use legend::{LEGEND, LOOKS};
 use ra_stamp::Memory;
 use std::alloc::Global;
-use svg_writer::Piece::{Number, Text};
+use svg_writer::PatternValue::{Number, Text};
 use svg_writer::SvgWriter;
 use wording::ending_of;
 

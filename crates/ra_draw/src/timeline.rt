@@ -5,8 +5,8 @@ mod lock_span;
 mod message_path;
 mod moment;
 
-use crate::part::Part;
-pub use deferral::{Deferral, Deferrals};
+use crate::drawn_part::Part;
+pub use deferral::{Deferral, DeferralSpans};
 pub use lock_span::{LockKey, LockSpan, LockSpans};
 pub use message_path::{Fate, MessagePath, MessagePaths};
 pub use moment::Moment;
@@ -93,7 +93,7 @@ pub struct Timeline {
     /// Those of the part, in order.
     pub rows: Vec<Row>,
     pub paths: MessagePaths,
-    pub deferrals: Deferrals,
+    pub deferrals: DeferralSpans,
     pub spans: LockSpans,
 }
 
@@ -105,7 +105,7 @@ impl Timeline {
             now: Moment { line: 0, row: 0 },
             rows: Vec::new(alloc),
             paths: MessagePaths::new(alloc),
-            deferrals: Deferrals::new(alloc),
+            deferrals: DeferralSpans::new(alloc),
             spans: LockSpans::new(alloc),
         }
     }

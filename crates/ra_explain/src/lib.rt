@@ -14,7 +14,7 @@ pub use frame_notes::unanswered::{Unanswered, unanswered_note};
 pub use run_notes::shrunk::{ShrunkNotes, shrunk_notes};
 pub use run_notes::unfinished::unfinished_note;
 pub use script_notes::choosing::choices_note;
-pub use script_notes::order::order_note;
+pub use script_notes::order_note::order_note;
 pub use script_notes::script_end::script_end_note;
 pub use trace_notes::line_cause::{LineCause, line_note};
 pub use trace_notes::open_request::Stage;

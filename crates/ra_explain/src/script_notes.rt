@@ -1,5 +1,5 @@
 //! What is said of a script.
 pub mod choosing;
-pub mod order;
+pub mod order_note;
 pub mod script_end;
 pub mod script_text;

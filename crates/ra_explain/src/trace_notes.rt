@@ -1,6 +1,6 @@
 //! What is said of a line of a trace or a mark log, and of its end.
 pub mod blockers;
-pub mod due;
+pub mod due_mark;
 pub mod line_cause;
 pub mod line_fault;
 pub mod line_field;

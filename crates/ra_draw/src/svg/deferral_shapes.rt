@@ -2,7 +2,7 @@
 use crate::layout::Layout;
 use crate::layout::sizes::{DEFERRAL_STEP, FARTHEST_DEFERRAL, NEAREST_DEFERRAL};
 use crate::svg::layers::Layers;
-use crate::svg::svg_writer::Piece::{Node, Number, Text, Whole};
+use crate::svg::svg_writer::PatternValue::{Node, Number, Text, Whole};
 use crate::timeline::Deferral;
 
 impl Layers {

@@ -1,7 +1,7 @@
 //! The shapes of a picture, and their labels: the lanes, what is on each row, and what the other files of this folder draw.
 use crate::layout::sizes::{CLIENTS_Y, COLUMN_WIDTH, LANES_TOP, NODES_Y, ROW_NUMBERS_X};
 use crate::layout::{Layout, Point};
-use crate::svg::svg_writer::Piece::{Node, Number, Short, Text, Whole};
+use crate::svg::svg_writer::PatternValue::{Node, Number, Short, Text, Whole};
 use crate::svg::svg_writer::SvgWriter;
 use crate::svg::wording::mode_text;
 use crate::timeline::{ClientAct, LockKey, Timeline};

@@ -2,7 +2,7 @@
 use crate::layout::sizes::COLUMN_WIDTH;
 use crate::layout::{Layout, LockBar};
 use crate::svg::layers::Layers;
-use crate::svg::svg_writer::Piece::{Number, Short, Text};
+use crate::svg::svg_writer::PatternValue::{Number, Short, Text};
 use crate::svg::wording::mode_text;
 use crate::timeline::Moment;
 

@@ -1,7 +1,7 @@
 //! The paths of messages: arrows, crosses and loops, with their labels.
 use crate::layout::{Layout, Point};
 use crate::svg::layers::Layers;
-use crate::svg::svg_writer::Piece::{Node, Number, Short, Text, Whole};
+use crate::svg::svg_writer::PatternValue::{Node, Number, Short, Text, Whole};
 use crate::svg::wording::{kind_of, mode_text};
 use crate::timeline::{Fate, MessagePath, Moment};
 use ra_stamp::{Message, Name};

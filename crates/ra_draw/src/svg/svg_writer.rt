@@ -7,7 +7,7 @@ use std::alloc::Global;
 
 /// What is put in a place of a pattern.
 #[derive(Drop)]
-pub enum Piece<'a> {
+pub enum PatternValue<'a> {
     Number(u64),
     Node(NodeId),
     Text(&'a str),
@@ -48,14 +48,14 @@ impl SvgWriter {
         self.put(Buffer::new().format(number).as_bytes());
     }
 
-    /// Adds a piece. In a short name, two dots take the place of what is left out at an end.
-    fn put_piece(&mut self, piece: &Piece) {
-        match piece {
-            Piece::Number(number) => self.put_number(*number),
-            Piece::Node(node) => self.put_number(u64::from(node.get())),
-            Piece::Text(text) => self.put(text.as_bytes()),
-            Piece::Whole(name) => self.put(name.bytes()),
-            Piece::Short(name, cut) => {
+    /// Adds a value. In a short name, two dots take the place of what is left out at an end.
+    fn put_value(&mut self, value: &PatternValue) {
+        match value {
+            PatternValue::Number(number) => self.put_number(*number),
+            PatternValue::Node(node) => self.put_number(u64::from(node.get())),
+            PatternValue::Text(text) => self.put(text.as_bytes()),
+            PatternValue::Whole(name) => self.put(name.bytes()),
+            PatternValue::Short(name, cut) => {
                 if cut.before > 0 {
                     self.put(b"..");
                 }
@@ -67,13 +67,13 @@ impl SvgWriter {
         }
     }
 
-    /// Adds a pattern, in which these pieces take the places of `$`.
-    pub fn write(&mut self, pattern: &str, pieces: &[Piece]) {
+    /// Adds a pattern, in which these values take the places of `$`.
+    pub fn write(&mut self, pattern: &str, values: &[PatternValue]) {
         let mut rest = pattern.as_bytes();
-        for piece in pieces {
+        for value in values {
             let (before, after) = cut(rest, b'$');
             self.put(before);
-            self.put_piece(piece);
+            self.put_value(value);
             rest = after.unwrap_or(b"");
         }
         self.put(rest);

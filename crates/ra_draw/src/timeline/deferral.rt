@@ -27,15 +27,15 @@ impl Deferral {
 
 /// All deferrals, in the order in which they began, and the places of those that are not over.
 #[derive(Drop)]
-pub struct Deferrals {
+pub struct DeferralSpans {
     pub all: Vec<Deferral>,
     open: IndexMap<OwedReply, usize>,
 }
 
-impl Deferrals {
+impl DeferralSpans {
     /// Makes those of a run in which nothing has happened yet.
-    pub fn new(alloc: Global) -> Deferrals {
-        Deferrals {
+    pub fn new(alloc: Global) -> DeferralSpans {
+        DeferralSpans {
             all: Vec::new(alloc),
             open: IndexMap::new(alloc),
         }

@@ -1,15 +1,12 @@
 //! Which clients wait for which others at the end of a run.
 use crate::run_notes::client_end::{ClientEnd, RunEnd};
 use crate::script_notes::script_text::{run_of, script_in};
-use crate::trace_notes::blockers::{push_blockers, want_text};
+use crate::trace_notes::blockers::{MAX_CLIENTS, push_blockers, want_text};
 use crate::trace_notes::open_text::{OpenText, Sought};
 use ra_schedule::{Policy, Script};
 use ra_stamp::{Memory, Name, NodeId};
 use ra_world::Note;
 use std::alloc::Global;
-
-/// The most clients that are described.
-const MAX_CLIENTS: u64 = 4;
 
 /// Adds the client that is ahead of the clients of this node queued for a name.
 fn push_first(note: &mut Note, requests: &OpenText, node: NodeId, name: &Name) {

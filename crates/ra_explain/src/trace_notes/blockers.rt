@@ -3,6 +3,9 @@ use crate::run_notes::client_end::RunEnd;
 use crate::trace_notes::open_text::{OpenText, Sought};
 use ra_world::Note;
 
+/// The most clients that are named of those at one stage, or of those with something left to do.
+pub const MAX_CLIENTS: u64 = 4;
+
 /// The most requests that are named as blocking one request.
 const MAX_BLOCKERS: u64 = 3;
 

@@ -1,5 +1,5 @@
 //! What is in the first wrong line of a trace or of a mark log.
-use crate::trace_notes::due::push_due;
+use crate::trace_notes::due_mark::push_due;
 use crate::trace_notes::line_text::{push_mark_text, push_trace_text};
 use crate::trace_notes::not_under_way::push_not_under_way;
 use crate::trace_notes::obstacle::push_obstacle;

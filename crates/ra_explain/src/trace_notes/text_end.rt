@@ -1,7 +1,7 @@
 //! What is left at the end of a trace or of a mark log.
 ghost use Rattle.std.specs.Prelude.{◌≤◌, length};
 
-use crate::trace_notes::blockers::{push_blockers, want_text};
+use crate::trace_notes::blockers::{MAX_CLIENTS, push_blockers, want_text};
 use crate::trace_notes::open_request::{OpenRequest, Stage};
 use crate::trace_notes::open_text::{OpenText, Sought};
 use crate::trace_notes::replay::Replay;
@@ -11,9 +11,6 @@ use ra_stamp::Memory;
 use ra_world::Note;
 use std::alloc::Global;
 use std::simd::prelude::*;
-
-/// The most clients that are named at each stage.
-const MAX_CLIENTS: u64 = 4;
 
 /// How much is left at the end of a text.
 #[derive(Drop)]
