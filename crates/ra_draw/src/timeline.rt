@@ -157,7 +157,7 @@ impl Timeline {
             if let Step::Leave { .. } = step
                 && let Message::Reply { from, to, name, .. } = message
             {
-                self.deferrals.end((*from, *to, *name), self.now);
+                self.deferrals.end(&(*from, *to, *name), self.now);
             }
             self.paths.begin(alloc, message, self.now, false)?;
         }

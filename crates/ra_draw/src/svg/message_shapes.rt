@@ -68,10 +68,8 @@ impl Layers {
         self.shapes.write("$ $\"/>", &[Text(look), Text(kind)]);
     }
 
-    /// Begins the shape of a message: which one it is, and when it came under way.
-    fn begin_message(&mut self, path: &MessagePath) {
-        let message = &path.message;
-        let name = message.name();
+    /// Begins the shape of a message: which one it is.
+    fn name_message(&mut self, message: &Message, name: &Name) {
         self.shapes.write(
             "<g><title>$ $ from node $ to node $ for $",
             &[
@@ -79,9 +77,15 @@ impl Layers {
                 Number(message.seq()),
                 Node(message.from()),
                 Node(message.to()),
-                Whole(&name),
+                Whole(name),
             ],
         );
+    }
+
+    /// Begins the shape of a message: which one it is, and when it came under way.
+    fn begin_message(&mut self, path: &MessagePath) {
+        let message = &path.message;
+        self.name_message(message, &message.name());
         if let Message::Request { mode, .. } = message {
             self.shapes.write(", $", &[Text(mode_text(*mode))]);
         }

@@ -44,7 +44,7 @@ impl DeferralSpans {
     /// Notes that a REQUEST is deferred. An earlier one of the same node for the same name ends with it, since one REPLY answers both.
     pub fn begin(&mut self, request: &Message, came: Moment) -> Result<(), Memory> {
         let owed = (request.to(), request.from(), request.name());
-        self.end(owed, came);
+        self.end(&owed, came);
         self.open.insert(owed, self.all.len())?;
         self.all.push(Deferral {
             request: *request,
@@ -55,8 +55,8 @@ impl DeferralSpans {
     }
 
     /// Ends the deferral of a REPLY that is owed, if there is one.
-    pub fn end(&mut self, owed: OwedReply, ended: Moment) {
-        if let Some(place) = self.open.swap_remove(&owed) {
+    pub fn end(&mut self, owed: &OwedReply, ended: Moment) {
+        if let Some(place) = self.open.swap_remove(owed) {
             if let Some(deferral) = self.all.get_mut(place) {
                 deferral.ended = Some(ended);
             }
