@@ -47,20 +47,20 @@ impl<'a> Openings<'a> {
                 break;
             };
             if let Some(first) = first_in(shown) {
-                openings.note(&Opening { first, line, after });
+                openings.note(first, line, after);
             }
             rest = after;
         }
         (openings, rest)
     }
 
-    /// Notes that a book begins.
-    fn note(&mut self, opening: &Opening<'a>) {
+    /// Notes that a book begins with this line of this number, and goes on with this text.
+    fn note(&mut self, first: First, line: u64, after: &'a [u8]) {
         if self.first.is_none() {
-            self.first = Some(*opening);
+            self.first = Some(Opening { first, line, after });
         }
-        self.last = Some(*opening);
-        self.lines[usize::from(opening.first.node.get())] = opening.line;
+        self.last = Some(Opening { first, line, after });
+        self.lines[usize::from(first.node.get())] = line;
     }
 
     /// Returns the line at which the book of a node begins, or 0 if it has none.

@@ -40,18 +40,19 @@ pub fn event_in(line: &[u8]) -> Result<BookKind, Refusal>
 impl Standing {
     /// Makes that of the client of a line, which has not asked yet, if the line is one at which a client asks or leaves.
     fn of_line(line: &[u8]) -> Option<Standing> {
-        match event_in(line) {
+        let (client, name) = match &event_in(line) {
             Ok(BookKind::Asked { client, name, .. } | BookKind::Gave { client, name }) => {
-                Some(Standing {
-                    client,
-                    name,
-                    mode: Mode::Exclusive,
-                    stage: None,
-                    since: 0,
-                })
+                (*client, *name)
             }
-            _ => None,
-        }
+            _ => return None,
+        };
+        Some(Standing {
+            client,
+            name,
+            mode: Mode::Exclusive,
+            stage: None,
+            since: 0,
+        })
     }
 
     /// Notes the event of a line that the node took, and its marks.
@@ -94,11 +95,15 @@ fn take_line(
     shown: &[u8],
 ) -> Result<(), Refusal> {
     let kind = event_in(shown)?;
-    let outcome = node.take(alloc, &kind)?;
-    if let Some(client) = standing {
-        client.take(line, &kind, outcome.marks.as_slice());
+    match node.take(alloc, &kind) {
+        Ok(outcome) => {
+            if let Some(client) = standing {
+                client.take(line, &kind, outcome.marks.as_slice());
+            }
+            Ok(())
+        }
+        Err(why) => Err(why),
     }
-    Ok(())
 }
 
 /// Returns why the node of a book refuses the line of this number, after the lines of the book before it, and the client that asks or
