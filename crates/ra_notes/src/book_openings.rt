@@ -6,7 +6,7 @@ use ra_world::cut;
 const NODE_NUMBERS: usize = 65;
 
 /// The first line of a book, its number, counted from 1, and the text after it.
-#[derive(Clone, Copy)]
+#[derive(Drop)]
 pub struct Opening<'a> {
     pub first: First,
     pub line: u64,
@@ -32,6 +32,18 @@ pub fn first_in(line: &[u8]) -> Option<First> {
     First::parse(line)
 }
 
+impl<'a> Opening<'a> {
+    /// Makes that of a first line of this number, after which comes this text.
+    fn new(first: &First, line: u64, after: &'a [u8]) -> Opening<'a> {
+        let (node, nodes, start) = (first.node, first.nodes, first.start);
+        Opening {
+            first: First { node, nodes, start },
+            line,
+            after,
+        }
+    }
+}
+
 impl<'a> Openings<'a> {
     /// Returns the first lines of books before the line of this number, counted from 1, and the text from there on, or from its last
     /// line on if it ends before.
@@ -47,7 +59,7 @@ impl<'a> Openings<'a> {
                 break;
             };
             if let Some(first) = first_in(shown) {
-                openings.note(first, line, after);
+                openings.note(&first, line, after);
             }
             rest = after;
         }
@@ -55,11 +67,11 @@ impl<'a> Openings<'a> {
     }
 
     /// Notes that a book begins with this line of this number, and goes on with this text.
-    fn note(&mut self, first: First, line: u64, after: &'a [u8]) {
+    fn note(&mut self, first: &First, line: u64, after: &'a [u8]) {
         if self.first.is_none() {
-            self.first = Some(Opening { first, line, after });
+            self.first = Some(Opening::new(first, line, after));
         }
-        self.last = Some(Opening { first, line, after });
+        self.last = Some(Opening::new(first, line, after));
         self.lines[usize::from(first.node.get())] = line;
     }
 

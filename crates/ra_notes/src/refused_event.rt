@@ -82,6 +82,31 @@ impl Standing {
     }
 }
 
+/// Has a node take the event of a line, and notes what it did to a client.
+///
+/// # Errors
+///
+/// Why the node does not take it.
+fn take_event(
+    alloc: Global,
+    node: &mut TimedNode,
+    standing: &mut Option<Standing>,
+    line: u64,
+    kind: &BookKind,
+) -> Result<(), Refusal>
+    requires { CanCome kind.now }
+{
+    match node.take(alloc, kind) {
+        Ok(outcome) => {
+            if let Some(client) = standing {
+                client.take(line, kind, outcome.marks.as_slice());
+            }
+            Ok(())
+        }
+        Err(why) => Err(why),
+    }
+}
+
 /// Has a node take a line, and notes what it did to a client.
 ///
 /// # Errors
@@ -94,14 +119,8 @@ fn take_line(
     line: u64,
     shown: &[u8],
 ) -> Result<(), Refusal> {
-    let kind = event_in(shown)?;
-    match node.take(alloc, &kind) {
-        Ok(outcome) => {
-            if let Some(client) = standing {
-                client.take(line, &kind, outcome.marks.as_slice());
-            }
-            Ok(())
-        }
+    match event_in(shown) {
+        Ok(kind) => take_event(alloc, node, standing, line, &kind),
         Err(why) => Err(why),
     }
 }
