@@ -37,7 +37,7 @@ const AFTER_OTHERS: &[Note] = &[
     ),
     Note(
         Field(
-            "leave 1 1 r X 1\nenter 2 2 r X 1\n",
+            "request 1 1 r X 1\nenter 2 2 r X 1\n",
             2,
             Wrong::Trace(Cause::Table),
         ),
