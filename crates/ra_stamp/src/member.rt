@@ -1,8 +1,8 @@
-ghost use Rattle.std.specs.Prelude.{◌≡◌, ◌<◌, ◌↔◌, IsErrOf, IfOk};
+ghost use Rattle.std.specs.Prelude.{◌≡◌, ◌+◌, ◌<◌, ◌↔◌, IsErrOf, IfOk};
 ghost use Rattle.ra_stamp.specs.NodeId.{IsNodeNumber};
 ghost use Rattle.ra_stamp.specs.Member.{IsMember};
 
-use crate::NodeId;
+use crate::{NodeCount, NodeId};
 use std::fmt;
 use std::marker::Model;
 use thiserror::Error;
@@ -27,7 +27,7 @@ impl fmt::Display for MemberError {
 #[derive(Clone, Copy)]
 pub struct Member {
     node: NodeId,
-    nodes: u16,
+    nodes: NodeCount,
 }
 
 impl Model for Member {
@@ -61,13 +61,24 @@ impl Member {
         ensures bad_count { IsErrOf result MemberError.BadCount ↔ (IsNodeNumber nodes → ⊥) }
         ensures bad_node { IsErrOf result MemberError.BadNode ↔ (IsNodeNumber nodes × (nodes < node)) }
     {
-        if NodeId::new(nodes).is_none() {
+        let Some(nodes) = NodeCount::new(nodes) else {
             return Err(MemberError::BadCount);
-        }
-        if node.get() > nodes {
+        };
+        if node.get() > nodes.get() {
             return Err(MemberError::BadNode);
         }
         Ok(Member { node, nodes })
+    }
+
+    /// Returns the node at a place among this many nodes, counted from 0. It does not allocate.
+    pub fn at(place: u16, nodes: NodeCount) -> Member
+        requires { place < nodes }
+        ensures { result ≡ record { node = place + 1; nodes = nodes } }
+    {
+        // The count is at most 64.
+        let _ = nodes.get();
+        let node = NodeId::at(usize::from(place));
+        Member { node, nodes }
     }
 
     /// Returns the node. It does not allocate.
@@ -85,6 +96,6 @@ impl Member {
         ensures value { result ≡ self.nodes }
         ensures valid { IsMember self.node self.nodes }
     {
-        self.nodes
+        self.nodes.get()
     }
 }

@@ -1,4 +1,4 @@
-ghost use Rattle.std.specs.Prelude.{◌≡◌, ℕ, ◌-◌, ◌↔◌, IsSome, IfSome};
+ghost use Rattle.std.specs.Prelude.{◌≡◌, ℕ, ◌+◌, ◌-◌, ◌<◌, ◌↔◌, IsSome, IfSome};
 ghost use Rattle.ra_stamp.specs.NodeId.{IsNodeNumber};
 
 use std::fmt;
@@ -51,6 +51,17 @@ impl NodeId {
         ensures valid { IsNodeNumber self }
     {
         usize::from(self.number) - 1
+    }
+
+    /// Returns the node at a place among the nodes, counted from 0, so that `place` gives the place again. It does not allocate.
+    #[inline(always)]
+    pub fn at(place: usize) -> NodeId
+        requires { place < 64 }
+        ensures { result ≡ place + 1 }
+    {
+        NodeId {
+            number: place as u16 + 1,
+        }
     }
 }
 
