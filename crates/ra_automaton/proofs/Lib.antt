@@ -7,3 +7,4 @@ mod Sent
 pub mod Consistent
 pub mod Refusals
 mod Kept
+mod DeferredLemmas

@@ -1,4 +1,4 @@
--- Words as sets of nodes, and words with numbers as maps from nodes.
+-- Words as sets of nodes.
 use Rattle.std.proofs.Common.{◌≡◌, ◌≢◌, ◌⊎◌, ℕ, suc, suc-mul, ◌+◌, ◌-◌, ◌*◌, ◌/◌, ◌^◌, ◌<◌, ◌≤◌, Bool, true, false, cond, not, ◌||◌, ◌&&◌, eqb, List, length, get_or, set, map, filter, Option, Some, None, w64, refl, sym, ap, ◌∙◌, subst, arith, inl, inr, nat_eq}
 use Rattle.std.specs.Prelude.{◌==◌}
 use Rattle.std.specs.Int.{bit_at, bit_not}
@@ -126,19 +126,6 @@ zero_from_empty word fits none =
     no_bit : (bit : ℕ) → bit < 2 → eqb bit 1 ≡ false → bit ≡ 0
     no_bit bit h e = grind (arith, nat_tests)
 
--- the nodes of a word that has none above n
-pub nodes_of-within : (word n : ℕ) → n ≤ 64 → ((q : ℕ) → finset.contains (set_of word) q ≡ true → q ≤ n) → nodes_of word ≡ filter (has_bit word) (range_with_len 1 n)
-nodes_of-within word n few within =
-    filter-longer (has_bit word) 1 n bits_of_a_word (omega (arith, width)) (λ q low high.
-    no_bit (has_bit word q) (λ there. absurd_at q low (within q (contains_inside word q (omega arith) high ∙ there))))
-  where
-    no_bit : (b : Bool) → (b ≡ true → ⊥) → b ≡ false
-    no_bit true h = absurd (h refl)
-    no_bit false h = refl
-
-    absurd_at : (q : ℕ) → 1 + n ≤ q → q ≤ n → ⊥
-    absurd_at q low high = omega arith
-
 -- ---- The word of the nodes from 1 to n.
 
 one_less : (a b c : ℕ) → b ≡ suc c → suc a * b - 1 ≡ a * b + c
@@ -189,80 +176,4 @@ set_of-all_but me n few =
         elim (cases_lt q 1) [
           | inl zeroth ↦ outside q (inl zeroth)
           | inr low ↦ elim (cases_lt q (1 + n)) [ inl high ↦ inside q low high | inr past ↦ outside q (inr past) ]
-        ]
-
--- ---- Maps.
-
--- a node that is in has the number at its place
-pub get-map_of : (word : ℕ) (numbers : List ℕ) (q : ℕ) → finmap.get (map_of word numbers) q ≡ cond (finset.contains (set_of word) q) (Some (get_or numbers (q - 1) 0)) None
-get-map_of word numbers q =
-    let v = λ (node : ℕ). get_or numbers (node - 1) 0 in
-    finmap.get-from_sorted nat_cmp (map (λ node. (node, v node)) (nodes_of word)) q (sorted (has_bit word) v 1 bits_of_a_word)
-    ∙ elim (cases_node q) [
-      | inl out ↦
-          found_outside (has_bit word) v 1 bits_of_a_word q out
-          ∙ ap (λ b. cond b (Some (get_or numbers (q - 1) 0)) None) (sym (contains_outside word q out))
-      | inr within ↦
-          found_inside (has_bit word) v 1 bits_of_a_word q within.0 within.1
-          ∙ ap (λ b. cond b (Some (get_or numbers (q - 1) 0)) None) (sym (contains_inside word q within.0 within.1))
-    ]
-
-pub entries-map_of : (word : ℕ) (numbers : List ℕ) → finmap.entries (map_of word numbers) ≡ map (λ node. (node, get_or numbers (node - 1) 0)) (nodes_of word)
-entries-map_of word numbers =
-    finmap.entries-from_sorted nat_cmp (map (λ node. (node, get_or numbers (node - 1) 0)) (nodes_of word))
-    (sorted (has_bit word) (λ node. get_or numbers (node - 1) 0) 1 bits_of_a_word)
-
-pub map_of-zero : (numbers : List ℕ) → map_of 0 numbers ≡ finmap.empty
-map_of-zero numbers =
-    finmap.same_map nat_cmp_total nat_cmp-IsAntisymmetric _ _ (λ q.
-    get-map_of 0 numbers q
-    ∙ (ap (λ b. cond b (Some (get_or numbers (q - 1) 0)) None) (ap (λ (s : finset.FinSet nat_cmp). finset.contains s q) set_of-zero ∙ finset.contains-empty nat_cmp q)
-    ∙ sym (finmap.get-empty nat_cmp q)))
-
--- a node that was put in has a place, if each other one has
-pub insert_within : (word word' node n : ℕ) → set_of word' ≡ finset.insert (set_of word) node → node ≤ n
-    → ((q : ℕ) → finset.contains (set_of word) q ≡ true → q ≤ n) → (q : ℕ) → finset.contains (set_of word') q ≡ true → q ≤ n
-insert_within word word' node n put low within q there =
-    elim (cases_same q node) [
-      | inl same ↦ omega (arith, same, low)
-      | inr apart ↦
-          within q
-          (sym (ap (λ b. b || finset.contains (set_of word) q) (untied q node apart))
-          ∙ (sym (finset.contains-insert nat_cmp_total (set_of word) node q)
-          ∙ (sym (ap (λ (s : finset.FinSet nat_cmp). finset.contains s q) put) ∙ there)))
-    ]
-
--- nobody has a place
-pub none_within : (q : ℕ) → finset.contains (set_of 0) q ≡ true → ⊥
-none_within q there =
-    false_true (sym (ap (λ (s : finset.FinSet nat_cmp). finset.contains s q) set_of-zero ∙ finset.contains-empty nat_cmp q) ∙ there)
-  where
-    false_true : false ≡ true → ⊥
-    false_true e = cc
-
--- to write a node's number and put the node in is to give it the number
-pub map_of-insert_number : (word word' : ℕ) (numbers : List ℕ) (node number : ℕ) → 1 ≤ node → node ≤ length numbers → set_of word' ≡ finset.insert (set_of word) node
-    → map_of word' (set numbers (node - 1) number) ≡ finmap.insert (map_of word numbers) node number
-map_of-insert_number word word' numbers node number low high put =
-    finmap.same_map nat_cmp_total nat_cmp-IsAntisymmetric _ _ (λ q.
-    get-map_of word' (set numbers (node - 1) number) q
-    ∙ (ap (λ b. cond b (Some (get_or (set numbers (node - 1) number) (q - 1) 0)) None) (ap (λ (s : finset.FinSet nat_cmp). finset.contains s q) put ∙ finset.contains-insert nat_cmp_total (set_of word) node q)
-    ∙ (filled q
-    ∙ sym (finmap.get-insert nat_cmp_total (map_of word numbers) node number q ∙ ap (λ (o : Option ℕ). cond (eq_by_cmp nat_cmp q node) (Some number) o) (get-map_of word numbers q)))))
-  where
-    kept : (q : ℕ) → q ≢ node → cond (finset.contains (set_of word) q) (Some (get_or (set numbers (node - 1) number) (q - 1) 0)) None ≡ cond (finset.contains (set_of word) q) (Some (get_or numbers (q - 1) 0)) None
-    kept q apart =
-        elim (cases_lt q 1) [
-          | inl zeroth ↦ rw (contains_outside word q (inl zeroth)) refl
-          | inr from ↦
-              let other : q - 1 ≢ node - 1 = λ e. apart (omega arith) in
-              ap (λ (n : ℕ). cond (finset.contains (set_of word) q) (Some n) None) (get_or-set_other numbers (node - 1) (q - 1) number 0 other)
-        ]
-
-    filled : (q : ℕ) → cond (eq_by_cmp nat_cmp q node || finset.contains (set_of word) q) (Some (get_or (set numbers (node - 1) number) (q - 1) 0)) None
-        ≡ cond (eq_by_cmp nat_cmp q node) (Some number) (cond (finset.contains (set_of word) q) (Some (get_or numbers (q - 1) 0)) None)
-    filled q =
-        elim (cases_same q node) [
-          | inl same ↦ rw (tied q node same) (ap (λ (i : ℕ). Some (get_or (set numbers (node - 1) number) (i - 1) 0)) same ∙ ap (λ (n : ℕ). Some n) (get_or-set_same numbers (node - 1) number 0 (omega arith)))
-          | inr apart ↦ rw (untied q node apart) (kept q apart)
         ]

@@ -1,6 +1,6 @@
--- How words of 64 bits represent the nodes that are awaited and those that are deferred, and how a list represents the
--- numbers of the deferred ones. No public contract speaks of words.
-use Rattle.std.specs.Prelude.{ℕ, ◌-◌, Bool, List, filter, map, ◌==◌, slice_index, refl}
+-- How words of 64 bits represent sets of nodes, and how a set and a list represent the deferred nodes and their numbers. No
+-- public contract speaks of words.
+use Rattle.std.specs.Prelude.{ℕ, ◌-◌, Bool, List, filter, length, map, ◌==◌, slice_index, refl}
 use Rattle.std.specs.Coded.{Coded, code_by, coded×, coded_ℕ}
 use Rattle.std.specs.Int.{bit_at}
 use Rattle.std.specs.List.{range_with_len}
@@ -24,9 +24,10 @@ nodes_of word = filter (has_bit word) (range_with_len 1 bits_of_a_word)
 abbrev pub set_of : ℕ → set.FinSet nat_cmp
 set_of word = set.from_list (nodes_of word)
 
--- the nodes whose bits are set, each with its number: that of node i is at place i - 1 of the list
-abbrev pub map_of : ℕ → List ℕ → finmap.FinMap nat_cmp ℕ
-map_of word numbers = finmap.from_sorted (map (λ node. (node, slice_index numbers (node - 1))) (nodes_of word))
+-- the nodes of a set, each with its number: that of node i is at place i - 1 of the list
+abbrev pub map_of : set.FinSet nat_cmp → List ℕ → finmap.FinMap nat_cmp ℕ
+map_of nodes numbers =
+    finmap.from_sorted (map (λ node. (node, slice_index numbers (node - 1))) (filter (λ node. set.contains nodes node) (range_with_len 1 (length numbers))))
 
 -- the deferred nodes, each with the number of its request, and how many nodes there is room for
 pub record Deferred : Type 0 where

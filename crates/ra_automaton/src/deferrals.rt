@@ -3,8 +3,7 @@ ghost use Rattle.std.specs.Prelude.{◌≡◌, ℕ, ◌+◌, ◌≤◌, ◌++◌
 ghost use Rattle.std.specs.FinMap as finmap;
 ghost use Rattle.ra_automaton.specs.NodeSet.{Deferred, nobody_of};
 
-use crate::node_set::{has_bit, with_bit};
-use crate::sends::node;
+use crate::node_set::NodeSet;
 use ra_stamp::{Member, Memory, Message, Messages, Name, NodeId};
 use std::alloc::Global;
 use std::marker::Model;
@@ -14,8 +13,7 @@ use std::marker::Model;
 /// nothing, so it has no room.
 #[derive(Drop)]
 pub struct Deferrals {
-    /// A node is deferred if its bit is set: bit i - 1 is that of node i.
-    nodes: u64,
+    nodes: NodeSet,
     /// The number with which node i is deferred, at place i - 1. It means nothing if the node is not deferred.
     numbers: Vec<u64>,
 }
@@ -41,7 +39,7 @@ impl Deferrals {
         ensures { result ≡ nobody_of 0 }
     {
         Deferrals {
-            nodes: 0,
+            nodes: NodeSet::empty(),
             numbers: Vec::new(alloc),
         }
     }
@@ -55,7 +53,10 @@ impl Deferrals {
         ensures { IfOk result (λ made. made ≡ nobody_of member.nodes) }
     {
         let numbers = vec![in alloc; 0; usize::from(member.nodes())]?;
-        Ok(Deferrals { nodes: 0, numbers })
+        Ok(Deferrals {
+            nodes: NodeSet::empty(),
+            numbers,
+        })
     }
 
     /// Returns the number with which a node is deferred, or `None` if it is not.
@@ -63,7 +64,7 @@ impl Deferrals {
     pub fn get(&self, node: NodeId) -> Option<u64>
         ensures { result ≡ finmap.get self.now.numbers node }
     {
-        if has_bit(self.nodes, node) {
+        if self.nodes.contains(node) {
             Some(self.numbers[node.place()])
         } else {
             None
@@ -76,7 +77,7 @@ impl Deferrals {
         requires { node ≤ self.old.room }
         ensures { self.new ≡ record self.old { numbers = finmap.insert self.old.numbers node number } }
     {
-        self.nodes = with_bit(self.nodes, node);
+        self.nodes.insert(node);
         self.numbers[node.place()] = number;
     }
 
@@ -85,7 +86,7 @@ impl Deferrals {
     pub fn clear(&mut self)
         ensures { self.new ≡ nobody_of self.old.room }
     {
-        self.nodes = 0;
+        self.nodes = NodeSet::empty();
     }
 
     /// Adds a REPLY to each deferred node, in ascending order. After an error some may have been added. It does not
@@ -97,8 +98,8 @@ impl Deferrals {
         ensures spare { self.now.room ≤ sends.old.spare → sends.old.spare ≤ sends.new.spare + self.now.room }
     {
         for place in 0..self.numbers.len() {
-            let to = node(place as u16 + 1);
-            if has_bit(self.nodes, to) {
+            let to = NodeId::at(place);
+            if self.nodes.contains(to) {
                 sends.push(Message::Reply {
                     from: me,
                     to,

@@ -27,22 +27,6 @@ impl Model for NodeSet {
     ghost view = { λ s. set_of s.bits };
 }
 
-/// Returns whether the bit of a node is set.
-#[inline(always)]
-pub fn has_bit(bits: u64, node: NodeId) -> bool
-    ensures { result ≡ set.contains (set_of bits) node }
-{
-    (bits >> node.place()) & 1 == 1
-}
-
-/// Returns the bits with that of a node set.
-#[inline(always)]
-pub fn with_bit(bits: u64, node: NodeId) -> u64
-    ensures { set_of result ≡ set.insert (set_of bits) node }
-{
-    bits | 1 << node.place()
-}
-
 /// Returns the bits with that of a node cleared.
 #[inline(always)]
 fn without_bit(bits: u64, node: NodeId) -> u64
@@ -77,7 +61,7 @@ impl NodeSet {
     pub fn contains(&self, node: NodeId) -> bool
         ensures { result ≡ set.contains self.now node }
     {
-        has_bit(self.bits, node)
+        (self.bits >> node.place()) & 1 == 1
     }
 
     /// Returns whether no node but this one is in.
@@ -86,6 +70,14 @@ impl NodeSet {
         ensures { IsTrue result ↔ (set.remove self.now node ≡ set.empty) }
     {
         without_bit(self.bits, node) == 0
+    }
+
+    /// Puts a node in.
+    #[inline(always)]
+    pub fn insert(&mut self, node: NodeId)
+        ensures { self.new ≡ set.insert self.old node }
+    {
+        self.bits |= 1 << node.place();
     }
 
     /// Takes a node out.

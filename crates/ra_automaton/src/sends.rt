@@ -1,17 +1,8 @@
 //! The REQUESTs that an event sends.
 ghost use Rattle.std.specs.Prelude.{◌≡◌, ◌+◌, ◌≤◌, ◌++◌, map, IsOk, OnOk};
-ghost use Rattle.ra_stamp.specs.NodeId.{IsNodeNumber};
 ghost use Rattle.ra_automaton.specs.Steps.{others_of};
 
 use ra_stamp::{Member, Memory, Message, Messages, Mode, Name, NodeId};
-
-/// Returns the node with a number that is known to be one.
-pub fn node(number: u16) -> NodeId
-    requires { IsNodeNumber number }
-    ensures { result ≡ number }
-{
-    NodeId::new(number).unwrap()
-}
 
 /// Adds a REQUEST to each other node, in ascending order. After an error some may have been added. It does not allocate
 /// if there is room for one to each node.
@@ -29,12 +20,11 @@ pub fn push_requests(
     let me = member.node();
     let nodes = member.nodes();
     sends.reserve(u64::from(nodes.saturating_sub(1)))?;
-    for place in 0..nodes {
-        let number = place + 1;
-        if number != me.get() {
+    for place in 0..usize::from(nodes) {
+        if place != me.place() {
             sends.push(Message::Request {
                 from: me,
-                to: node(number),
+                to: NodeId::at(place),
                 name,
                 mode,
                 seq,
