@@ -74,7 +74,7 @@ impl Automaton {
     ) -> Result<Automaton, NewError>
         ensures ok { IfOk result (λ automaton. automaton ≡ opening me nodes name start) }
         ensures consistent { IfOk result IsConsistent }
-        ensures bad_count { IsErrOf result NewError.BadCount ↔ ((nodes < 1) ⊎ (64 < nodes)) }
+        ensures bad_count { IsErrOf result NewError.BadCount ↔ (IsNodeNumber nodes → ⊥) }
         ensures bad_node { IsErrOf result NewError.BadNode ↔ (IsNodeNumber nodes × (nodes < me)) }
         ensures no_memory { IsErrOf result NewError.Memory → ⊥ }
     {
@@ -123,14 +123,29 @@ impl Automaton {
         if self.highest == u64::MAX {
             return Err(RequestError::Exhausted);
         }
+        match self.request_when_idle(alloc, mode) {
+            Ok(reaction) => Ok(reaction),
+            Err(Memory) => Err(RequestError::Memory),
+        }
+    }
+
+    /// Makes a request as `request` does, if it is already known that the node is idle and a number is left.
+    ///
+    /// # Errors
+    ///
+    /// `Memory`: memory ran out. The automaton is then as before.
+    pub fn request_when_idle(&mut self, alloc: Global, mode: Mode) -> Result<Reaction, Memory>
+        requires idle { self.old.phase ≡ Phase.Idle }
+        requires number_left { self.old.highest < greatest_number }
+        ensures ok { IfOk result (λ reaction.
+            RequestStep self.old mode reaction.sends.items reaction.entered self.new) }
+        ensures consistent { IsConsistent self.new }
+        ensures err { OnErr result (self.new ≡ self.old) }
+    {
         let seq = self.highest + 1;
         let mut sends = Messages::new(alloc);
-        if push_requests(&mut sends, self.member, self.name, mode, seq).is_err() {
-            return Err(RequestError::Memory);
-        }
-        let Ok(room) = Deferrals::with_room(alloc, self.member) else {
-            return Err(RequestError::Memory);
-        };
+        push_requests(&mut sends, self.member, self.name, mode, seq)?;
+        let room = Deferrals::with_room(alloc, self.member)?;
         let entered = self.begin(mode, room);
         Ok(Reaction { sends, entered })
     }
