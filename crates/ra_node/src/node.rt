@@ -112,7 +112,7 @@ impl Node {
     pub fn new(alloc: Global, me: NodeId, nodes: u16, start: u64) -> Result<Node, NewError>
         ensures ok { IfOk result (λ node. node ≡ opening_node me nodes start) }
         ensures consistent { IfOk result IsConsistentNode }
-        ensures bad_count { IsErrOf result NewError.BadCount ↔ ((nodes < 1) ⊎ (64 < nodes)) }
+        ensures bad_count { IsErrOf result NewError.BadCount ↔ (IsNodeNumber nodes → ⊥) }
         ensures bad_node { IsErrOf result NewError.BadNode ↔ (IsNodeNumber nodes × (nodes < me)) }
         ensures no_memory { IsErrOf result NewError.Memory → ⊥ }
     {
@@ -287,6 +287,27 @@ impl Node {
         }
     }
 
+    /// Checks that a message is for this node, and from another one of its cluster, as `receive` does first. It does not
+    /// allocate.
+    ///
+    /// # Errors
+    ///
+    /// The first that holds:
+    ///
+    /// 1. `WrongNode`: the message is for another node.
+    /// 2. `Stranger`: its sender is this node or above the number of nodes.
+    pub fn check_address(&self, message: &Message) -> Result<(), ReceiveError>
+        ensures addressed { IsOk result ↔ IsForNode self.now.me self.now.nodes message.now }
+        ensures wrong_node { IsErrOf result ReceiveError.WrongNode ↔ (to_of message.now ≢ self.now.me) }
+        ensures stranger { IsErrOf result ReceiveError.Stranger
+            ↔ ((to_of message.now ≡ self.now.me)
+            × ((from_of message.now ≡ self.now.me) ⊎ (self.now.nodes < from_of message.now))) }
+        ensures no_memory { IsErrOf result ReceiveError.Memory → ⊥ }
+        ensures consistent { IsConsistentNode self.now }
+    {
+        check_address(self.member, message)
+    }
+
     /// Returns whether a message for this node from another one makes it send nothing and mark nothing. Examples are a
     /// REQUEST whose REPLY is deferred, and a REPLY that is not the last one awaited. A caller that keeps what a node
     /// sends and marks can ask this before anything changes. It does not allocate. The cost is constant.
@@ -336,6 +357,17 @@ impl Node {
     {
         let slot = self.slot_of(name)?;
         slot.holder()
+    }
+
+    /// Returns whether a client holds a name at this node, so that it may leave. It does not allocate.
+    pub fn is_held_by(&self, client: u32, name: &Name) -> bool
+        ensures held { IsTrue result ↔ ((entry : Entry) × Holds (resource_at self.now name.now) client entry) }
+        ensures consistent { IsConsistentNode self.now }
+    {
+        match self.slot_of(name) {
+            Some(slot) => slot.held_by(client).is_some(),
+            None => false,
+        }
     }
 
     /// Returns the request of this node that waits on a name for its REPLYs, or `None`. It does not allocate.

@@ -180,8 +180,7 @@ impl Slot {
             return Err(AskError::Memory);
         };
         let requested = self.next_entry(client, mode);
-        let Ok(reaction) = self.automaton.request(alloc, mode) else {
-            // Only `Memory` can come if the node is idle and a number is left.
+        let Ok(reaction) = self.automaton.request_when_idle(alloc, mode) else {
             return Err(AskError::Memory);
         };
         self.client = Some(client);
@@ -428,7 +427,7 @@ impl Slot {
     }
 
     /// Returns the request by which a client holds the resource, or `None`.
-    fn held_by(&self, client: u32) -> Option<Entry>
+    pub fn held_by(&self, client: u32) -> Option<Entry>
         ensures held { IfSome result (Holds self.now client) }
         ensures not_held { IsNone result ↔ ((entry : Entry) → Holds self.now client entry → ⊥) }
     {
