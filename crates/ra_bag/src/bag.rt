@@ -10,8 +10,8 @@ use crate::filled::Filled;
 use crate::found::Found;
 use crate::places::Places;
 use crate::slots::{
-    append, at, clear, close_up, contains, has, make_room, nth, slot_of, starts_empty, take_first,
-    take_last, take_out,
+    append, at, clear, close_up, contains, has, is_last, make_room, nth, slot_of, starts_empty,
+    take_first, take_last, take_out,
 };
 use ra_stamp::{Memory, Message, Messages};
 use std::alloc::Global;
@@ -31,6 +31,9 @@ pub struct Bag {
     places: Places,
     /// Which slots have a message, to find the one at a place.
     filled: Filled,
+    /// The slot before that of the message which was taken last after it was found, where the next one is looked for. No
+    /// clause relies on it.
+    beside: usize,
 }
 
 impl Model for Bag {
@@ -65,6 +68,7 @@ impl Bag {
             empty: 0,
             places: Places::new(alloc),
             filled: Filled::new(alloc),
+            beside: 0,
         })
     }
 
@@ -102,8 +106,9 @@ impl Bag {
     /// Returns where a message that is equal to this one is, for `take_from`, or `None` if no such message is under
     /// way. It does not allocate.
     ///
-    /// The message at the place `near` is looked at first, at the cost of `at`. If it is another one, the first equal
-    /// one is found, at the cost of `take`.
+    /// The message at the place `near` is looked at first, at the cost of `at`, and then in constant time the one sent
+    /// before that which `take_from` took last, and the one sent last. If they are others, the first equal one is found,
+    /// at the cost of `take`.
     #[inline(always)]
     pub fn find(&mut self, message: &Message, near: u64) -> Option<Found>
         ensures same { self.new ≡ self.old }
@@ -116,7 +121,13 @@ impl Bag {
         if has(&self.slots, at_near, message) {
             return Some(Found::At(near));
         }
-        let slot = first_of(&self.slots, &mut self.places, &mut self.filled, message)?;
+        let slot = slot_with(
+            &self.slots,
+            &mut self.places,
+            &mut self.filled,
+            self.beside,
+            message,
+        )?;
         Some(Found::In(slot as u64))
     }
 
@@ -253,6 +264,7 @@ impl Bag {
                 slot,
                 message,
             );
+            self.beside = slot.wrapping_sub(1);
         } else {
             self.take(message);
         }
@@ -296,6 +308,33 @@ fn slot_among(slots: &VecDeque<Option<Message>>, filled: &Filled, place: u64) ->
         return filled.nth(place);
     }
     nth(slots, place)
+}
+
+/// Returns a slot that has a message that is equal to this one. Unless this slot or the last one does, it is the first.
+fn slot_with(
+    slots: &VecDeque<Option<Message>>,
+    places: &mut Places,
+    filled: &mut Filled,
+    beside: usize,
+    message: &Message,
+) -> Option<usize>
+    requires told { IsTold ⟦<Message as PartialEq>⟧.eq places.old slots.now.items }
+    requires shown { KeepsShown filled.old slots.now.items }
+    ensures told { IsTold ⟦<Message as PartialEq>⟧.eq places.new slots.now.items }
+    ensures shown { KeepsShown filled.new slots.now.items }
+    ensures some { IsSome result ↔ Contains (messages_in slots.now.items) message.now }
+{
+    // A caller that delivers the messages from the newest on asks for the one before that which it delivered last.
+    if has(slots, beside, message) {
+        // It is taken from between others.
+        filled.want(slots.len());
+        return Some(beside);
+    }
+    // The first of them is the last one of all.
+    if is_last(slots, message) {
+        return Some(slots.len().saturating_sub(1));
+    }
+    first_of(slots, places, filled, message)
 }
 
 /// Returns the first slot that has a message that is equal to this one.

@@ -6,12 +6,10 @@ ghost use Rattle.ra_stamp.specs.declared.message.Message.{Message};
 ghost use Rattle.ra_bag.specs.Bag.{IsAt, messages_in};
 ghost use Rattle.ra_bag.specs.Filled.{IsShown, KeepsShown};
 
+use crate::slots::MAX_LINEAR_SCAN;
 use ra_stamp::{Memory, Message};
 use std::alloc::Global;
 use std::collections::VecDeque;
-
-/// If there are no more slots than this, they are searched one by one.
-const MAX_LINEAR_SCAN: usize = 64;
 
 /// If there are no more slots than this, to move messages when one is taken from between them costs less than to keep
 /// bits.

@@ -6,15 +6,12 @@ ghost use Rattle.ra_stamp.specs.declared.message.Message.{Message};
 ghost use Rattle.ra_bag.specs.Bag.{StandsIn, messages_in};
 ghost use Rattle.ra_bag.specs.Places.{IsFirstSlot, IsTold, Tells, Learns, Unlearns, later_numbers};
 
-use crate::slots::is_same;
+use crate::slots::{MAX_LINEAR_SCAN, is_same};
 use indexmap::IndexMap;
 use ra_stamp::{Memory, Message, equal_is_same};
 use std::alloc::Global;
 use std::collections::VecDeque;
 use std::mem::replace;
-
-/// If there are no more slots than this, they are searched one by one.
-const MAX_LINEAR_SCAN: usize = 64;
 
 /// The slots of the messages in a bag, to find the first slot that has a message without looking at all of them.
 /// Looking for a message takes no memory, so the slots are learned by the next call that may take it, after a message

@@ -8,6 +8,9 @@ ghost use Rattle.ra_bag.specs.Bag.{StandsIn, IsAt, messages_in};
 use ra_stamp::{Memory, Message};
 use std::collections::VecDeque;
 
+/// If there are no more slots than this, they are searched one by one.
+pub const MAX_LINEAR_SCAN: usize = 64;
+
 /// Makes room for this many more slots, unless the list already has it.
 pub fn make_room(slots: &mut VecDeque<Option<Message>>, more: usize) -> Result<(), Memory>
     ensures same { slots.new.items ≡ slots.old.items }
@@ -87,7 +90,7 @@ pub fn contains(slots: &VecDeque<Option<Message>>, message: &Message) -> bool
 }
 
 /// Returns whether the last slot has a message that is equal to this one.
-fn is_last(slots: &VecDeque<Option<Message>>, message: &Message) -> bool
+pub fn is_last(slots: &VecDeque<Option<Message>>, message: &Message) -> bool
     ensures { IsTrue result → Contains (messages_in slots.now.items) message.now }
 {
     has(slots, slots.len().saturating_sub(1), message)

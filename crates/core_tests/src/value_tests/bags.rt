@@ -487,12 +487,13 @@ const MANY: &[Scene] = &[
         &[
             PutsNumbers(1, 200),
             PutsNumbers(7, 1),
+            PutsNumbers(201, 1),
             TakesNear(Asks(7), 0),
             Contains(Asks(7)),
             TakesEveryOther(2, 70),
             TakesNear(Asks(7), 0),
             Lacks(Asks(7)),
-            HasCount(129),
+            HasCount(130),
         ],
     ),
     // If a message is put after one was looked for among many, the bag knows from then on in which slot each is.
@@ -519,6 +520,7 @@ const MANY: &[Scene] = &[
         &[
             PutsNumbers(1, 200),
             PutsNumbers(50, 1),
+            PutsNumbers(201, 1),
             Finds(50, 49),
             // It was looked for among many, so the bag now learns in which slot each is.
             MakesRoom(0),
@@ -527,11 +529,36 @@ const MANY: &[Scene] = &[
             TakesNear(Asks(100), 0),
             Finds(50, 48),
             PutsNumbers(60, 1),
+            PutsNumbers(202, 1),
             Finds(60, 58),
             Takes(Asks(50)),
             Finds(50, 199),
             Takes(Asks(60)),
-            Finds(60, 200),
+            Finds(60, 201),
+        ],
+    ),
+    // Of two equal messages among many, the last of all is found. From then on the one before that which was taken last is
+    // found first, too: from the newest on, no message is looked for.
+    Scene(
+        "among many the last message is found, and then the one before it",
+        &[
+            PutsNumbers(1, 200),
+            PutsNumbers(50, 1),
+            Finds(50, 200),
+            TakesNear(Asks(50), 0),
+            FindsAt(Asks(50), 49),
+            TakesNear(Asks(200), 0),
+            PutsNumbers(201, 1),
+            TakesNear(Asks(199), 0),
+            PutsNumbers(198, 1),
+            Finds(198, 197),
+            TakesNear(Asks(198), 0),
+            // The slots of the two that were taken from between others stay, and are empty.
+            Finds(198, 200),
+            HasNumbers(0, 1, 1, 197),
+            HasNumbers(197, 201, 1, 1),
+            HasNumbers(198, 198, 1, 1),
+            HasCount(199),
         ],
     ),
 ];

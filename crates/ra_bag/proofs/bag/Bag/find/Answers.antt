@@ -75,14 +75,14 @@ slot_at-at_near-requires-clause-count c = c.self.invariant.0
 pub slot_at-at_near-requires-clause-shown : goal.slot_at-at_near-requires-clause-shown
 slot_at-at_near-requires-clause-shown c = c.self.invariant.3
 
-pub first_of-requires-clause-told : goal.first_of-requires-clause-told
-first_of-requires-clause-told c = c.self.invariant.2
+pub slot_with-requires-clause-told : goal.slot_with-requires-clause-told
+slot_with-requires-clause-told c = c.self.invariant.2
 
-pub first_of-requires-clause-shown : goal.first_of-requires-clause-shown
-first_of-requires-clause-shown c = c.self.invariant.3
+pub slot_with-requires-clause-shown : goal.slot_with-requires-clause-shown
+slot_with-requires-clause-shown c = c.self.invariant.3
 
 pub invariant_of-self : goal.invariant_of-self
-invariant_of-self c = (c.self.invariant.0, c.self.invariant.1, c.first_of.ensures.told, c.first_of.ensures.shown)
+invariant_of-self c = (c.self.invariant.0, c.self.invariant.1, c.slot_with.ensures.told, c.slot_with.ensures.shown)
 
 pub invariant_of-self-2 : goal.invariant_of-self-2
-invariant_of-self-2 c = (c.self.invariant.0, c.self.invariant.1, c.first_of.ensures.told, c.first_of.ensures.shown)
+invariant_of-self-2 c = (c.self.invariant.0, c.self.invariant.1, c.slot_with.ensures.told, c.slot_with.ensures.shown)
