@@ -16,7 +16,7 @@ use Rattle.ra_history.specs.declared.book.event.BookEvent.{BookEvent}
 use Rattle.ra_history.specs.declared.book.sent.Sent.{Sent}
 use Rattle.ra_history.specs.History.{node_event, frames_at}
 use Rattle.ra_history.specs.Book.{BookState, LeadsTo, HasHistory, HasClock, Adds, as_sent, next_clock, with_event}
-use Rattle.ra_history.specs.Keeping.{Keeps, IsForThisBook, ComesNext, Happens, Stays}
+use Rattle.ra_history.specs.Keeping.{Keeps, IsForThisBook, ComesNext, Happens}
 use Rattle.ra_history.proofs.Kept.{history_of}
 
 -- ---- What is kept if nothing but room changed
@@ -110,13 +110,9 @@ module _ (now book : BookState) (old new : NodeState) (clock : ℕ) (kind : Book
 
 -- ---- No event
 
-pub kept_still : (book : BookState) (old new : NodeState) (events : List BookEvent) (sent : List Sent) → Keeps book old
-    → Stays old new book.events events book.sent sent → Keeps (record book { events = events; sent = sent }) new
-kept_still book old new events sent keeps stays = same_kept book old new events sent keeps stays.events_are stays.sent_are stays.node_is
-
-pub same_book : (now book : BookState) (old new : NodeState) (events : List BookEvent) (sent : List Sent) → book ≡ now
-    → Stays old new book.events events book.sent sent → record book { events = events; sent = sent } ≡ now
-same_book now book old new events sent is stays = (λ i. record book { events = stays.events_are i; sent = stays.sent_are i }) ∙ is
+pub same_book : (now book : BookState) (events : List BookEvent) (sent : List Sent) → book ≡ now → events ≡ book.events → sent ≡ book.sent
+    → record book { events = events; sent = sent } ≡ now
+same_book now book events sent is events_are sent_are = (λ i. record book { events = events_are i; sent = sent_are i }) ∙ is
 
 -- ---- What comes of an event at the node
 

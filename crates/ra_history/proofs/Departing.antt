@@ -54,7 +54,7 @@ module _ (nodes : ℕ) (old new : NodeState) (spare spare' len len' capacity cap
     reserved_still count room = record { many = omega (arith, was.many, count); each = was.each; room = room }
 
     -- an event was refused, and there is no less room than before
-    pub reserved_refused : new ≡ old → HasGrown spare spare' len len' capacity capacity' → IsReserved nodes new spare' len' capacity' departures
+    reserved_refused : new ≡ old → HasGrown spare spare' len len' capacity capacity' → IsReserved nodes new spare' len' capacity' departures
     reserved_refused same grown =
         subst (λ (n : NodeState). IsReserved nodes n spare' len' capacity' departures) (sym same)
         (record {
@@ -62,6 +62,11 @@ module _ (nodes : ℕ) (old new : NodeState) (spare spare' len len' capacity cap
           each = was.each;
           room = record { events = omega (arith, was.room.events, grown.events); sent = omega (arith, was.room.sent, grown.len_is, grown.sent) };
         })
+
+    -- nothing but room changed
+    pub reserved_grown : (departures' : List Departure) → new ≡ old → departures' ≡ departures → HasGrown spare spare' len len' capacity capacity'
+        → IsReserved nodes new spare' len' capacity' departures'
+    reserved_grown departures' same is grown = subst (λ (ds : List Departure). IsReserved nodes new spare' len' capacity' ds) (sym is) (reserved_refused same grown)
 
 -- what is taken out of the list is a departure
 pub taken_out : (nodes : ℕ) (departures departures' : List Departure) (departure : Departure) → departures ≡ departures' ++ departure ∷ [] → All (IsDeparture nodes) departures → IsDeparture nodes departure

@@ -18,7 +18,7 @@ use Rattle.ra_history.specs.declared.book.stop.Stop.{Stop}
 use Rattle.ra_history.specs.Refused.{refusal_of_ask}
 use Rattle.ra_history.specs.History.{clock_after, clock_of}
 use Rattle.ra_history.specs.Book.{BookState, whole_events, LeadsTo, HasHistory, HasClock, Runs}
-use Rattle.ra_history.specs.Keeping.{Keeps, IsForThisBook, ComesNext, HasNextClock, IsChecked, AnswersAsk, AnswersNodeAsk, RefusesAsk, AnswersLeave}
+use Rattle.ra_history.specs.Keeping.{Keeps, IsForThisBook, ComesNext, HasNextClock, IsChecked, AnswersAsk, RefusesAsk, AnswersLeave}
 
 -- a book leads to one node, so what is said of that node is said of the one that is kept
 pub runs_is :
@@ -124,10 +124,6 @@ pub not_ok : {T E : Type 0} (Q : E → Type 0) (P : T → Type 0) (r : Result T 
 not_ok Q P (Ok v) is = absurd is
 not_ok Q P (Err e) is = tt
 
-pub match_err : {T E : Type 0} (Q : E → Type 0) (P : T → Type 0) (A : Type 0) (r : Result T E) → IsErrAnd r Q → A → MatchResult r P (λ _. A)
-match_err Q P A (Ok v) is h = absurd is
-match_err Q P A (Err e) is h = h
-
 pub on_err : {T E : Type 0} (A : Type 0) (r : Result T E) → A → OnErr r A
 on_err A (Ok v) h = tt
 on_err A (Err e) h = h
@@ -141,24 +137,6 @@ passed x e cause h is = (
 
 pub passed_allowed : (T S : Type 0) {Q E : Type 0} (x e memory : E) → x ≡ e → IsOkUnless {T = T} (Err e) memory ↔ Q → IsOkUnless {T = S} (Err x) memory ↔ Q
 passed_allowed T S x e memory h is = (λ m. is.0 (sym h ∙ m), λ q. h ∙ is.1 q)
-
--- by a node
-pub node_passed : {T S : Type 0} (node : NodeState) (client : ℕ) (name : List ℕ) (e : AskError) → AnswersNodeAsk {T = T} node client name (Err e)
-    → (r : Result S AskError) → IsErrAnd r (λ x. x ≡ e) → AnswersNodeAsk node client name r
-node_passed {T} {S} node client name e answers (Ok v) h = absurd h
-node_passed {T} {S} node client name e answers (Err x) h = record {
-  busy = passed x e ask.Busy h answers.busy;
-  exhausted = passed x e ask.Exhausted h answers.exhausted;
-  allowed = passed_allowed T S x e ask.Memory h answers.allowed;
-}
-
-pub node_made : {T S : Type 0} (node : NodeState) (client : ℕ) (name : List ℕ) (v : T) → AnswersNodeAsk {T = T} node client name (Ok v)
-    → (w : S) → AnswersNodeAsk {T = S} node client name (Ok w)
-node_made node client name v answers w = record {
-  busy = (λ is. absurd (cc), λ is_busy. let no = answers.busy.1 is_busy in absurd (cc));
-  exhausted = (λ is. absurd (cc), λ is_exhausted. let no = answers.exhausted.1 is_exhausted in absurd (cc));
-  allowed = (λ _. answers.allowed.0 tt, λ _. tt);
-}
 
 -- by what is allowed, which stops only if memory runs out
 pub other : {T S Q : Type 0} (v : T) (r : Result S BookError) (cause : BookError) → IsOkUnless r Memory → cause ≢ Memory → IsErrOf (Ok v) cause ↔ Q → IsErrOf r cause ↔ Q
@@ -231,12 +209,14 @@ module _ (book : BookState) (client : ℕ) (name : List ℕ) (mode : Mode) where
     }
 
     -- the node answers it, and a clock is left
-    pub ask_answered : {S T : Type 0} (e : AskError) → AnswersNodeAsk {T = S} node client name (Err e) → HasClock book (Asked client name mode)
+    pub ask_answered : {S T : Type 0} (e : AskError) → IsErrOf {T = S} (Err e) ask.Busy ↔ IsBusy (resource_at node name) client
+        → IsErrOf {T = S} (Err e) ask.Exhausted ↔ ((IsBusy (resource_at node name) client → ⊥) × ((resource_at node name).state.highest ≡ greatest_number))
+        → IsOkUnless {T = S} (Err e) ask.Memory ↔ MayAsk (resource_at node name) client → HasClock book (Asked client name mode)
         → (r : Result T BookError) → IsErrAnd r (λ x. x ≡ refusal_of_ask e) → AnswersAsk book client name mode r
-    ask_answered {S} {T} ask.Busy answers has r h = ask_refused {S = S} ask.Busy answers.busy answers.exhausted (λ is. absurd (cc)) r h
-    ask_answered {S} {T} ask.Exhausted answers has r h = ask_refused {S = S} ask.Exhausted answers.busy answers.exhausted (λ is. absurd (cc)) r h
-    ask_answered {S} {T} ask.Memory answers has (Ok v) h = absurd h
-    ask_answered {S} {T} ask.Memory answers has (Err x) h = ask_added {T = List ℕ} [] (ask_allowed {T = List ℕ} [] (answers.allowed.0 refl) has) (Err x) h
+    ask_answered {S} {T} ask.Busy busy exhausted allowed has r h = ask_refused {S = S} ask.Busy busy exhausted (λ is. absurd (cc)) r h
+    ask_answered {S} {T} ask.Exhausted busy exhausted allowed has r h = ask_refused {S = S} ask.Exhausted busy exhausted (λ is. absurd (cc)) r h
+    ask_answered {S} {T} ask.Memory busy exhausted allowed has (Ok v) h = absurd h
+    ask_answered {S} {T} ask.Memory busy exhausted allowed has (Err x) h = ask_added {T = List ℕ} [] (ask_allowed {T = List ℕ} [] (allowed.0 refl) has) (Err x) h
 
     -- the node allows it
     pub ask_next : (clock : ℕ) → MayAsk (resource_at node name) client → clock ≡ clock_of (whole_events book)

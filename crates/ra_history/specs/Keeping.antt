@@ -15,8 +15,6 @@ use Rattle.ra_frame.specs.Fits.{Fits}
 use Rattle.ra_frame.specs.FrameText.{IsFrameText}
 use Rattle.ra_automaton.specs.State.{IsForNode}
 use Rattle.ra_automaton.specs.Steps.{greatest_number}
-use Rattle.ra_node.specs.declared.error.AskError.{AskError}
-use Rattle.ra_node.specs.declared.error.AskError.TheVariants as ask
 use Rattle.ra_node.specs.Resource.{Holds, IsBusy}
 use Rattle.ra_node.specs.Turns.{MayAsk}
 use Rattle.ra_node.specs.Node.{NodeState, opening_node, resource_at, IsConsistentNode}
@@ -86,11 +84,6 @@ sends_by nodes (Asked client name mode) = nodes
 sends_by nodes (Gave client name) = 2 * nodes
 sends_by nodes (Got frame) = answers_to frame.message
 
--- if this happens at the node, in a cluster of this many nodes, it sends no more than that
-abbrev pub SendsFew : ℕ → NodeState → BookKind → Type 0
-SendsFew nodes node kind =
-    (new : NodeState) (sends : List Message) (marks : List Mark) → NodeEvent node (node_event kind) sends marks new → length sends ≤ sends_by nodes kind
-
 -- the event happened at the node, follows the events so far, and its frames follow those so far
 pub record Happens (old new : NodeState) (events events' : List BookEvent) (sent sent' : List Sent) (event : BookEvent)
     (posted : Posted) : Type 0 where
@@ -99,12 +92,6 @@ pub record Happens (old new : NodeState) (events events' : List BookEvent) (sent
   pub events_are : events' ≡ events ++ event ∷ []
   pub sent_are : sent' ≡ sent ++ as_sent (frames_at event.clock sends)
   pub frames_are : posted.frames.items ≡ frames_at event.clock sends
-
--- it was refused, and everything is as before
-pub record Stays (old new : NodeState) (events events' : List BookEvent) (sent sent' : List Sent) : Type 0 where
-  pub node_is : new ≡ old
-  pub events_are : events' ≡ events
-  pub sent_are : sent' ≡ sent
 
 -- A clock is left for an event of this kind at a book without a fault, and this is that clock.
 pub record HasNextClock (book : BookState) (kind : BookKind) (clock : ℕ) : Type 0 where
@@ -135,13 +122,6 @@ pub record AnswersAsk {T : Type 0} (book : BookState) (client : ℕ) (name : Lis
 -- an ask is refused for this cause, as `Book::ask` says, if memory may run out
 abbrev pub RefusesAsk : BookState → ℕ → List ℕ → Mode → BookError → Type 0
 RefusesAsk book client name mode refused = AnswersAsk {T = Posted} book client name mode (Err refused)
-
--- an ask is answered as `Node::ask` says, with `Memory` as the only other error
-pub record AnswersNodeAsk {T : Type 0} (node : NodeState) (client : ℕ) (name : List ℕ) (answer : Result T AskError) : Type 0 where
-  pub busy : IsErrOf answer ask.Busy ↔ IsBusy (resource_at node name) client
-  pub exhausted : IsErrOf answer ask.Exhausted
-      ↔ ((IsBusy (resource_at node name) client → ⊥) × ((resource_at node name).state.highest ≡ greatest_number))
-  pub allowed : IsOkUnless answer ask.Memory ↔ MayAsk (resource_at node name) client
 
 -- a leave is answered as `Book::leave` says
 pub record AnswersLeave {T : Type 0} (book : BookState) (client : ℕ) (name : List ℕ) (answer : Result T BookError) : Type 0 where

@@ -18,9 +18,9 @@ ghost use Rattle.ra_node.specs.Node.{resource_at};
 
 use crate::book::accepted_frame::accept_frame;
 use crate::book::departure::Departure;
-use crate::book::event_room::{events_for, sent_for};
+use crate::book::event_room::{answers_to, events_for, make_room, room_to_ask, sent_for};
 use crate::book::frame_search::is_kept;
-use crate::book::kept_events::{clock_after, flag_lost, keep_ask, keep_frame, keep_leave};
+use crate::book::kept_events::{clock_after, flag_lost, keep};
 use crate::book::taken::{Taken, latest_of};
 use crate::{BookError, BookEvent, BookKind, Events, MarkLostError, NewError, Posted, Sent, Stop};
 use ra_frame::Frame;
@@ -149,23 +149,26 @@ impl Book {
             × HasClock self.old (BookKind.Asked client name mode)) }
         ensures err { OnErr result (self.new ≡ self.old) }
     {
-        let Some(clock) = self.next_clock(&BookKind::Asked { client, name, mode }) else {
+        events_count_clients();
+        let kind = BookKind::Asked { client, name, mode };
+        let Some(clock) = self.next_clock(&kind) else {
             return Err(self.ask_refusal(client, name, mode));
         };
         let nodes = self.nodes;
-        let posted = keep_ask(
+        let room = room_to_ask(
             alloc,
             nodes,
-            &mut self.node,
             &mut self.events,
             &mut self.sent,
             &mut self.departures,
-            clock,
-            client,
-            name,
-            mode,
-        )?;
-        Ok(posted)
+        );
+        let Ok((frames, departure)) = room else {
+            return Err(self.ask_refusal(client, name, mode));
+        };
+        let outcome = self.node.ask(alloc, client, name, mode)?;
+        self.departures.push_reserved(departure);
+        let event = BookEvent { clock, kind };
+        Ok(keep(&mut self.events, &mut self.sent, frames, event, outcome))
     }
 
     /// The client that holds a name leaves it. The clock is one more than before, and the frames and marks are those of the
@@ -196,19 +199,20 @@ impl Book {
             × HasClock self.old (BookKind.Gave client name)) }
         ensures err { OnErr result (self.new ≡ self.old) }
     {
+        events_count_clients();
         let clock = self.check_leave(client, name)?;
-        let nodes = self.nodes;
-        Ok(keep_leave(
-            alloc,
-            nodes,
-            &mut self.node,
-            &mut self.events,
-            &mut self.sent,
-            &mut self.departures,
-            clock,
-            client,
-            name,
-        ))
+        let Some(departure) = self.departures.pop() else {
+            // The client that holds is one for which there is a departure.
+            unreachable!()
+        };
+        let Departure { outcome, frames } = departure;
+        let Ok(outcome) = self.node.leave_into(alloc, client, name, outcome) else {
+            // The client holds, and the outcome has room.
+            unreachable!()
+        };
+        let kind = BookKind::Gave { client, name };
+        let event = BookEvent { clock, kind };
+        Ok(keep(&mut self.events, &mut self.sent, frames, event, outcome))
     }
 
     /// The bytes of a frame come, in version 1 or 2. The clock is one more than the greater of the clock before and the
@@ -246,21 +250,28 @@ impl Book {
             × HasClock self.old (BookKind.Got frame)) }
         ensures err { OnErr result (self.new ≡ self.old) }
     {
+        events_count_clients();
         let (frame, clock) = self.check_receive(bytes)?;
+        let sends = answers_to(&frame.message);
+        let leaves = self.departures.len();
         let nodes = self.nodes;
-        let Ok(posted) = keep_frame(
+        let room = make_room(
             alloc,
             nodes,
-            &mut self.node,
             &mut self.events,
             &mut self.sent,
-            &self.departures,
-            clock,
-            frame,
-        ) else {
+            sends,
+            leaves,
+        );
+        let Ok(frames) = room else {
             return Err(BookError::Memory);
         };
-        Ok(posted)
+        let Ok(outcome) = self.node.receive(alloc, &frame.message) else {
+            return Err(BookError::Memory);
+        };
+        let kind = BookKind::Got(frame);
+        let event = BookEvent { clock, kind };
+        Ok(keep(&mut self.events, &mut self.sent, frames, event, outcome))
     }
 
     /// Flags the sent frame that is equal to this one as lost, or the first of several equal ones. It does not allocate. The
