@@ -40,7 +40,7 @@ impl NodeCount {
         self.last.get()
     }
 
-    /// Returns the node with this number, or `None` if there is no such node among so many. It does not allocate.
+    /// Returns the node with this number, or `None` if there is no such node among this many. It does not allocate.
     pub fn node(self, number: u16) -> Option<NodeId>
         ensures there { IsSome result ↔ ((1 ≤ number) × (number ≤ self)) }
         ensures value { IfSome result (λ node. node ≡ number) }
