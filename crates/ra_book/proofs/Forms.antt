@@ -10,9 +10,9 @@ use Rattle.ra_stamp.specs.Name.{IsName}
 use Rattle.ra_stamp.specs.NodeId.{IsNodeNumber}
 use Rattle.ra_stamp.specs.declared.mode.Mode.{Mode}
 use Rattle.ra_stamp.specs.Mode.{mode_word}
-use Rattle.ra_trace.specs.Forms.{fields, behind, node_of, client_of, start_of, name_of, mode_of}
+use Rattle.ra_trace.specs.Forms.{fields, rest_after, node_of, client_of, start_of, name_of, mode_of}
 use Rattle.ra_trace.specs.TraceText.{IsClientNumber}
-use Rattle.ra_trace.proofs.Cuts.{mapped, behind-append}
+use Rattle.ra_trace.proofs.Cuts.{mapped, rest_after-append}
 use Rattle.ra_trace.proofs.Spelled.{Reads, reads_fields, reads_node, reads_client, reads_start, reads_name, reads_mode}
 use Rattle.ra_history.specs.declared.book.event.BookKind.{BookKind}
 use Rattle.ra_history.specs.declared.book.event.BookKind.TheVariants.{Asked, Gave}
@@ -59,9 +59,9 @@ unmapped f None e = refl
 unmapped f (Some x) e = absurd cc
 
 -- a text that begins otherwise
-pub clash : (words rest text : List ℕ) → words ++ rest ≡ text → behind words text ≡ None → ⊥
+pub clash : (words rest text : List ℕ) → words ++ rest ≡ text → rest_after words text ≡ None → ⊥
 clash words rest text same none =
-    let both : Some rest ≡ None = sym (behind-append words rest) ∙ (ap (behind words) same ∙ none) in
+    let both : Some rest ≡ None = sym (rest_after-append words rest) ∙ (ap (rest_after words) same ∙ none) in
     cc
 
 -- what is after the words
@@ -106,7 +106,7 @@ pub release_none : (rest : List ℕ) → release_of rest ≡ None → (line : Li
 release_none rest e line is = no_release line rest is (unmapped (λ (f : ℕ × List ℕ). Gave f.0 f.1) (fields client_of name_of rest) e)
 
 -- none of the words
-pub no_words : (line : List ℕ) → behind (codes "receive ") line ≡ None → behind (codes "ask ") line ≡ None → behind (codes "release ") line ≡ None
+pub no_words : (line : List ℕ) → rest_after (codes "receive ") line ≡ None → rest_after (codes "ask ") line ≡ None → rest_after (codes "release ") line ≡ None
     → (form : Form) → HasForm line form → ⊥
 no_words line no_receive no_ask no_release (Ask client name mode) h =
     clash (codes "ask ") (ask_tail (client, (name, mode))) line (ask_text client name mode ∙ sym h.2) no_ask
@@ -150,7 +150,7 @@ first_above line rest is f e above node nodes start h =
     let at : nodes < node = subst (λ (g : ℕ × (ℕ × ℕ)). g.1.0 < g.0) same above in
     omega (arith, at, h.member.1)
 
-pub no_book : (line : List ℕ) → behind (codes "book 1 ") line ≡ None → (node nodes start : ℕ) → IsFirst line node nodes start → ⊥
+pub no_book : (line : List ℕ) → rest_after (codes "book 1 ") line ≡ None → (node nodes start : ℕ) → IsFirst line node nodes start → ⊥
 no_book line none node nodes start h = clash (codes "book 1 ") (first_tail (node, (nodes, start))) line (book_text node nodes start ∙ sym h.text_is) none
 
 -- by `decode_to_slice`

@@ -7,7 +7,7 @@ use Rattle.std.proofs.lemmas.Grind.{flat_map-append}
 use Rattle.ra_world.specs.Run.{marks_of}
 use Rattle.ra_world.specs.Quiet.{requests_in}
 use Rattle.ra_world.specs.Traffic.{sent_by}
-use Rattle.ra_trace.specs.declared.checker.Next.{Next}
+use Rattle.ra_trace.specs.declared.checker.Judgement.{Judgement}
 use Rattle.ra_trace.specs.declared.error.TraceError.{TraceError}
 use Rattle.ra_trace.specs.declared.error.TraceError.TheVariants.{Read, Limit, Memory}
 use Rattle.ra_trace.specs.declared.line.Line.{Line}
@@ -22,10 +22,10 @@ use Rattle.ra_trace.specs.declared.line.version.Version.{Version}
 use Rattle.ra_trace.specs.Forms.{IsReadable, BeginsReadable}
 use Rattle.ra_trace.specs.TraceText.{IsLine, line_text, trace_lines}
 use Rattle.ra_trace.specs.Verdict.{IsTracePrefix, IsFirst, IsWrong}
-use Rattle.ra_trace.specs.Reading.{IsWhole, AreRight, IsOpenLine, IsOpen, IsOver, HasBegun, HasRead, Judges, StopsBehind, Answers}
+use Rattle.ra_trace.specs.Reading.{IsWhole, AreRight, IsOpenLine, IsOpen, IsOver, HasBegun, HasRead, Judges, StopsAfter, Answers}
 use Rattle.ra_trace.specs.NextLine.{EndsSo, TakesBytes, FailsWithin, IsOverLine, HasNone, EndsText}
-use Rattle.ra_trace.specs.Checking.{due_of, StandsBehind, Takes, Refuses, Allows, Judged}
-use Rattle.ra_trace.specs.Along.{IsBehind, IsAlong, IsDone, Opens, Turns, SomeTaken}
+use Rattle.ra_trace.specs.Checking.{due_of, IsCheckerOf, Takes, Refuses, Allows, Judged}
+use Rattle.ra_trace.specs.Along.{HasTaken, IsAlong, IsDone, Opens, Turns, SomeTaken}
 use Rattle.ra_trace.specs.Below.{LawsBelow}
 use Rattle.ra_trace.proofs.Lines.{begins_once}
 use Rattle.ra_trace.proofs.Versions.{begins_readable}
@@ -43,7 +43,7 @@ consumed_both (Some xs) (Some ys) (Some zs) first second a b =
 
 -- ---- After whole lines
 
-has_read : (limit left : ℕ) (old now new : Option (List ℕ)) (prefix : List Line) (bytes : List ℕ) → IsBehind limit left old now prefix
+has_read : (limit left : ℕ) (old now new : Option (List ℕ)) (prefix : List Line) (bytes : List ℕ) → HasTaken limit left old now prefix
     → Consumes now new bytes → length bytes ≤ left → HasRead limit old new prefix bytes
 has_read limit left old now new prefix bytes behind taken most = record {
   taken = consumed_both old now new (flat_map line_text prefix) bytes behind.taken taken;
@@ -53,7 +53,7 @@ has_read limit left old now new prefix bytes behind taken most = record {
 
 -- an error of what comes next
 pub fails_behind : (limit left : ℕ) (old now new : Option (List ℕ)) (prefix : List Line) (bytes : List ℕ) (fault : TraceError)
-    → IsBehind limit left old now prefix → (IsWhole prefix → bytes ≡ []) → FailsWithin left now new bytes fault
+    → HasTaken limit left old now prefix → (IsWhole prefix → bytes ≡ []) → FailsWithin left now new bytes fault
     → Answers limit old new (Err fault)
 fails_behind limit left old now new prefix bytes Read behind last (taken, opened) =
     (prefix, bytes, has_read limit left old now new prefix bytes behind taken.0 taken.1, (opened, last))
@@ -77,7 +77,7 @@ over_behind prefix bytes more (before, byte, opened, is, how) =
 
 -- a verdict on bytes that no line begins
 none_behind : (limit left : ℕ) (old now new : Option (List ℕ)) (prefix : List Line) (bytes : List ℕ) (number : ℕ) (why : Cause)
-    → IsBehind limit left old now prefix → (IsWhole prefix → ⊥) → TakesBytes left now new bytes
+    → HasTaken limit left old now prefix → (IsWhole prefix → ⊥) → TakesBytes left now new bytes
     → IsOverLine bytes ⊎ (IsOpenLine bytes × IsAtEnd new) → number ≡ length prefix + 1 → IsWrong prefix bytes why
     → Judges limit old new (Invalid number why)
 none_behind limit left old now new prefix bytes number why behind more taken how is wrong = (
@@ -89,8 +89,8 @@ none_behind limit left old now new prefix bytes number why behind more taken how
 )
 
 -- memory ran out after right lines
-stops_behind : (limit left : ℕ) (old now : Option (List ℕ)) (prefix : List Line) → IsBehind limit left old now prefix → HasBegun prefix
-    → StopsBehind limit old now
+stops_behind : (limit left : ℕ) (old now : Option (List ℕ)) (prefix : List Line) → HasTaken limit left old now prefix → HasBegun prefix
+    → StopsAfter limit old now
 stops_behind limit left old now prefix behind begun = (prefix, begun, behind.taken, omega (arith, behind.room))
 
 -- ---- The first line
@@ -99,7 +99,7 @@ pub nothing_taken : (old : Option (List ℕ)) → Consumes old old []
 nothing_taken None = tt
 nothing_taken (Some bytes) = refl
 
-nothing_read : (limit : ℕ) (old : Option (List ℕ)) → IsBehind limit limit old old []
+nothing_read : (limit : ℕ) (old : Option (List ℕ)) → HasTaken limit limit old old []
 nothing_read limit old = record { taken = nothing_taken old; room = omega arith; right = inl refl }
 
 no_line_is_whole : IsWhole [] → ⊥
@@ -142,8 +142,8 @@ one_more : (prefix : List Line) (line : Line) (bytes : List ℕ) → bytes ≡ l
 one_more prefix line bytes is = ap (λ (xs : List ℕ). flat_map line_text prefix ++ xs) is ∙ sym (flat_map-append line_text prefix (line ∷ []))
 
 behind_one_more : (limit left : ℕ) (old now new : Option (List ℕ)) (prefix : List Line) (line : Line) (bytes : List ℕ)
-    → IsBehind limit left old now prefix → TakesBytes left now new bytes → BeginsReadable bytes line [] → AreRight (prefix ++ line ∷ [])
-    → IsBehind limit (left - length bytes) old new (prefix ++ line ∷ [])
+    → HasTaken limit left old now prefix → TakesBytes left now new bytes → BeginsReadable bytes line [] → AreRight (prefix ++ line ∷ [])
+    → HasTaken limit (left - length bytes) old new (prefix ++ line ∷ [])
 behind_one_more limit left old now new prefix line bytes behind taken begins right =
     let is = one_more prefix line bytes begins.1 in
     record {
@@ -152,12 +152,12 @@ behind_one_more limit left old now new prefix line bytes behind taken begins rig
       right = right;
     }
 
-stands_right : (checker : Checker) (prefix : List Line) → StandsBehind checker prefix → AreRight prefix
+stands_right : (checker : Checker) (prefix : List Line) → IsCheckerOf checker prefix → AreRight prefix
 stands_right checker prefix stands =
     inr (inl (checker.version, checker.world.count, checker.world.start, checker.world.moves, due_of checker, stands.prefix))
 
 -- after the first line
-pub along_first : (limit : ℕ) (old new : Option (List ℕ)) (bytes : List ℕ) (line : Line) (checker : Checker) → TakesBytes limit old new bytes → BeginsReadable bytes line [] → (IsReadable line → StandsBehind checker (line ∷ []))
+pub along_first : (limit : ℕ) (old new : Option (List ℕ)) (bytes : List ℕ) (line : Line) (checker : Checker) → TakesBytes limit old new bytes → BeginsReadable bytes line [] → (IsReadable line → IsCheckerOf checker (line ∷ []))
     → IsAlong limit (limit - length bytes) old new checker 2
 along_first limit old new bytes line checker taken begins stands = record {
   prefix = line ∷ [];
@@ -169,7 +169,7 @@ along_first limit old new bytes line checker taken begins stands = record {
 }
 
 no_memory_first : (limit : ℕ) (old new : Option (List ℕ)) (bytes : List ℕ) (line : Line) → TakesBytes limit old new bytes
-    → BeginsReadable bytes line [] → HasBegun (line ∷ []) → StopsBehind limit old new
+    → BeginsReadable bytes line [] → HasBegun (line ∷ []) → StopsAfter limit old new
 no_memory_first limit old new bytes line taken begins begun =
     stops_behind limit (limit - length bytes) old new (line ∷ [])
     (behind_one_more limit limit old old new [] line bytes (nothing_read limit old) taken begins (inr (inl begun))) begun
@@ -177,7 +177,7 @@ no_memory_first limit old new bytes line taken begins begun =
 -- what the first line comes to
 pub opens_by : (limit : ℕ) (old new : Option (List ℕ)) (bytes : List ℕ) (line : Line) (result : Result (Option Checker) TraceError)
     → TakesBytes limit old new bytes → BeginsReadable bytes line [] → EndsSo Feed bytes new
-    → IfOk result (λ opened. IfSome opened (λ checker. IsReadable line → StandsBehind checker (line ∷ [])))
+    → IfOk result (λ opened. IfSome opened (λ checker. IsReadable line → IsCheckerOf checker (line ∷ [])))
     → IfOk result (λ opened. IsNone opened → (version : Version) → IsLine version line → IsFirst line → ⊥)
     → IfErr result (λ fault. (fault ≡ Memory) × (IsReadable line → HasBegun (line ∷ [])))
     → Opens limit old new (length bytes) result
@@ -189,7 +189,7 @@ opens_by limit old new bytes line (Err fault) taken begins ended some none err =
 
 along_by : (limit left : ℕ) (old now new : Option (List ℕ)) (checker after : Checker) (number : ℕ) (line : Line) (bytes : List ℕ)
     → (along : IsAlong limit left old now checker number) → TakesBytes left now new bytes → BeginsReadable bytes line []
-    → StandsBehind after (along.prefix ++ line ∷ []) → IsAlong limit (left - length bytes) old new after (number + 1)
+    → IsCheckerOf after (along.prefix ++ line ∷ []) → IsAlong limit (left - length bytes) old new after (number + 1)
 along_by limit left old now new checker after number line bytes along taken begins stands = record {
   prefix = along.prefix ++ line ∷ [];
   behind =
@@ -243,7 +243,7 @@ wrong_next laws limit left old now new checker number line bytes why along taken
 
 no_memory_next : (limit left : ℕ) (old now new : Option (List ℕ)) (checker : Checker) (number : ℕ) (line : Line) (bytes : List ℕ)
     → IsAlong limit left old now checker number → TakesBytes left now new bytes → BeginsReadable bytes line [] → Allows checker line
-    → StopsBehind limit old new
+    → StopsAfter limit old new
 no_memory_next limit left old now new checker number line bytes along taken begins allows =
     let begun = allows.right along.prefix begins.0 along.stands in
     stops_behind limit (left - length bytes) old new (along.prefix ++ line ∷ [])
@@ -251,7 +251,7 @@ no_memory_next limit left old now new checker number line bytes along taken begi
 
 -- ---- After the last line
 
-prefix_at_end : (checker : Checker) (prefix : List Line) → StandsBehind checker prefix → due_of checker ≡ []
+prefix_at_end : (checker : Checker) (prefix : List Line) → IsCheckerOf checker prefix → due_of checker ≡ []
     → IsTracePrefix checker.version checker.world.count checker.world.start checker.world.moves [] prefix
 prefix_at_end checker prefix stands none =
     subst (λ ms. IsTracePrefix checker.version checker.world.count checker.world.start checker.world.moves ms prefix) none stands.prefix
@@ -281,25 +281,25 @@ done_by_last limit left old now new checker after number bytes along taken begin
 
 -- what the line comes to that was read
 pub turns_by : LawsBelow → (limit left : ℕ) (old now new : Option (List ℕ)) (checker after : Checker) (number : ℕ) (line : Line) (bytes : List ℕ)
-    (result : Result Next TraceError) → IsAlong limit left old now checker number → TakesBytes left now new bytes → BeginsReadable bytes line []
+    (result : Result Judgement TraceError) → IsAlong limit left old now checker number → TakesBytes left now new bytes → BeginsReadable bytes line []
     → EndsSo Feed bytes new → Judged checker line after result → Turns limit left old new after number (length bytes) result
-turns_by laws limit left old now new checker after number line bytes (Ok Next.Right) along taken begins ended is =
+turns_by laws limit left old now new checker after number line bytes (Ok Judgement.Right) along taken begins ended is =
     along_more limit left old now new checker after number line bytes along taken begins is.0 is.1
-turns_by laws limit left old now new checker after number line bytes (Ok Next.Last) along taken begins ended is =
+turns_by laws limit left old now new checker after number line bytes (Ok Judgement.Last) along taken begins ended is =
     done_by_last limit left old now new checker after number bytes along taken (subst (λ (l : Line). BeginsReadable bytes l []) is.0 begins)
     (subst (λ (l : Line). Takes checker l after) is.0 is.1)
-turns_by laws limit left old now new checker after number line bytes (Ok (Next.Wrong why)) along taken begins ended is =
+turns_by laws limit left old now new checker after number line bytes (Ok (Judgement.Wrong why)) along taken begins ended is =
     wrong_next laws limit left old now new checker number line bytes why along taken begins ended is
 turns_by laws limit left old now new checker after number line bytes (Err fault) along taken begins ended is =
     subst (λ (why : TraceError). Answers limit old new (Err why)) (sym is.0)
     (no_memory_next limit left old now new checker number line bytes along taken begins is.1)
 
 -- such a line took some bytes
-pub some_taken_by : (left : ℕ) (now new : Option (List ℕ)) (bytes : List ℕ) (result : Result Next TraceError) → TakesBytes left now new bytes
+pub some_taken_by : (left : ℕ) (now new : Option (List ℕ)) (bytes : List ℕ) (result : Result Judgement TraceError) → TakesBytes left now new bytes
     → EndsSo Feed bytes new → IfOk result (λ next. SomeTaken left (length bytes) next)
-some_taken_by left now new bytes (Ok Next.Right) taken ended = (some_bytes_at_feed bytes new ended, taken.1)
-some_taken_by left now new bytes (Ok Next.Last) taken ended = (some_bytes_at_feed bytes new ended, taken.1)
-some_taken_by left now new bytes (Ok (Next.Wrong why)) taken ended = tt
+some_taken_by left now new bytes (Ok Judgement.Right) taken ended = (some_bytes_at_feed bytes new ended, taken.1)
+some_taken_by left now new bytes (Ok Judgement.Last) taken ended = (some_bytes_at_feed bytes new ended, taken.1)
+some_taken_by left now new bytes (Ok (Judgement.Wrong why)) taken ended = tt
 some_taken_by left now new bytes (Err fault) taken ended = tt
 
 nothing_is_open : (prefix : List Line) → IsOpen prefix []
@@ -355,18 +355,18 @@ answers_at_end limit left old now new checker number (Err Memory) done none = ab
 -- ---- From line to line
 
 -- what is left if it is neither wrong nor the last
-pub right_turns : (limit left : ℕ) (old new : Option (List ℕ)) (after : Checker) (number count : ℕ) (next : Next)
-    → Turns limit left old new after number count (Ok next) → ((why : Cause) → next ≡ Next.Wrong why → ⊥) → (next ≡ Next.Last → ⊥)
+pub right_turns : (limit left : ℕ) (old new : Option (List ℕ)) (after : Checker) (number count : ℕ) (next : Judgement)
+    → Turns limit left old new after number count (Ok next) → ((why : Cause) → next ≡ Judgement.Wrong why → ⊥) → (next ≡ Judgement.Last → ⊥)
     → IsAlong limit (left - count) old new after (number + 1)
-right_turns limit left old new after number count Next.Right turns wrong last = turns
-right_turns limit left old new after number count Next.Last turns wrong last = absurd (last refl)
-right_turns limit left old new after number count (Next.Wrong why) turns wrong last = absurd (wrong why refl)
+right_turns limit left old new after number count Judgement.Right turns wrong last = turns
+right_turns limit left old new after number count Judgement.Last turns wrong last = absurd (last refl)
+right_turns limit left old new after number count (Judgement.Wrong why) turns wrong last = absurd (wrong why refl)
 
-pub some_taken : (left count : ℕ) (next : Next) → SomeTaken left count next → ((why : Cause) → next ≡ Next.Wrong why → ⊥)
+pub some_taken : (left count : ℕ) (next : Judgement) → SomeTaken left count next → ((why : Cause) → next ≡ Judgement.Wrong why → ⊥)
     → (1 ≤ count) × (count ≤ left)
-some_taken left count Next.Right some wrong = some
-some_taken left count Next.Last some wrong = some
-some_taken left count (Next.Wrong why) some wrong = absurd (wrong why refl)
+some_taken left count Judgement.Right some wrong = some
+some_taken left count Judgement.Last some wrong = some
+some_taken left count (Judgement.Wrong why) some wrong = absurd (wrong why refl)
 
 pub at_first : (limit taken : ℕ) → 2 + (limit - taken) ≤ limit + 2
 at_first limit taken = omega arith

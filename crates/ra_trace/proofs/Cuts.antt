@@ -4,7 +4,7 @@ use Rattle.std.proofs.lemmas.Bool.{ne_eqb, cases_Bool, eqb-true, false≢true}
 use Rattle.std.proofs.lemmas.List.{take_all}
 use Rattle.std.proofs.lemmas.List.Elements.{All-head, All-tail}
 use Rattle.std.proofs.lemmas.Option.{same_Some, none-some}
-use Rattle.ra_trace.specs.Forms.{cut, behind}
+use Rattle.ra_trace.specs.Forms.{cut, rest_after}
 
 -- an option that was mapped
 pub mapped : {A B : Type 0} (f : A → B) (o : Option A) (y : B) → option_map f o ≡ Some y → (x : A) × (o ≡ Some x) × (f x ≡ y)
@@ -66,36 +66,36 @@ cut-none byte (x ∷ xs) before =
     if_false (x == byte) (Some ([], xs)) (option_map (longer x) (cut byte xs)) (ne_eqb x byte (before 0 (omega arith)))
     ∙ ap (option_map (longer x)) (cut-none byte xs (λ k h. before (suc k) (omega arith)))
 
-pub behind-append : (words rest : List ℕ) → behind words (words ++ rest) ≡ Some rest
-behind-append [] rest = refl
-behind-append (w ∷ words) rest = if_true (w == w) (behind words (words ++ rest)) None (eq-eqb w w refl) ∙ behind-append words rest
+pub rest_after-append : (words rest : List ℕ) → rest_after words (words ++ rest) ≡ Some rest
+rest_after-append [] rest = refl
+rest_after-append (w ∷ words) rest = if_true (w == w) (rest_after words (words ++ rest)) None (eq-eqb w w refl) ∙ rest_after-append words rest
 
-pub behind-only : (words text rest : List ℕ) → behind words text ≡ Some rest → text ≡ words ++ rest
-behind-only [] text rest e = same_Some _ _ e
-behind-only (w ∷ words) [] rest e = absurd cc
-behind-only (w ∷ words) (b ∷ text) rest e =
+pub rest_after-only : (words text rest : List ℕ) → rest_after words text ≡ Some rest → text ≡ words ++ rest
+rest_after-only [] text rest e = same_Some _ _ e
+rest_after-only (w ∷ words) [] rest e = absurd cc
+rest_after-only (w ∷ words) (b ∷ text) rest e =
     elim (cases_Bool (w == b)) [
-      | inl same ↦ let is = behind-only words text rest (sym (if_true (w == b) (behind words text) None same) ∙ e) in rw (eqb-true w b same, is)
-      | inr other ↦ absurd (none-some rest (sym (if_false (w == b) (behind words text) None other) ∙ e))
+      | inl same ↦ let is = rest_after-only words text rest (sym (if_true (w == b) (rest_after words text) None same) ∙ e) in rw (eqb-true w b same, is)
+      | inr other ↦ absurd (none-some rest (sym (if_false (w == b) (rest_after words text) None other) ∙ e))
     ]
 
-pub behind-none : (words text : List ℕ) → ((rest : List ℕ) → text ≢ words ++ rest) → behind words text ≡ None
-behind-none [] text other = absurd (other text refl)
-behind-none (w ∷ words) [] other = refl
-behind-none (w ∷ words) (b ∷ text) other =
+pub rest_after-none : (words text : List ℕ) → ((rest : List ℕ) → text ≢ words ++ rest) → rest_after words text ≡ None
+rest_after-none [] text other = absurd (other text refl)
+rest_after-none (w ∷ words) [] other = refl
+rest_after-none (w ∷ words) (b ∷ text) other =
     elim (cases_Bool (w == b)) [
-      | inl same ↦ if_true (w == b) (behind words text) None same ∙ behind-none words text (λ rest e. other rest (cc (eqb-true w b same)))
-      | inr not ↦ if_false (w == b) (behind words text) None not
+      | inl same ↦ if_true (w == b) (rest_after words text) None same ∙ rest_after-none words text (λ rest e. other rest (cc (eqb-true w b same)))
+      | inr not ↦ if_false (w == b) (rest_after words text) None not
     ]
 
 -- by the first byte
-pub differs_at_once : (words text : List ℕ) → length words ≢ 0 → length text ≢ 0 → get_or words 0 0 ≢ get_or text 0 0 → behind words text ≡ None
+pub differs_at_once : (words text : List ℕ) → length words ≢ 0 → length text ≢ 0 → get_or words 0 0 ≢ get_or text 0 0 → rest_after words text ≡ None
 differs_at_once [] text some_words some other = absurd (some_words refl)
 differs_at_once (w ∷ words) [] some_words some other = absurd (some refl)
-differs_at_once (w ∷ words) (b ∷ text) some_words some other = if_false (w == b) (behind words text) None (ne_eqb w b other)
+differs_at_once (w ∷ words) (b ∷ text) some_words some other = if_false (w == b) (rest_after words text) None (ne_eqb w b other)
 
 -- by `strip_prefix`
 pub strips : (words text : List ℕ) (r : Option (Bor (List ℕ))) → MatchOption r ((rest : List ℕ) → text ≢ words ++ rest) (λ rest. text ≡ words ++ rest.now)
-    → MatchOption r (behind words text ≡ None) (λ rest. behind words text ≡ Some rest.now)
-strips words text None other = behind-none words text other
-strips words text (Some rest) is = rw is (behind-append words rest.now)
+    → MatchOption r (rest_after words text ≡ None) (λ rest. rest_after words text ≡ Some rest.now)
+strips words text None other = rest_after-none words text other
+strips words text (Some rest) is = rw is (rest_after-append words rest.now)

@@ -18,7 +18,7 @@ use Rattle.ra_trace.specs.declared.line.version.Version.{Version}
 use Rattle.ra_trace.specs.TraceText.{IsTraceIn, BeginsWith, line_text, trace_lines}
 use Rattle.ra_trace.specs.Verdict.{HasNoLine, IsWrong, IsVerdict, IsTraceOfTableRun}
 use Rattle.ra_trace.specs.Check.{ChecksTrace}
-use Rattle.ra_trace.specs.Reading.{IsWhole, IsOver, Judges, ReadsOn, PassesLimit, StopsBehind, Answers}
+use Rattle.ra_trace.specs.Reading.{IsWhole, IsOver, Judges, ReadsOn, PassesLimit, StopsAfter, Answers}
 use Rattle.ra_trace.specs.NextLine.{IsOverLine}
 use Rattle.ra_trace.specs.Below.{LawsBelow}
 use Rattle.ra_trace.proofs.Ends.{begins_before}
@@ -202,7 +202,7 @@ module _ (limit : ℕ) (old new : Option (List ℕ)) where
   passed (Err Limit) answer is = answer
   passed (Err Memory) answer is = absurd cc
 
-  stopped : (result : Result Verdict TraceError) → Answers limit old new result → IsErrOf result Memory → StopsBehind limit old new
+  stopped : (result : Result Verdict TraceError) → Answers limit old new result → IsErrOf result Memory → StopsAfter limit old new
   stopped (Ok verdict) answer is = absurd cc
   stopped (Err Read) answer is = absurd cc
   stopped (Err Limit) answer is = absurd cc

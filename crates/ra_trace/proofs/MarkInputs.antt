@@ -15,7 +15,7 @@ use Rattle.ra_trace.specs.declared.mark_log.marks_verdict.MarksVerdict.TheVarian
 use Rattle.ra_trace.specs.NextLine.{IsOverLine}
 use Rattle.ra_trace.specs.Marks.{marks_text, grants_in, IsMarkRun, IsWrongMark, IsMarksVerdict}
 use Rattle.ra_trace.specs.Check.{ChecksLog}
-use Rattle.ra_trace.specs.MarksReading.{JudgesMarks, ReadsOnMarks, PassesMarksLimit, StopsBehindMarks, AnswersMarks}
+use Rattle.ra_trace.specs.MarksReading.{JudgesMarks, ReadsOnMarks, PassesMarksLimit, StopsAfterMarks, AnswersMarks}
 use Rattle.ra_trace.proofs.Ends.{begins_before}
 
 -- ---- What is wrong stays wrong, whatever comes after what was read
@@ -175,7 +175,7 @@ module _ (limit : ℕ) (old new : Option (List ℕ)) where
   passed (Err Limit) j is = j
   passed (Err Memory) j is = absurd cc
 
-  stopped : (result : Result MarksVerdict TraceError) → AnswersMarks limit old new result → IsErrOf result Memory → StopsBehindMarks limit old new
+  stopped : (result : Result MarksVerdict TraceError) → AnswersMarks limit old new result → IsErrOf result Memory → StopsAfterMarks limit old new
   stopped (Ok verdict) j is = absurd cc
   stopped (Err Read) j is = absurd cc
   stopped (Err Limit) j is = absurd cc

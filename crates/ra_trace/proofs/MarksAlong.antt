@@ -15,9 +15,9 @@ use Rattle.ra_trace.specs.declared.error.TraceError.{TraceError}
 use Rattle.ra_trace.specs.declared.error.TraceError.TheVariants.{Read, Limit, Memory}
 use Rattle.ra_trace.specs.declared.line.Line.{Line}
 use Rattle.ra_trace.specs.declared.line.Line.TheVariants as line
-use Rattle.ra_trace.specs.declared.mark_log.Log.{Log}
-use Rattle.ra_trace.specs.declared.mark_log.NextMark.{NextMark}
-use Rattle.ra_trace.specs.declared.mark_log.NextMark.TheVariants.{Right, End, Wrong}
+use Rattle.ra_trace.specs.declared.mark_log.MarkLog.{MarkLog}
+use Rattle.ra_trace.specs.declared.mark_log.MarkJudgement.{MarkJudgement}
+use Rattle.ra_trace.specs.declared.mark_log.MarkJudgement.TheVariants.{Right, End, Wrong}
 use Rattle.ra_trace.specs.declared.mark_log.marks_verdict.MarkCause.{MarkCause}
 use Rattle.ra_trace.specs.declared.mark_log.marks_verdict.MarkCause.TheVariants as cause
 use Rattle.ra_trace.specs.declared.mark_log.marks_verdict.MarksVerdict.TheVariants.{Valid, Invalid}
@@ -27,7 +27,7 @@ use Rattle.ra_trace.specs.Forms.{BeginsReadable}
 use Rattle.ra_trace.specs.NextLine.{EndsSo, TakesBytes, FailsWithin, HasNone}
 use Rattle.ra_trace.specs.TraceText.{IsMarkLine}
 use Rattle.ra_trace.specs.Marks.{marks_text, grants_in, IsMarkRun, TableRefuses}
-use Rattle.ra_trace.specs.MarksReading.{HasReadMarks, JudgesMarks, StopsBehindMarks, AnswersMarks}
+use Rattle.ra_trace.specs.MarksReading.{HasReadMarks, JudgesMarks, StopsAfterMarks, AnswersMarks}
 use Rattle.ra_trace.specs.MarksAlong.{TableLaws, IsNewLog, TakesMark, IsLogOf, IsAlongMarks, JudgedMark, JudgedOther, JudgedLine, IsMissing, TurnsMarks, SomeMarkTaken}
 use Rattle.ra_trace.proofs.Along.{consumed_both, nothing_taken}
 use Rattle.ra_trace.proofs.Ends.{feed_is_over, some_bytes_at_feed}
@@ -71,12 +71,12 @@ marks_have_length (mark ∷ marks) =
     omega (arith, length-append (mark_line mark) (marks_text marks), mark_has_length mark, marks_have_length marks)
 
 -- so there are no more of them than bytes
-pub record IsFew (limit : ℕ) (log : Log) (number : ℕ) : Type 0 where
+pub record IsFew (limit : ℕ) (log : MarkLog) (number : ℕ) : Type 0 where
   pub requests : log.requests ≤ limit
   pub grants : log.grants ≤ limit
   pub number_is : number ≤ limit + 1
 
-pub few : (limit left : ℕ) (old now : Option (List ℕ)) (log : Log) (number : ℕ) → IsAlongMarks limit left old now log number → IsFew limit log number
+pub few : (limit left : ℕ) (old now : Option (List ℕ)) (log : MarkLog) (number : ℕ) → IsAlongMarks limit left old now log number → IsFew limit log number
 few limit left old now log number along =
     let behind = along.behind in
     let some = marks_have_length along.marks in
@@ -88,7 +88,7 @@ few limit left old now log number along =
 
 -- ---- After right lines
 
-pub along_none : TableLaws → (limit : ℕ) (old : Option (List ℕ)) (log : Log) → IsNewLog log → IsAlongMarks limit limit old old log 1
+pub along_none : TableLaws → (limit : ℕ) (old : Option (List ℕ)) (log : MarkLog) → IsNewLog log → IsAlongMarks limit limit old old log 1
 along_none laws limit old log new = record {
   marks = [];
   taken = nothing_taken old;
@@ -102,10 +102,10 @@ along_none laws limit old log new = record {
   };
 }
 
-run_of : (log : Log) (marks : List Mark) → IsLogOf log marks → IsMarkRun marks
+run_of : (log : MarkLog) (marks : List Mark) → IsLogOf log marks → IsMarkRun marks
 run_of log marks behind = record { lines = behind.lines; table = log.table; run = behind.run }
 
-has_read : (limit left : ℕ) (old now new : Option (List ℕ)) (log : Log) (number : ℕ) (bytes : List ℕ)
+has_read : (limit left : ℕ) (old now new : Option (List ℕ)) (log : MarkLog) (number : ℕ) (bytes : List ℕ)
     → (along : IsAlongMarks limit left old now log number) → Consumes now new bytes → length bytes ≤ left
     → HasReadMarks limit old new along.marks bytes
 has_read limit left old now new log number bytes along taken most = record {
@@ -115,7 +115,7 @@ has_read limit left old now new log number bytes along taken most = record {
 }
 
 -- an error of what comes next
-pub fails_there : (limit left : ℕ) (old now new : Option (List ℕ)) (log : Log) (number : ℕ) (bytes : List ℕ) (fault : TraceError)
+pub fails_there : (limit left : ℕ) (old now new : Option (List ℕ)) (log : MarkLog) (number : ℕ) (bytes : List ℕ) (fault : TraceError)
     → IsAlongMarks limit left old now log number → FailsWithin left now new bytes fault → AnswersMarks limit old new (Err fault)
 fails_there limit left old now new log number bytes Read along (taken, opened) =
     (along.marks, bytes, has_read limit left old now new log number bytes along taken.0 taken.1, opened)
@@ -135,7 +135,7 @@ fails_there limit left old now new log number bytes Limit along (byte, taken, fu
 fails_there limit left old now new log number bytes Memory along none = absurd none
 
 -- no line comes next
-pub none_there : (limit left : ℕ) (old now new : Option (List ℕ)) (log : Log) (number : ℕ) (bytes : List ℕ)
+pub none_there : (limit left : ℕ) (old now new : Option (List ℕ)) (log : MarkLog) (number : ℕ) (bytes : List ℕ)
     → IsAlongMarks limit left old now log number → TakesBytes left now new bytes → HasNone bytes new → bytes ≢ []
     → JudgesMarks limit old new (Invalid number cause.Line)
 none_there limit left old now new log number bytes along taken none some = (
@@ -147,7 +147,7 @@ none_there limit left old now new log number bytes along taken none some = (
 )
 
 -- nothing comes next
-pub end_there : (limit left : ℕ) (old now new : Option (List ℕ)) (log : Log) (number : ℕ) (bytes : List ℕ)
+pub end_there : (limit left : ℕ) (old now new : Option (List ℕ)) (log : MarkLog) (number : ℕ) (bytes : List ℕ)
     → IsAlongMarks limit left old now log number → TakesBytes left now new bytes → HasNone bytes new → bytes ≡ []
     → JudgesMarks limit old new (Valid log.requests log.grants)
 end_there limit left old now new log number bytes along taken none nothing =
@@ -163,7 +163,7 @@ some_at_feed : (bytes : List ℕ) (new : Option (List ℕ)) → EndsSo Feed byte
 some_at_feed bytes new ended = λ none. let some = some_bytes_at_feed bytes new ended in absurd (omega (arith, some, ap length none))
 
 -- the line of no mark comes next
-other_there : (limit left : ℕ) (old now new : Option (List ℕ)) (log : Log) (number : ℕ) (given : Line) (bytes : List ℕ)
+other_there : (limit left : ℕ) (old now new : Option (List ℕ)) (log : MarkLog) (number : ℕ) (given : Line) (bytes : List ℕ)
     → IsAlongMarks limit left old now log number → TakesBytes left now new bytes → BeginsReadable bytes given [] → EndsSo Feed bytes new
     → ((mark : Mark) → given ≡ line.Marked mark → ⊥) → JudgesMarks limit old new (Invalid number cause.Line)
 other_there limit left old now new log number given bytes along taken begins ended other = (
@@ -182,7 +182,7 @@ other_there limit left old now new log number given bytes along taken begins end
 )
 
 -- the table refuses the mark that comes next
-refused_there : (limit left : ℕ) (old now new : Option (List ℕ)) (log : Log) (number : ℕ) (mark : Mark) (bytes : List ℕ) (why : MarkCause)
+refused_there : (limit left : ℕ) (old now new : Option (List ℕ)) (log : MarkLog) (number : ℕ) (mark : Mark) (bytes : List ℕ) (why : MarkCause)
     → IsAlongMarks limit left old now log number → TakesBytes left now new bytes → BeginsReadable bytes (line.Marked mark) []
     → EndsSo Feed bytes new → TableRefuses log.table mark why → JudgesMarks limit old new (Invalid number why)
 refused_there limit left old now new log number mark bytes why along taken begins ended refused =
@@ -204,7 +204,7 @@ one_more : (marks : List Mark) (mark : Mark) (bytes : List ℕ) → bytes ≡ ma
     → marks_text marks ++ bytes ≡ marks_text (marks ++ mark ∷ [])
 one_more marks mark bytes is = ap (λ (xs : List ℕ). marks_text marks ++ xs) is ∙ sym (flat_map-append mark_line marks (mark ∷ []))
 
-taken_more : (limit left : ℕ) (old now new : Option (List ℕ)) (log : Log) (number : ℕ) (mark : Mark) (bytes : List ℕ)
+taken_more : (limit left : ℕ) (old now new : Option (List ℕ)) (log : MarkLog) (number : ℕ) (mark : Mark) (bytes : List ℕ)
     → (along : IsAlongMarks limit left old now log number) → TakesBytes left now new bytes → BeginsReadable bytes (line.Marked mark) []
     → Consumes old new (marks_text (along.marks ++ mark ∷ []))
     × (length (marks_text (along.marks ++ mark ∷ [])) + (left - length bytes) ≡ limit)
@@ -214,7 +214,7 @@ taken_more limit left old now new log number mark bytes along taken begins =
       omega (arith, ap length (sym is), length-append (marks_text along.marks) bytes, along.room, taken.1),
     )
 
-more_there : TableLaws → (limit left : ℕ) (old now new : Option (List ℕ)) (log after : Log) (number : ℕ) (mark : Mark) (bytes : List ℕ)
+more_there : TableLaws → (limit left : ℕ) (old now new : Option (List ℕ)) (log after : MarkLog) (number : ℕ) (mark : Mark) (bytes : List ℕ)
     → IsAlongMarks limit left old now log number → TakesBytes left now new bytes → BeginsReadable bytes (line.Marked mark) []
     → TakesMark log mark after → IsAlongMarks limit (left - length bytes) old new after (number + 1)
 more_there laws limit left old now new log after number mark bytes along taken begins takes =
@@ -234,9 +234,9 @@ more_there laws limit left old now new log after number mark bytes along taken b
     }
 
 -- the mark is allowed, and memory ran out
-memory_there : TableLaws → (limit left : ℕ) (old now new : Option (List ℕ)) (log : Log) (number : ℕ) (mark : Mark) (bytes : List ℕ)
+memory_there : TableLaws → (limit left : ℕ) (old now new : Option (List ℕ)) (log : MarkLog) (number : ℕ) (mark : Mark) (bytes : List ℕ)
     → IsAlongMarks limit left old now log number → TakesBytes left now new bytes → BeginsReadable bytes (line.Marked mark) []
-    → AllowsMark log.table mark → StopsBehindMarks limit old new
+    → AllowsMark log.table mark → StopsAfterMarks limit old new
 memory_there laws limit left old now new log number mark bytes along taken begins allowed =
     let behind = along.behind in
     let more = taken_more limit left old now new log number mark bytes along taken begins in
@@ -249,8 +249,8 @@ memory_there laws limit left old now new log number mark bytes along taken begin
 
 -- ---- What comes of a line
 
-mark_turns : TableLaws → (limit left : ℕ) (old now new : Option (List ℕ)) (log after : Log) (number : ℕ) (mark : Mark) (bytes : List ℕ)
-    (result : Result NextMark TraceError) → IsAlongMarks limit left old now log number → TakesBytes left now new bytes
+mark_turns : TableLaws → (limit left : ℕ) (old now new : Option (List ℕ)) (log after : MarkLog) (number : ℕ) (mark : Mark) (bytes : List ℕ)
+    (result : Result MarkJudgement TraceError) → IsAlongMarks limit left old now log number → TakesBytes left now new bytes
     → BeginsReadable bytes (line.Marked mark) [] → EndsSo Feed bytes new → JudgedMark log mark after result
     → TurnsMarks limit left old new after number (length bytes) result
 mark_turns laws limit left old now new log after number mark bytes (Ok Right) along taken begins ended is =
@@ -262,8 +262,8 @@ mark_turns laws limit left old now new log after number mark bytes (Err fault) a
     subst (λ (why : TraceError). AnswersMarks limit old new (Err why)) (sym is.0)
     (memory_there laws limit left old now new log number mark bytes along taken begins is.1)
 
-other_turns : (limit left : ℕ) (old now new : Option (List ℕ)) (log after : Log) (number : ℕ) (given : Line) (bytes : List ℕ)
-    (result : Result NextMark TraceError) → IsAlongMarks limit left old now log number → TakesBytes left now new bytes
+other_turns : (limit left : ℕ) (old now new : Option (List ℕ)) (log after : MarkLog) (number : ℕ) (given : Line) (bytes : List ℕ)
+    (result : Result MarkJudgement TraceError) → IsAlongMarks limit left old now log number → TakesBytes left now new bytes
     → BeginsReadable bytes given [] → EndsSo Feed bytes new → ((mark : Mark) → given ≡ line.Marked mark → ⊥) → JudgedOther result
     → TurnsMarks limit left old new after number (length bytes) result
 other_turns limit left old now new log after number given bytes (Ok Right) along taken begins ended other is = absurd is
@@ -273,8 +273,8 @@ other_turns limit left old now new log after number given bytes (Ok (Wrong why))
     (other_there limit left old now new log number given bytes along taken begins ended other)
 other_turns limit left old now new log after number given bytes (Err fault) along taken begins ended other is = absurd is
 
-pub turns_by : TableLaws → (limit left : ℕ) (old now new : Option (List ℕ)) (log after : Log) (number : ℕ) (given : Line) (bytes : List ℕ)
-    (result : Result NextMark TraceError) → IsAlongMarks limit left old now log number → TakesBytes left now new bytes
+pub turns_by : TableLaws → (limit left : ℕ) (old now new : Option (List ℕ)) (log after : MarkLog) (number : ℕ) (given : Line) (bytes : List ℕ)
+    (result : Result MarkJudgement TraceError) → IsAlongMarks limit left old now log number → TakesBytes left now new bytes
     → BeginsReadable bytes given [] → EndsSo Feed bytes new → JudgedLine log given after result
     → TurnsMarks limit left old new after number (length bytes) result
 turns_by laws limit left old now new log after number (line.First version nodes start) bytes result along taken begins ended is =
@@ -287,7 +287,7 @@ turns_by laws limit left old now new log after number line.Last bytes result alo
     other_turns limit left old now new log after number line.Last bytes result along taken begins ended (λ mark e. cc) is
 
 -- such a line took some bytes
-pub some_taken_by : (left : ℕ) (now new : Option (List ℕ)) (bytes : List ℕ) (result : Result NextMark TraceError) → TakesBytes left now new bytes
+pub some_taken_by : (left : ℕ) (now new : Option (List ℕ)) (bytes : List ℕ) (result : Result MarkJudgement TraceError) → TakesBytes left now new bytes
     → EndsSo Feed bytes new → IfOk result (λ next. SomeMarkTaken left (length bytes) next)
 some_taken_by left now new bytes (Ok Right) taken ended = (some_bytes_at_feed bytes new ended, taken.1)
 some_taken_by left now new bytes (Ok End) taken ended = tt
@@ -295,7 +295,7 @@ some_taken_by left now new bytes (Ok (Wrong why)) taken ended = tt
 some_taken_by left now new bytes (Err fault) taken ended = tt
 
 -- what comes if there is no line
-pub none_turns : (limit left : ℕ) (old now new : Option (List ℕ)) (log : Log) (number : ℕ) (bytes : List ℕ) (next : NextMark)
+pub none_turns : (limit left : ℕ) (old now new : Option (List ℕ)) (log : MarkLog) (number : ℕ) (bytes : List ℕ) (next : MarkJudgement)
     → IsAlongMarks limit left old now log number → TakesBytes left now new bytes → HasNone bytes new → IsMissing (length bytes) next
     → TurnsMarks limit left old new log number (length bytes) (Ok next)
 none_turns limit left old now new log number bytes Right along taken none is = absurd is
@@ -305,18 +305,18 @@ none_turns limit left old now new log number bytes (Wrong why) along taken none 
     subst (λ (w : MarkCause). JudgesMarks limit old new (Invalid number w)) (sym is.0)
     (none_there limit left old now new log number bytes along taken none (λ nothing. is.1 (ap length nothing)))
 
-pub none_taken : (left count : ℕ) (next : NextMark) → IsMissing count next → SomeMarkTaken left count next
+pub none_taken : (left count : ℕ) (next : MarkJudgement) → IsMissing count next → SomeMarkTaken left count next
 none_taken left count Right is = absurd is
 none_taken left count End is = tt
 none_taken left count (Wrong why) is = tt
 
 -- there is no memory for a log
-pub no_log : TableLaws → (limit : ℕ) (old : Option (List ℕ)) → StopsBehindMarks limit old old
+pub no_log : TableLaws → (limit : ℕ) (old : Option (List ℕ)) → StopsAfterMarks limit old old
 no_log laws limit old =
     ([], record { lines = All-nil (IsMarkLine Two); table = empty_table; run = laws.empty }, nothing_taken old, omega arith)
 
 -- what is left if it is neither wrong nor the end
-pub right_turns : (limit left : ℕ) (old new : Option (List ℕ)) (after : Log) (number count : ℕ) (next : NextMark)
+pub right_turns : (limit left : ℕ) (old new : Option (List ℕ)) (after : MarkLog) (number count : ℕ) (next : MarkJudgement)
     → TurnsMarks limit left old new after number count (Ok next) → ((why : MarkCause) → next ≡ Wrong why → ⊥) → (next ≡ End → ⊥)
     → IsAlongMarks limit (left - count) old new after (number + 1)
 right_turns limit left old new after number count Right turns wrong end = turns

@@ -20,9 +20,9 @@ use Rattle.ra_trace.specs.declared.line.Line.{Line}
 use Rattle.ra_trace.specs.declared.line.Line.TheVariants.{First, Stepped, Marked, Last}
 use Rattle.ra_trace.specs.declared.line.version.Version.{Version}
 use Rattle.ra_trace.specs.declared.line.version.Version.TheVariants.{One, Two}
-use Rattle.ra_trace.specs.Forms.{Form, IsReadable, fields, node_of, client_of, start_of, seq_of, name_of, mode_of, first_in, ask_in, leave_in, request_in, reply_in, entry_in, last_in, forms, behind, line_by, line_in}
+use Rattle.ra_trace.specs.Forms.{Form, IsReadable, fields, node_of, client_of, start_of, seq_of, name_of, mode_of, first_in, ask_in, leave_in, request_in, reply_in, entry_in, last_in, forms, rest_after, line_by, line_in}
 use Rattle.ra_trace.specs.TraceText.{message_fields, step_line, line_text, IsClientNumber, IsSeq, IsEntryLine, IsMessageLine, IsStepLine}
-use Rattle.ra_trace.proofs.Cuts.{IsFree, mapped, cases_Option, behind-only}
+use Rattle.ra_trace.proofs.Cuts.{IsFree, mapped, cases_Option, rest_after-only}
 use Rattle.ra_trace.proofs.Spelled.{Reads, reads_fields, reads_node, reads_client, reads_start, reads_seq, reads_name, reads_mode}
 
 -- fields, joined from the left or from the right
@@ -225,10 +225,10 @@ only_forms = (
 only_by : (rows : List Form) → AllRead rows → (text : List ℕ) (line : Line) → line_by rows text ≡ Some line → IsReadable line × (text ++ codes "\n" ≡ line_text line)
 only_by [] h text line e = absurd cc
 only_by (form ∷ others) h text line e =
-    elim (cases_Option (behind form.words text)) [
+    elim (cases_Option (rest_after form.words text)) [
       | inl none ↦ only_by others h.1 text line (rw none at e)
       | inr some ↦
-          let is = behind-only form.words text some.0 some.1 in
+          let is = rest_after-only form.words text some.0 some.1 in
           let whole = h.0 some.0 line (rw some.1 at e) in
           (whole.0, (ap (λ (bytes : List ℕ). bytes ++ codes "\n") is ∙ (append_assoc form.words some.0 (codes "\n") ∙ whole.1)))
     ]

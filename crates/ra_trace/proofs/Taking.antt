@@ -25,7 +25,7 @@ use Rattle.ra_trace.specs.Version.{IsNodeIn}
 use Rattle.ra_trace.specs.Forms.{IsReadable, BeginsReadable, has_node, allows_step, allows_mark}
 use Rattle.ra_trace.specs.TraceText.{IsLine, BeginsWith}
 use Rattle.ra_trace.specs.Verdict.{IsTracePrefix, IsFirst, IsOfClient, IsOfMessage, marks_in_line, marks_in}
-use Rattle.ra_trace.specs.Checking.{due_of, IsOpening, StandsBehind, TakesOn, Refuses, Allows}
+use Rattle.ra_trace.specs.Checking.{due_of, IsOpening, IsCheckerOf, TakesOn, Refuses, Allows}
 use Rattle.ra_trace.specs.Reading.{HasBegun}
 use Rattle.ra_trace.specs.Below.{LawsBelow}
 use Rattle.ra_trace.proofs.Prefixes.{prefix_and_step, prefix_and_mark}
@@ -44,7 +44,7 @@ first_prefix version nodes start run ranges has = record {
 }
 
 pub opens : LawsBelow → (version : Version) (nodes start : ℕ) (checker : Checker) → IsOpening version nodes start checker → has_node version nodes ≡ true
-    → IsReadable (First version nodes start) → StandsBehind checker (First version nodes start ∷ [])
+    → IsReadable (First version nodes start) → IsCheckerOf checker (First version nodes start ∷ [])
 opens laws version nodes start checker is has ranges =
     let line = First version nodes start ∷ [] in
     let run = subst (λ (w : WorldState). IsRun w.count w.start w.moves) is.world_is is.run in
@@ -88,15 +88,15 @@ mark_not_allowed checker mark not_so = not_of_version checker (Marked mark) (mar
 
 -- ---- Steps
 
-prefix_of : (checker : Checker) (lines : List Line) (due : List Mark) → due_of checker ≡ due → StandsBehind checker lines
+prefix_of : (checker : Checker) (lines : List Line) (due : List Mark) → due_of checker ≡ due → IsCheckerOf checker lines
     → IsTracePrefix checker.version checker.world.count checker.world.start checker.world.moves due lines
 prefix_of checker lines due is stands =
     subst (λ (ms : List Mark). IsTracePrefix checker.version checker.world.count checker.world.start checker.world.moves ms lines) is stands.prefix
 
 stands_by_step : (old : Checker) (step : Step) (sends : List Message) (marks : Listed Mark) (world : WorldState) → due_of old ≡ []
     → world ≡ with_move old.world step sends marks.items → IsRun world.count world.start world.moves
-    → (lines : List Line) → IsLine old.version (Stepped step) → StandsBehind old lines
-    → StandsBehind (record { version = old.version; world = world; table = old.table; marks = marks; come = 0 }) (lines ++ Stepped step ∷ [])
+    → (lines : List Line) → IsLine old.version (Stepped step) → IsCheckerOf old lines
+    → IsCheckerOf (record { version = old.version; world = world; table = old.table; marks = marks; come = 0 }) (lines ++ Stepped step ∷ [])
 stands_by_step old step sends marks world none is run lines ranges stands =
     let move : Move = record { step = step; sends = sends; marks = marks.items } in
     let moves : world.moves ≡ old.world.moves ++ move ∷ [] = ap (λ (w : WorldState). w.moves) is in
@@ -211,8 +211,8 @@ mark_begins : (checker : Checker) (mark : Mark) (text rest : List ℕ) → allow
 mark_begins checker mark text rest allowed begins = (mark_is checker.version mark begins.0 allowed, begins.1)
 
 stands_by_mark : LawsBelow → (old : Checker) (mark : Mark) (table : LockTable) → TableStep old.table mark table
-    → due_of old ≡ mark ∷ drop (old.come + 1) old.marks.items → (lines : List Line) → IsLine old.version (Marked mark) → StandsBehind old lines
-    → StandsBehind (record { version = old.version; world = old.world; table = table; marks = old.marks; come = old.come + 1 }) (lines ++ Marked mark ∷ [])
+    → due_of old ≡ mark ∷ drop (old.come + 1) old.marks.items → (lines : List Line) → IsLine old.version (Marked mark) → IsCheckerOf old lines
+    → IsCheckerOf (record { version = old.version; world = old.world; table = table; marks = old.marks; come = old.come + 1 }) (lines ++ Marked mark ∷ [])
 stands_by_mark laws old mark table step due lines ranges stands = record {
   prefix = prefix_and_mark old.version old.world.count old.world.start old.world.moves mark (drop (old.come + 1) old.marks.items) lines
       (prefix_of old lines (mark ∷ drop (old.come + 1) old.marks.items) due stands) ranges;

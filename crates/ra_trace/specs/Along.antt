@@ -3,17 +3,17 @@ use Rattle.std.specs.Prelude.{◌≡◌, ℕ, ◌+◌, ◌-◌, ◌≤◌, List,
 use Rattle.std.specs.Io.KnownBytes.{Consumes}
 use Rattle.ra_trace.specs.declared.error.TraceError.{TraceError}
 use Rattle.ra_trace.specs.declared.checker.Checker.{Checker}
-use Rattle.ra_trace.specs.declared.checker.Next.{Next}
-use Rattle.ra_trace.specs.declared.checker.Next.TheVariants.{Right, Last, Wrong}
+use Rattle.ra_trace.specs.declared.checker.Judgement.{Judgement}
+use Rattle.ra_trace.specs.declared.checker.Judgement.TheVariants.{Right, Last, Wrong}
 use Rattle.ra_trace.specs.declared.line.Line.{Line}
 use Rattle.ra_trace.specs.declared.checker.verdict.Cause.TheVariants as cause
 use Rattle.ra_trace.specs.declared.checker.verdict.Verdict.TheVariants.{Invalid}
 use Rattle.ra_trace.specs.TraceText.{IsTraceIn, line_text, trace_lines}
 use Rattle.ra_trace.specs.Reading.{AreRight, Judges, Answers}
-use Rattle.ra_trace.specs.Checking.{StandsBehind}
+use Rattle.ra_trace.specs.Checking.{IsCheckerOf}
 
 -- these lines were taken, and the text may still have this many bytes
-pub record IsBehind (limit left : ℕ) (old now : Option (List ℕ)) (prefix : List Line) : Type 0 where
+pub record HasTaken (limit left : ℕ) (old now : Option (List ℕ)) (prefix : List Line) : Type 0 where
   pub taken : Consumes old now (flat_map line_text prefix)
   pub room : length (flat_map line_text prefix) + left ≡ limit
   pub right : AreRight prefix
@@ -21,14 +21,14 @@ pub record IsBehind (limit left : ℕ) (old now : Option (List ℕ)) (prefix : L
 -- the lines so far are right, the last line is not among them, and the checker has taken them
 pub record IsAlong (limit left : ℕ) (old now : Option (List ℕ)) (checker : Checker) (number : ℕ) : Type 0 where
   pub prefix : List Line
-  pub behind : IsBehind limit left old now prefix
+  pub behind : HasTaken limit left old now prefix
   pub number_is : number ≡ length prefix + 1
-  pub stands : StandsBehind checker prefix
+  pub stands : IsCheckerOf checker prefix
 
 -- the lines are a whole trace
 pub record IsDone (limit left : ℕ) (old now : Option (List ℕ)) (checker : Checker) (number : ℕ) : Type 0 where
   pub prefix : List Line
-  pub behind : IsBehind limit left old now prefix
+  pub behind : HasTaken limit left old now prefix
   pub number_is : number ≡ length prefix + 1
   pub trace : IsTraceIn checker.version checker.world.count checker.world.start checker.world.moves (flat_map line_text prefix)
   pub lines : prefix ≡ trace_lines checker.version checker.world.count checker.world.start checker.world.moves
@@ -41,14 +41,14 @@ Opens limit old new count (Err fault) = Answers limit old new (Err fault)
 
 -- what comes of the line with this number, of this many bytes: the checker has taken it, or the trace is over, or the
 -- line is wrong, or a fault came
-abbrev pub Turns : ℕ → ℕ → Option (List ℕ) → Option (List ℕ) → Checker → ℕ → ℕ → Result Next TraceError → Type 0
+abbrev pub Turns : ℕ → ℕ → Option (List ℕ) → Option (List ℕ) → Checker → ℕ → ℕ → Result Judgement TraceError → Type 0
 Turns limit left old new after number count (Ok Right) = IsAlong limit (left - count) old new after (number + 1)
 Turns limit left old new after number count (Ok Last) = IsDone limit (left - count) old new after (number + 1)
 Turns limit left old new after number count (Ok (Wrong why)) = Judges limit old new (Invalid number why)
 Turns limit left old new after number count (Err fault) = Answers limit old new (Err fault)
 
 -- a line that is right has at least one byte, and no more than the text may still have
-abbrev pub SomeTaken : ℕ → ℕ → Next → Type 0
+abbrev pub SomeTaken : ℕ → ℕ → Judgement → Type 0
 SomeTaken left count Right = (1 ≤ count) × (count ≤ left)
 SomeTaken left count Last = (1 ≤ count) × (count ≤ left)
 SomeTaken left count (Wrong why) = Unit {0}

@@ -14,9 +14,9 @@ use Rattle.ra_trace.specs.declared.checker.verdict.Verdict.TheVariants.{Valid}
 use Rattle.ra_trace.specs.declared.line.version.Version.{Version}
 use Rattle.ra_trace.specs.TraceText.{IsTraceIn}
 use Rattle.ra_trace.specs.Verdict.{IsTraceOfTableRun, IsVerdict}
-use Rattle.ra_trace.specs.Reading.{Judges, ReadsOn, PassesLimit, StopsBehind}
+use Rattle.ra_trace.specs.Reading.{Judges, ReadsOn, PassesLimit, StopsAfter}
 use Rattle.ra_trace.specs.Marks.{grants_in, IsMarkRun, IsMarksVerdict, marks_text}
-use Rattle.ra_trace.specs.MarksReading.{JudgesMarks, ReadsOnMarks, PassesMarksLimit, StopsBehindMarks}
+use Rattle.ra_trace.specs.MarksReading.{JudgesMarks, ReadsOnMarks, PassesMarksLimit, StopsAfterMarks}
 
 -- The answer of a check of a trace, which may have so many bytes. `old` is what was left in the reader before it, if the
 -- reader tells, and `new` is what is left after it.
@@ -41,7 +41,7 @@ pub record ChecksTrace (most : ℕ) (old new : Option (List ℕ)) (result : Resu
   -- what was read before a refusal leaves the verdict open; if memory ran out, it was right lines and nothing else
   pub failed : IsErrOf result Read → ReadsOn most old new
   pub limit : IsErrOf result Limit → PassesLimit most old new
-  pub memory : IsErrOf result Memory → StopsBehind most old new
+  pub memory : IsErrOf result Memory → StopsAfter most old new
   -- at most one byte is read beyond what the text may have
   pub at_most : (taken : List ℕ) × (length taken ≤ most + 1) × Consumes old new taken
 
@@ -63,6 +63,6 @@ pub record ChecksLog (most : ℕ) (old new : Option (List ℕ)) (result : Result
   -- what was read before a refusal leaves the verdict open; if memory ran out, it was the lines of a run and nothing else
   pub failed : IsErrOf result Read → ReadsOnMarks most old new
   pub limit : IsErrOf result Limit → PassesMarksLimit most old new
-  pub memory : IsErrOf result Memory → StopsBehindMarks most old new
+  pub memory : IsErrOf result Memory → StopsAfterMarks most old new
   -- at most one byte is read beyond what the text may have
   pub at_most : (taken : List ℕ) × (length taken ≤ most + 1) × Consumes old new taken

@@ -9,8 +9,8 @@ use Rattle.ra_trace.specs.declared.line.Line.{Line}
 use Rattle.ra_trace.specs.declared.line.Line.TheVariants.{First, Stepped, Marked, Last}
 use Rattle.ra_trace.specs.declared.checker.verdict.Cause.{Cause}
 use Rattle.ra_trace.specs.declared.checker.Checker.{Checker}
-use Rattle.ra_trace.specs.declared.checker.Next.{Next}
-use Rattle.ra_trace.specs.declared.checker.Next.TheVariants as next
+use Rattle.ra_trace.specs.declared.checker.Judgement.{Judgement}
+use Rattle.ra_trace.specs.declared.checker.Judgement.TheVariants as next
 use Rattle.ra_trace.specs.declared.line.version.Version.{Version}
 use Rattle.ra_trace.specs.Forms.{IsReadable, BeginsReadable}
 use Rattle.ra_trace.specs.Verdict.{IsTracePrefix, marks_in, IsWrong}
@@ -26,7 +26,7 @@ HasSameDue old new = slice_get new.marks.items new.come ≡ slice_get old.marks.
 
 -- the checker has taken these lines: they are a prefix of a trace, the world has made its steps, and the lock table its
 -- marks
-pub record StandsBehind (checker : Checker) (lines : List Line) : Type 0 where
+pub record IsCheckerOf (checker : Checker) (lines : List Line) : Type 0 where
   pub prefix : IsTracePrefix checker.version checker.world.count checker.world.start checker.world.moves (due_of checker) lines
   pub table : TableRun (marks_in lines) checker.table
 
@@ -40,7 +40,7 @@ pub record IsOpening (version : Version) (nodes start : ℕ) (checker : Checker)
 
 -- a checker that had taken some lines has then taken this one, too, if it is readable
 pub record TakesOn (old : Checker) (line : Line) (new : Checker) : Type 0 where
-  pub on : (lines : List Line) → IsReadable line → StandsBehind old lines → StandsBehind new (lines ++ line ∷ [])
+  pub on : (lines : List Line) → IsReadable line → IsCheckerOf old lines → IsCheckerOf new (lines ++ line ∷ [])
 
 -- a line that is right is the next one of the prefix, or the last one if no mark is due
 abbrev pub Takes : Checker → Line → Checker → Type 0
@@ -51,14 +51,14 @@ Takes old Last new = (new ≡ old) × (due_of old ≡ [])
 
 -- the line is wrong for this cause, after any lines that the checker may have taken
 pub record Refuses (checker : Checker) (line : Line) (why : Cause) : Type 0 where
-  pub wrong : (lines : List Line) (text rest : List ℕ) → StandsBehind checker lines → BeginsReadable text line rest → IsWrong lines text why
+  pub wrong : (lines : List Line) (text rest : List ℕ) → IsCheckerOf checker lines → BeginsReadable text line rest → IsWrong lines text why
 
 -- the line is right after any lines that the checker may have taken, whether or not there is memory for it
 pub record Allows (checker : Checker) (line : Line) : Type 0 where
-  pub right : (lines : List Line) → IsReadable line → StandsBehind checker lines → HasBegun (lines ++ line ∷ [])
+  pub right : (lines : List Line) → IsReadable line → IsCheckerOf checker lines → HasBegun (lines ++ line ∷ [])
 
 -- what a checker answers to a line: that it is right, and whether it is the last one, or why it is wrong
-abbrev pub Judged : Checker → Line → Checker → Result Next TraceError → Type 0
+abbrev pub Judged : Checker → Line → Checker → Result Judgement TraceError → Type 0
 Judged old given new (Ok next.Right) = (given ≢ Last) × Takes old given new
 Judged old given new (Ok next.Last) = (given ≡ Last) × Takes old given new
 Judged old given new (Ok (next.Wrong why)) = Refuses old given why

@@ -16,8 +16,8 @@ use Rattle.ra_stamp.specs.declared.message.Message.{Message}
 use Rattle.ra_stamp.specs.declared.message.Message.TheVariants.{Request, Reply}
 use Rattle.ra_world.specs.declared.step.Step.{Step}
 use Rattle.ra_world.specs.declared.step.Step.TheVariants.{Ask, Leave, Deliver, Lose, Repeat}
-use Rattle.ra_trace.specs.declared.line.forms.Way.{Way}
-use Rattle.ra_trace.specs.declared.line.forms.Way.TheVariants.{Delivered, Lost, Repeated}
+use Rattle.ra_trace.specs.declared.line.forms.Fate.{Fate}
+use Rattle.ra_trace.specs.declared.line.forms.Fate.TheVariants.{Delivered, Lost, Repeated}
 use Rattle.ra_trace.specs.declared.line.forms.Change.{Change}
 use Rattle.ra_trace.specs.declared.line.forms.Change.TheVariants as change
 use Rattle.ra_trace.specs.declared.line.forms.Kind.{Kind}
@@ -80,10 +80,10 @@ cut byte [] = None
 cut byte (b ∷ bs) = if b == byte then Some ([], bs) else option_map (λ parts. (b ∷ parts.0, parts.1)) (cut byte bs)
 
 -- the text after these bytes, if it begins with them
-abbrev pub behind : List ℕ → List ℕ → Option (List ℕ)
-behind [] text = Some text
-behind (w ∷ words) [] = None
-behind (w ∷ words) (b ∷ text) = if w == b then behind words text else None
+abbrev pub rest_after : List ℕ → List ℕ → Option (List ℕ)
+rest_after [] text = Some text
+rest_after (w ∷ words) [] = None
+rest_after (w ∷ words) (b ∷ text) = if w == b then rest_after words text else None
 
 -- the field before the first space, and the text after it
 abbrev pub before : {A : Type 0} → (List ℕ → Option A) → List ℕ → Option (A × List ℕ)
@@ -133,7 +133,7 @@ last_in [] = Some Last
 last_in (b ∷ text) = None
 
 -- the line of a message that is delivered, lost or repeated
-abbrev pub sent_line : Way → Message → Line
+abbrev pub sent_line : Fate → Message → Line
 sent_line Delivered message = Stepped (Deliver message)
 sent_line Lost message = Stepped (Lose message)
 sent_line Repeated message = Stepped (Repeat message)
@@ -185,7 +185,7 @@ line_at (Some rest) read other = read rest
 -- the line of the first form whose words begin the text
 abbrev pub line_by : List Form → List ℕ → Option Line
 line_by [] text = None
-line_by (form ∷ others) text = line_at (behind form.words text) form.read (line_by others text)
+line_by (form ∷ others) text = line_at (rest_after form.words text) form.read (line_by others text)
 
 -- the line that the text is read as, if it is one
 abbrev pub line_in : List ℕ → Option Line

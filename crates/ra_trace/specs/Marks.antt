@@ -1,13 +1,16 @@
 -- Mark logs: what a lock service wrote down, a line for each request, grant and release, as traces of version 2 have
 -- the lines of marks. The verdict on such a text is that the marks are a run of the lock table, or which line is the
 -- first wrong one and why.
-use Rattle.std.specs.Prelude.{◌≡◌, ◌≢◌, ◌⊎◌, ℕ, ◌+◌, List, [], ◌∷◌, ◌++◌, All, Contains, flat_map, length}
+use Rattle.std.specs.Prelude.{◌≡◌, ◌≢◌, ◌⊎◌, ℕ, ◌+◌, List, [], ◌∷◌, ◌++◌, All, Contains, Option, Some, None, Result, Ok, Err, flat_map, length}
 use Rattle.ra_stamp.specs.declared.entry.Mark.{Mark}
 use Rattle.ra_stamp.specs.declared.entry.Mark.TheVariants.{Requested, Entered, Left}
-use Rattle.ra_table.specs.Table.{LockTable, TableRun}
+use Rattle.ra_table.specs.Table.{LockTable, TableRun, TableStep}
+use Rattle.ra_table.specs.Laws.{AllowsMark}
 use Rattle.ra_table.specs.Refusals.{IsNodeBusy, IsNotAbove, IsHeld, HasEarlier}
 use Rattle.ra_world.specs.Lines.{mark_line}
 use Rattle.ra_world.specs.Quiet.{requests_in}
+use Rattle.ra_trace.specs.declared.error.TraceError.{TraceError}
+use Rattle.ra_trace.specs.declared.error.TraceError.TheVariants.{Memory}
 use Rattle.ra_trace.specs.declared.mark_log.marks_verdict.MarkCause.{MarkCause}
 use Rattle.ra_trace.specs.declared.mark_log.marks_verdict.MarkCause.TheVariants as cause
 use Rattle.ra_trace.specs.declared.mark_log.marks_verdict.MarksVerdict.{MarksVerdict}
@@ -46,6 +49,12 @@ TableRefuses table (Entered e) why =
     ⊎ ((why ≡ cause.Held) × Contains table.waiting e × IsHeld table e)
     ⊎ ((why ≡ cause.Earlier) × Contains table.waiting e × (IsHeld table e → ⊥) × HasEarlier table e)
 TableRefuses table (Left e) why = (why ≡ cause.NotHeld) × (Contains table.holding e → ⊥)
+
+-- what a lock table answers to a mark: that its step was made, or why the table refuses it
+abbrev pub TriesMark : LockTable → Mark → LockTable → Result (Option MarkCause) TraceError → Type 0
+TriesMark old mark new (Ok None) = TableStep old mark new
+TriesMark old mark new (Ok (Some why)) = TableRefuses old mark why
+TriesMark old mark new (Err fault) = (fault ≡ Memory) × AllowsMark old mark
 
 -- why the text after these marks, which are a run of the lock table, is wrong: it does not begin with the line of a
 -- mark, or it begins with a mark that the table after them refuses

@@ -40,8 +40,8 @@ PassesMarksLimit limit old new =
     × (length (marks_text marks ++ rest) ≡ limit) × IsOpenLine rest
 
 -- no verdict was reached: what was read are the lines of a run of the lock table, and nothing after them
-abbrev pub StopsBehindMarks : ℕ → Option (List ℕ) → Option (List ℕ) → Type 0
-StopsBehindMarks limit old new =
+abbrev pub StopsAfterMarks : ℕ → Option (List ℕ) → Option (List ℕ) → Type 0
+StopsAfterMarks limit old new =
     (marks : List Mark) × IsMarkRun marks × Consumes old new (marks_text marks) × (length (marks_text marks) ≤ limit)
 
 -- what each answer says of what was read
@@ -49,4 +49,4 @@ abbrev pub AnswersMarks : ℕ → Option (List ℕ) → Option (List ℕ) → Re
 AnswersMarks limit old new (Ok verdict) = JudgesMarks limit old new verdict
 AnswersMarks limit old new (Err Read) = ReadsOnMarks limit old new
 AnswersMarks limit old new (Err Limit) = PassesMarksLimit limit old new
-AnswersMarks limit old new (Err Memory) = StopsBehindMarks limit old new
+AnswersMarks limit old new (Err Memory) = StopsAfterMarks limit old new

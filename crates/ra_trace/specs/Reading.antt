@@ -71,8 +71,8 @@ PassesLimit limit old new =
 
 -- no verdict was reached: what was read are whole lines that are right, the first line of a trace at least, and not the
 -- last
-abbrev pub StopsBehind : ℕ → Option (List ℕ) → Option (List ℕ) → Type 0
-StopsBehind limit old new =
+abbrev pub StopsAfter : ℕ → Option (List ℕ) → Option (List ℕ) → Type 0
+StopsAfter limit old new =
     (prefix : List Line) × HasBegun prefix × Consumes old new (flat_map line_text prefix) × (length (flat_map line_text prefix) ≤ limit)
 
 -- what each answer says of what was read
@@ -80,4 +80,4 @@ abbrev pub Answers : ℕ → Option (List ℕ) → Option (List ℕ) → Result 
 Answers limit old new (Ok verdict) = Judges limit old new verdict
 Answers limit old new (Err Read) = ReadsOn limit old new
 Answers limit old new (Err Limit) = PassesLimit limit old new
-Answers limit old new (Err Memory) = StopsBehind limit old new
+Answers limit old new (Err Memory) = StopsAfter limit old new

@@ -1,5 +1,4 @@
 pub mod check_text;
-pub mod step_table;
 pub mod verdict;
 
 ghost use Rattle.std.specs.Prelude.{◌≡◌, ◌≢◌, ◌⊎◌, ◌<◌, ◌+◌, List, ◌∷◌, [], false, drop, length, slice_get, IfOk, IfErr, IfSome, IsNone, IsTrue};
@@ -14,10 +13,10 @@ ghost use Rattle.ra_trace.specs.Forms.{IsReadable};
 ghost use Rattle.ra_trace.specs.TraceText.{IsLine};
 ghost use Rattle.ra_trace.specs.Verdict.{IsFirst};
 
-use crate::checker::step_table::{allows, step_table};
 use crate::laws::traces_rest_on_runs;
 use crate::line::Line;
 use crate::line::version::Version;
+use crate::marked_table::{allows, try_mark};
 use crate::{Cause, TraceError, Verdict};
 use ra_stamp::{Mark, Marks, NodeId, equal_is_same};
 use ra_table::Table;
@@ -38,9 +37,9 @@ pub struct Checker {
     come: u64,
 }
 
-/// What a line is.
+/// What the checker says of a line.
 #[derive(Clone, Copy)]
-pub enum Next {
+pub enum Judgement {
     /// It is right, and not the last one.
     Right,
     /// It is right, and the last one.
@@ -50,7 +49,7 @@ pub enum Next {
 }
 
 impl Checker {
-    ghost use Rattle.ra_trace.specs.Checking.{due_of, HasSameDue, IsOpening, Judged, StandsBehind};
+    ghost use Rattle.ra_trace.specs.Checking.{due_of, HasSameDue, IsOpening, Judged, IsCheckerOf};
     ghost use Rattle.ra_trace.specs.Reading.{HasBegun};
 
     /// Makes the checker after this line, or answers `None` if it is not a first line of its version.
@@ -58,9 +57,9 @@ impl Checker {
     /// # Errors
     ///
     /// `Memory`: memory ran out.
-    pub fn behind_first(alloc: Global, line: &Line) -> Result<Option<Checker>, TraceError>
+    pub fn after_first(alloc: Global, line: &Line) -> Result<Option<Checker>, TraceError>
         ensures some { IfOk result (λ opened.
-            IfSome opened (λ checker. IsReadable line.now → StandsBehind checker (line.now ∷ []))) }
+            IfSome opened (λ checker. IsReadable line.now → IsCheckerOf checker (line.now ∷ []))) }
         ensures none { IfOk result (λ opened. IsNone opened
             → (version : Version) → IsLine version line.now → IsFirst line.now → ⊥) }
         ensures err { IfErr result (λ fault. (fault ≡ TraceError.Memory)
@@ -125,31 +124,31 @@ impl Checker {
     /// # Errors
     ///
     /// `Memory`: memory ran out.
-    pub fn take(&mut self, alloc: Global, line: &Line) -> Result<Next, TraceError>
+    pub fn take(&mut self, alloc: Global, line: &Line) -> Result<Judgement, TraceError>
         ensures judged { Judged self.old line.now self.new result }
-        ensures due { IfOk result (λ next. (cause : Cause) → next ≡ Next.Wrong cause → HasSameDue self.old self.new) }
+        ensures due { IfOk result (λ next. (cause : Cause) → next ≡ Judgement.Wrong cause → HasSameDue self.old self.new) }
     {
         match line {
-            Line::First { .. } => Ok(Next::Wrong(Cause::Line)),
+            Line::First { .. } => Ok(Judgement::Wrong(Cause::Line)),
             Line::Stepped(step) if !self.version.allows_step(step) => {
-                Ok(Next::Wrong(Cause::Line))
+                Ok(Judgement::Wrong(Cause::Line))
             }
-            Line::Stepped(_) if self.has_due() => Ok(Next::Wrong(Cause::Marks)),
+            Line::Stepped(_) if self.has_due() => Ok(Judgement::Wrong(Cause::Marks)),
             // Most messages are delivered in the order of sending, so each is looked for at the first place.
             Line::Stepped(step) => match self.world.step_near(alloc, step, 0) {
                 Ok(outcome) => {
                     self.marks = outcome.marks;
                     self.come = 0;
-                    Ok(Next::Right)
+                    Ok(Judgement::Right)
                 }
                 Err(StepError::Memory) => Err(TraceError::Memory),
-                Err(StepError::NotUnderWay) => Ok(Next::Wrong(Cause::NotUnderWay)),
-                Err(StepError::NoNode) => Ok(Next::Wrong(Cause::Refused)),
-                Err(StepError::Node(_)) => Ok(Next::Wrong(Cause::Refused)),
+                Err(StepError::NotUnderWay) => Ok(Judgement::Wrong(Cause::NotUnderWay)),
+                Err(StepError::NoNode) => Ok(Judgement::Wrong(Cause::Refused)),
+                Err(StepError::Node(_)) => Ok(Judgement::Wrong(Cause::Refused)),
             },
             Line::Marked(mark) => self.take_mark(mark),
-            Line::Last if self.has_due() => Ok(Next::Wrong(Cause::Marks)),
-            Line::Last => Ok(Next::Last),
+            Line::Last if self.has_due() => Ok(Judgement::Wrong(Cause::Marks)),
+            Line::Last => Ok(Judgement::Last),
         }
     }
 
@@ -198,24 +197,26 @@ impl Checker {
     /// # Errors
     ///
     /// `Memory`: memory ran out.
-    fn take_mark(&mut self, mark: &Mark) -> Result<Next, TraceError>
+    fn take_mark(&mut self, mark: &Mark) -> Result<Judgement, TraceError>
         ensures judged { Judged self.old (Line.Marked mark.now) self.new result }
-        ensures due { IfOk result (λ next. (cause : Cause) → next ≡ Next.Wrong cause → HasSameDue self.old self.new) }
+        ensures due { IfOk result (λ next. (cause : Cause) → next ≡ Judgement.Wrong cause → HasSameDue self.old self.new) }
     {
         traces_rest_on_runs();
         if !self.version.allows_mark(mark) {
-            return Ok(Next::Wrong(Cause::Line));
+            return Ok(Judgement::Wrong(Cause::Line));
         }
         if !self.is_due(mark) {
-            return Ok(Next::Wrong(cause_of(&self.table, mark)));
+            return Ok(Judgement::Wrong(cause_of(&self.table, mark)));
         }
-        if !step_table(&mut self.table, mark)? {
-            return Ok(Next::Wrong(Cause::Table));
+        match try_mark(&mut self.table, mark)? {
+            Some(_) => Ok(Judgement::Wrong(Cause::Table)),
+            None => {
+                // The count fits, since there are no more than these.
+                let _all = self.marks.len();
+                self.come += 1;
+                Ok(Judgement::Right)
+            }
         }
-        // The count fits, since there are no more than these.
-        let _all = self.marks.len();
-        self.come += 1;
-        Ok(Next::Right)
     }
 }
 

@@ -8,6 +8,8 @@ mod laws;
 mod line;
 mod line_source;
 mod mark_log;
+mod marked_table;
+mod text_limits;
 mod trace_writing;
 
 pub use checker::check_text::{check, check_buffered, check_buffered_with_due, check_within};
@@ -19,8 +21,10 @@ pub use laws::{
 };
 pub use line::Line;
 pub use line::fields::{client_of, cut, mode_of, name_of, node_of, seq_of, start_of};
-pub use line::forms::behind;
+pub use line::forms::rest_after;
 pub use line::version::Version;
 pub use mark_log::marks_verdict::{MarkCause, MarksVerdict};
 pub use mark_log::{check_marks, check_marks_buffered, check_marks_within};
+pub use marked_table::try_mark;
+pub use text_limits::{MAX_LINE, MAX_TEXT};
 pub use trace_writing::{trace_text, write_trace};

@@ -1,5 +1,4 @@
 //! Mark logs: whether what any lock service wrote down is a run of the lock table.
-pub mod marks_table;
 pub mod marks_verdict;
 
 ghost use Rattle.std.specs.Prelude.{◌≡◌, ◌↔◌, ◌<◌, ◌≤◌, ◌+◌, ◌∷◌, [], ℕ, List, Option, IfOk, IfErr, IfSome, IsErrOf};
@@ -15,27 +14,25 @@ ghost use Rattle.ra_trace.specs.MarksReading.{AnswersMarks};
 use crate::laws::{each_mark_log_has_one_verdict, mark_logs_rest_on_tables};
 use crate::line::Line;
 use crate::line_source::{ByBytes, FromBuffer, LineRoom, LineSource};
-use crate::mark_log::marks_table::try_mark;
+use crate::marked_table::try_mark;
+use crate::text_limits::MAX_TEXT;
 use crate::{MarkCause, MarksVerdict, TraceError};
 use ra_stamp::Mark;
 use ra_table::Table;
 use std::alloc::Global;
 use std::io::{BufRead, Read};
 
-/// The most bytes that a log may have.
-const MAX_LOG: u64 = 16_777_216;
-
 /// What is known after the marks that came: the lock table after them, and how many of them were requests and grants.
 #[derive(Drop)]
-struct Log {
+struct MarkLog {
     table: Table,
     requests: u64,
     grants: u64,
 }
 
-/// What the next line is.
+/// What the log says of the next line.
 #[derive(Clone, Copy)]
-enum NextMark {
+enum MarkJudgement {
     /// A mark that the lock table allows.
     Right,
     /// There is none: the input is at its end.
@@ -44,20 +41,20 @@ enum NextMark {
     Wrong(MarkCause),
 }
 
-impl Log {
+impl MarkLog {
     /// Makes the log of no marks.
     ///
     /// # Errors
     ///
     /// `Memory`: memory ran out.
-    fn new(alloc: Global) -> Result<Log, TraceError>
+    fn new(alloc: Global) -> Result<MarkLog, TraceError>
         ensures ok { IfOk result IsNewLog }
         ensures err { IfErr result (λ fault. fault ≡ TraceError.Memory) }
     {
         let Ok(table) = Table::new(alloc) else {
             return Err(TraceError::Memory);
         };
-        Ok(Log {
+        Ok(MarkLog {
             table,
             requests: 0,
             grants: 0,
@@ -84,16 +81,16 @@ impl Log {
     /// # Errors
     ///
     /// `Memory`: memory ran out.
-    fn take(&mut self, mark: &Mark) -> Result<NextMark, TraceError>
+    fn take(&mut self, mark: &Mark) -> Result<MarkJudgement, TraceError>
         requires requests { self.old.requests < 16777217 }
         requires grants { self.old.grants < 16777217 }
         ensures { JudgedMark self.old mark.now self.new result }
     {
         match try_mark(&mut self.table, mark)? {
-            Some(cause) => Ok(NextMark::Wrong(cause)),
+            Some(cause) => Ok(MarkJudgement::Wrong(cause)),
             None => {
                 self.count(mark);
-                Ok(NextMark::Right)
+                Ok(MarkJudgement::Right)
             }
         }
     }
@@ -103,7 +100,7 @@ impl Log {
     /// # Errors
     ///
     /// `Memory`: memory ran out.
-    fn take_line(&mut self, line: &Line) -> Result<NextMark, TraceError>
+    fn take_line(&mut self, line: &Line) -> Result<MarkJudgement, TraceError>
         requires requests { self.old.requests < 16777217 }
         requires grants { self.old.grants < 16777217 }
         ensures { JudgedLine self.old line.now self.new result }
@@ -111,20 +108,20 @@ impl Log {
         match line {
             Line::Marked(mark) => self.take(mark),
             Line::First { .. } | Line::Stepped(_) | Line::Last => {
-                Ok(NextMark::Wrong(MarkCause::Line))
+                Ok(MarkJudgement::Wrong(MarkCause::Line))
             }
         }
     }
 }
 
 /// Returns what follows if no line does: nothing more if no byte was taken, and otherwise a wrong line.
-fn missing(taken: usize) -> NextMark
+fn missing(taken: usize) -> MarkJudgement
     ensures { IsMissing taken result }
 {
     if taken == 0 {
-        NextMark::End
+        MarkJudgement::End
     } else {
-        NextMark::Wrong(MarkCause::Line)
+        MarkJudgement::Wrong(MarkCause::Line)
     }
 }
 
@@ -138,9 +135,9 @@ fn take_next<R: Read, S: LineSource<R>>(
     reader: &mut R,
     room: &mut LineRoom,
     taken: &mut usize,
-    log: &mut Log,
+    log: &mut MarkLog,
     left: usize,
-) -> Result<NextMark, TraceError>
+) -> Result<MarkJudgement, TraceError>
     requires requests { log.old.requests < 16777217 }
     requires grants { log.old.grants < 16777217 }
     ensures turned { (limit number : ℕ) (old : Option (List ℕ))
@@ -161,9 +158,9 @@ fn take_next<R: Read, S: LineSource<R>>(
 /// # Errors
 ///
 /// `Read`, `Limit`, `Memory`.
-fn verdict_behind<R: Read, S: LineSource<R>>(
+fn verdict_after<R: Read, S: LineSource<R>>(
     reader: &mut R,
-    log: &mut Log,
+    log: &mut MarkLog,
     limit: usize,
 ) -> Result<MarksVerdict, TraceError>
     requires most { limit ≤ 16777216 }
@@ -177,10 +174,10 @@ fn verdict_behind<R: Read, S: LineSource<R>>(
     let mut line = 1;
     loop {
         let next = take_next::<R, S>(reader, &mut room, &mut taken, log, left)?;
-        if let NextMark::Wrong(cause) = next {
+        if let MarkJudgement::Wrong(cause) = next {
             return Ok(MarksVerdict::Invalid { line, cause });
         }
-        if let NextMark::End = next {
+        if let MarkJudgement::End = next {
             return Ok(MarksVerdict::Valid {
                 requests: log.requests,
                 grants: log.grants,
@@ -189,27 +186,6 @@ fn verdict_behind<R: Read, S: LineSource<R>>(
         line += 1;
         left -= taken;
     }
-}
-
-/// Returns the verdict of a text of at most `limit` bytes.
-///
-/// # Errors
-///
-/// `Read`, `Limit`, `Memory`.
-fn verdict_of<R: Read, S: LineSource<R>>(
-    alloc: Global,
-    reader: &mut R,
-    limit: usize,
-) -> Result<MarksVerdict, TraceError>
-    requires { limit ≤ 16777216 }
-    ensures { AnswersMarks limit (R.remaining reader.old) (R.remaining reader.new) result }
-{
-    mark_logs_rest_on_tables();
-    let mut log = Log::new(alloc)?;
-    let verdict = verdict_behind::<R, S>(reader, &mut log, limit);
-    // By a call, since to drop each of its parts here is long to prove.
-    drop(log);
-    verdict
 }
 
 /// Checks a log as `check_marks_within` does, and takes the bytes from the reader in the way of `S`.
@@ -226,7 +202,12 @@ fn check_by<R: Read, S: LineSource<R>>(
     ensures { ChecksLog limit (R.remaining reader.old) (R.remaining reader.new) result }
 {
     each_mark_log_has_one_verdict();
-    verdict_of::<R, S>(alloc, reader, limit as usize)
+    mark_logs_rest_on_tables();
+    let mut log = MarkLog::new(alloc)?;
+    let verdict = verdict_after::<R, S>(reader, &mut log, limit as usize);
+    // By a call, since to drop each of its parts here is long to prove.
+    drop(log);
+    verdict
 }
 
 /// Checks a log of marks: lines such as `request 1 7 r X 3`, `enter 1 7 r X 3` and `leave 1 7 r X 3`, each with node, client,
@@ -265,7 +246,7 @@ pub fn check_marks_within<R: Read>(
 pub fn check_marks<R: Read>(alloc: Global, reader: &mut R) -> Result<MarksVerdict, TraceError>
     ensures { ChecksLog 16777216 (R.remaining reader.old) (R.remaining reader.new) result }
 {
-    check_marks_within(alloc, reader, MAX_LOG)
+    check_marks_within(alloc, reader, MAX_TEXT)
 }
 
 /// Checks a log of marks as `check_marks` does, and takes from the buffer of the reader exactly what `check_marks` reads. It
@@ -281,5 +262,5 @@ pub fn check_marks_buffered<B: BufRead>(
 ) -> Result<MarksVerdict, TraceError>
     ensures { ChecksLog 16777216 (B.remaining reader.old) (B.remaining reader.new) result }
 {
-    check_by::<B, FromBuffer>(alloc, reader, MAX_LOG)
+    check_by::<B, FromBuffer>(alloc, reader, MAX_TEXT)
 }

@@ -12,7 +12,7 @@ use crate::Refusal;
 use crate::next_line::book_fields::{ask_of, release_of};
 use ra_frame::{Frame, decode};
 use ra_history::BookKind;
-use ra_trace::behind;
+use ra_trace::rest_after;
 
 /// The most bytes that a line has, without its line feed.
 pub const MAX_LINE: usize = 256;
@@ -130,13 +130,13 @@ pub fn event_of(line: &[u8]) -> Result<BookKind, Refusal>
     ensures read { MatchResult result (IsEvent line.now) (IsUnread line.now) }
     ensures can_come { IfOk result CanCome }
 {
-    if let Some(digits) = behind(b"receive ", line) {
+    if let Some(digits) = rest_after(b"receive ", line) {
         return receive_line(digits);
     }
-    if let Some(rest) = behind(b"ask ", line) {
+    if let Some(rest) = rest_after(b"ask ", line) {
         return ask_line(rest);
     }
-    match behind(b"release ", line) {
+    match rest_after(b"release ", line) {
         Some(rest) => release_line(rest),
         None => Err(Refusal::Line),
     }

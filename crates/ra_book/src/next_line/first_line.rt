@@ -6,7 +6,7 @@ ghost use Rattle.ra_book.specs.Timed.{opening};
 use crate::TimedNode;
 use crate::next_line::book_fields::first_of;
 use ra_stamp::NodeId;
-use ra_trace::behind;
+use ra_trace::rest_after;
 use std::alloc::Global;
 
 /// What the first line of a book says.
@@ -53,7 +53,7 @@ impl First {
         ensures { MatchOption result ((node nodes start : ℕ) → IsFirst line.now node nodes start → ⊥)
             (λ first. IsFirst line.now first.node first.nodes first.start) }
     {
-        match behind(b"book 1 ", line) {
+        match rest_after(b"book 1 ", line) {
             Some(rest) => first_in(rest),
             None => None,
         }

@@ -1,6 +1,6 @@
 ghost use Rattle.std.specs.Prelude.{◌≡◌, ◌≤◌, ◌-◌, ℕ, List, Option, IfOk};
 ghost use Rattle.ra_trace.specs.Due.{TellsDue};
-ghost use Rattle.ra_trace.specs.declared.checker.Next.{Next};
+ghost use Rattle.ra_trace.specs.declared.checker.Judgement.{Judgement};
 ghost use Rattle.ra_trace.specs.declared.checker.verdict.Cause.{Cause};
 ghost use Rattle.ra_trace.specs.declared.checker.verdict.Verdict.{Verdict};
 ghost use Rattle.ra_trace.specs.Along.{IsAlong, Opens, SomeTaken, Turns};
@@ -9,17 +9,15 @@ ghost use Rattle.ra_trace.specs.Checking.{HasSameDue};
 ghost use Rattle.ra_trace.specs.NextLine.{EndsText};
 ghost use Rattle.ra_trace.specs.Reading.{Answers};
 
-use crate::checker::{Checker, Next};
+use crate::checker::{Checker, Judgement};
 use crate::laws::{each_text_has_one_verdict, traces_rest_on_runs};
 use crate::line_source::byte_lines::is_at_end;
 use crate::line_source::{ByBytes, FromBuffer, LineRoom, LineSource};
+use crate::text_limits::MAX_TEXT;
 use crate::{Cause, TraceError, Verdict};
 use ra_stamp::Mark;
 use std::alloc::Global;
 use std::io::{BufRead, Read};
-
-/// The most bytes that a text may have.
-const MAX_TEXT: u64 = 16_777_216;
 
 /// Returns that this line is not one that may be there.
 fn wrong_at(line: u64) -> Verdict
@@ -69,7 +67,7 @@ fn take_first<R: Read, S: LineSource<R>>(
     let mut room = LineRoom::new();
     S::next_line(reader, &mut room, taken, limit)?;
     match &room.line {
-        Some(line) => Checker::behind_first(alloc, line),
+        Some(line) => Checker::after_first(alloc, line),
         None => Ok(None),
     }
 }
@@ -87,18 +85,18 @@ fn take_next<R: Read, S: LineSource<R>>(
     taken: &mut usize,
     checker: &mut Checker,
     left: usize,
-) -> Result<Next, TraceError>
+) -> Result<Judgement, TraceError>
     ensures turned { (limit number : ℕ) (old : Option (List ℕ))
         → IsAlong limit left old (R.remaining reader.old) checker.old number
         → Turns limit left old (R.remaining reader.new) checker.new number taken.new result }
     ensures some { IfOk result (λ next. SomeTaken left taken.new next) }
-    ensures due { IfOk result (λ next. (cause : Cause) → next ≡ Next.Wrong cause → HasSameDue checker.old checker.new) }
+    ensures due { IfOk result (λ next. (cause : Cause) → next ≡ Judgement.Wrong cause → HasSameDue checker.old checker.new) }
 {
     traces_rest_on_runs();
     S::next_line(reader, room, taken, left)?;
     match &room.line {
         Some(line) => checker.take(alloc, line),
-        None => Ok(Next::Wrong(Cause::Line)),
+        None => Ok(Judgement::Wrong(Cause::Line)),
     }
 }
 
@@ -108,7 +106,7 @@ fn take_next<R: Read, S: LineSource<R>>(
 /// # Errors
 ///
 /// `Read`, `Limit`, `Memory`.
-fn verdict_behind<R: Read, S: LineSource<R>>(
+fn verdict_after<R: Read, S: LineSource<R>>(
     alloc: Global,
     reader: &mut R,
     first: usize,
@@ -131,7 +129,7 @@ fn verdict_behind<R: Read, S: LineSource<R>>(
     let mut room = LineRoom::new();
     loop {
         let next = take_next::<R, S>(alloc, reader, &mut room, &mut taken, checker, left)?;
-        if let Next::Wrong(cause) = next {
+        if let Judgement::Wrong(cause) = next {
             *due = checker.due();
             return Ok(Verdict::Invalid {
                 line: number,
@@ -140,7 +138,7 @@ fn verdict_behind<R: Read, S: LineSource<R>>(
         }
         number += 1;
         left -= taken;
-        if let Next::Last = next {
+        if let Judgement::Last = next {
             return ending(reader, checker, left, number);
         }
     }
@@ -168,7 +166,7 @@ fn check_by<R: Read, S: LineSource<R>>(
     let mut taken = 0;
     match take_first::<R, S>(alloc, reader, &mut taken, limit)? {
         Some(mut checker) => {
-            let verdict = verdict_behind::<R, S>(alloc, reader, taken, &mut checker, limit, due);
+            let verdict = verdict_after::<R, S>(alloc, reader, taken, &mut checker, limit, due);
             // By a call, since to drop each of its parts here is long to prove.
             drop(checker);
             verdict

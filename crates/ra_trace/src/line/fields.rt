@@ -95,7 +95,7 @@ pub fn number_before(low: u64, high: u64, text: &[u8]) -> Option<(u64, &[u8])>
 pub fn node_of(field: &[u8]) -> Option<NodeId>
     ensures { result ≡ spec.node_of field.now }
 {
-    let number = number_within(1, 64, field)?;
+    let number = number_within(1, u64::from(NodeId::MAX), field)?;
     NodeId::new(number as u16)
 }
 

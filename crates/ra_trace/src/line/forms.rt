@@ -11,9 +11,9 @@ use ra_world::Step;
 /// Returns what is after these words, or `None` if the text doesn't begin with them. It does not allocate.
 #[tactic(auto, using(crate::proofs::Cuts::differs_at_once))]
 #[inline(always)]
-pub fn behind<'a>(words: &[u8], text: &'a [u8]) -> Option<&'a [u8]>
-    ensures { MatchOption result (spec.behind words.now text.now ≡ None)
-        (λ rest. spec.behind words.now text.now ≡ Some rest.now) }
+pub fn rest_after<'a>(words: &[u8], text: &'a [u8]) -> Option<&'a [u8]>
+    ensures { MatchOption result (spec.rest_after words.now text.now ≡ None)
+        (λ rest. spec.rest_after words.now text.now ≡ Some rest.now) }
 {
     // Most words differ from the text in the first byte, and this is found sooner than by comparing all of them.
     if !words.is_empty() && !text.is_empty() && words[0] != text[0] {
@@ -28,7 +28,7 @@ fn node_before(text: &[u8]) -> Option<(NodeId, &[u8])>
     ensures { MatchOption result (spec.before spec.node_of text.now ≡ None)
         (λ prefix. spec.before spec.node_of text.now ≡ Some (prefix.0, prefix.1.now)) }
 {
-    let (number, rest) = number_before(1, 64, text)?;
+    let (number, rest) = number_before(1, u64::from(NodeId::MAX), text)?;
     let node = NodeId::new(number as u16)?;
     Some((node, rest))
 }
@@ -211,22 +211,22 @@ fn last_of(text: &[u8]) -> Option<Line>
 
 /// What becomes of a message.
 #[derive(Clone, Copy)]
-enum Way {
+enum Fate {
     Delivered,
     Lost,
     Repeated,
 }
 
-impl Way {
+impl Fate {
     /// Returns the line of this message.
     #[inline(always)]
     fn line_of(self, message: Message) -> Line
         ensures { result ≡ spec.sent_line self message }
     {
         match self {
-            Way::Delivered => Line::Stepped(Step::Deliver(message)),
-            Way::Lost => Line::Stepped(Step::Lose(message)),
-            Way::Repeated => Line::Stepped(Step::Repeat(message)),
+            Fate::Delivered => Line::Stepped(Step::Deliver(message)),
+            Fate::Lost => Line::Stepped(Step::Lose(message)),
+            Fate::Repeated => Line::Stepped(Step::Repeat(message)),
         }
     }
 }
@@ -258,8 +258,8 @@ enum Kind {
     First(Version),
     Ask,
     Leave,
-    Request(Way),
-    Reply(Way),
+    Request(Fate),
+    Reply(Fate),
     Mark(Change),
     Last,
 }
@@ -279,7 +279,7 @@ fn read_leave(text: &[u8], line: &mut Option<Line>)
 }
 
 /// Reads the line of a request.
-fn read_request(way: Way, text: &[u8], line: &mut Option<Line>)
+fn read_request(way: Fate, text: &[u8], line: &mut Option<Line>)
     ensures { line.new ≡ spec.read_as (Kind.Request way) text.now }
 {
     match request_of(text) {
@@ -289,7 +289,7 @@ fn read_request(way: Way, text: &[u8], line: &mut Option<Line>)
 }
 
 /// Reads the line of a reply.
-fn read_reply(way: Way, text: &[u8], line: &mut Option<Line>)
+fn read_reply(way: Fate, text: &[u8], line: &mut Option<Line>)
     ensures { line.new ≡ spec.read_as (Kind.Reply way) text.now }
 {
     match reply_of(text) {
@@ -334,13 +334,13 @@ impl Kind {
 pub fn read_line_of(text: &[u8], line: &mut Option<Line>)
     ensures { line.new ≡ spec.line_in text.now }
 {
-    if let Some(rest) = behind(b"request ", text) {
+    if let Some(rest) = rest_after(b"request ", text) {
         return Kind::Mark(Change::Requested).read(rest, line);
     }
-    if let Some(rest) = behind(b"enter ", text) {
+    if let Some(rest) = rest_after(b"enter ", text) {
         return Kind::Mark(Change::Entered).read(rest, line);
     }
-    if let Some(rest) = behind(b"leave ", text) {
+    if let Some(rest) = rest_after(b"leave ", text) {
         return Kind::Mark(Change::Left).read(rest, line);
     }
     read_line_without_mark(text, line);
@@ -352,13 +352,13 @@ pub fn read_line_of(text: &[u8], line: &mut Option<Line>)
 fn read_line_without_mark(text: &[u8], line: &mut Option<Line>)
     ensures { line.new ≡ spec.line_by (drop 3 spec.forms) text.now }
 {
-    if let Some(rest) = behind(b"ask ", text) {
+    if let Some(rest) = rest_after(b"ask ", text) {
         return Kind::Ask.read(rest, line);
     }
-    if let Some(rest) = behind(b"release ", text) {
+    if let Some(rest) = rest_after(b"release ", text) {
         return Kind::Leave.read(rest, line);
     }
-    if let Some(rest) = behind(b"deliver ", text) {
+    if let Some(rest) = rest_after(b"deliver ", text) {
         return read_delivery(rest, line);
     }
     read_rare_line(text, line);
@@ -369,11 +369,11 @@ fn read_line_without_mark(text: &[u8], line: &mut Option<Line>)
 fn read_delivery(message: &[u8], line: &mut Option<Line>)
     ensures { line.new ≡ spec.line_by (drop 5 spec.forms) (codes "deliver " ++ message.now) }
 {
-    if let Some(rest) = behind(b"request ", message) {
-        return Kind::Request(Way::Delivered).read(rest, line);
+    if let Some(rest) = rest_after(b"request ", message) {
+        return Kind::Request(Fate::Delivered).read(rest, line);
     }
-    if let Some(rest) = behind(b"reply ", message) {
-        return Kind::Reply(Way::Delivered).read(rest, line);
+    if let Some(rest) = rest_after(b"reply ", message) {
+        return Kind::Reply(Fate::Delivered).read(rest, line);
     }
     *line = None;
 }
@@ -382,17 +382,17 @@ fn read_delivery(message: &[u8], line: &mut Option<Line>)
 fn read_rare_line(text: &[u8], line: &mut Option<Line>)
     ensures { line.new ≡ spec.line_by (drop 7 spec.forms) text.now }
 {
-    if let Some(rest) = behind(b"lose request ", text) {
-        return Kind::Request(Way::Lost).read(rest, line);
+    if let Some(rest) = rest_after(b"lose request ", text) {
+        return Kind::Request(Fate::Lost).read(rest, line);
     }
-    if let Some(rest) = behind(b"lose reply ", text) {
-        return Kind::Reply(Way::Lost).read(rest, line);
+    if let Some(rest) = rest_after(b"lose reply ", text) {
+        return Kind::Reply(Fate::Lost).read(rest, line);
     }
-    if let Some(rest) = behind(b"repeat request ", text) {
-        return Kind::Request(Way::Repeated).read(rest, line);
+    if let Some(rest) = rest_after(b"repeat request ", text) {
+        return Kind::Request(Fate::Repeated).read(rest, line);
     }
-    if let Some(rest) = behind(b"repeat reply ", text) {
-        return Kind::Reply(Way::Repeated).read(rest, line);
+    if let Some(rest) = rest_after(b"repeat reply ", text) {
+        return Kind::Reply(Fate::Repeated).read(rest, line);
     }
     read_end_line(text, line);
 }
@@ -401,13 +401,13 @@ fn read_rare_line(text: &[u8], line: &mut Option<Line>)
 fn read_end_line(text: &[u8], line: &mut Option<Line>)
     ensures { line.new ≡ spec.line_by (drop 11 spec.forms) text.now }
 {
-    if let Some(rest) = behind(b"trace 1 ", text) {
+    if let Some(rest) = rest_after(b"trace 1 ", text) {
         return Kind::First(Version::One).read(rest, line);
     }
-    if let Some(rest) = behind(b"trace 2 ", text) {
+    if let Some(rest) = rest_after(b"trace 2 ", text) {
         return Kind::First(Version::Two).read(rest, line);
     }
-    if let Some(rest) = behind(b"end", text) {
+    if let Some(rest) = rest_after(b"end", text) {
         return Kind::Last.read(rest, line);
     }
     *line = None;

@@ -7,7 +7,8 @@ ghost use Rattle.ra_trace.specs.Reading.{IsOpenLine};
 use crate::TraceError;
 use crate::line::forms::read_line_of;
 use crate::line_source::LineRoom;
-use crate::line_source::byte_lines::{LineBytes, LineEnd, MAX_LINE, next_byte, read_line_at};
+use crate::line_source::byte_lines::{LineBytes, LineEnd, next_byte, read_line_at};
+use crate::text_limits::MAX_LINE;
 use memchr::memchr;
 use std::io::{BufRead, Read};
 

@@ -9,11 +9,9 @@ use crate::TraceError;
 use crate::line::Line;
 use crate::line::forms::read_line_of;
 use crate::line_source::LineRoom;
+use crate::text_limits::MAX_LINE;
 use arrayvec::ArrayVec;
 use std::io::Read;
-
-/// The most bytes of a line that are read. The longest line has 80, its line feed among them.
-pub const MAX_LINE: usize = 128;
 
 /// The bytes of a line, as far as they were read.
 pub type LineBytes = ArrayVec<u8, MAX_LINE>;

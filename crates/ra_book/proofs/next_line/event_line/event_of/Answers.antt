@@ -1,23 +1,23 @@
 use Rattle.std.proofs.Common.{codes}
-use Rattle.ra_trace.proofs.Cuts.{behind-only}
+use Rattle.ra_trace.proofs.Cuts.{rest_after-only}
 use Rattle.ra_book.proofs.Forms.{no_words}
 use Rattle.ra_book.proofs.next_line.event_line.event_of.Goals as goal
 
 pub returns-in-Some-clause-read : goal.returns-in-Some-clause-read
 returns-in-Some-clause-read c =
-    c.receive_line.ensures.read c.args.line.now (behind-only (codes "receive ") c.args.line.now c.in-Some.digits.now (rw c.in-Some.is at c.behind.ensures))
+    c.receive_line.ensures.read c.args.line.now (rest_after-only (codes "receive ") c.args.line.now c.in-Some.digits.now (rw c.in-Some.is at c.rest_after.ensures))
     c.requires
 
-pub returns-in-Some-behind-clause-read : goal.returns-in-Some-behind-clause-read
-returns-in-Some-behind-clause-read c =
-    c.ask_line.ensures.read c.args.line.now (behind-only (codes "ask ") c.args.line.now c.in-Some-behind.rest.now (rw c.in-Some-behind.is at c.behind-2.ensures))
+pub returns-in-Some-rest_after-clause-read : goal.returns-in-Some-rest_after-clause-read
+returns-in-Some-rest_after-clause-read c =
+    c.ask_line.ensures.read c.args.line.now (rest_after-only (codes "ask ") c.args.line.now c.in-Some-rest_after.rest.now (rw c.in-Some-rest_after.is at c.rest_after-2.ensures))
     c.requires
 
-pub returns-in-Some-behind-2-clause-read : goal.returns-in-Some-behind-2-clause-read
-returns-in-Some-behind-2-clause-read c =
+pub returns-in-Some-rest_after-2-clause-read : goal.returns-in-Some-rest_after-2-clause-read
+returns-in-Some-rest_after-2-clause-read c =
     c.release_line.ensures.read c.args.line.now
-    (behind-only (codes "release ") c.args.line.now c.in-Some-behind-2.rest.now (rw c.in-Some-behind-2.is at c.behind-3.ensures)) c.requires
+    (rest_after-only (codes "release ") c.args.line.now c.in-Some-rest_after-2.rest.now (rw c.in-Some-rest_after-2.is at c.rest_after-3.ensures)) c.requires
 
 pub returns-in-None-clause-read : goal.returns-in-None-clause-read
 returns-in-None-clause-read c =
-    no_words c.args.line.now (rw c.in_default.is at c.behind.ensures) (rw c.in_default-behind.is at c.behind-2.ensures) (rw c.in-None.is at c.behind-3.ensures)
+    no_words c.args.line.now (rw c.in_default.is at c.rest_after.ensures) (rw c.in_default-rest_after.is at c.rest_after-2.ensures) (rw c.in-None.is at c.rest_after-3.ensures)

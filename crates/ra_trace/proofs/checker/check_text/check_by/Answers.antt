@@ -13,8 +13,8 @@ returns-in_err-checker-clause-checks g c =
 pub returns-in-Some-clause-checks : goal.returns-in-Some-clause-checks
 returns-in-Some-clause-checks g c =
     let old = g.R.Read.remaining c.args.reader.now in
-    checked c.args.limit old (g.R.Read.remaining c.verdict_behind-verdict.new.reader) c.traces_rest_on_runs.ensures c.each_text_has_one_verdict.ensures
-    c.verdict_behind-verdict.result (c.verdict_behind-verdict.ensures.answers old (rw c.in-Some.is at c.in_ok-checker.ensures.opened))
+    checked c.args.limit old (g.R.Read.remaining c.verdict_after-verdict.new.reader) c.traces_rest_on_runs.ensures c.each_text_has_one_verdict.ensures
+    c.verdict_after-verdict.result (c.verdict_after-verdict.ensures.answers old (rw c.in-Some.is at c.in_ok-checker.ensures.opened))
 
 pub returns-in-None-clause-checks : goal.returns-in-None-clause-checks
 returns-in-None-clause-checks g c =

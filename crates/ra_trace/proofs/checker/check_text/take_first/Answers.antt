@@ -21,14 +21,14 @@ returns-in-Some-clause-opened g c =
     let (bytes, count, some) = rw c.in-Some.is at c.in_ok-next_line.ensures in
     let old = g.R.Read.remaining c.args.reader.now in
     let new = g.R.Read.remaining c.next_line.new.reader in
-    subst (λ (n : ℕ). Opens c.args.limit old new n c.behind_first.result) count
-    (opens_by c.args.limit old new bytes c.in-Some.line c.behind_first.result some.0 some.1 some.2 c.behind_first.ensures.some c.behind_first.ensures.none
-    c.behind_first.ensures.err)
+    subst (λ (n : ℕ). Opens c.args.limit old new n c.after_first.result) count
+    (opens_by c.args.limit old new bytes c.in-Some.line c.after_first.result some.0 some.1 some.2 c.after_first.ensures.some c.after_first.ensures.none
+    c.after_first.ensures.err)
 
 pub returns-in-Some-clause-within : goal.returns-in-Some-clause-within
 returns-in-Some-clause-within g c =
     let (bytes, count, some) = rw c.in-Some.is at c.in_ok-next_line.ensures in
-    if_ok c.behind_first.result _ (subst (λ (n : ℕ). n ≤ c.args.limit) count some.0.1)
+    if_ok c.after_first.result _ (subst (λ (n : ℕ). n ≤ c.args.limit) count some.0.1)
 
 pub returns-in-None-clause-opened : goal.returns-in-None-clause-opened
 returns-in-None-clause-opened g c =

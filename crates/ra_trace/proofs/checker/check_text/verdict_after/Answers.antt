@@ -2,7 +2,7 @@ use Rattle.std.proofs.Common.{◌+◌, ◌-◌, ◌∙◌}
 use Rattle.std.proofs.lemmas.Result.{err_from_is_err_and}
 use Rattle.ra_trace.proofs.Along.{answers_at_end, right_turns, some_taken, at_first, few_taken, fewer_left, still_short}
 use Rattle.ra_trace.proofs.Telling.{tells_at, none_at_end, none_at_fault}
-use Rattle.ra_trace.proofs.checker.check_text.verdict_behind.Goals as goal
+use Rattle.ra_trace.proofs.checker.check_text.verdict_after.Goals as goal
 
 pub overflow_sub-left : goal.overflow_sub-left
 overflow_sub-left g c = c.requires.within

@@ -1,7 +1,7 @@
 use Rattle.std.proofs.Common.{◌≡◌, true, sym, ◌∙◌}
 use Rattle.ra_trace.specs.Forms.{has_node}
 use Rattle.ra_trace.proofs.Taking.{opens, opens_not, first_may_come}
-use Rattle.ra_trace.proofs.checker.Checker.behind_first.Goals as goal
+use Rattle.ra_trace.proofs.checker.Checker.after_first.Goals as goal
 
 pub returns-then-not-has_node-clause-none : goal.returns-then-not-has_node-clause-none
 returns-then-not-has_node-clause-none c =

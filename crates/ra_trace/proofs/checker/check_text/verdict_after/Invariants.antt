@@ -1,6 +1,6 @@
 use Rattle.std.proofs.Common.{ℕ, List, Option, ◌+◌, ◌-◌, ◌≤◌}
 use Rattle.ra_trace.specs.Along.{IsAlong}
-use Rattle.ra_trace.proofs.checker.check_text.verdict_behind.Given as goal
+use Rattle.ra_trace.proofs.checker.check_text.verdict_after.Given as goal
 
 -- the lines so far are right, and there are no more of them than bytes
 abbrev pub invariant-loop-next : goal.invariant-loop-next

@@ -1,7 +1,7 @@
 use Rattle.std.proofs.Common.{◌+◌, ◌-◌}
 use Rattle.std.proofs.lemmas.Result.{err_from_is_err_and}
 use Rattle.ra_trace.proofs.MarksAlong.{few, right_turns}
-use Rattle.ra_trace.proofs.mark_log.verdict_behind.Goals as goal
+use Rattle.ra_trace.proofs.mark_log.verdict_after.Goals as goal
 
 pub loop-next-preserved : goal.loop-next-preserved
 loop-next-preserved g c =

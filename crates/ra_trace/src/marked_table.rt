@@ -1,11 +1,24 @@
-//! The lock table under the marks of a log, with the cause for which it refuses one.
-ghost use Rattle.std.specs.Prelude.{Ok};
+//! The lock table under the marks of a trace or of a log: whether it makes a mark, and the cause for which it refuses one.
+ghost use Rattle.std.specs.Prelude.{◌≡◌, ◌↔◌, Ok, None, IsTrue};
 ghost use Rattle.ra_stamp.specs.declared.entry.Mark.{Mark};
-ghost use Rattle.ra_trace.specs.MarksAlong.{TriesMark};
+ghost use Rattle.ra_table.specs.Laws.{AllowsMark};
+ghost use Rattle.ra_trace.specs.Marks.{TriesMark};
 
 use crate::{MarkCause, TraceError};
 use ra_stamp::{Entry, Mark};
 use ra_table::{EnterError, LeaveError, RequestError, Table, steps_exist_where_they_are_allowed};
+
+/// Returns whether a lock table allows a mark, unless memory runs out. It does not allocate.
+pub fn allows(table: &Table, mark: &Mark) -> bool
+    ensures { IsTrue result ↔ AllowsMark table.now mark.now }
+{
+    steps_exist_where_they_are_allowed();
+    match mark {
+        Mark::Requested(entry) => table.can_request(entry),
+        Mark::Entered(entry) => table.can_enter(entry),
+        Mark::Left(entry) => table.holds(entry),
+    }
+}
 
 /// Lets an entry wait, or returns why it may not.
 ///
@@ -13,7 +26,8 @@ use ra_table::{EnterError, LeaveError, RequestError, Table, steps_exist_where_th
 ///
 /// `Memory`: memory ran out.
 fn request(table: &mut Table, entry: &Entry) -> Result<Option<MarkCause>, TraceError>
-    ensures { TriesMark table.old (Mark.Requested entry.now) table.new result }
+    ensures tries { TriesMark table.old (Mark.Requested entry.now) table.new result }
+    ensures left { (result ≡ Ok None → ⊥) → table.new ≡ table.old }
 {
     steps_exist_where_they_are_allowed();
     match table.request(*entry) {
@@ -30,7 +44,8 @@ fn request(table: &mut Table, entry: &Entry) -> Result<Option<MarkCause>, TraceE
 ///
 /// `Memory`: memory ran out.
 fn enter(table: &mut Table, entry: &Entry) -> Result<Option<MarkCause>, TraceError>
-    ensures { TriesMark table.old (Mark.Entered entry.now) table.new result }
+    ensures tries { TriesMark table.old (Mark.Entered entry.now) table.new result }
+    ensures left { (result ≡ Ok None → ⊥) → table.new ≡ table.old }
 {
     steps_exist_where_they_are_allowed();
     match table.enter(entry) {
@@ -44,7 +59,8 @@ fn enter(table: &mut Table, entry: &Entry) -> Result<Option<MarkCause>, TraceErr
 
 /// Ends the hold of an entry, or returns why it does not hold.
 fn leave(table: &mut Table, entry: &Entry) -> Option<MarkCause>
-    ensures { TriesMark table.old (Mark.Left entry.now) table.new (Ok result) }
+    ensures tries { TriesMark table.old (Mark.Left entry.now) table.new (Ok result) }
+    ensures left { (result ≡ None → ⊥) → table.new ≡ table.old }
 {
     match table.leave(entry) {
         Ok(()) => None,
@@ -52,13 +68,15 @@ fn leave(table: &mut Table, entry: &Entry) -> Option<MarkCause>
     }
 }
 
-/// Makes the step of a mark in a lock table, or returns why the table refuses it. The cost is that of the table.
+/// Makes the step of a mark in a lock table, or returns the first cause for which the table refuses it, and leaves the table
+/// unchanged. The cause is never `MarkCause::Line`. The cost is that of the table's `request`, `enter` or `leave`.
 ///
 /// # Errors
 ///
-/// `Memory`: memory ran out.
+/// `Memory`: memory ran out, and the table is unchanged. The table allows the mark.
 pub fn try_mark(table: &mut Table, mark: &Mark) -> Result<Option<MarkCause>, TraceError>
-    ensures { TriesMark table.old mark.now table.new result }
+    ensures tries { TriesMark table.old mark.now table.new result }
+    ensures left { (result ≡ Ok None → ⊥) → table.new ≡ table.old }
 {
     match mark {
         Mark::Requested(entry) => request(table, entry),

@@ -1,4 +1,4 @@
-use Rattle.ra_trace.proofs.checker.step_table.allows.Goals as goal
+use Rattle.ra_trace.proofs.marked_table.allows.Goals as goal
 
 pub returns-in-Requested : goal.returns-in-Requested
 returns-in-Requested c =

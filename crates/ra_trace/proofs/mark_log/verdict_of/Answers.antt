@@ -1,8 +1,0 @@
-use Rattle.std.proofs.lemmas.Result.{err_from_is_err_and}
-use Rattle.ra_trace.proofs.MarksAlong.{no_log}
-use Rattle.ra_trace.proofs.mark_log.verdict_of.Goals as goal
-
-pub returns-in_err-log : goal.returns-in_err-log
-returns-in_err-log g c =
-    let p = err_from_is_err_and c.from_residual.result c.from_residual.ensures.1 in
-    rw (p.1, p.2, c.in_err-log.ensures.err) (no_log c.mark_logs_rest_on_tables.ensures c.args.limit (g.R.Read.remaining c.args.reader.now))
