@@ -1,5 +1,5 @@
 -- What is said of a script that was brought to its end.
-use Rattle.std.proofs.Common.{◌≡◌, ◌≢◌, ◌⊎◌, ◌↔◌, Bool, false, ℕ, ◌*◌, ◌-◌, List, length, map, Some, None, Result, Ok, Err, All, refl, sym, ap, ◌∙◌, subst, inl, inr}
+use Rattle.std.proofs.Common.{◌≡◌, ◌≢◌, ◌⊎◌, ◌↔◌, Bool, false, ℕ, List, length, map, Some, None, Result, Ok, Err, All, refl, sym, ap, ◌∙◌, subst, inl, inr}
 use Rattle.std.specs.Prelude.{AllPairs, IfOk, IfErr, IsErrAnd, IsErrOf, IsTrue, MatchResult}
 use Rattle.std.specs.List.{Any}
 use Rattle.ra_schedule.specs.Script.{ScriptState}
@@ -15,9 +15,9 @@ use Rattle.ra_history.specs.declared.book.grant.Grant.{Grant}
 use Rattle.ra_history.specs.declared.settle_books.settled.Settled.{Settled}
 use Rattle.ra_history.specs.declared.book.stop.Stop.{Stop}
 use Rattle.ra_history.specs.Book.{BookState}
-use Rattle.ra_history.specs.Plan.{MeetsPlan, IsQuietEnd, locks_of}
+use Rattle.ra_history.specs.Plan.{MeetsPlan, IsQuietEnd}
 use Rattle.ra_history.specs.Settled.{IsSettledOrder, IsSettledRun, Placed, IsGranted, BooksFit, HasUnsent, HasTwice, Repeats, settled_steps, start_of}
-use Rattle.ra_cluster.specs.Outcome.{first_fault, AreOf, AreSound, IsOutcome, IsDone, IsOfThreads, RefusesReport, RefusesSound}
+use Rattle.ra_cluster.specs.Outcome.{first_fault, AreOf, AreSound, ChecksScript, IsOutcome, IsDone, IsOfThreads, RefusesReport, RefusesSound}
 use Rattle.ra_history.proofs.Causes.{not_all, not_apart}
 use Rattle.ra_history.proofs.SettledReport.{from_zero}
 use Rattle.ra_history.proofs.LockCounts.{waits_for_none, requests_are_locks, messages_are}
@@ -119,31 +119,6 @@ done_by books script grants settled outcome met =
       count = messages_are script.nodes script settled.report theorem met.1 unrepeated met.0 requests;
     }
 
--- the clauses of what is promised of it, one by one
-module _ (script : ScriptState) (Q : ClusterError → Type 0) where
-  abbrev pub Whole : Result Settled ClusterError → Type 0
-  Whole r = MatchResult r (IsDone script) Q
-
-  pub plan : (r : Result Settled ClusterError) → Whole r → IfOk r (λ settled. MeetsPlan script settled.report.marks.items)
-  plan (Ok s) whole = whole.plan
-  plan (Err e) whole = tt
-
-  pub ended : (r : Result Settled ClusterError) → Whole r → IfOk r (λ settled. IsQuietEnd settled.report)
-  ended (Ok s) whole = whole.ended
-  ended (Err e) whole = tt
-
-  pub none_waits : (r : Result Settled ClusterError) → Whole r → IfOk r (λ settled. settled.report.waiting ≡ 0)
-  none_waits (Ok s) whole = whole.none_waits
-  none_waits (Err e) whole = tt
-
-  pub requests : (r : Result Settled ClusterError) → Whole r → IfOk r (λ settled. settled.report.requests ≡ locks_of script)
-  requests (Ok s) whole = whole.requests
-  requests (Err e) whole = tt
-
-  pub count : (r : Result Settled ClusterError) → Whole r → IfOk r (λ settled. settled.report.sent ≡ 2 * (script.nodes - 1) * locks_of script)
-  count (Ok s) whole = whole.count
-  count (Err e) whole = tt
-
 -- those of the books, with their outcome
 module _ (script : ScriptState) (books : List BookState) (grants : List Grant) where
   abbrev pub Ended : Result Settled ClusterError → Type 0
@@ -153,15 +128,15 @@ module _ (script : ScriptState) (books : List BookState) (grants : List Grant) w
   outcome (Ok s) whole = whole.0
   outcome (Err e) whole = tt
 
-  pub done : (r : Result Settled ClusterError) → Ended r → Whole script (RefusesSound script books grants) r
+  pub done : (r : Result Settled ClusterError) → Ended r → IfOk r (IsDone script)
   done (Ok s) whole = whole.1
-  done (Err e) whole = whole
+  done (Err e) whole = tt
 
   pub refuses : (r : Result Settled ClusterError) → Ended r → IfErr r (RefusesSound script books grants)
   refuses (Ok s) whole = tt
   refuses (Err e) whole = whole
 
--- ---- Refusals that there are not
+-- ---- Faults
 
 pub not_refused : {T : Type 0} (P : T → Type 0) (Q : ClusterError → Type 0) (e : ClusterError) → (Q e → ⊥) → (r : Result T ClusterError) → MatchResult r P Q
     → IsErrOf r e → ⊥
@@ -191,25 +166,40 @@ some_fault books found Q at none = let wrong = at ∙ none in absurd (cc)
 
 -- ---- What is said of a script before its threads start
 
--- a refusal that is passed on refuses the same
-pub passed_on : {T U : Type 0} (X : Type 0) (e x : ClusterError) (r : Result T ClusterError) → r ≡ Err e → IsErrOf {T = U} (Err e) x ↔ X → IsErrOf r x ↔ X
-passed_on X e x r is says = (
-  λ h. let same : e ≡ x = cc in says.0 (ap Err same),
-  λ h. let told = says.1 h in let same : e ≡ x = cc in is ∙ ap Err same,
-)
+-- what settling refuses is not what is looked at before the threads start
+pub of_threads : (script : ScriptState) (books : List BookState) (grants : List Grant) (r : Result Settled ClusterError)
+    → Ended script books grants r → IfErr r IsOfThreads
+of_threads script books grants (Ok s) whole = tt
+of_threads script books grants (Err e) whole =
+    let late : (x : ClusterError) → e ≡ x → RefusesSound script books grants x = λ x is. subst (RefusesSound script books grants) is whole in
+    (λ is. late OutOfOrder is, λ is. late Unreleased is)
 
 pub not_ok : {T E : Type 0} (Q : E → Type 0) (P : T → Type 0) (r : Result T E) → IsErrAnd r Q → IfOk r P
 not_ok Q P (Ok v) is = absurd is
 not_ok Q P (Err e) is = tt
 
--- what did not refuse the script before is not what the threads refuse
-pub not_passed : {T U : Type 0} {v : U} (X : Type 0) (x : ClusterError) (P : T → Type 0) (r : Result T ClusterError) → (IsOfThreads x → ⊥) → MatchResult r P IsOfThreads
-    → IsErrOf (Ok v) x ↔ X → IsErrOf r x ↔ X
-not_passed X x P r apart whole says = (
-  λ is. absurd (not_refused P IsOfThreads x apart r whole is),
-  λ h. let told = says.1 h in absurd (cc),
-)
+apart : {T : Type 0} (x : ClusterError) (r : Result T ClusterError) → (IsOfThreads x → ⊥) → IfErr r IsOfThreads → IsErrOf r x → ⊥
+apart x (Ok v) none of is = absurd (cc)
+apart x (Err e) none of is = none (let same : e ≡ x = cc in subst IsOfThreads same of)
 
--- nor what is returned is a refusal, whatever is returned
-pub also_ok : {T U : Type 0} {v : U} {w : T} (X : Type 0) (x : ClusterError) → IsErrOf (Ok v) x ↔ X → IsErrOf {T = T} (Ok w) x ↔ X
-also_ok X x says = (λ is. absurd (cc), λ h. let told = says.1 h in absurd (cc))
+-- a script that was not refused before is refused for none of these causes, whatever comes of its threads
+pub still_checked : {T U : Type 0} (script : ScriptState) (v : U) (r : Result T ClusterError) → ChecksScript script (Ok v) → IfErr r IsOfThreads
+    → ChecksScript script r
+still_checked script v r says of = record {
+  out_of_order = (λ is. absurd (apart OutOfOrder r (λ of. of.0 refl) of is), λ h. let told = says.out_of_order.1 h in absurd (cc));
+  unreleased = (λ is. absurd (apart Unreleased r (λ of. of.1 refl) of is), λ h. let told = says.unreleased.1 h in absurd (cc));
+}
+
+-- a refusal that is passed on refuses the same
+pub passed_on : {T U : Type 0} (script : ScriptState) (e : ClusterError) (r : Result T ClusterError) → r ≡ Err e → ChecksScript {T = U} script (Err e)
+    → ChecksScript script r
+passed_on {U = U} script e r is says = record {
+  out_of_order = same OutOfOrder says.out_of_order;
+  unreleased = same Unreleased says.unreleased;
+}
+  where
+    same : {X : Type 0} (x : ClusterError) → IsErrOf {T = U} (Err e) x ↔ X → IsErrOf r x ↔ X
+    same x says = (
+      λ h. let equal : e ≡ x = cc in says.0 (ap Err equal),
+      λ h. let told = says.1 h in let equal : e ≡ x = cc in is ∙ ap Err equal,
+    )

@@ -1,6 +1,6 @@
 -- What threads recorded of a script that they brought to its end.
-use Rattle.std.proofs.Common.{◌≡◌, ◌↔◌, Bool, true, false, List, [], ◌∷◌, ◌++◌, length, map, Option, Some, None, Result, Ok, Err, All, refl, sym, ap, ◌∙◌, subst, arith}
-use Rattle.std.specs.Prelude.{cond, IfOk, IsErrOf, MatchResult}
+use Rattle.std.proofs.Common.{◌≡◌, ◌↔◌, Bool, true, false, List, [], ◌∷◌, ◌++◌, length, map, Option, Some, None, Ok, All, refl, sym, ap, ◌∙◌, subst, arith}
+use Rattle.std.specs.Prelude.{cond, IsErrOf}
 use Rattle.std.specs.List.{filter}
 use Rattle.std.proofs.lemmas.List.{length-append}
 use Rattle.std.proofs.lemmas.List.Elements.{All-cons, All-nil}
@@ -11,13 +11,10 @@ use Rattle.ra_history.specs.declared.book.sent.Sent.{Sent}
 use Rattle.ra_history.specs.declared.settle_books.settled.Settled.{Settled}
 use Rattle.ra_history.specs.declared.book.stop.Stop.{Stop}
 use Rattle.ra_history.specs.Book.{BookState, HasHistory}
-use Rattle.ra_history.specs.Plan.{MeetsPlan, IsQuietEnd}
 use Rattle.ra_history.specs.Settled.{all_lost, lost_among}
 use Rattle.ra_cluster.specs.declared.cluster.cluster_run.ClusterError.{ClusterError}
 use Rattle.ra_cluster.specs.declared.cluster.cluster_run.ClusterError.TheVariants.{Fault}
-use Rattle.ra_cluster.specs.declared.cluster.cluster_run.Recorded.{Recorded}
-use Rattle.ra_cluster.specs.Outcome.{first_fault, fault_or, IsOutcome, IsOfThreads, IsRecord}
-use Rattle.ra_cluster.proofs.Endings.{done_by}
+use Rattle.ra_cluster.specs.Outcome.{first_fault, fault_or, IsDone, IsOutcome, IsRecord}
 
 -- ---- No frame is flagged lost
 
@@ -66,11 +63,10 @@ never_refused settled fault is = absurd cc
 
 -- the books were read in one go, and settled as they were read
 pub record_of : (script : ScriptState) (books read : List BookState) (grants : List Grant) (settled : Settled) → read ≡ books → All HasHistory books
-    → IsOutcome script read grants settled → MeetsPlan script settled.report.marks.items × IsQuietEnd settled.report
+    → IsOutcome script read grants settled → IsDone script settled
     → ((stop : Stop) → IsErrOf {T = Settled} (Ok settled) (Fault stop) ↔ (first_fault read ≡ Some stop)) → IsRecord script books settled
-record_of script books read grants settled is histories outcome met faults =
+record_of script books read grants settled is histories outcome done faults =
     let same = subst (λ (bs : List BookState). IsOutcome script bs grants settled) is outcome in
-    let done = done_by books script grants settled same met in
     let none = λ (stop : Stop) (first : first_fault books ≡ Some stop). never_refused settled (Fault stop) ((faults stop).1 (ap first_fault is ∙ first)) in
     record {
       histories = histories;
@@ -80,11 +76,3 @@ record_of script books read grants settled is histories outcome met faults =
       outcome = same;
       done = done;
     }
-
--- what is returned is such a record
-abbrev pub IsRecordOf : ScriptState → Recorded → Type 0
-IsRecordOf script recorded = IsRecord script recorded.books.items recorded.settled
-
-pub recorded : {T : Type 0} (P : T → Type 0) (r : Result T ClusterError) → MatchResult r P IsOfThreads → IfOk r P
-recorded P (Ok x) h = h
-recorded P (Err e) h = tt

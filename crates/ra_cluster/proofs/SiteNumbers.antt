@@ -1,5 +1,5 @@
 -- The sites of a cluster are in the order of their numbers, and so are the books that they give when they are closed.
-use Rattle.std.proofs.Common.{◌≡◌, ℕ, zero, suc, ◌+◌, ◌<◌, ◌≤◌, List, [], ◌∷◌, ◌++◌, map, length, get_or, Bor, Option, Some, None, is_some, IfSome, ltb, sym, ap, ◌∙◌, subst, inl, inr, arith}
+use Rattle.std.proofs.Common.{◌≡◌, ℕ, Bool, zero, suc, ◌+◌, ◌<◌, ◌≤◌, List, [], ◌∷◌, ◌++◌, map, length, get_or, Bor, Option, Some, None, is_some, IfSome, ltb, sym, ap, ◌∙◌, subst, inl, inr, arith}
 use Rattle.std.specs.Prelude.{All}
 use Rattle.std.specs.List.{range_with_len}
 use Rattle.std.proofs.Math.Seq.{get_or-append_seam}
@@ -10,6 +10,15 @@ use Rattle.std.proofs.lemmas.List.FromFn.{length-range_with_len, get_or-range_wi
 use borrow.Author.Tests.{ltb-true}
 use Rattle.ra_history.specs.Book.{BookState, IsWhole, HasHistory}
 use Rattle.ra_history.specs.Settled.{IsCluster, start_of}
+use Rattle.ra_cluster.specs.Cluster.{ClusterState}
+
+abbrev state_of : ℕ → Bool → ℕ → ClusterState
+state_of start audited nodes = record { nodes = nodes; start = start; audited = audited }
+
+-- a cluster of this many sites is one of that many nodes
+pub made_of : (n start : ℕ) (audited : Bool) (sites : ℕ) → sites ≡ n
+    → ◌≡◌ {A = ClusterState} (record { nodes = sites; start = start; audited = audited }) (record { nodes = n; start = start; audited = audited })
+made_of n start audited sites is = ap (state_of start audited) is
 
 -- there are as many sites as numbers
 pub count_of : (n : ℕ) (sites : List ℕ) → sites ≡ range_with_len 1 n → length sites ≡ n

@@ -1,9 +1,11 @@
 -- What a site hands over: the events of its node since the ones before, and the frames that were lost since then.
-use Rattle.std.specs.Prelude.{◌≡◌, ◌⊎◌, ℕ, List, []}
+use Rattle.std.specs.Prelude.{◌≡◌, ◌⊎◌, ℕ, List, [], Result, IsErrOf}
 use Rattle.ra_frame.specs.declared.frame.Frame.{Frame}
 use Rattle.ra_history.specs.declared.book.event.BookEvent.{BookEvent}
 use Rattle.ra_history.specs.History.{clock_of}
 use Rattle.ra_history.specs.Book.{BookState, HasHistory}
+use Rattle.ra_cluster.specs.declared.site.take_error.TakeError.{TakeError}
+use Rattle.ra_cluster.specs.declared.site.take_error.TakeError.TheVariants.{NoNode, NotNext}
 use Rattle.ra_cluster.specs.Losses.{lost_frames}
 
 -- Of a book of this node with its history, from which all was taken up to an event with this clock, this is all that is left: the
@@ -18,3 +20,7 @@ pub record IsAllLeft (book : BookState) (node after : ℕ) (events : List BookEv
 -- this is nothing, or all that is left of some book of the node after that clock
 abbrev pub IsHandedOver : ℕ → ℕ → List BookEvent → List Frame → Type 0
 IsHandedOver node after events lost = ((events ≡ []) × (lost ≡ [])) ⊎ ((book : BookState) × IsAllLeft book node after events lost)
+
+-- if nothing is handed over, the cause is `OutOfTurn` or `Memory`, and no other one
+abbrev pub OnlyTurnOrMemory : {T : Type 0} → Result T TakeError → Type 0
+OnlyTurnOrMemory answer = (IsErrOf answer NoNode → ⊥) × (IsErrOf answer NotNext → ⊥)

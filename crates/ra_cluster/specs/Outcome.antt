@@ -1,6 +1,7 @@
 -- What comes of a script that threads ran.
-use Rattle.std.specs.Prelude.{◌≡◌, ◌≢◌, ◌*◌, ◌-◌, false, List, [], ◌∷◌, All, AllPairs, map, length, Option, Some, None}
+use Rattle.std.specs.Prelude.{◌≡◌, ◌≢◌, ◌↔◌, ◌*◌, ◌-◌, false, List, [], ◌∷◌, All, AllPairs, map, length, Option, Some, None, Result, IsErrOf}
 use Rattle.ra_schedule.specs.Script.{ScriptState}
+use Rattle.ra_schedule.specs.LockOrder.{IsOutOfOrder, IsUnreleased}
 use Rattle.ra_world.specs.declared.text.report.Report.{Report}
 use Rattle.ra_world.specs.Traffic.{Move}
 use Rattle.ra_world.specs.Run.{IsRun}
@@ -24,6 +25,16 @@ fault_or None other = other
 abbrev pub first_fault : List BookState → Option Stop
 first_fault [] = None
 first_fault (book ∷ books) = fault_or book.fault (first_fault books)
+
+-- `OutOfOrder` and `Unreleased` are answered exactly if the script is so: a client takes names out of order, or otherwise
+-- one holds a name at its end
+pub record ChecksScript {T : Type 0} (script : ScriptState) (answer : Result T ClusterError) : Type 0 where
+  pub out_of_order : IsErrOf answer OutOfOrder ↔ IsOutOfOrder script
+  pub unreleased : IsErrOf answer Unreleased ↔ ((IsOutOfOrder script → ⊥) × IsUnreleased script)
+
+-- a refusal that can come only after the script was looked at
+abbrev pub IsOfThreads : ClusterError → Type 0
+IsOfThreads e = (e ≢ OutOfOrder) × (e ≢ Unreleased)
 
 -- the books are those of the nodes of a script, in order, with numbers that begin at 0
 pub record AreOf (script : ScriptState) (books : List BookState) : Type 0 where
@@ -104,9 +115,3 @@ pub record IsRecord (script : ScriptState) (books : List BookState) (settled : S
   pub grants : List Grant
   pub outcome : IsOutcome script books grants settled
   pub done : IsDone script settled
-
--- ---- Only private contracts speak of it.
-
--- a refusal that can come only after the script was looked at
-abbrev pub IsOfThreads : ClusterError → Type 0
-IsOfThreads e = (e ≢ OutOfOrder) × (e ≢ Unreleased)

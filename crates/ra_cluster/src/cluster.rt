@@ -6,12 +6,9 @@ pub mod gate;
 pub mod script_threads;
 pub mod settled_script;
 
-ghost use Rattle.std.specs.Prelude.{◌≡◌, ◌↔◌, ◌<◌, ◌≤◌, true, false, IfOk, IfSome, IsNone, IsErrOf, IsOkUnless, All, vec_len};
+ghost use Rattle.std.specs.Prelude.{◌≡◌, ◌↔◌, ◌<◌, ◌≤◌, true, false, [], IfOk, IfSome, IsNone, IsErrOf, All, vec_len, vec_capacity};
+ghost use Rattle.std.specs.List.{range_with_len};
 ghost use Rattle.ra_stamp.specs.NodeId.{IsNodeNumber};
-ghost use Rattle.ra_history.specs.Book.{HasHistory};
-ghost use Rattle.ra_cluster.specs.ClientGrant.{IsGrantOf};
-ghost use Rattle.ra_history.specs.Settled.{IsCluster, start_of};
-ghost use Rattle.ra_cluster.specs.Sites.{AreSitesWith};
 
 use crate::cluster::all_sites::{make_sites, stop_all};
 use crate::cluster::book_room::BookRoom;
@@ -33,6 +30,17 @@ pub enum CallError {
     /// The call of the node's site failed.
     #[error(transparent)]
     Site(SiteError),
+}
+
+impl From<SiteError> for CallError {
+    ghost use Rattle.std.specs.Prelude.{◌≡◌};
+    ghost use Rattle.ra_cluster.specs.declared.cluster.CallError.TheVariants as call;
+
+    ghost from_gives = { λ refused e. e ≡ call.Site refused };
+
+    fn from(refused: SiteError) -> CallError {
+        CallError::Site(refused)
+    }
 }
 
 /// What a client did while it held a name, and whether it gave the name back.
@@ -81,6 +89,12 @@ impl<G> Model for Cluster<G> {
 }
 
 impl<G: Gate + Drop> Cluster<G> {
+    ghost use Rattle.ra_history.specs.Book.{HasHistory};
+    ghost use Rattle.ra_history.specs.Settled.{IsCluster, start_of};
+    ghost use Rattle.ra_cluster.specs.ClientGrant.{IsGrantOf};
+    ghost use Rattle.ra_cluster.specs.Cluster.{MakesCluster};
+    ghost use Rattle.ra_cluster.specs.Sites.{AreSitesWith};
+
     /// Makes a cluster of this many nodes, in which nothing has happened yet. The highest number of each resource
     /// begins at `start`, 0 to 2^64-1. The cost is linear in the number of nodes.
     ///
@@ -91,12 +105,7 @@ impl<G: Gate + Drop> Cluster<G> {
     /// 1. `BadCount`: the number of nodes is not 1 to 64.
     /// 2. `Memory`: memory ran out.
     pub fn new(alloc: Global, nodes: u16, start: u64, gate: G) -> Result<Cluster<G>, NewPostError>
-        ensures nodes { IfOk result (λ cluster. cluster.nodes ≡ nodes) }
-        ensures start { IfOk result (λ cluster. cluster.start ≡ start) }
-        ensures whole { IfOk result (λ cluster. cluster.audited ≡ false) }
-        ensures bad_count { IsErrOf result NewPostError.BadCount ↔ (IsNodeNumber nodes → ⊥) }
-        // Memory is the only other error.
-        ensures allowed { IsOkUnless result NewPostError.Memory ↔ IsNodeNumber nodes }
+        ensures { MakesCluster nodes start false result }
     {
         Cluster::make(alloc, nodes, start, gate, false)
     }
@@ -113,12 +122,7 @@ impl<G: Gate + Drop> Cluster<G> {
         start: u64,
         gate: G,
     ) -> Result<Cluster<G>, NewPostError>
-        ensures nodes { IfOk result (λ cluster. cluster.nodes ≡ nodes) }
-        ensures start { IfOk result (λ cluster. cluster.start ≡ start) }
-        ensures audited { IfOk result (λ cluster. cluster.audited ≡ true) }
-        ensures bad_count { IsErrOf result NewPostError.BadCount ↔ (IsNodeNumber nodes → ⊥) }
-        // Memory is the only other error.
-        ensures allowed { IsOkUnless result NewPostError.Memory ↔ IsNodeNumber nodes }
+        ensures { MakesCluster nodes start true result }
     {
         Cluster::make(alloc, nodes, start, gate, true)
     }
@@ -135,11 +139,7 @@ impl<G: Gate + Drop> Cluster<G> {
         gate: G,
         audited: bool,
     ) -> Result<Cluster<G>, NewPostError>
-        ensures nodes { IfOk result (λ cluster. cluster.nodes ≡ nodes) }
-        ensures start { IfOk result (λ cluster. cluster.start ≡ start) }
-        ensures audited { IfOk result (λ cluster. cluster.audited ≡ audited) }
-        ensures bad_count { IsErrOf result NewPostError.BadCount ↔ (IsNodeNumber nodes → ⊥) }
-        ensures allowed { IsOkUnless result NewPostError.Memory ↔ IsNodeNumber nodes }
+        ensures { MakesCluster nodes start audited result }
     {
         let (post, inboxes) = Post::new(alloc, nodes)?;
         let Ok(sites) = make_sites(alloc, nodes, start, audited) else {
@@ -189,15 +189,19 @@ impl<G: Gate + Drop> Cluster<G> {
         self.sites.get(node.place())
     }
 
-    /// Returns the site of a node, and all sites, or `None` if there is no such node.
-    fn site_among_all(&self, node: NodeId) -> Option<(&Site, &[Site])>
-        ensures found { IfSome result (λ found. found.0.now ≡ node) }
-        ensures all { IfSome result (λ found. AreSitesWith found.0.now found.1.now) }
-        ensures absent { IsNone result ↔ self.now.nodes < node }
+    /// Returns the site of a node, and all sites.
+    ///
+    /// # Errors
+    ///
+    /// `NoNode`: the cluster has no such node.
+    fn site_among_all(&self, node: NodeId) -> Result<(&Site, &[Site]), CallError>
+        ensures found { IfOk result (λ found. found.0.now ≡ node) }
+        ensures all { IfOk result (λ found. AreSitesWith found.0.now found.1.now) }
+        ensures no_node { IsErrOf result CallError.NoNode ↔ self.now.nodes < node }
     {
         match self.site(node) {
-            Some(site) => Some((site, self.sites.as_slice())),
-            None => None,
+            Some(site) => Ok((site, self.sites.as_slice())),
+            None => Err(CallError::NoNode),
         }
     }
 
@@ -265,20 +269,11 @@ impl<G: Gate + Drop> Cluster<G> {
         name: Name,
         mode: Mode,
     ) -> Result<Grant, CallError>
-        ensures node { IfOk result (λ grant. grant.entry.stamp.node ≡ node) }
-        ensures client { IfOk result (λ grant. grant.entry.client ≡ client) }
-        ensures name { IfOk result (λ grant. grant.entry.name ≡ name) }
-        ensures mode { IfOk result (λ grant. grant.entry.mode ≡ mode) }
+        ensures grant { IfOk result (IsGrantOf node client name mode) }
         ensures no_node { IsErrOf result CallError.NoNode ↔ self.now.nodes < node }
     {
-        let Some((site, sites)) = self.site_among_all(node) else {
-            return Err(CallError::NoNode);
-        };
-        let (post, gate) = (&self.post, &self.gate);
-        match site.lock(rt, alloc, client, name, mode, post, sites, gate) {
-            Ok(grant) => Ok(grant),
-            Err(refused) => Err(CallError::Site(refused)),
-        }
+        let (site, sites) = self.site_among_all(node)?;
+        Ok(site.lock(rt, alloc, client, name, mode, &self.post, sites, &self.gate)?)
     }
 
     /// Gives back the name that a client of a node holds, as [`Site::unlock`] does.
@@ -299,14 +294,9 @@ impl<G: Gate + Drop> Cluster<G> {
     ) -> Result<(), CallError>
         ensures no_node { IsErrOf result CallError.NoNode ↔ self.now.nodes < node }
     {
-        let Some((site, sites)) = self.site_among_all(node) else {
-            return Err(CallError::NoNode);
-        };
-        let (post, gate) = (&self.post, &self.gate);
-        match site.unlock(rt, alloc, client, name, post, sites, gate) {
-            Ok(()) => Ok(()),
-            Err(refused) => Err(CallError::Site(refused)),
-        }
+        let (site, sites) = self.site_among_all(node)?;
+        site.unlock(rt, alloc, client, name, &self.post, sites, &self.gate)?;
+        Ok(())
     }
 
     /// Locks a name as [`Cluster::lock`] does, calls the closure while the client holds it, and then unlocks it,
@@ -332,18 +322,12 @@ impl<G: Gate + Drop> Cluster<G> {
         ensures done { IfOk result (λ held. F.post does held.grant held.value) }
         ensures no_node { IsErrOf result CallError.NoNode ↔ self.now.nodes < node }
     {
-        let Some((site, sites)) = self.site_among_all(node) else {
-            return Err(CallError::NoNode);
-        };
-        let (post, gate) = (&self.post, &self.gate);
-        let grant = match site.lock(rt, alloc, client, name, mode, post, sites, gate) {
-            Ok(grant) => grant,
-            Err(refused) => return Err(CallError::Site(refused)),
-        };
+        let (site, sites) = self.site_among_all(node)?;
+        let grant = site.lock(rt, alloc, client, name, mode, &self.post, sites, &self.gate)?;
         // The closure has a copy of its own.
         let given = grant;
         let value = does(given);
-        let unlocked = site.unlock(rt, alloc, client, name, post, sites, gate);
+        let unlocked = site.unlock(rt, alloc, client, name, &self.post, sites, &self.gate);
         Ok(Held {
             grant,
             value,
@@ -357,7 +341,7 @@ impl<G: Gate + Drop> Cluster<G> {
         let Some(inbox) = self.inboxes.get(node.place()) else {
             return;
         };
-        if let Some((site, sites)) = self.site_among_all(node) {
+        if let Ok((site, sites)) = self.site_among_all(node) {
             site.pump(rt, alloc, inbox, &self.post, sites, &self.gate);
         }
     }
@@ -387,17 +371,9 @@ impl<G: Gate + Drop> Cluster<G> {
         ensures start { start_of result.items ≡ self.start }
         ensures histories { All HasHistory result.items }
     {
-        let Cluster {
-            start,
-            sites,
-            post: _,
-            inboxes: _,
-            room,
-            gate: _,
-            audited: _,
-        } = self;
-        let mut books = room.into_inner().into_books();
-        let nodes = sites.len() as u16;
+        let nodes = self.nodes();
+        let start = self.start;
+        let (sites, mut books) = self.into_sites();
         for site in sites {
             books.push_reserved(site.close_as(alloc, nodes, start));
         }
@@ -412,6 +388,20 @@ impl<G: Gate + Drop> Cluster<G> {
         ensures count { vec_len result ≡ self.nodes }
         ensures histories { All HasHistory result.items }
     {
+        let (sites, mut books) = self.into_sites();
+        for site in sites {
+            books.push_reserved(site.close());
+        }
+        books
+    }
+
+    /// Consumes the cluster, and returns its sites, and an empty list with room for their books.
+    fn into_sites(self) -> (Vec<Site>, Vec<Book>)
+        ensures sites { result.0.items ≡ range_with_len 1 self.nodes }
+        ensures count { IsNodeNumber self.nodes }
+        ensures empty { result.1.items ≡ [] }
+        ensures room { 64 ≤ vec_capacity result.1 }
+    {
         let Cluster {
             start: _,
             sites,
@@ -421,12 +411,6 @@ impl<G: Gate + Drop> Cluster<G> {
             gate: _,
             audited: _,
         } = self;
-        let mut books = room.into_inner().into_books();
-        // Only proofs ask how many sites there are.
-        let _nodes = sites.len();
-        for site in sites {
-            books.push_reserved(site.close());
-        }
-        books
+        (sites, room.into_inner().into_books())
     }
 }

@@ -1,6 +1,7 @@
 ghost use Rattle.std.specs.Prelude.{◌≡◌, ◌↔◌, ◌≤◌, ◌<◌, ◌+◌, All, length, vec_len, IfOk, IfSome, OnOk, IsErrOf, IsOkUnless};
 ghost use Rattle.ra_stamp.specs.NodeId.{IsNodeNumber};
 ghost use Rattle.ra_frame.specs.Fits.{Fits};
+ghost use Rattle.ra_cluster.specs.Cluster.{ChecksCount};
 
 use crossbeam_channel::{Receiver, Sender, unbounded};
 use ra_frame::{Frame, encode};
@@ -71,9 +72,7 @@ impl Post {
     /// 2. `Memory`: memory ran out.
     pub fn new(alloc: Global, nodes: u16) -> Result<(Post, Vec<Inbox>), NewPostError>
         ensures inboxes { IfOk result (λ made. vec_len made.1 ≡ nodes) }
-        ensures bad_count { IsErrOf result NewPostError.BadCount ↔ (IsNodeNumber nodes → ⊥) }
-        // Memory is the one other error.
-        ensures allowed { IsOkUnless result NewPostError.Memory ↔ IsNodeNumber nodes }
+        ensures count { ChecksCount nodes result }
     {
         if NodeId::new(nodes).is_none() {
             return Err(NewPostError::BadCount);
@@ -239,11 +238,13 @@ impl Inbox {
 
     /// Waits for the next frame, and returns its bytes, or `None` if the inbox is empty and the post closed.
     fn first<R: Wait>(&self, rt: &R) -> Option<Vec<u8>> {
-        if let Ok(first) = self.frames.try_recv(rt) {
-            return Some(first);
+        match self.frames.try_recv(rt) {
+            Ok(first) => Some(first),
+            Err(_) => {
+                // To sleep and to be woken costs more than to let others run, which may send something meanwhile.
+                thread::yield_now();
+                self.frames.recv(rt).ok()
+            }
         }
-        // To sleep and to be woken costs more than to let others run, who may send something meanwhile.
-        thread::yield_now();
-        self.frames.recv(rt).ok()
     }
 }

@@ -15,7 +15,7 @@ use crate::site::closed_book::{is_whole_of, stopped_book};
 use crate::site::desk::{Desk, Halt, Handed, Stepped};
 use crate::site::sending::Sending;
 use crate::site::ticket::{SharedTicket, Ticket};
-use crate::{Book, BookError, Gate, Grant, Inbox, NewError, Post, Sent, Stop, TakeError};
+use crate::{Book, BookError, Gate, Grant, Inbox, NewError, Post, Stop, TakeError};
 use ra_frame::Frame;
 use ra_stamp::{Entry, Memory, Mode, Name, NodeId};
 use std::alloc::Global;
@@ -71,7 +71,7 @@ impl Model for Site {
 impl Site {
     ghost use Rattle.ra_history.specs.Book.{HasHistory, IsWhole};
     ghost use Rattle.ra_cluster.specs.ClientGrant.{IsGrantOf};
-    ghost use Rattle.ra_cluster.specs.Handing.{IsHandedOver};
+    ghost use Rattle.ra_cluster.specs.Handing.{IsHandedOver, OnlyTurnOrMemory};
     ghost use Rattle.ra_cluster.specs.Sites.{AreSitesWith};
 
     /// Makes the site of node `me` of `nodes`, with a book in which nothing has happened yet. The highest number of each
@@ -89,33 +89,21 @@ impl Site {
         ensures bad_node { IsErrOf result NewError.BadNode ↔ (IsNodeNumber nodes × (nodes < me)) }
         ensures no_memory { IsErrOf result NewError.Memory → ⊥ }
     {
-        Site::make(alloc, me, nodes, start, false)
+        let book = Book::new(alloc, me, nodes, start)?;
+        Ok(Site::of(alloc, book, false))
     }
 
-    /// Makes the site of a node, audited or not, as `new` does.
-    ///
-    /// # Errors
-    ///
-    /// Those of `new`.
-    pub(crate) fn make(
-        alloc: Global,
-        me: NodeId,
-        nodes: u16,
-        start: u64,
-        audited: bool,
-    ) -> Result<Site, NewError>
-        ensures ok { IfOk result (λ site. site ≡ me) }
-        ensures bad_count { IsErrOf result NewError.BadCount ↔ (IsNodeNumber nodes → ⊥) }
-        ensures bad_node { IsErrOf result NewError.BadNode ↔ (IsNodeNumber nodes × (nodes < me)) }
-        ensures no_memory { IsErrOf result NewError.Memory → ⊥ }
+    /// Makes the site of a book in which nothing has happened yet, audited or not.
+    pub(crate) fn of(alloc: Global, book: Book, audited: bool) -> Site
+        requires { book.sent ≡ [] }
+        ensures { result ≡ book.me }
     {
-        let book = Book::new(alloc, me, nodes, start)?;
-        Ok(Site {
-            node: me,
+        Site {
+            node: book.me(),
             alloc,
             desk: Mutex::new(Desk::new(alloc, book)),
             sending: Sending::new(audited),
-        })
+        }
     }
 
     /// Returns the number of its node. It does not allocate.
@@ -151,21 +139,20 @@ impl Site {
         gate: &G,
     ) -> Result<Grant, SiteError>
         requires { AreSitesWith self.now sites.now }
-        ensures node { IfOk result (λ grant. grant.entry.stamp.node ≡ self.now) }
-        ensures client { IfOk result (λ grant. grant.entry.client ≡ client) }
-        ensures name { IfOk result (λ grant. grant.entry.name ≡ name) }
-        ensures mode { IfOk result (λ grant. grant.entry.mode ≡ mode) }
+        ensures grant { IfOk result (IsGrantOf self.now client name mode) }
     {
-        let Ok((mine, theirs)) = Ticket::pair(alloc) else {
-            // Each other refusal comes before `Memory`.
-            return match self.ask(rt, alloc, client, name, mode, None, post, sites, gate) {
-                Ok(()) => Err(SiteError::Refused(BookError::Memory)),
-                Err(refused) => Err(refused),
-            };
+        let ticket = Ticket::new(alloc);
+        let made = {
+            let _share = self.sending.share(rt);
+            let ticket = ticket.as_ref();
+            let asked = self
+                .desk
+                .lock(rt)
+                .ask(alloc, self.node, gate, client, name, mode, ticket);
+            self.finish(rt, alloc, asked, post)
         };
-        let theirs = Some(theirs);
-        self.ask(rt, alloc, client, name, mode, theirs, post, sites, gate)?;
-        self.wait_for_grant(rt, &mine, client, name, mode)
+        self.answer(rt, made, sites)?;
+        self.wait_for_grant(rt, ticket.as_ref(), client, name, mode)
     }
 
     /// Gives back the name that a client holds. It waits for locks alone.
@@ -217,38 +204,12 @@ impl Site {
     )
         requires { AreSitesWith self.now sites.now }
     {
-        // They are lent, so that they are dropped at one exit.
         let (mut taken, mut stepped) = (Vec::new(alloc), Vec::new(alloc));
-        self.pump_with(
-            rt,
-            alloc,
-            inbox,
-            &mut taken,
-            &mut stepped,
-            post,
-            sites,
-            gate,
-        );
-    }
-
-    /// Does as `pump`, with two empty lists: of the frames that are taken at once, and of what came of each.
-    fn pump_with<R: Wait, G: Gate>(
-        &self,
-        rt: &R,
-        alloc: Global,
-        inbox: &Inbox,
-        taken: &mut Vec<Vec<u8>>,
-        stepped: &mut Vec<Stepped>,
-        post: &Post,
-        sites: &[Site],
-        gate: &G,
-    )
-        requires { AreSitesWith self.now sites.now }
-    {
+        // Each way out ends the loop, so that the lists are dropped at one exit.
         for _ in rt.forever() {
-            let (are_sent, received) = match inbox.take(rt, taken) {
-                Ok(true) => self.carry(rt, alloc, taken.as_slice(), stepped, post, gate),
-                Ok(false) => return,
+            let (are_sent, received) = match inbox.take(rt, &mut taken) {
+                Ok(true) => self.carry(rt, alloc, taken.as_slice(), &mut stepped, post, gate),
+                Ok(false) => break,
                 Err(Memory) => (true, Err(Halt::Refused(BookError::Memory))),
             };
             if !are_sent {
@@ -256,7 +217,7 @@ impl Site {
             }
             if let Err(halt) = received {
                 stop_after(rt, sites, self.halt(rt, halt, sites));
-                return;
+                break;
             }
             stepped.clear();
             taken.clear();
@@ -321,11 +282,18 @@ impl Site {
     pub fn hand_over<R: Wait>(&self, rt: &R, alloc: Global, after: u64) -> Result<Handed, TakeError>
         ensures handed { IfOk result (λ handed. IsHandedOver self.now after handed.events.items handed.lost.items) }
         ensures after { IfOk result (λ handed. (handed.after ≡ after) ⊎ (handed.events.items ≡ [])) }
-        // A site has no other cause than OutOfTurn and Memory.
-        ensures others { (IsErrOf result TakeError.NoNode → ⊥) × (IsErrOf result TakeError.NotNext → ⊥) }
+        ensures others { OnlyTurnOrMemory result }
     {
-        // The frames that left the book are dropped here, with no lock held.
-        let (handed, _sent) = self.hand_over_alone(rt, alloc, after)?;
+        // The frames that leave the book are dropped at the end, with no lock held.
+        let (handed, _sent) = {
+            // A site that is not audited has no lock to take alone.
+            let Some(_alone) = self.sending.alone(rt) else {
+                return Ok(Handed::nothing(alloc));
+            };
+            // The book is always that of this node, but no contract tells what is under a lock.
+            let made = self.desk.lock(rt).hand_over(alloc, self.node, after);
+            made?
+        };
         Ok(handed)
     }
 
@@ -364,58 +332,6 @@ impl Site {
         }
         let cause = book.fault().unwrap_or(Stop::Refused);
         stopped_book(alloc, me, nodes, start, cause)
-    }
-
-    /// Does what `hand_over` does, and returns the frames that left the book, too.
-    ///
-    /// # Errors
-    ///
-    /// Those of `hand_over`.
-    fn hand_over_alone<R: Wait>(
-        &self,
-        rt: &R,
-        alloc: Global,
-        after: u64,
-    ) -> Result<(Handed, Vec<Sent>), TakeError>
-        ensures handed { IfOk result (λ made. IsHandedOver self.now after made.0.events.items made.0.lost.items) }
-        ensures after { IfOk result (λ made. (made.0.after ≡ after) ⊎ (made.0.events.items ≡ [])) }
-        ensures others { (IsErrOf result TakeError.NoNode → ⊥) × (IsErrOf result TakeError.NotNext → ⊥) }
-    {
-        // A site that is not audited has no lock to take alone.
-        let Some(_alone) = self.sending.alone(rt) else {
-            return Ok((Handed::nothing(alloc), Vec::new(alloc)));
-        };
-        // The book is always that of this node, but no contract tells what is under a lock.
-        self.desk.lock(rt).hand_over(alloc, self.node, after)
-    }
-
-    /// Asks for a name for a client, and sends the frames of the ask. The thread of the client is told by this ticket, which is there
-    /// unless memory ran out, what comes of it.
-    ///
-    /// # Errors
-    ///
-    /// Those of `lock`, except for the last one.
-    fn ask<R: Wait, G: Gate>(
-        &self,
-        rt: &R,
-        alloc: Global,
-        client: u32,
-        name: Name,
-        mode: Mode,
-        ticket: Option<SharedTicket>,
-        post: &Post,
-        sites: &[Site],
-        gate: &G,
-    ) -> Result<(), SiteError> {
-        let made = {
-            let _share = self.sending.share(rt);
-            let asked = self
-                .desk
-                .lock(rt)
-                .ask(alloc, self.node, gate, client, name, mode, ticket);
-            self.finish(rt, alloc, asked, post)
-        };
-        self.answer(rt, made, sites)
     }
 
     /// Hands the book frames, and sends those of their events, with no round of an audit in between. Puts what came of each into
@@ -528,17 +444,23 @@ impl Site {
     ///
     /// # Errors
     ///
-    /// `Stopped`: the node was stopped before the client was let in.
+    /// The first that comes:
+    ///
+    /// 1. `Refused` with `Memory`: there is no ticket.
+    /// 2. `Stopped`: the node was stopped before the client was let in.
     fn wait_for_grant<R: Wait>(
         &self,
         rt: &R,
-        ticket: &Ticket,
+        ticket: Option<&SharedTicket>,
         client: u32,
         name: Name,
         mode: Mode,
     ) -> Result<Grant, SiteError>
         ensures { IfOk result (IsGrantOf self.now client name mode) }
     {
+        let Some(ticket) = ticket else {
+            return Err(SiteError::Refused(BookError::Memory));
+        };
         for _ in rt.forever() {
             match ticket.wait(rt) {
                 Ok(grant) => {

@@ -4,7 +4,7 @@ ghost use Rattle.std.specs.List.{range_with_len};
 ghost use Rattle.ra_cluster.specs.Sites.{AreSitesWith};
 
 use crate::site::stop_causes::stop_of;
-use crate::{Site, SiteError, Stop};
+use crate::{Book, Site, SiteError, Stop};
 use ra_stamp::{Memory, NodeId};
 use std::alloc::Global;
 use std::sync::Wait;
@@ -60,10 +60,12 @@ fn push_site(
     let Some(me) = NodeId::new(number) else {
         return Err(Memory);
     };
-    let Ok(site) = Site::make(alloc, me, nodes, start, audited) else {
+    // Room comes first, so that no exit but the last owns anything.
+    sites.reserve(1)?;
+    let Ok(book) = Book::new(alloc, me, nodes, start) else {
         return Err(Memory);
     };
-    sites.push(site)?;
+    sites.push_reserved(Site::of(alloc, book, audited));
     Ok(())
 }
 

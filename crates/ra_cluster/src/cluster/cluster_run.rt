@@ -1,12 +1,6 @@
-ghost use Rattle.std.specs.Prelude.{◌≡◌, ◌↔◌, ℕ, ◌≤◌, ◌<◌, ◌+◌, ◌-◌, ◌*◌, List, All, map, IsErrOf, IfOk, IfSome, MatchResult, OnOk, vec_len, length};
-ghost use Rattle.ra_world.specs.Traffic.{Move};
-ghost use Rattle.ra_world.specs.Run.{IsRun};
-ghost use Rattle.ra_world.specs.World.{Reports};
-ghost use Rattle.ra_world.specs.MainTheorem.{MainTheorem};
-ghost use Rattle.ra_schedule.specs.LockOrder.{IsOutOfOrder, IsUnreleased};
+ghost use Rattle.std.specs.Prelude.{◌≡◌, All, IfOk};
 ghost use Rattle.ra_history.specs.Book.{HasHistory};
-ghost use Rattle.ra_history.specs.Plan.{MeetsPlan, IsQuietEnd, locks_of};
-ghost use Rattle.ra_cluster.specs.Outcome.{IsOfThreads, IsRecord};
+ghost use Rattle.ra_cluster.specs.Outcome.{ChecksScript, IsDone, IsRecord};
 
 use crate::cluster::script_threads::{ScriptRun, run_threads};
 use crate::cluster::settled_script::settle_script;
@@ -100,23 +94,9 @@ pub fn run_cluster<R: Threads + Wait + Sync, G: Gate>(
     script: &Script,
     gate: &G,
 ) -> Result<Settled, ClusterError>
-    ensures out_of_order { IsErrOf result ClusterError.OutOfOrder ↔ IsOutOfOrder script.now }
-    ensures unreleased { IsErrOf result ClusterError.Unreleased
-        ↔ ((IsOutOfOrder script.now → ⊥) × IsUnreleased script.now) }
-    // The report is that of a run of the steps at the script's nodes, with numbers that begin at 0.
-    ensures run { IfOk result (λ settled. (moves : List Move)
-        × (map (λ move. move.step) moves ≡ settled.steps.items)
-        × IsRun script.now.nodes 0 moves × Reports script.now.nodes 0 moves settled.report) }
-    ensures main_theorem { IfOk result (λ settled. MainTheorem script.now.nodes settled.report) }
-    ensures plan { IfOk result (λ settled. MeetsPlan script.now settled.report.marks.items) }
-    ensures ended { IfOk result (λ settled. IsQuietEnd settled.report) }
-    ensures unrepeated { IfOk result (λ settled. settled.report.repeated ≡ 0) }
-    // No request waits, each lock of the script was requested, and in all two messages were sent for each lock and
-    // other node.
-    ensures none_waits { IfOk result (λ settled. settled.report.waiting ≡ 0) }
-    ensures requests { IfOk result (λ settled. settled.report.requests ≡ locks_of script.now) }
-    ensures count { IfOk result (λ settled. settled.report.sent
-        ≡ 2 * (script.now.nodes - 1) * locks_of script.now) }
+    ensures checked { ChecksScript script.now result }
+    // The report is that of a run of the steps at the script's nodes, and meets the script and the main theorem.
+    ensures done { IfOk result (IsDone script.now) }
 {
     match record_cluster(rt, alloc, script, gate) {
         Ok(recorded) => Ok(recorded.settled),
@@ -135,14 +115,16 @@ pub fn record_cluster<R: Threads + Wait + Sync, G: Gate>(
     script: &Script,
     gate: &G,
 ) -> Result<Recorded, ClusterError>
-    ensures out_of_order { IsErrOf result ClusterError.OutOfOrder ↔ IsOutOfOrder script.now }
-    ensures unreleased { IsErrOf result ClusterError.Unreleased
-        ↔ ((IsOutOfOrder script.now → ⊥) × IsUnreleased script.now) }
+    ensures checked { ChecksScript script.now result }
     // The run is the one into which these very books settle, and all is true of it that `run_cluster` says.
     ensures recorded { IfOk result (λ recorded. IsRecord script.now recorded.books.items recorded.settled) }
 {
     check_script(script)?;
-    record_in_order(rt, alloc, script, gate)
+    let (books, grants) = books_of(rt, alloc, script, gate)?;
+    match settle_script(alloc, script, &books, &grants) {
+        Ok(settled) => Ok(Recorded { books, settled }),
+        Err(fault) => Err(fault),
+    }
 }
 
 /// Checks whether threads can run a script: whether each client takes its names in ascending order and holds none at its
@@ -155,9 +137,7 @@ pub fn record_cluster<R: Threads + Wait + Sync, G: Gate>(
 /// 1. `OutOfOrder`: a client locks a name that is not above, by bytes, each name that it holds then.
 /// 2. `Unreleased`: a client holds a name at its end.
 fn check_script(script: &Script) -> Result<(), ClusterError>
-    ensures out_of_order { IsErrOf result ClusterError.OutOfOrder ↔ IsOutOfOrder script.now }
-    ensures unreleased { IsErrOf result ClusterError.Unreleased
-        ↔ ((IsOutOfOrder script.now → ⊥) × IsUnreleased script.now) }
+    ensures { ChecksScript script.now result }
 {
     if first_out_of_order(script).is_some() {
         return Err(ClusterError::OutOfOrder);
@@ -166,26 +146,6 @@ fn check_script(script: &Script) -> Result<(), ClusterError>
         return Err(ClusterError::Unreleased);
     }
     Ok(())
-}
-
-/// Runs a script that threads can run, and settles the books.
-///
-/// # Errors
-///
-/// Those of `run_cluster`, except for the first two.
-fn record_in_order<R: Threads + Wait + Sync, G: Gate>(
-    rt: &R,
-    alloc: Global,
-    script: &Script,
-    gate: &G,
-) -> Result<Recorded, ClusterError>
-    ensures { MatchResult result (λ recorded. IsRecord script.now recorded.books.items recorded.settled) IsOfThreads }
-{
-    let (books, grants) = books_of(rt, alloc, script, gate)?;
-    match settle_script(alloc, script, &books, &grants) {
-        Ok(settled) => Ok(Recorded { books, settled }),
-        Err(fault) => Err(fault),
-    }
 }
 
 /// Runs a script by threads in a cluster of its own. Returns the books of the nodes, in order, and what the clients were

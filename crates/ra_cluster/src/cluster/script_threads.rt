@@ -2,7 +2,7 @@
 use crate::site::stop_causes::stop_of;
 use crate::{CallError, Cluster, Gate, Grant, SiteError, Stop};
 use ra_schedule::{Op, Script};
-use ra_stamp::NodeId;
+use ra_stamp::{Memory, NodeId};
 use std::alloc::Global;
 use std::sync::{Mutex, Wait};
 use std::thread;
@@ -110,7 +110,7 @@ fn keep_grant<R: Wait, G: Gate + Drop>(
     grant: Grant,
     run: &ScriptRun<'_, G>,
 ) -> Option<Stop> {
-    if run.grants.lock(rt).push(grant).is_err() {
+    if push_grant(&mut *run.grants.lock(rt), grant).is_err() {
         return Some(Stop::Memory);
     }
     if run.cluster.gate().inside(&grant.entry) {
@@ -118,4 +118,11 @@ fn keep_grant<R: Wait, G: Gate + Drop>(
     } else {
         Some(Stop::Gate)
     }
+}
+
+/// Puts a grant after the others.
+fn push_grant(grants: &mut Vec<Grant>, grant: Grant) -> Result<(), Memory> {
+    grants.reserve(1)?;
+    grants.push_reserved(grant);
+    Ok(())
 }

@@ -1,8 +1,8 @@
 //! What comes of a script that threads ran.
-ghost use Rattle.std.specs.Prelude.{◌≡◌, ◌≢◌, ◌⊎◌, ◌↔◌, ◌-◌, ◌*◌, All, Some, None, IsTrue, IsErrOf, IfOk, IfErr, MatchResult};
-ghost use Rattle.ra_history.specs.Plan.{MeetsPlan, IsQuietEnd, locks_of};
+ghost use Rattle.std.specs.Prelude.{◌≡◌, ◌≢◌, ◌⊎◌, ◌↔◌, All, Some, None, IsTrue, IsErrOf, IfOk, IfErr, MatchResult};
+ghost use Rattle.ra_history.specs.Plan.{MeetsPlan, IsQuietEnd};
 ghost use Rattle.ra_cluster.specs.Outcome as spec;
-ghost use Rattle.ra_cluster.specs.Outcome.{AreOf, IsDone, IsOutcome, RefusesReport, RefusesSound};
+ghost use Rattle.ra_cluster.specs.Outcome.{AreOf, IsDone, IsOfThreads, IsOutcome, RefusesReport, RefusesSound};
 
 use crate::{Book, ClusterError, Grant, SettleError, Settled, Stop, is_cluster, settle};
 use ra_history::meets_plan;
@@ -34,19 +34,12 @@ pub fn settle_script(
 ) -> Result<Settled, ClusterError>
     // The report is that of the one run into which these very books settle, with each grant in it exactly once.
     ensures outcome { IfOk result (IsOutcome script.now books.now grants.now) }
-    ensures plan { IfOk result (λ settled. MeetsPlan script.now settled.report.marks.items) }
-    ensures ended { IfOk result (λ settled. IsQuietEnd settled.report) }
-    // No request waits, each lock of the script was requested, and in all two messages were sent for each lock and
-    // other node.
-    ensures none_waits { IfOk result (λ settled. settled.report.waiting ≡ 0) }
-    ensures requests { IfOk result (λ settled. settled.report.requests ≡ locks_of script.now) }
-    ensures count { IfOk result (λ settled. settled.report.sent
-        ≡ 2 * (script.now.nodes - 1) * locks_of script.now) }
+    // Its marks are those of the script, it ends quietly, and its requests and messages are counted.
+    ensures done { IfOk result (IsDone script.now) }
     ensures fault { (stop : Stop) → IsErrOf result (ClusterError.Fault stop) ↔ (spec.first_fault books.now ≡ Some stop) }
     // If no node was stopped, each refusal comes only if its cause applies.
     ensures refused { spec.first_fault books.now ≡ None → IfErr result (RefusesSound script.now books.now grants.now) }
-    ensures in_order { IsErrOf result ClusterError.OutOfOrder → ⊥ }
-    ensures released { IsErrOf result ClusterError.Unreleased → ⊥ }
+    ensures threads { IfErr result IsOfThreads }
 {
     if let Some(stop) = first_fault(books) {
         return Err(ClusterError::Fault(stop));

@@ -1,9 +1,9 @@
 //! What is under the lock of a site: the book, and the clients that wait.
-ghost use Rattle.std.specs.Prelude.{◌≡◌, ◌≢◌, ◌↔◌, ◌⊎◌, ◌<◌, false, [], All, IfOk, IfSome, IsErrOf, OnErr, OnOk, vec_len};
+ghost use Rattle.std.specs.Prelude.{◌≡◌, ◌≢◌, ◌↔◌, ◌⊎◌, ◌<◌, false, [], All, IfOk, IfSome, IsErrOf, OnErr, OnOk, vec_len, vec_capacity};
 ghost use Rattle.ra_frame.specs.Fits.{Fits};
 ghost use Rattle.ra_history.specs.History.{clock_of};
 ghost use Rattle.ra_history.specs.Book.{with_all_taken, IsFirst, Loses};
-ghost use Rattle.ra_cluster.specs.Handing.{IsAllLeft};
+ghost use Rattle.ra_cluster.specs.Handing.{IsAllLeft, OnlyTurnOrMemory};
 ghost use Rattle.ra_cluster.specs.Losses.{lost_frames};
 
 use crate::site::refused_frames::lost_of;
@@ -13,6 +13,7 @@ use ra_frame::Frame;
 use ra_stamp::{Entry, Mark, Memory, Mode, Name, NodeId};
 use std::alloc::Global;
 use std::mem;
+use std::sync::Arc;
 
 /// Why a node did not make a step.
 #[derive(Clone, Copy)]
@@ -123,24 +124,32 @@ impl Desk {
         client: u32,
         name: Name,
         mode: Mode,
-        ticket: Option<SharedTicket>,
+        ticket: Option<&SharedTicket>,
     ) -> Result<Stepped, Halt> {
         if !gate.step(node) {
             return Err(Halt::Gate);
         }
-        let Some(ticket) = ticket else {
+        let Some(waiter) = self.waiter(client, name, ticket) else {
+            // Each other cause comes before `Memory`.
             return Err(Halt::Refused(self.book.ask_refusal(client, name, mode)));
         };
-        if self.waiters.reserve(1).is_err() {
-            return Err(Halt::Refused(self.book.ask_refusal(client, name, mode)));
-        }
         let posted = self.book.ask(alloc, client, name, mode)?;
-        self.waiters.push_reserved(Waiter {
+        self.waiters.push_reserved(waiter);
+        Ok(self.stepped(posted))
+    }
+
+    /// Makes room for one more client that waits, and returns that client, or `None` if there is no memory or no ticket.
+    fn waiter(&mut self, client: u32, name: Name, ticket: Option<&SharedTicket>) -> Option<Waiter>
+        ensures { IfSome result (λ _. vec_len self.new.waiters < vec_capacity self.new.waiters) }
+    {
+        let ticket = ticket?;
+        self.waiters.reserve(1).ok()?;
+        let ticket = Arc::try_clone(ticket).ok()?;
+        Some(Waiter {
             client,
             name,
             ticket,
-        });
-        Ok(self.stepped(posted))
+        })
     }
 
     /// Asks the gate of this node, and then the client that holds a name leaves it.
@@ -251,8 +260,7 @@ impl Desk {
         ensures taken { OnOk result (self.new.book ≡ with_all_taken self.old.book) }
         ensures out_of_turn { IsErrOf result TakeError.OutOfTurn
             ↔ ((self.old.book.me ≢ node) ⊎ (after ≢ clock_of self.old.book.taken.events)) }
-        // Memory is the only other error.
-        ensures others { (IsErrOf result TakeError.NoNode → ⊥) × (IsErrOf result TakeError.NotNext → ⊥) }
+        ensures others { OnlyTurnOrMemory result }
         ensures err { OnErr result (self.new.book ≡ self.old.book) }
     {
         if self.book.me() != node || self.book.taken_clock() != after {

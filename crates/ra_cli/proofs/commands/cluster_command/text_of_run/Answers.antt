@@ -8,7 +8,7 @@ use Rattle.ra_cli.proofs.commands.cluster_command.text_of_run.Goals as goal
 pub returns-in_err-recorded-clause-err : goal.returns-in_err-recorded-clause-err
 returns-in_err-recorded-clause-err g c =
     let p = err_from_is_err_and c.from_residual.result c.from_residual.ensures.1 in
-    let refused = c.in_err-recorded.ensures in
+    let refused = c.in_err-recorded.ensures.checked in
     rw (p.1, p.2) (λ input is. refuses_cluster input c.args.script.now c.in_err-recorded.field-0.0 is refused.out_of_order refused.unreleased)
 
 pub returns-in_err-text-clause-err : goal.returns-in_err-text-clause-err

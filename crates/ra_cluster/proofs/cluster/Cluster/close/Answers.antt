@@ -8,7 +8,7 @@ use Rattle.ra_cluster.proofs.cluster.Cluster.close.Goals as goal
 pub close_as-requires-clause-member : goal.close_as-requires-clause-member
 close_as-requires-clause-member g c =
     next_within
-    c.len-nodes.result
+    c.nodes-nodes.result
     c.self.inside.start
     c.loop-site.books.items
     c.in-Some.site
@@ -24,7 +24,7 @@ loop-site-preserved g c =
           rw
           c.push_reserved.ensures.items
           (closes_more
-          c.len-nodes.result
+          c.nodes-nodes.result
           c.self.inside.start
           c.loop-site.books.items
           c.in-Some.site
@@ -43,22 +43,22 @@ loop-site-preserved g c =
 pub returns-clause-cluster : goal.returns-clause-cluster
 returns-clause-cluster g c =
     (closes_all
-    c.len-nodes.result
+    c.nodes-nodes.result
     c.self.inside.start
     c.loop-site.books.items
     (into_iter_items c.loop-site.site-iterator)
-    (omega (arith, c.len-nodes.ensures, c.self.invariant.0.0))
+    (omega (arith, c.nodes-nodes.ensures, c.into_sites-sites.ensures.count.0))
     (omega (arith, c.in-None.ensures.steps, c.loop-site.invariant.counted))
     c.loop-site.invariant.closes).cluster
 
 pub returns-clause-start : goal.returns-clause-start
 returns-clause-start g c =
     (closes_all
-    c.len-nodes.result
+    c.nodes-nodes.result
     c.self.inside.start
     c.loop-site.books.items
     (into_iter_items c.loop-site.site-iterator)
-    (omega (arith, c.len-nodes.ensures, c.self.invariant.0.0))
+    (omega (arith, c.nodes-nodes.ensures, c.into_sites-sites.ensures.count.0))
     (omega (arith, c.in-None.ensures.steps, c.loop-site.invariant.counted))
     c.loop-site.invariant.closes).start_is
     ∙ ap (λ (s : ClusterState). s.start) c.self.view_is

@@ -8,7 +8,7 @@ use Rattle.ra_cluster.proofs.cluster.Cluster.close_audited.Given as goal
 abbrev pub invariant-loop-site : goal.invariant-loop-site
 invariant-loop-site g l = record {
   histories : All HasHistory l.books.items;
-  many : vec_len l.books + length (into_iter_items l.site-iterator) ≡ l._nodes;
+  many : vec_len l.books + length (into_iter_items l.site-iterator) ≡ l.fn.self.nodes;
   counted : into_iter_len l.site-iterator ≡ length (into_iter_items l.site-iterator);
   room : vec_len l.books + length (into_iter_items l.site-iterator) ≤ vec_capacity l.books;
 }

@@ -1,15 +1,21 @@
 -- The sites are those of the nodes that the post has.
 use Rattle.std.proofs.Common.{◌≡◌, ℕ, vec_len, ap, ◌∙◌, sym}
 use Rattle.std.specs.List.{range_with_len}
-use Rattle.ra_cluster.proofs.SiteNumbers.{count_of}
+use Rattle.ra_stamp.specs.NodeId.{IsNodeNumber}
+use Rattle.ra_cluster.proofs.SiteNumbers.{count_of, made_of}
 use Rattle.ra_cluster.proofs.cluster.Cluster.make.Goals as goal
 
 pub invariant_of-result : goal.invariant_of-result
 invariant_of-result g c =
     let count : vec_len c.in-Ok.sites ≡ c.args.nodes = c.in-Ok.sites.ok.0 ∙ count_of c.args.nodes c.in-Ok.sites.items c.in-Ok.ensures in (
-      rw count (c.in_ok-post.ensures.allowed.0 tt),
+      rw count (c.in_ok-post.ensures.count.allowed.0 tt),
       c.in-Ok.ensures ∙ ap (λ (k : ℕ). range_with_len 1 k) (sym count),
     )
 
-pub returns-clause-nodes : goal.returns-clause-nodes
-returns-clause-nodes g c = c.in-Ok.sites.ok.0 ∙ count_of c.args.nodes c.in-Ok.sites.items c.in-Ok.ensures
+pub returns : goal.returns
+returns g c =
+    let good : IsNodeNumber c.args.nodes = c.in_ok-post.ensures.count.allowed.0 tt in
+    record {
+      made = made_of c.args.nodes c.args.start c.args.audited _ (c.in-Ok.sites.ok.0 ∙ count_of c.args.nodes c.in-Ok.sites.items c.in-Ok.ensures);
+      count = record { bad_count = (λ is. absurd cc, λ bad. absurd (bad good)); allowed = (λ _. good, λ _. tt) };
+    }

@@ -7,8 +7,7 @@ returns c =
     let good : IsNodeNumber c.args.nodes = search rules in
     record {
       inboxes = omega (arith, c.loop-node.invariant);
-      bad_count = (λ is. absurd (cc), λ bad. absurd (bad good));
-      allowed = (λ _. good, λ _. search rules);
+      count = record { bad_count = (λ is. absurd (cc), λ bad. absurd (bad good)); allowed = (λ _. good, λ _. search rules) };
     }
 
 pub returns-then-is_err : goal.returns-then-is_err
@@ -16,6 +15,5 @@ returns-then-is_err c =
     let good : IsNodeNumber c.args.nodes = search rules in
     record {
       inboxes = tt;
-      bad_count = (λ is. absurd (cc), λ bad. absurd (bad good));
-      allowed = (λ _. good, λ _. refl);
+      count = record { bad_count = (λ is. absurd (cc), λ bad. absurd (bad good)); allowed = (λ _. good, λ _. refl) };
     }

@@ -4,6 +4,6 @@ use Rattle.ra_cluster.proofs.site.desk.Desk.ask.Goals as goal
 pub invariant_of-self-2 : goal.invariant_of-self-2
 invariant_of-self-2 g c =
     record {
-      flagged = still_none c.args.self.now.book _ c.in_ok-posted.posted.frames.items c.in_ok-posted.posted.marks.items c.ask.new.self
-          c.in_ok-posted.ensures.ok c.args.self.now.may_have_lost c.args.self.now.flagged;
+      flagged = still_none c.waiter.new.self.book _ c.in_ok-posted.posted.frames.items c.in_ok-posted.posted.marks.items c.ask.new.self
+          c.in_ok-posted.ensures.ok c.waiter.new.self.may_have_lost c.waiter.new.self.flagged;
     }
