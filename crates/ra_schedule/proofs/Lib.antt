@@ -52,3 +52,4 @@ mod ScriptNames
 mod ClientLines
 mod ToldStates
 pub mod ScheduleLaws
+mod Ended

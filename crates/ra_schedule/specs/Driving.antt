@@ -96,6 +96,13 @@ pub record IsHeldUp (script : ScriptState) (policy : Policy) (limit : ℕ) (move
   pub within : length moves < limit
   pub goes_on : MayGoOn script policy moves
 
+-- nothing has happened in the cluster yet, and the policy can begin; what it does is recorded or not
+pub record IsOpened (script : ScriptState) (policy : Policy) (records : Bool) (cluster : DrivenCluster) : Type 0 where
+  pub fit : IsScript script
+  pub opened : cluster.world.moves ≡ []
+  pub ready : IsReady script policy cluster.world cluster.driver
+  pub records_as : cluster.driver.records ≡ records
+
 -- the policy has no choice left after at most this many turns, and they are recorded or not
 pub record IsThrough (script : ScriptState) (policy : Policy) (limit : ℕ) (records : Bool) (cluster : DrivenCluster) : Type 0 where
   pub fit : IsScript script

@@ -1,8 +1,8 @@
-ghost use Rattle.std.specs.Prelude.{◌≡◌, ◌↔◌, ℕ, Bool, length, IsTrue};
+ghost use Rattle.std.specs.Prelude.{◌≡◌, ◌↔◌, ℕ, Bool, length, IsTrue, IfOk};
 ghost use Rattle.ra_schedule.specs.declared.choice.Policy.{Policy};
 ghost use Rattle.ra_schedule.specs.Progress.{Tracks, AreDone};
 ghost use Rattle.ra_schedule.specs.Drive.{Drives, IsWholeRun, IsRecording, IsSummary};
-ghost use Rattle.ra_schedule.specs.Driving.{Records, IsThrough};
+ghost use Rattle.ra_schedule.specs.Driving.{IsOpened, IsThrough, Records};
 
 use crate::driver::Driver;
 use crate::driver::begun::is_stuck;
@@ -36,7 +36,7 @@ pub struct Summary {
     pub finished: bool,
 }
 
-/// A cluster that a policy has driven through a script until no choice was left, and how far the clients are.
+/// A cluster that a policy drives through a script, and what is kept of it from turn to turn.
 #[derive(Drop)]
 pub struct DrivenCluster {
     pub world: World,
@@ -76,14 +76,16 @@ pub fn drive(
 ) -> Result<Recording, DriveError>
     ensures { Drives script.now policy.now limit (IsRecording script.now policy.now limit) result }
 {
-    let cluster = drive_through(alloc, script, policy, limit, true)?;
+    let mut cluster = opened(alloc, script, policy, true)?;
+    let world = &mut cluster.world;
+    let driven = cluster.driver.finish(alloc, script, policy, world, limit);
     let Driven {
         steps,
         choices,
         report,
         finished,
         ..
-    } = driven_of(script, cluster);
+    } = ended(script, cluster, driven)?;
     Ok(Recording {
         steps,
         choices,
@@ -106,13 +108,15 @@ pub fn summarize(
 ) -> Result<Summary, DriveError>
     ensures { Drives script.now policy.now limit (IsSummary script.now policy.now limit) result }
 {
-    let cluster = drive_through(alloc, script, policy, limit, false)?;
+    let mut cluster = opened(alloc, script, policy, false)?;
+    let world = &mut cluster.world;
+    let driven = cluster.driver.finish(alloc, script, policy, world, limit);
     let Driven {
         turns,
         report,
         finished,
         ..
-    } = driven_of(script, cluster);
+    } = ended(script, cluster, driven)?;
     Ok(Summary {
         turns,
         report,
@@ -120,44 +124,63 @@ pub fn summarize(
     })
 }
 
-/// Drives a cluster through a script, and records the steps and choices, or none.
+/// Makes the cluster of a script, in which nothing has happened yet, and what drives it, which records the steps and choices, or
+/// none.
 ///
 /// # Errors
 ///
-/// Those of `drive`.
-pub fn drive_through(
+/// `Memory`: memory ran out.
+pub fn opened(
     alloc: Global,
     script: &Script,
     policy: &Policy,
-    limit: u64,
     records: bool,
-) -> Result<DrivenCluster, DriveError>
-    ensures { Drives script.now policy.now limit (IsThrough script.now policy.now limit records) result }
+) -> Result<DrivenCluster, Memory>
+    ensures { IfOk result (IsOpened script.now policy.now records) }
 {
-    let Ok(mut world) = World::new(alloc, script.nodes(), 0) else {
-        return Err(DriveError::Memory);
+    let Ok(world) = World::new(alloc, script.nodes(), 0) else {
+        return Err(Memory);
     };
-    let mut driver = match Driver::open(alloc, script, policy, &world, records) {
-        Ok(driver) => driver,
-        Err(Memory) => return Err(refused(world, DriveError::Memory)),
-    };
-    match driver.finish(alloc, script, policy, &mut world, limit) {
-        Ok(()) => Ok(DrivenCluster { world, driver }),
-        Err(fault) => Err(refused(world, fault)),
+    match Driver::open(alloc, script, policy, &world, records) {
+        Ok(driver) => Ok(DrivenCluster { world, driver }),
+        Err(Memory) => {
+            // A report owns little that is to be given back, and a world much.
+            let _report = world.into_report();
+            Err(Memory)
+        }
     }
 }
 
-/// Gives a world back, and returns why it was not driven to an end.
-fn refused(world: World, fault: DriveError) -> DriveError
-    ensures { result ≡ fault }
+/// Returns what a policy made of a script, if it came to its end. It takes no memory.
+///
+/// # Errors
+///
+/// Why it did not.
+pub fn ended(
+    script: &Script,
+    cluster: DrivenCluster,
+    driven: Result<(), DriveError>,
+) -> Result<Driven, DriveError>
+    requires { IfOk driven (λ _. Tracks script.now cluster.world cluster.driver.clients.items) }
+    ensures made { (policy : Policy) (limit : ℕ) (records : Bool)
+        → Drives script.now policy limit (λ _. IsThrough script.now policy limit records cluster) driven
+        → Drives script.now policy limit (Records script.now policy limit records) result }
+    ensures run { (policy : Policy) (limit : ℕ) (records : Bool)
+        → IfOk driven (λ _. IsThrough script.now policy limit records cluster)
+        → IfOk result (λ of. IsWholeRun script.now policy limit cluster.world.moves of.report of.finished) }
 {
-    // A report owns little that is to be given back, and a world much.
-    let _report = world.into_report();
-    fault
+    match driven {
+        Ok(()) => Ok(driven_of(script, cluster)),
+        Err(fault) => {
+            // A report owns little that is to be given back, and a world much.
+            let _report = cluster.world.into_report();
+            Err(fault)
+        }
+    }
 }
 
 /// Returns what a policy made of a script. It takes no memory.
-pub fn driven_of(script: &Script, cluster: DrivenCluster) -> Driven
+fn driven_of(script: &Script, cluster: DrivenCluster) -> Driven
     requires { Tracks script.now cluster.world cluster.driver.clients.items }
     ensures run { (policy : Policy) (limit : ℕ) (records : Bool) → IsThrough script.now policy limit records cluster
         → IsWholeRun script.now policy limit cluster.world.moves result.report result.finished }

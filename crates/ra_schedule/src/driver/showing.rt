@@ -1,5 +1,6 @@
 //! The state at the end of what a policy makes of a script.
-ghost use Rattle.std.specs.Prelude.{◌≡◌, Ok, string_bytes, IfOk, IfErr};
+ghost use Rattle.std.specs.Prelude.{◌≡◌, ◌⊎◌, Ok, Err, string_bytes, IfOk, IfErr};
+ghost use Rattle.ra_schedule.specs.declared.driver.drive_script.Driven.{Driven};
 ghost use Rattle.ra_schedule.specs.declared.error.DriveError.{DriveError};
 ghost use Rattle.ra_schedule.specs.Drive.{Drives};
 ghost use Rattle.ra_schedule.specs.Progress.{Tracks};
@@ -7,7 +8,7 @@ ghost use Rattle.ra_schedule.specs.Schedule.{steps_of};
 ghost use Rattle.ra_schedule.specs.StateText.{IsShown, ShowsState};
 
 use crate::driver::client_state::client_lines;
-use crate::driver::drive_script::{Driven, DrivenCluster, drive_through, driven_of};
+use crate::driver::drive_script::{Driven, DrivenCluster, ended, opened};
 use crate::script::script_names::names_of;
 use crate::{DriveError, Policy, Script};
 use ra_stamp::Memory;
@@ -37,17 +38,44 @@ pub fn show(
 ) -> Result<Shown, DriveError>
     ensures { Drives script.now policy.now limit (IsShown script.now policy.now limit) result }
 {
-    let cluster = drive_through(alloc, script, policy, limit, true)?;
-    let text = text_of(alloc, script, &cluster);
-    shown_of(text, driven_of(script, cluster))
+    let mut cluster = opened(alloc, script, policy, true)?;
+    let world = &mut cluster.world;
+    let driven = cluster.driver.finish(alloc, script, policy, world, limit);
+    let text = text_of(alloc, script, &cluster, driven);
+    shown_of(text, ended(script, cluster, driven))
 }
 
-/// Returns the lines of the state to which a driver has come that recorded its steps.
+/// Returns the lines of the state to which a driver has come that recorded its steps, if it came to the end of the run.
+///
+/// # Errors
+///
+/// The first that holds:
+///
+/// 1. Why it did not.
+/// 2. `Memory`: there is none for the lines.
+fn text_of(
+    alloc: Global,
+    script: &Script,
+    cluster: &DrivenCluster,
+    driven: Result<(), DriveError>,
+) -> Result<String, DriveError>
+    requires tracked { IfOk driven (λ _. Tracks script.now cluster.now.world cluster.now.driver.clients.items) }
+    requires steps { IfOk driven (λ _. cluster.now.driver.steps.items ≡ steps_of cluster.now.world.moves) }
+    ensures ok { IfOk result (λ text. ShowsState script.now cluster.now.world.moves (string_bytes text)) }
+    ensures err { IfErr result (λ fault. (driven ≡ Err fault) ⊎ (fault ≡ DriveError.Memory)) }
+{
+    match driven {
+        Ok(()) => Ok(lines_of(alloc, script, cluster)?),
+        Err(fault) => Err(fault),
+    }
+}
+
+/// Returns the lines of the state at the end of a run whose steps were recorded.
 ///
 /// # Errors
 ///
 /// `Memory`: there is none for them.
-fn text_of(alloc: Global, script: &Script, cluster: &DrivenCluster) -> Result<String, Memory>
+fn lines_of(alloc: Global, script: &Script, cluster: &DrivenCluster) -> Result<String, Memory>
     requires tracked { Tracks script.now cluster.now.world cluster.now.driver.clients.items }
     requires steps { cluster.now.driver.steps.items ≡ steps_of cluster.now.world.moves }
     ensures { IfOk result (λ text. ShowsState script.now cluster.now.world.moves (string_bytes text)) }
@@ -63,16 +91,22 @@ fn text_of(alloc: Global, script: &Script, cluster: &DrivenCluster) -> Result<St
 ///
 /// # Errors
 ///
-/// `Memory`: there are no lines.
-fn shown_of(text: Result<String, Memory>, driven: Driven) -> Result<Shown, DriveError>
-    ensures ok { IfOk result (λ shown. (text ≡ Ok shown.text) × (shown.finished ≡ driven.finished)) }
-    ensures err { IfErr result (λ fault. fault ≡ DriveError.Memory) }
+/// The first that holds:
+///
+/// 1. Why the run did not come to its end.
+/// 2. Why there are no lines.
+fn shown_of(
+    text: Result<String, DriveError>,
+    driven: Result<Driven, DriveError>,
+) -> Result<Shown, DriveError>
+    ensures ok { IfOk result (λ shown. (text ≡ Ok shown.text)
+        × (of : Driven) × (driven ≡ Ok of) × (shown.finished ≡ of.finished)) }
+    ensures err { IfErr result (λ fault. (driven ≡ Err fault) ⊎ (text ≡ Err fault)) }
 {
-    match text {
-        Ok(text) => Ok(Shown {
-            text,
-            finished: driven.finished,
-        }),
-        Err(Memory) => Err(DriveError::Memory),
-    }
+    let driven = driven?;
+    let text = text?;
+    Ok(Shown {
+        text,
+        finished: driven.finished,
+    })
 }

@@ -1,0 +1,11 @@
+use Rattle.std.proofs.Common.{ap}
+use Rattle.ra_world.specs.World.{WorldState}
+use Rattle.ra_schedule.proofs.driver.drive_script.opened.Goals as goal
+
+pub returns-in-Ok-open : goal.returns-in-Ok-open
+returns-in-Ok-open c = record {
+  fit = c.nodes.ensures.script;
+  opened = ap (λ (w : WorldState). w.moves) c.in-Ok.ensures.ok;
+  ready = c.in-Ok-open.ensures.ready;
+  records_as = c.in-Ok-open.ensures.records;
+}
