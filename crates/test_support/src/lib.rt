@@ -1,7 +1,7 @@
 //! What tests of several crates share. Nothing but tests uses it.
 #![tactic(auto)]
 
-mod at;
+mod failures;
 mod frames;
 mod messages;
 mod modes;
@@ -10,7 +10,7 @@ mod reports;
 mod streams;
 mod tried;
 
-pub use at::At;
+pub use failures::{At, Difference, first_misprint, part, row};
 pub use frames::{ASKS_1, ASKS_2, Change, with};
 pub use messages::{entry, entry_of, id, message_between, q, r, reply, request, writer};
 pub use modes::{Modes, PAIRS};

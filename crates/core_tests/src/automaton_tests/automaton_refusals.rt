@@ -1,37 +1,37 @@
 //! What is refused: nodes that cannot be, and messages for others or from strangers; and how faults are printed.
 use crate::automaton_tests::automaton_steps::{Scene, Step, Wire, follow};
-use crate::core_asserting::{assert_prints, assert_row, node};
+use crate::core_asserting::{assert_prints, assert_same, node};
 use Mode::Shared;
 use Step::RefusesToTake;
 use Wire::{Replies, Requests};
 use ra_automaton::{Automaton, LeaveError, NewError, ReceiveError, RequestError};
 use ra_stamp::Mode;
 use std::process::Abort;
-use test_support::{assert_words, r};
+use test_support::{assert_words, r, row};
 
-/// The number of a node, a number of nodes, and why there is no such node, or `None` if there is one.
-struct Made(u16, u16, Option<NewError>);
+/// A node and how many nodes there are, in words and as numbers, and why there is no such node, or `None` if there is one.
+struct Made(&'static str, u16, u16, Option<NewError>);
 
 /// Asserts that the node of each row exists, or that it does not, for its reason.
 fn assert_made(rt: &(impl Abort + AllocGlobal), rows: &[Made]) {
-    for row in 0..rows.len() {
-        let fault = Automaton::new(rt.alloc(), node(rt, rows[row].0), rows[row].1, r(), 0).err();
-        assert_row(rt, row, &fault, &rows[row].2);
+    for Made(label, me, nodes, expected) in rows {
+        let fault = Automaton::new(rt.alloc(), node(rt, *me), *nodes, r(), 0).err();
+        assert_same(rt, row(label), &fault, expected);
     }
 }
 
 #[test]
 fn there_are_one_to_sixty_four_nodes(rt: HostRuntime) {
     const ROWS: &[Made] = &[
-        Made(1, 1, None),
-        Made(64, 64, None),
-        Made(3, 3, None),
-        Made(63, 63, None),
-        Made(64, 63, Some(NewError::BadNode)),
-        Made(1, 0, Some(NewError::BadCount)),
-        Made(1, 65, Some(NewError::BadCount)),
-        Made(4, 3, Some(NewError::BadNode)),
-        Made(2, 0, Some(NewError::BadCount)),
+        Made("node 1 of 1", 1, 1, None),
+        Made("node 64 of 64", 64, 64, None),
+        Made("node 3 of 3", 3, 3, None),
+        Made("node 63 of 63", 63, 63, None),
+        Made("node 64 of 63", 64, 63, Some(NewError::BadNode)),
+        Made("node 1 of 0", 1, 0, Some(NewError::BadCount)),
+        Made("node 1 of 65", 1, 65, Some(NewError::BadCount)),
+        Made("node 4 of 3", 4, 3, Some(NewError::BadNode)),
+        Made("node 2 of 0", 2, 0, Some(NewError::BadCount)),
     ];
     assert_made(&rt, ROWS);
 }

@@ -381,7 +381,7 @@ fn does_all(
     steps: &[Step],
 ) {
     for place in 0..steps.len() {
-        does(rt, At(at.0, at.1, place), automaton, &steps[place]);
+        does(rt, At(at.0, at.1, place + 1), automaton, &steps[place]);
     }
 }
 
@@ -410,8 +410,14 @@ pub struct Scene(
 /// Tests the steps of each scene.
 pub fn follow(rt: &(impl Abort + AllocGlobal), scenes: &[Scene]) {
     for scene in scenes {
-        let at = At(scene.0, "step", 0);
-        goes(rt, at, scene.1, scene.2, scene.3, scene.4);
+        goes(
+            rt,
+            At(scene.0, "step", 0),
+            scene.1,
+            scene.2,
+            scene.3,
+            scene.4,
+        );
     }
 }
 

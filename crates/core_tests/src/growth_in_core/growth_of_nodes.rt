@@ -1,7 +1,7 @@
 //! If a growth is refused, the call returns `Memory` and changes nothing, and it succeeds when it is made again.
 use crate::core_asserting::assert_grown;
 use crate::growth_in_core::growth_of_bags::{try_many_pushes, try_many_puts};
-use crate::node_tests::node_steps::{fault_of_ask, fault_of_leave, fault_of_message, has_counts};
+use crate::node_tests::node_steps::{fault_of_ask, fault_of_leave, fault_of_message};
 use crate::node_tests::thousand_names::numbered;
 use Call::{Ask, Leave, Reply, Request};
 use ra_node::{AskError, LeaveError, Node, Outcome, ReceiveError};
@@ -92,7 +92,8 @@ fn try_call(alloc: Global, node: &mut Node, call: Call) -> Tried {
         Ok(()) => Tried::NoFailure,
         Err(memory) => {
             let is_as_before = memory
-                && has_counts(node, waiting, queued)
+                && node.waiting() == waiting
+                && node.queued() == queued
                 && stands_at(node, highest, holder);
             make_again(alloc, node, call, is_as_before)
         }

@@ -1,26 +1,26 @@
 //! What is refused: nodes that cannot be, and messages for others or from strangers; and how faults are printed.
-use crate::core_asserting::{assert_prints, assert_row, node};
+use crate::core_asserting::{assert_prints, assert_same, node};
 use crate::node_tests::node_steps::{Scene, Step, Wire, follow};
 use Step::{HasHighest, RefusesMessage};
 use Wire::Requests;
 use ra_node::{AskError, LeaveError, NewError, Node, ReceiveError};
 use std::process::Abort;
-use test_support::assert_words;
+use test_support::{assert_words, row};
 
-/// The number of a node, a number of nodes, and why there is no such node.
-struct Made(u16, u16, NewError);
+/// A node and how many nodes there are, in words and as numbers, and why there is no such node.
+struct Made(&'static str, u16, u16, NewError);
 
 const MADE: &[Made] = &[
-    Made(1, 0, NewError::BadCount),
-    Made(1, 65, NewError::BadCount),
-    Made(4, 3, NewError::BadNode),
+    Made("node 1 of 0", 1, 0, NewError::BadCount),
+    Made("node 1 of 65", 1, 65, NewError::BadCount),
+    Made("node 4 of 3", 4, 3, NewError::BadNode),
 ];
 
 /// Asserts that no row's node exists, each for its reason.
 fn assert_none(rt: &(impl Abort + AllocGlobal), rows: &[Made]) {
-    for row in 0..rows.len() {
-        let fault = Node::new(rt.alloc(), node(rt, rows[row].0), rows[row].1, 0).err();
-        assert_row(rt, row, &fault, &Some(rows[row].2));
+    for Made(label, me, nodes, expected) in rows {
+        let fault = Node::new(rt.alloc(), node(rt, *me), *nodes, 0).err();
+        assert_same(rt, row(label), &fault, &Some(*expected));
     }
 }
 

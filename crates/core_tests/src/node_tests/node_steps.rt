@@ -13,7 +13,7 @@ use ra_stamp::{Entry, Mark, Message, Mode, Name, NodeId};
 use std::alloc::Global;
 use std::fmt::Debug;
 use std::process::Abort;
-use test_support::{At, entry_of, message_between, q, r};
+use test_support::{At, entry_of, message_between, q, r, row};
 
 /// A REQUEST of a writer or a REPLY on `r`: its sender, its receiver and its number.
 #[derive(Clone, Copy)]
@@ -182,11 +182,6 @@ pub fn fault_of_leave(
 /// A message comes. Returns the fault, or `None` if there is none.
 pub fn fault_of_message(alloc: Global, node: &mut Node, message: &Message) -> Option<ReceiveError> {
     receive(alloc, node, message).err()
-}
-
-/// Returns whether this many requests wait at the node, and this many clients are queued.
-pub fn has_counts(node: &Node, waiting: u64, queued: u128) -> bool {
-    node.waiting() == waiting && node.queued() == queued
 }
 
 /// Asserts that a client may ask for a name, or may not, for this reason.
@@ -360,7 +355,7 @@ pub struct Scene(
 /// Tests the steps of a scene.
 fn does_all(rt: &(impl Abort + AllocGlobal), node: &mut Node, scene: &Scene) {
     for place in 0..scene.4.len() {
-        does(rt, At(scene.0, "step", place), node, &scene.4[place]);
+        does(rt, At(scene.0, "step", place + 1), node, &scene.4[place]);
     }
 }
 
@@ -368,7 +363,7 @@ fn does_all(rt: &(impl Abort + AllocGlobal), node: &mut Node, scene: &Scene) {
 fn goes(rt: &(impl Abort + AllocGlobal), scene: &Scene) {
     match Node::new(rt.alloc(), node(rt, scene.1), scene.2, scene.3) {
         Ok(mut node) => does_all(rt, &mut node, scene),
-        Err(fault) => assert_same(rt, At(scene.0, "step", 0), &Some(fault), &None),
+        Err(fault) => assert_same(rt, row(scene.0), &Some(fault), &None),
     }
 }
 

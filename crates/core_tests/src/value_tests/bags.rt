@@ -2,8 +2,8 @@
 use crate::core_asserting::assert_same;
 use Step::{
     Contains, Copies, CopiesAmong, CopiesNone, CopiesNumbers, Finds, FindsAt, Has, HasCount,
-    HasNumbers, Lacks, MakesRoom, Misses, Puts, PutsNumbers, RefusesRoom, Takes, TakesEqual,
-    TakesEveryOther, TakesNear, TakesNone, TakesTwice,
+    HasNumbers, Lacks, MakesRoom, Misses, MovesEach, Puts, PutsNumbers, RefusesRoom, Takes,
+    TakesEqual, TakesEveryOther, TakesNear, TakesNone, TakesTwice,
 };
 use Wire::{Asks, Replies};
 use ra_bag::{Bag, Found};
@@ -52,6 +52,9 @@ pub enum Step {
     /// As many requests as the second value are found, none near the place 0, and taken. They have every other number
     /// from the first value up.
     TakesEveryOther(u64, u64),
+    /// Each of the requests 1 to 400,000 is found, not near the place 0, and taken, and is put after all others. They go out of
+    /// order.
+    MovesEach,
     /// The request with this number is found in this slot, when another one is at the place that is looked at first.
     Finds(u64, u64),
     /// The message is found at this place, which is looked at first.
@@ -205,6 +208,21 @@ fn takes_every_other(rt: &impl Abort, at: At<'_>, bag: &mut Bag, first: u64, cou
     }
 }
 
+/// How many messages are moved.
+const MOVES: u64 = 400_000;
+
+/// A prime number that does not divide the number of messages, so that its multiples name each message once, out of order.
+const STRIDE: u64 = 7_919;
+
+/// Finds each request, takes it and puts it after all others.
+fn moves_each(rt: &(impl Abort + AllocGlobal), at: At<'_>, bag: &mut Bag) {
+    for turn in 0..MOVES {
+        let asked = Asks(turn * STRIDE % MOVES + 1);
+        takes_near(rt, at, bag, &message(asked), 0);
+        puts(rt, at, bag, &[asked]);
+    }
+}
+
 /// Asserts that this message is at this place.
 fn assert_is_at(rt: &impl Abort, at: At<'_>, bag: &Bag, place: u64, wire: Wire) {
     assert_same(rt, at, &bag.at(place), &Some(message(wire)));
@@ -281,6 +299,7 @@ fn does(rt: &(impl Abort + AllocGlobal), at: At<'_>, bag: &mut Bag, step: &Step)
         TakesNone(wire) => takes(rt, at, bag, *wire, false),
         TakesNear(wire, near) => takes_near(rt, at, bag, &message(*wire), *near),
         TakesEveryOther(first, count) => takes_every_other(rt, at, bag, *first, *count),
+        MovesEach => moves_each(rt, at, bag),
         MakesRoom(more) => makes_room(rt, at, bag, *more, Ok(())),
         RefusesRoom(more) => makes_room(rt, at, bag, *more, Err(Memory)),
         _ => repeats(rt, at, bag, step),
@@ -293,7 +312,7 @@ pub struct Scene(pub &'static str, pub &'static [Step]);
 /// Tests the steps of a scene.
 fn goes(rt: &(impl Abort + AllocGlobal), bag: &mut Bag, scene: &Scene) {
     for place in 0..scene.1.len() {
-        does(rt, At(scene.0, "step", place), bag, &scene.1[place]);
+        does(rt, At(scene.0, "step", place + 1), bag, &scene.1[place]);
     }
 }
 

@@ -1,17 +1,18 @@
 //! Frames of which one byte is another: each of the 256, at each place, in both versions.
-use crate::core_asserting::assert_row;
+use crate::core_asserting::assert_same;
 use crate::value_tests::read_frames::read;
 use ra_frame::{Frame, FrameError};
 use ra_stamp::{Message, Mode, Name, NodeId};
 use std::process::Abort;
-use test_support::{ASKS_1, ASKS_2, r, with};
+use test_support::{ASKS_1, ASKS_2, At, r, with};
 
 /// A place in the REQUEST, the first and the last of some bytes, and why it is refused with one of them at the place.
 struct WrongBytes(usize, u8, u8, FrameError);
 
-/// For a version: the places of its fields (for the number of a node that of its last byte), and with which bytes its
+/// For a version: its label, the places of its fields (for the number of a node that of its last byte), and with which bytes its
 /// REQUEST is refused.
 struct Version {
+    label: &'static str,
     from: usize,
     to: usize,
     mode: usize,
@@ -22,6 +23,7 @@ struct Version {
 }
 
 const VERSION_1: Version = Version {
+    label: "version 1",
     from: 2,
     to: 3,
     mode: 4,
@@ -61,6 +63,7 @@ const VERSION_1: Version = Version {
 };
 
 const VERSION_2: Version = Version {
+    label: "version 2",
     from: 3,
     to: 5,
     mode: 6,
@@ -181,13 +184,18 @@ fn expected(version: &Version, place: usize, byte: u8) -> Option<Result<Frame, F
     }
 }
 
-/// Asserts that the REQUEST with each byte at each place is read or refused as it is to be. A row is here a place in the frame.
+/// Asserts that the REQUEST with each byte at each place is read or refused as it is to be.
 fn assert_judged<const N: usize>(rt: &impl Abort, version: &Version, text: &[u8; N]) {
     for place in 0..text.len() {
         for byte in 0..=u8::MAX {
             let came = read(&with(text, &[(place, byte)]));
-            let judged = (byte, Some(came));
-            assert_row(rt, place, &judged, &(byte, expected(version, place, byte)));
+            let at = At(
+                version.label,
+                "a byte and the frame with it at place",
+                place,
+            );
+            let expected = (byte, expected(version, place, byte));
+            assert_same(rt, at, &(byte, Some(came)), &expected);
         }
     }
 }

@@ -1,9 +1,9 @@
 //! Why bytes are not a frame: the first wrong field is named, as soon as all of its bytes are there.
-use crate::core_asserting::assert_row;
+use crate::core_asserting::assert_same;
 use crate::value_tests::read_frames::read;
 use ra_frame::FrameError;
 use std::process::Abort;
-use test_support::{ASKS_1, ASKS_2, Change, with};
+use test_support::{ASKS_1, ASKS_2, At, Change, row, with};
 
 /// How many bytes of a REQUEST there are, the changes in them, and why they are then refused.
 struct Case(usize, &'static [Change], FrameError);
@@ -55,39 +55,52 @@ const CASES_2: &[Case] = &[
     Case(24, &[(3, 40), (6, 3)], FrameError::Short),
 ];
 
-/// Asserts that the first `count` bytes are refused for this reason, in the row with this number.
-fn assert_refused(rt: &impl Abort, row: usize, bytes: &[u8], count: usize, fault: FrameError) {
+/// Returns why the first `count` bytes are no frame, or `None` if they are one.
+fn fault_of(rt: &impl Abort, bytes: &[u8], count: usize) -> Option<FrameError> {
     match bytes.get(..count) {
-        Some(bytes) => assert_row(rt, row, &read(bytes).err(), &Some(fault)),
-        None => panic!(rt; "there are fewer bytes"),
+        Some(bytes) => read(bytes).err(),
+        None => panic!(rt; "there are fewer bytes than {count}"),
     }
 }
 
-/// Asserts that each case of a REQUEST is refused for its reason.
-fn assert_cases<const N: usize>(rt: &impl Abort, request: &[u8; N], cases: &[Case]) {
-    for row in 0..cases.len() {
-        let Case(count, changes, fault) = &cases[row];
-        assert_refused(rt, row, &with(request, changes), *count, *fault);
+/// Asserts that each case of a REQUEST is refused for its reason. The case itself is printed with what was expected and what came.
+fn assert_cases<const N: usize>(rt: &impl Abort, label: &str, request: &[u8; N], cases: &[Case]) {
+    for Case(count, changes, fault) in cases {
+        let came = fault_of(rt, &with(request, changes), *count);
+        let expected = (*count, *changes, Some(*fault));
+        assert_same(rt, row(label), &(*count, *changes, came), &expected);
     }
 }
 
 #[test]
 fn the_first_wrong_field_is_named(rt: HostRuntime) {
-    assert_cases(&rt, &ASKS_1, CASES_1);
-    assert_cases(&rt, &ASKS_2, CASES_2);
+    assert_cases(
+        &rt,
+        "bytes of version 1 and their changes",
+        &ASKS_1,
+        CASES_1,
+    );
+    assert_cases(
+        &rt,
+        "bytes of version 2 and their changes",
+        &ASKS_2,
+        CASES_2,
+    );
 }
 
-/// Asserts that each part of a frame is too short. A row is here the number of bytes.
-fn assert_short(rt: &impl Abort, frame: &[u8]) {
+/// Asserts that each part of a frame is too short.
+fn assert_short(rt: &impl Abort, label: &str, frame: &[u8]) {
     for count in 0..frame.len() {
-        assert_refused(rt, count, frame, count, FrameError::Short);
+        let came = fault_of(rt, frame, count);
+        let at = At(label, "the number of bytes is", count);
+        assert_same(rt, at, &came, &Some(FrameError::Short));
     }
 }
 
 #[test]
 fn each_part_of_a_frame_is_short(rt: HostRuntime) {
-    assert_short(&rt, &ASKS_1);
-    assert_short(&rt, &ASKS_2);
+    assert_short(&rt, "a part of version 1", &ASKS_1);
+    assert_short(&rt, "a part of version 2", &ASKS_2);
 }
 
 /// The REQUESTs with one more byte.
@@ -100,8 +113,9 @@ const TRAILING: &[&[u8]] = &[
 
 #[test]
 fn nothing_follows_the_name(rt: HostRuntime) {
-    for row in 0..TRAILING.len() {
-        let bytes = TRAILING[row];
-        assert_refused(&rt, row, bytes, bytes.len(), FrameError::Trailing);
+    for bytes in TRAILING {
+        let came = (*bytes, fault_of(&rt, bytes, bytes.len()));
+        let at = row("these bytes have one more");
+        assert_same(&rt, at, &came, &(*bytes, Some(FrameError::Trailing)));
     }
 }

@@ -45,7 +45,7 @@ fn answers(rt: &impl Abort, at: At<'_>, table: &mut Table, call: &Call) {
 /// Asserts that a table gives these answers, one call after the other.
 fn answers_all(rt: &impl Abort, label: &str, table: &mut Table, calls: &[Call]) {
     for place in 0..calls.len() {
-        answers(rt, At(label, "call", place), table, &calls[place]);
+        answers(rt, At(label, "call", place + 1), table, &calls[place]);
     }
 }
 
@@ -155,7 +155,7 @@ const SCENES: &[Scene] = &[
         ],
     ),
     Scene(
-        "a reader waits behind an earlier writer",
+        "a reader waits for an earlier writer",
         &[
             Asks(Key(Shared, b'r', 1, 1, 1), Ok(())),
             Asks(Key(Exclusive, b'r', 2, 2, 1), Ok(())),

@@ -1,11 +1,11 @@
 //! Frames as they are read and written: both versions are read, and version 2 is written.
-use crate::core_asserting::{assert_prints, assert_row, node};
+use crate::core_asserting::{assert_prints, assert_same, node};
 use Kind::{Asks, Replies};
 use Mode::{Exclusive, IntentExclusive, IntentShared, Shared, SharedIntentExclusive};
 use ra_frame::{Frame, FrameError, decode, encode};
 use ra_stamp::{Message, Mode, Name, NodeId};
 use std::process::Abort;
-use test_support::{ASKS_1, ASKS_2, Change, assert_words, message_between, r, with};
+use test_support::{ASKS_1, ASKS_2, Change, assert_words, message_between, r, row, with};
 
 /// A REQUEST from node 16 to node 1, shared, for a name of 32 bytes: the longest frame of version 1.
 const LONGEST_1: [u8; 54] = [
@@ -60,56 +60,66 @@ pub fn read(bytes: &[u8]) -> Result<Frame, FrameError> {
 }
 
 /// Asserts that the bytes of version 1 are read as the frame of a row for the name.
-fn assert_old(rt: &impl Abort, row: usize, bytes: &[u8], parts: &Parts, name: Name) {
-    assert_row(rt, row, &read(bytes), &Ok(frame(rt, parts, name)));
+fn assert_old(rt: &impl Abort, label: &str, bytes: &[u8], parts: &Parts, name: Name) {
+    assert_same(rt, row(label), &read(bytes), &Ok(frame(rt, parts, name)));
 }
 
 /// Asserts that the bytes of version 2 are read as the frame of a row for the name, which fits and is written as these bytes.
 fn assert_new(
     rt: &(impl Abort + AllocGlobal),
-    row: usize,
+    label: &str,
     bytes: &[u8],
     parts: &Parts,
     name: Name,
 ) {
     let frame = frame(rt, parts, name);
-    assert_row(rt, row, &read(bytes), &Ok(frame));
+    assert_same(rt, row(label), &read(bytes), &Ok(frame));
     if !frame.fits() {
-        panic!(rt; "row {row}, counted from 0: the frame does not fit");
+        panic!(rt; "{label}: expected a frame that fits, and {frame:?} came");
     }
     match encode(rt.alloc(), &frame) {
-        Ok(written) => assert_row(rt, row, &written.as_slice(), &bytes),
+        Ok(written) => assert_same(rt, row(label), &written.as_slice(), &bytes),
         Err(_) => panic!(rt; "there is no memory for the bytes"),
     }
 }
 
-/// The changes of the REQUEST in each version, and the frame that it is then.
-struct Row(&'static [Change], &'static [Change], Parts);
+/// What a frame is, the changes of the REQUEST in each version, and the frame that it is then.
+struct Row(&'static str, &'static [Change], &'static [Change], Parts);
 
 /// REQUESTs and REPLYs with the least and the greatest numbers and clocks.
 const ROWS: &[Row] = &[
-    Row(&[], &[], Parts(Asks(Exclusive), 1, 2, 1, 1)),
     Row(
+        "a REQUEST with the number and the clock 1",
+        &[],
+        &[],
+        Parts(Asks(Exclusive), 1, 2, 1, 1),
+    ),
+    Row(
+        "a REQUEST with the number 2^56 + 2",
         &[(5, 1), (12, 2)],
         &[(7, 1), (14, 2)],
         Parts(Asks(Exclusive), 1, 2, (1 << 56) + 2, 1),
     ),
     Row(
+        "a REQUEST with the greatest clock",
         &[(13, 0x40), (20, 0)],
         &[(15, 0x40), (22, 0)],
         Parts(Asks(Exclusive), 1, 2, 1, LAST),
     ),
     Row(
+        "a REPLY of node 2 at the clock 2",
         &[(1, 2), (2, 2), (3, 1), (4, 0), (20, 2)],
         &[(1, 2), (3, 2), (5, 1), (6, 0), (22, 2)],
         Parts(Replies, 2, 1, 1, 2),
     ),
     Row(
+        "a REPLY of node 1",
         &[(1, 2), (4, 0)],
         &[(1, 2), (6, 0)],
         Parts(Replies, 1, 2, 1, 1),
     ),
     Row(
+        "a REPLY with the greatest number and clock",
         &[
             (1, 2),
             (4, 0),
@@ -144,40 +154,61 @@ const ROWS: &[Row] = &[
 
 #[test]
 fn frames_are_read_in_both_versions_and_written_in_the_second(rt: HostRuntime) {
-    for row in 0..ROWS.len() {
-        let Row(old, new, parts) = &ROWS[row];
-        assert_old(&rt, row, &with(&ASKS_1, old), parts, r());
-        assert_new(&rt, row, &with(&ASKS_2, new), parts, r());
+    for Row(label, old, new, parts) in ROWS {
+        assert_old(&rt, label, &with(&ASKS_1, old), parts, r());
+        assert_new(&rt, label, &with(&ASKS_2, new), parts, r());
     }
 }
 
-/// Changes of the REQUEST in version 2, and the frame that it is then, which version 1 does not have.
-struct Newer(&'static [Change], Parts);
+/// What a frame is, the changes of the REQUEST in version 2, and the frame that it is then, which version 1 does not have.
+struct Newer(&'static str, &'static [Change], Parts);
 
 /// Each mode, and the last nodes.
 const NEWER: &[Newer] = &[
-    Newer(&[(6, 0)], Parts(Asks(Shared), 1, 2, 1, 1)),
-    Newer(&[(6, 2)], Parts(Asks(IntentShared), 1, 2, 1, 1)),
-    Newer(&[(6, 3)], Parts(Asks(IntentExclusive), 1, 2, 1, 1)),
-    Newer(&[(6, 4)], Parts(Asks(SharedIntentExclusive), 1, 2, 1, 1)),
+    Newer("the mode S", &[(6, 0)], Parts(Asks(Shared), 1, 2, 1, 1)),
     Newer(
+        "the mode IS",
+        &[(6, 2)],
+        Parts(Asks(IntentShared), 1, 2, 1, 1),
+    ),
+    Newer(
+        "the mode IX",
+        &[(6, 3)],
+        Parts(Asks(IntentExclusive), 1, 2, 1, 1),
+    ),
+    Newer(
+        "the mode SIX",
+        &[(6, 4)],
+        Parts(Asks(SharedIntentExclusive), 1, 2, 1, 1),
+    ),
+    Newer(
+        "the mode IX, from node 40",
         &[(3, 40), (6, 3)],
         Parts(Asks(IntentExclusive), 40, 2, 1, 1),
     ),
-    Newer(&[(3, 64), (5, 63)], Parts(Asks(Exclusive), 64, 63, 1, 1)),
-    Newer(&[(3, 63), (5, 64)], Parts(Asks(Exclusive), 63, 64, 1, 1)),
+    Newer(
+        "from node 64 to node 63",
+        &[(3, 64), (5, 63)],
+        Parts(Asks(Exclusive), 64, 63, 1, 1),
+    ),
+    Newer(
+        "from node 63 to node 64",
+        &[(3, 63), (5, 64)],
+        Parts(Asks(Exclusive), 63, 64, 1, 1),
+    ),
 ];
 
 #[test]
 fn version_2_has_five_modes_and_64_nodes(rt: HostRuntime) {
-    for row in 0..NEWER.len() {
-        assert_new(&rt, row, &with(&ASKS_2, NEWER[row].0), &NEWER[row].1, r());
+    for Newer(label, changes, parts) in NEWER {
+        assert_new(&rt, label, &with(&ASKS_2, changes), parts, r());
     }
 }
 
 /// The longest REQUEST and the longest REPLY.
 const LONGEST: &[Row] = &[
     Row(
+        "the longest REQUEST",
         &[],
         &[],
         Parts(
@@ -189,6 +220,7 @@ const LONGEST: &[Row] = &[
         ),
     ),
     Row(
+        "the longest REPLY",
         &[(1, 2)],
         &[(1, 2)],
         Parts(Replies, 16, 1, 0x0102_0304_0506_0708, 0x1112_1314_1516_1718),
@@ -197,10 +229,9 @@ const LONGEST: &[Row] = &[
 
 /// Asserts that the longest frames, which have this name, are read and written so.
 fn assert_longest(rt: &(impl Abort + AllocGlobal), name: Name) {
-    for row in 0..LONGEST.len() {
-        let Row(old, new, parts) = &LONGEST[row];
-        assert_old(rt, row, &with(&LONGEST_1, old), parts, name);
-        assert_new(rt, row, &with(&LONGEST_2, new), parts, name);
+    for Row(label, old, new, parts) in LONGEST {
+        assert_old(rt, label, &with(&LONGEST_1, old), parts, name);
+        assert_new(rt, label, &with(&LONGEST_2, new), parts, name);
     }
 }
 
@@ -208,25 +239,36 @@ fn assert_longest(rt: &(impl Abort + AllocGlobal), name: Name) {
 fn the_longest_frames_are_read_in_both_versions_and_written_in_the_second(rt: HostRuntime) {
     match Name::new(b"AZaz09_-.bcdefghijklmnopqrstuvwx") {
         Ok(name) => assert_longest(&rt, name),
-        Err(fault) => assert_row(&rt, 0, &Some(fault), &None),
+        Err(fault) => assert_same(&rt, row("the longest name"), &Some(fault), &None),
     }
 }
 
-/// A frame of a REPLY for `r`, and whether it fits.
-const FITTING: &[(Parts, bool)] = &[
-    (Parts(Replies, 1, 2, 1, 1), true),
-    (Parts(Replies, 1, 2, u64::MAX, LAST), true),
-    (Parts(Replies, 1, 2, 1, 0), false),
-    (Parts(Replies, 1, 2, 1, LAST + 1), false),
-    (Parts(Replies, 1, 2, 0, 1), false),
-    (Parts(Replies, 2, 2, 1, 1), false),
+/// What a REPLY for `r` has, its frame, and whether it fits.
+const FITTING: &[(&str, Parts, bool)] = &[
+    (
+        "the number and the clock 1",
+        Parts(Replies, 1, 2, 1, 1),
+        true,
+    ),
+    (
+        "the greatest number and clock",
+        Parts(Replies, 1, 2, u64::MAX, LAST),
+        true,
+    ),
+    ("the clock 0", Parts(Replies, 1, 2, 1, 0), false),
+    (
+        "a clock after the greatest",
+        Parts(Replies, 1, 2, 1, LAST + 1),
+        false,
+    ),
+    ("the number 0", Parts(Replies, 1, 2, 0, 1), false),
+    ("one node at both ends", Parts(Replies, 2, 2, 1, 1), false),
 ];
 
 #[test]
 fn a_frame_fits_by_its_ranges(rt: HostRuntime) {
-    for row in 0..FITTING.len() {
-        let fits = frame(&rt, &FITTING[row].0, r()).fits();
-        assert_row(&rt, row, &fits, &FITTING[row].1);
+    for (label, parts, expected) in FITTING {
+        assert_same(&rt, row(label), &frame(&rt, parts, r()).fits(), expected);
     }
 }
 

@@ -1,13 +1,12 @@
 ghost use Rattle.ra_stamp.specs.NodeId.{IsNodeNumber};
 
-use crate::core_asserting::{assert_prints, assert_row, assert_same};
+use crate::core_asserting::{assert_prints, assert_same};
 use ra_stamp::{
     Entry, Mark, Marks, Memory, Message, Messages, Mode, Name, NameError, NodeId, Stamp, conflicts,
 };
-use std::alloc::Global;
 use std::cmp::Ordering;
 use std::process::Abort;
-use test_support::{At, Modes, PAIRS, id, r};
+use test_support::{At, Modes, PAIRS, id, r, row};
 
 /// Returns a REQUEST from node 1 to node 2.
 fn request(name: Name, seq: u64) -> Message {
@@ -35,58 +34,64 @@ fn nodes_are_numbered_from_one_to_sixty_four(rt: HostRuntime) {
             None => 0,
         };
         let expected = if number == 65 { 0 } else { number };
-        assert_row(&rt, usize::from(number), &found, &expected);
+        let at = At("the node", "with the number", usize::from(number));
+        assert_same(&rt, at, &found, &expected);
     }
 }
 
-/// Bytes, and why they are no name, or `None` if they are one.
-struct Named(&'static [u8], Option<NameError>);
+/// What bytes are, the bytes, and why they are no name, or `None` if they are one.
+struct Named(&'static str, &'static [u8], Option<NameError>);
 
 const NAMED: &[Named] = &[
-    Named(b"AZaz09_-.", None),
-    Named(b"nnnnnnnnnnnnnnnnnnnnnnnnnnnnnnnn", None),
+    Named("letters, digits and three signs", b"AZaz09_-.", None),
+    Named("32 bytes", b"nnnnnnnnnnnnnnnnnnnnnnnnnnnnnnnn", None),
     Named(
+        "33 bytes",
         b"nnnnnnnnnnnnnnnnnnnnnnnnnnnnnnnnn",
         Some(NameError::TooLong),
     ),
-    Named(b"", Some(NameError::Empty)),
-    Named(b"a b", Some(NameError::BadByte)),
-    Named(b"a/b", Some(NameError::BadByte)),
-    Named(b"a:b", Some(NameError::BadByte)),
-    Named(b"a@b", Some(NameError::BadByte)),
-    Named(b"a[b", Some(NameError::BadByte)),
-    Named(b"a`b", Some(NameError::BadByte)),
-    Named(b"a{b", Some(NameError::BadByte)),
-    Named(b"\xc3\xa4", Some(NameError::BadByte)),
+    Named("nothing", b"", Some(NameError::Empty)),
+    Named("a space", b"a b", Some(NameError::BadByte)),
+    Named("a slash", b"a/b", Some(NameError::BadByte)),
+    Named("a colon", b"a:b", Some(NameError::BadByte)),
+    Named("an at sign", b"a@b", Some(NameError::BadByte)),
+    Named("an opening bracket", b"a[b", Some(NameError::BadByte)),
+    Named("a backquote", b"a`b", Some(NameError::BadByte)),
+    Named("an opening brace", b"a{b", Some(NameError::BadByte)),
+    Named(
+        "a letter beyond ASCII",
+        b"\xc3\xa4",
+        Some(NameError::BadByte),
+    ),
 ];
 
 #[test]
 fn names_have_one_to_thirty_two_letters_digits_and_three_signs(rt: HostRuntime) {
-    for row in 0..NAMED.len() {
-        match Name::new(NAMED[row].0) {
+    for Named(label, bytes, expected) in NAMED {
+        match Name::new(bytes) {
             Ok(name) => {
-                assert_row(&rt, row, &None, &NAMED[row].1);
-                assert_row(&rt, row, &name.bytes(), &NAMED[row].0);
+                assert_same(&rt, row(label), &None, expected);
+                assert_same(&rt, row(label), &name.bytes(), bytes);
             }
-            Err(fault) => assert_row(&rt, row, &Some(fault), &NAMED[row].1),
+            Err(fault) => assert_same(&rt, row(label), &Some(fault), expected),
         }
     }
 }
 
-/// Pairs of names, and how they are ordered.
-const NAMES: &[(&[u8], &[u8], Ordering)] = &[
-    (b"a", b"ab", Ordering::Less),
-    (b"ab", b"b", Ordering::Less),
-    (b"b", b"B", Ordering::Greater),
-    (b"a", b"a", Ordering::Equal),
+/// Pairs of names with their label, and how they are ordered.
+const NAMES: &[(&str, &[u8], &[u8], Ordering)] = &[
+    ("a and ab", b"a", b"ab", Ordering::Less),
+    ("ab and b", b"ab", b"b", Ordering::Less),
+    ("b and B", b"b", b"B", Ordering::Greater),
+    ("a and a", b"a", b"a", Ordering::Equal),
 ];
 
 #[test]
 fn names_are_ordered_by_their_bytes(rt: HostRuntime) {
-    for row in 0..NAMES.len() {
-        match (Name::new(NAMES[row].0), Name::new(NAMES[row].1)) {
-            (Ok(one), Ok(other)) => assert_row(&rt, row, &one.cmp(&other), &NAMES[row].2),
-            _ => panic!(rt; "there is no such name"),
+    for (label, one, other, expected) in NAMES {
+        match (Name::new(one), Name::new(other)) {
+            (Ok(one), Ok(other)) => assert_same(&rt, row(label), &one.cmp(&other), expected),
+            _ => panic!(rt; "{label}: one is no name"),
         }
     }
 }
@@ -94,12 +99,7 @@ fn names_are_ordered_by_their_bytes(rt: HostRuntime) {
 #[test]
 fn nine_pairs_of_modes_go_together(rt: HostRuntime) {
     for Modes(label, held, wanted, together) in PAIRS {
-        assert_same(
-            &rt,
-            At(label, "row", 0),
-            &!conflicts(*held, *wanted),
-            together,
-        );
+        assert_same(&rt, row(label), &!conflicts(*held, *wanted), together);
     }
 }
 
@@ -117,7 +117,7 @@ fn modes_print_their_words(rt: HostRuntime) {
 
 /// Asserts that two stamps are ordered so. The label says which.
 fn assert_ordered(rt: &impl Abort, label: &str, one: &Stamp, other: &Stamp, order: Ordering) {
-    assert_same(rt, At(label, "row", 0), &one.cmp(other), &order);
+    assert_same(rt, row(label), &one.cmp(other), &order);
 }
 
 #[test]
@@ -155,10 +155,11 @@ fn equal_numbers_go_to_the_lower_node(rt: HostRuntime) {
 }
 
 /// Asserts that a message has these parts.
-fn assert_parts(rt: &impl Abort, row: usize, message: &Message, ends: [u16; 2], seq: u64) {
-    assert_row(rt, row, &[message.from().get(), message.to().get()], &ends);
-    assert_row(rt, row, &message.name(), &r());
-    assert_row(rt, row, &message.seq(), &seq);
+fn assert_parts(rt: &impl Abort, label: &str, message: &Message, ends: [u16; 2], seq: u64) {
+    let (at, came) = (row(label), [message.from().get(), message.to().get()]);
+    assert_same(rt, at, &came, &ends);
+    assert_same(rt, at, &message.name(), &r());
+    assert_same(rt, at, &message.seq(), &seq);
 }
 
 #[test]
@@ -169,30 +170,27 @@ fn messages_of_both_kinds_tell_their_parts(rt: HostRuntime) {
         name: r(),
         seq: 9,
     };
-    assert_parts(&rt, 0, &request(r(), 4), [1, 2], 4);
-    assert_parts(&rt, 1, &reply, [3, 64], 9);
+    assert_parts(&rt, "a REQUEST", &request(r(), 4), [1, 2], 4);
+    assert_parts(&rt, "a REPLY", &reply, [3, 64], 9);
 }
 
 /// Adds the request with this number to a list.
 fn adds(rt: &impl Abort, messages: &mut Messages, seq: u64) {
-    assert_same(
-        rt,
-        At("adds", "number", 0),
-        &messages.push(request(r(), seq)),
-        &Ok(()),
-    );
+    let came = messages.push(request(r(), seq));
+    assert_same(rt, row("a message is added"), &came, &Ok(()));
 }
 
 /// Asserts that a list has the requests with these numbers, in this order, and nothing after them.
 fn assert_listed(rt: &impl Abort, messages: &Messages, numbers: &[u64]) {
     for place in 0..numbers.len() {
         let expected = Some(request(r(), numbers[place]));
-        assert_row(rt, place, &messages.at(place as u64), &expected);
+        let at = At("a list of messages", "message", place + 1);
+        assert_same(rt, at, &messages.at(place as u64), &expected);
     }
-    let count = numbers.len() as u64;
-    assert_row(rt, numbers.len(), &messages.len(), &count);
-    assert_row(rt, numbers.len(), &messages.at(count), &None);
-    assert_row(rt, numbers.len(), &messages.at(u64::MAX), &None);
+    let (at, count) = (row("the end of a list of messages"), numbers.len() as u64);
+    assert_same(rt, at, &messages.len(), &count);
+    assert_same(rt, at, &messages.at(count), &None);
+    assert_same(rt, at, &messages.at(u64::MAX), &None);
 }
 
 #[test]
@@ -210,23 +208,25 @@ fn messages_are_listed_in_order(rt: HostRuntime) {
 fn more_room_than_there_is_is_refused(rt: HostRuntime) {
     let mut messages = Messages::new(rt.alloc());
     adds(&rt, &mut messages, 1);
-    assert_row(&rt, 0, &messages.reserve(u64::MAX), &Err(Memory));
+    let at = row("room for as many messages as there are numbers");
+    assert_same(&rt, at, &messages.reserve(u64::MAX), &Err(Memory));
     assert_listed(&rt, &messages, &[1]);
 }
 
 /// Adds a mark to a list, after room was made for this many.
 fn adds_mark(rt: &impl Abort, marks: &mut Marks, room: u64, mark: Mark) {
-    assert_row(rt, 0, &marks.reserve(room), &Ok(()));
-    assert_row(rt, 0, &marks.push(mark), &Ok(()));
+    assert_same(rt, row("room for marks"), &marks.reserve(room), &Ok(()));
+    assert_same(rt, row("a mark is added"), &marks.push(mark), &Ok(()));
 }
 
 /// Asserts that a list has these marks, in this order, and nothing after them.
 fn assert_marks(rt: &impl Abort, marks: &Marks, expected: &[Mark]) {
     for place in 0..expected.len() {
-        assert_row(rt, place, &marks.at(place as u64), &Some(expected[place]));
+        let at = At("a list of marks", "mark", place + 1);
+        assert_same(rt, at, &marks.at(place as u64), &Some(expected[place]));
     }
-    let count = expected.len() as u64;
-    assert_row(rt, expected.len(), &marks.at(count), &None);
+    let at = row("the end of a list of marks");
+    assert_same(rt, at, &marks.at(expected.len() as u64), &None);
 }
 
 /// Returns the three marks of an entry.
@@ -271,19 +271,17 @@ fn entry(name: Name, mode: Mode) -> Entry {
     }
 }
 
-/// Returns whether a name prints so by itself, for a programmer, and to the right of eight places.
-fn name_prints(alloc: Global, name: Name, line: &str) -> bool {
-    match format!(in alloc; "{name} {name:?} {name:>8}") {
-        Ok(text) => text.as_str() == line,
-        Err(_) => false,
+/// Asserts that a name prints so by itself, for a programmer, and to the right of eight places.
+fn assert_name_prints(rt: &(impl Abort + AllocGlobal), name: Name, line: &str) {
+    match format!(in rt.alloc(); "{name} {name:?} {name:>8}") {
+        Ok(text) => assert_same(rt, row("a name thrice"), &text.as_str(), &line),
+        Err(_) => panic!(rt; "there is no memory for the text"),
     }
 }
 
 /// Asserts that a name prints so, and the marks of two entries for it, one exclusive and one shared.
 fn assert_named(rt: &(impl Abort + AllocGlobal), name: Name) {
-    let so = name_prints(rt.alloc(), name, "disk-1 disk-1   disk-1");
-    let at = At("the name prints as disk-1 disk-1   disk-1", "row", 0);
-    assert_same(rt, at, &so, &true);
+    assert_name_prints(rt, name, "disk-1 disk-1   disk-1");
     let requested = Mark::Requested(entry(name, Mode::Exclusive));
     assert_prints(rt, &[(requested, "request 2 7 disk-1 X 3")]);
     let entered = Mark::Entered(entry(name, Mode::Shared));
@@ -296,6 +294,6 @@ fn assert_named(rt: &(impl Abort + AllocGlobal), name: Name) {
 fn names_and_marks_print_as_text(rt: HostRuntime) {
     match Name::new(b"disk-1") {
         Ok(name) => assert_named(&rt, name),
-        Err(fault) => assert_row(&rt, 0, &Some(fault), &None),
+        Err(fault) => assert_same(&rt, row("the name disk-1"), &Some(fault), &None),
     }
 }
