@@ -4,7 +4,7 @@ use Rattle.std.specs.Str.{bytes_eq}
 use Rattle.std.specs.Map.{lookup}
 use Rattle.std.proofs.lemmas.List.{append-nil}
 use Rattle.std.proofs.lemmas.List.Elements.{All-nil, All-push}
-use Rattle.indexmap.specs.IndexMap.{IndexMap, IsUnique, WritesThrough}
+use Rattle.indexmap.specs.IndexMap.{IndexMap, IsUnique}
 use Rattle.ra_stamp.specs.declared.entry.Entry.{Entry}
 use Rattle.ra_stamp.specs.declared.entry.Mark.{Mark}
 use Rattle.ra_stamp.specs.declared.entry.Mark.TheVariants.{Requested, Entered, Left}
@@ -14,6 +14,7 @@ use Rattle.ra_table.specs.NameTables.{AreOn, first_request, on_name, joined, Are
 use Rattle.ra_table.proofs.Moves.{of_parts, Gains-push}
 use Rattle.ra_table.proofs.Conflicts.{stays_conflict_free}
 use Rattle.ra_table.proofs.Checked.{Shows, name_table_holds, may_request, may_enter}
+use Rattle.ra_table.proofs.Written.{IsWritten}
 use Rattle.ra_table.proofs.Joined.{All-gains, All-loses, found, missing, name_table_is_on, name_table_gains, name_table_loses, name_table_stays, stay_on, joined_more, more_on}
 
 pub empty_may : (e : Entry) → MayRequest empty_table e
@@ -67,21 +68,21 @@ module _ {S : Type 0} (name_tables : IndexMap (List ℕ) LockTable S) (now : Loc
 
   -- ---- The table of the name changes
 
-  module _ (name_tables' : IndexMap (List ℕ) LockTable S) (old new : LockTable) (at : Some old ≡ lookup (bytes_eq e.name) name_tables.entries) (written : WritesThrough bytes_eq (bytes_eq e.name) name_tables new name_tables') where
+  module _ (name_tables' : IndexMap (List ℕ) LockTable S) (old new : LockTable) (at : Some old ≡ lookup (bytes_eq e.name) name_tables.entries) (written : IsWritten name_tables.entries e.name new name_tables'.entries) where
     shows : Shows e.name old now
     shows = shown old at
 
     gains : (part : LockTable → List Entry) → Gains (part old) e (part new) → Gains (joined part name_tables.entries) e (joined part name_tables'.entries)
-    gains part one = subst (λ (es : List (List ℕ × LockTable)). Gains (joined part name_tables.entries) e (joined part es)) (sym written.0) (name_table_gains part e.name name_tables.entries old new e at one)
+    gains part one = subst (λ (es : List (List ℕ × LockTable)). Gains (joined part name_tables.entries) e (joined part es)) (sym written.entries_are) (name_table_gains part e.name name_tables.entries old new e at one)
 
     loses : (part : LockTable → List Entry) → Loses (part old) e (part new) → Loses (joined part name_tables.entries) e (joined part name_tables'.entries)
-    loses part one = subst (λ (es : List (List ℕ × LockTable)). Loses (joined part name_tables.entries) e (joined part es)) (sym written.0) (name_table_loses part e.name name_tables.entries old new e at one)
+    loses part one = subst (λ (es : List (List ℕ × LockTable)). Loses (joined part name_tables.entries) e (joined part es)) (sym written.entries_are) (name_table_loses part e.name name_tables.entries old new e at one)
 
     stays : (part : LockTable → List Entry) → part new ≡ part old → joined part name_tables'.entries ≡ joined part name_tables.entries
-    stays part same = ap (joined part) written.0 ∙ name_table_stays part e.name name_tables.entries old new at same
+    stays part same = ap (joined part) written.entries_are ∙ name_table_stays part e.name name_tables.entries old new at same
 
     on_after : (part : LockTable → List Entry) → AreOnTheirNames part name_tables.entries → AreOn e.name (part new) → AreOnTheirNames part name_tables'.entries
-    on_after part on here = subst (AreOnTheirNames part) (sym written.0) (stay_on part e.name name_tables.entries new on here)
+    on_after part on here = subst (AreOnTheirNames part) (sym written.entries_are) (stay_on part e.name name_tables.entries new on here)
 
     on_old : (part : LockTable → List Entry) → AreOnTheirNames part name_tables.entries → AreOn e.name (part old)
     on_old part on = name_table_is_on part e.name name_tables.entries old on at
@@ -102,7 +103,7 @@ module _ {S : Type 0} (name_tables : IndexMap (List ℕ) LockTable S) (now : Loc
     requested step = record {
       step = is_now (Requested e) (subst (λ (t : LockTable). MayRequest t e) (sym is) ((may_request old now e shows).0 step.0), gains waiting_of step.1, stays holding_of step.2, stays granted_of step.3);
       kept_after = λ free. record {
-        distinct = written.4;
+        distinct = written.distinct;
         waiting = gains_on waiting_of kept.waiting step.1;
         holding = stays_on holding_of kept.holding step.2;
         granted = stays_on granted_of kept.granted step.3;
@@ -114,7 +115,7 @@ module _ {S : Type 0} (name_tables : IndexMap (List ℕ) LockTable S) (now : Loc
     entered step = record {
       step = is_now (Entered e) (subst (λ (t : LockTable). MayEnter t e) (sym is) ((may_enter old now e shows).0 step.0), loses waiting_of step.1, gains holding_of step.2, gains granted_of step.3);
       kept_after = λ free. record {
-        distinct = written.4;
+        distinct = written.distinct;
         waiting = loses_on waiting_of kept.waiting step.1;
         holding = gains_on holding_of kept.holding step.2;
         granted = gains_on granted_of kept.granted step.3;
@@ -126,7 +127,7 @@ module _ {S : Type 0} (name_tables : IndexMap (List ℕ) LockTable S) (now : Loc
     left step = record {
       step = is_now (Left e) (subst (λ (t : LockTable). Contains t.holding e) (sym is) ((name_table_holds old now e shows).0 step.0), stays waiting_of step.1, loses holding_of step.2, stays granted_of step.3);
       kept_after = λ free. record {
-        distinct = written.4;
+        distinct = written.distinct;
         waiting = stays_on waiting_of kept.waiting step.1;
         holding = loses_on holding_of kept.holding step.2;
         granted = stays_on granted_of kept.granted step.3;
@@ -139,7 +140,7 @@ module _ {S : Type 0} (name_tables : IndexMap (List ℕ) LockTable S) (now : Loc
         let part_stays = λ (part : LockTable → List Entry). ap part same in
         record {
           still_kept = record {
-            distinct = written.4;
+            distinct = written.distinct;
             waiting = stays_on waiting_of kept.waiting (part_stays waiting_of);
             holding = stays_on holding_of kept.holding (part_stays holding_of);
             granted = stays_on granted_of kept.granted (part_stays granted_of);

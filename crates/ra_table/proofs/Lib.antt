@@ -8,6 +8,7 @@ pub mod Counts
 pub mod History
 pub mod Next
 pub mod Numbers
+pub mod Written
 pub mod Joined
 pub mod Kept
 pub mod Checked

@@ -1,8 +1,9 @@
 -- How a lock table keeps its entries: in a table for each name. No public contract speaks of these.
-use Rattle.std.specs.Prelude.{◌≡◌, ◌<◌, ◌≤◌, ℕ, List, [], ◌∷◌, ◌++◌, Option, Some, None, All, length, max, slice_index_or, unwrap_or}
+use Rattle.std.specs.Prelude.{◌≡◌, ◌<◌, ◌≤◌, ℕ, List, [], ◌∷◌, ◌++◌, Option, Some, None, All, length, max, slice_get, slice_index_or, unwrap_or}
 use Rattle.std.specs.List.{filter, AllByRecursion, IsDistinct}
-use Rattle.std.specs.Map.{keys_of}
+use Rattle.std.specs.Map.{keys_of, values_of, lookup, set_value}
 use Rattle.std.specs.Str.{bytes_eq}
+use Rattle.indexmap.specs.IndexMap.{set_value_at}
 use Rattle.ra_stamp.specs.declared.entry.Entry.{Entry}
 use Rattle.ra_table.specs.Table.{LockTable}
 use Rattle.ra_table.specs.Laws.{IsConflictFree}
@@ -46,6 +47,12 @@ module _ {X : Type 0} (part : X → List Entry) where
   -- each entry in this part of a table is on the name of the table
   abbrev pub AreOnTheirNames : List (List ℕ × X) → Type 0
   AreOnTheirNames name_tables = AllByRecursion (λ name_table. AreOn name_table.0 (part name_table.1)) name_tables
+
+-- the table at this place, counted from 0, is the one of this name: the one that is found and written by the name
+pub record IsPlaceOf (name_tables : List (List ℕ × LockTable)) (name : List ℕ) (place : ℕ) : Type 0 where
+  pub within : place < length name_tables
+  pub found : slice_get (values_of name_tables) place ≡ lookup (bytes_eq name) name_tables
+  pub written : (new : LockTable) → set_value_at name_tables place new ≡ set_value (bytes_eq name) name_tables new
 
 -- the entries that wait in a table
 abbrev pub waiting_of : LockTable → List Entry

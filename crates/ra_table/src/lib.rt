@@ -2,9 +2,9 @@
 //! no messages, REPLYs, deferrals or queues.
 #![tactic(auto)]
 
+mod entry_lists;
 mod error;
 mod laws;
-mod lists;
 mod name_table;
 mod table;
 

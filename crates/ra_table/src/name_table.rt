@@ -6,8 +6,8 @@ ghost use Rattle.ra_table.specs.Refusals.{IsNodeBusy, IsNotAbove};
 ghost use Rattle.ra_table.specs.Answers.{RequestTells, CheckTells, EnterTells, IsAnswered};
 ghost use Rattle.ra_table.specs.NameTables.{AreOn, IsAt, first_request};
 
+use crate::entry_lists::{has_earlier, has_excluding, has_node_of, place_of, push_exactly};
 use crate::error::{EnterError, LeaveError, RequestError};
-use crate::lists::{has_earlier, has_excluding, has_node_of, place_of, push_exactly};
 use ra_stamp::{Entry, GhostList, Memory};
 use std::alloc::Global;
 use std::marker::Model;

@@ -1,11 +1,13 @@
-ghost use Rattle.std.specs.Prelude.{◌≡◌, ◌↔◌, ◌++◌, ◌∷◌, [], None, Contains, IsTrue, IsOk, IsErrOf, IsOkUnless, IfOk, IfErr, OnOk, OnErr};
+ghost use Rattle.std.specs.Prelude.{◌≡◌, ◌↔◌, ◌++◌, ◌∷◌, [], None, Contains, IsTrue, IsNone, IsOk, IsErrOf, IsOkUnless, IfOk, IfErr, IfSome, OnOk, OnErr};
+ghost use Rattle.std.specs.List.{IsDistinct};
+ghost use Rattle.std.specs.Map.{keys_of};
 ghost use Rattle.std.specs.Str.{bytes_eq};
 ghost use Rattle.indexmap.specs.IndexMap.{get, IsUnique};
 ghost use Rattle.ra_stamp.specs.declared.entry.Mark.{Mark};
 ghost use Rattle.ra_table.specs.Table.{empty_table, MayRequest, MayEnter, TableStep};
 ghost use Rattle.ra_table.specs.Refusals.{IsNodeBusy, IsNotAbove, IsHeld, HasEarlier};
 ghost use Rattle.ra_table.specs.Laws.{IsConflictFree};
-ghost use Rattle.ra_table.specs.NameTables.{first_request};
+ghost use Rattle.ra_table.specs.NameTables.{first_request, IsPlaceOf};
 
 use crate::error::{EnterError, LeaveError, RequestError};
 use crate::name_table::NameTable;
@@ -20,12 +22,15 @@ use std::marker::Model;
 ///
 /// Each name has a table of its own, so that a call looks at the entries on its entry's name alone. It looks for the name
 /// once, and a first request on a name twice. Of the grants a table keeps the highest number, with which a request is
-/// compared; only clauses and proofs see the grants themselves. A name is found by a fixed hash: among names that someone
-/// picked so that they collide, a look-up is linear in their number.
+/// compared; only clauses and proofs see the grants themselves. A name is found by a fixed hash, unless it is
+/// the one of the last call or the one that first came after that: among names that someone picked so that they collide, a
+/// look-up is linear in their number.
 #[derive(Drop)]
 pub struct Table {
     /// A table for each name on which an entry ever waited.
     name_tables: IndexMap<Name, NameTable>,
+    /// At which place among these the last one was that was asked of. No clause relies on it.
+    latest: usize,
 }
 
 impl Model for Table {
@@ -37,6 +42,40 @@ impl Model for Table {
     ghost view = { λ t. table_of t.name_tables.entries };
 
     ghost invariant = { λ t. IsKept t.name_tables.entries };
+}
+
+/// Returns whether the table of this name is at this place.
+#[inline(always)]
+fn is_at(name_tables: &IndexMap<Name, NameTable>, place: usize, name: &Name) -> bool
+    requires { IsDistinct bytes_eq (keys_of name_tables.now.entries) }
+    ensures { IsTrue result → IsPlaceOf name_tables.now.entries name.now place }
+{
+    match name_tables.get_index(place) {
+        Some((kept, _)) => *kept == *name,
+        None => false,
+    }
+}
+
+/// Returns at which place the table of a name is, or `None` if it has none. Only if it is neither at the place that was looked at
+/// last nor at the next one, the name is hashed: most callers ask of one name several times, and of names in one order.
+#[inline(always)]
+fn place_of_name(
+    name_tables: &IndexMap<Name, NameTable>,
+    latest: usize,
+    name: &Name,
+) -> Option<usize>
+    requires { IsDistinct bytes_eq (keys_of name_tables.now.entries) }
+    ensures some { IfSome result (IsPlaceOf name_tables.now.entries name.now) }
+    ensures none { IsNone result → get bytes_eq name_tables.now name.now ≡ None }
+{
+    if is_at(name_tables, latest, name) {
+        return Some(latest);
+    }
+    let next = latest.wrapping_add(1);
+    if is_at(name_tables, next, name) {
+        return Some(next);
+    }
+    name_tables.get_index_of(name)
 }
 
 /// Makes the table of a name that has none yet, in which this entry waits.
@@ -74,6 +113,7 @@ impl Table {
     {
         Ok(Table {
             name_tables: IndexMap::new(alloc),
+            latest: 0,
         })
     }
 
@@ -99,9 +139,15 @@ impl Table {
         ensures allowed { IsOkUnless result RequestError.Memory ↔ MayRequest self.old entry }
         ensures exclusive { IsConflictFree self.new.holding }
     {
-        match self.name_tables.get_mut(&entry.name) {
-            Some(name_table) => name_table.request(&entry),
-            None => open(&mut self.name_tables, &entry),
+        match place_of_name(&self.name_tables, self.latest, &entry.name) {
+            Some(place) => {
+                self.latest = place;
+                self.name_tables[place].request(&entry)
+            }
+            None => {
+                self.latest = self.name_tables.len();
+                open(&mut self.name_tables, &entry)
+            }
         }
     }
 
@@ -131,10 +177,11 @@ impl Table {
         ensures allowed { IsOkUnless result EnterError.Memory ↔ MayEnter self.old entry.now }
         ensures exclusive { IsConflictFree self.new.holding }
     {
-        let Some(name_table) = self.name_tables.get_mut(&entry.name) else {
+        let Some(place) = place_of_name(&self.name_tables, self.latest, &entry.name) else {
             return Err(EnterError::NotWaiting);
         };
-        name_table.enter(entry)
+        self.latest = place;
+        self.name_tables[place].enter(entry)
     }
 
     /// Ends the hold of an entry, in expected time linear in the number of entries that hold on its name. It does not
@@ -150,10 +197,11 @@ impl Table {
         ensures not_held { IsErrOf result LeaveError.NotHeld ↔ ¬ Contains self.old.holding entry.now }
         ensures exclusive { IsConflictFree self.new.holding }
     {
-        let Some(name_table) = self.name_tables.get_mut(&entry.name) else {
+        let Some(place) = place_of_name(&self.name_tables, self.latest, &entry.name) else {
             return Err(LeaveError::NotHeld);
         };
-        name_table.leave(entry)
+        self.latest = place;
+        self.name_tables[place].leave(entry)
     }
 
     /// Returns whether the entry may wait, unless memory runs out: its node neither waits nor holds on its name, and its number is above that of

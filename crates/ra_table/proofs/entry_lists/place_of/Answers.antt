@@ -1,7 +1,7 @@
 use Rattle.std.proofs.Common.{◌≡◌, get_or, refl, sym, ◌∙◌}
 use Rattle.std.proofs.lemmas.Bool.{true≢false, false≢true}
 use Rattle.ra_table.proofs.Places.{same_entry, is_at, none_more, nowhere, none_yet}
-use Rattle.ra_table.proofs.lists.place_of.Goals as goal
+use Rattle.ra_table.proofs.entry_lists.place_of.Goals as goal
 
 found : (c : goal.Then-eq) → get_or c.args.list.now c.loop-place.place c.args.entry.now ≡ c.args.entry.now
 found c =

@@ -1,5 +1,5 @@
 use Rattle.std.proofs.Common.{◌≢◌, ℕ, ◌<◌, get_or}
-use Rattle.ra_table.proofs.lists.place_of.Given as goal
+use Rattle.ra_table.proofs.entry_lists.place_of.Given as goal
 
 -- the entry is none so far
 abbrev pub invariant-loop-place : goal.invariant-loop-place

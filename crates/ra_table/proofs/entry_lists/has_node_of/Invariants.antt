@@ -1,7 +1,7 @@
 use Rattle.std.proofs.Common.{ℕ, ◌<◌, get_or}
 use Rattle.ra_stamp.specs.declared.entry.Entry.{Entry}
 use Rattle.ra_table.specs.Refusals.{SharesNodeAndName}
-use Rattle.ra_table.proofs.lists.has_node_of.Given as goal
+use Rattle.ra_table.proofs.entry_lists.has_node_of.Given as goal
 
 -- none so far
 abbrev pub invariant-loop-other : goal.invariant-loop-other

@@ -1,0 +1,7 @@
+use Rattle.std.proofs.Common.{sym, ◌∙◌}
+use Rattle.ra_table.proofs.Written.{is_place_of}
+use Rattle.ra_table.proofs.table.is_at.Goals as goal
+
+pub returns-in-Some : goal.returns-in-Some
+returns-in-Some c = λ yes.
+    is_place_of c.args.name_tables.now.entries c.args.name.now c.args.place _ _ c.requires c.in-Some.ensures.entry (sym c.eq.ensures ∙ yes)
