@@ -1,5 +1,5 @@
 //! The place in what was read that a note is about.
-use ra_cli::{AnswerError, Refusal, Remark, RunScriptError};
+use ra_cli::{AnswerError, CommandRefusal, Remark, RunScriptError};
 use ra_cluster::ClusterError;
 use ra_explain::{LineCause, Unanswered, digits_note, frame_note, line_note, order_note};
 use ra_notes::{
@@ -50,14 +50,19 @@ fn answer_place(alloc: Global, arguments: &[String], input: &[u8], why: AnswerEr
 /// Returns what is said of a remark that is about what was read.
 fn place_in(alloc: Global, source: &NoteSource<'_>, bytes: &[u8], remark: &Remark) -> PlaceNote {
     match *remark {
-        Remark::Refused(Refusal::Perform(why)) => perform_place(
+        Remark::Refused(CommandRefusal::Perform(why)) => perform_place(
             alloc,
             source.asked.choices(),
             bytes,
             why,
         ),
-        Remark::Refused(Refusal::Cluster(why)) => run_place(alloc, bytes, why),
-        Remark::Refused(Refusal::Answer(why)) => answer_place(alloc, source.arguments, bytes, why),
+        Remark::Refused(CommandRefusal::Cluster(why)) => run_place(alloc, bytes, why),
+        Remark::Refused(CommandRefusal::Answer(why)) => answer_place(
+            alloc,
+            source.arguments,
+            bytes,
+            why,
+        ),
         Remark::Unfinished => unfinished_place(alloc, source.asked, bytes, source.last_seed),
         _ => Ok(None),
     }

@@ -1,6 +1,6 @@
 //! The note that tells the user what came of a command: one line, which begins with `ra: `.
 use crate::note_places::{NoteSource, place_of};
-use ra_cli::{AnswerError, Outcome, Refusal, Remark, RunScriptError, UNFINISHED};
+use ra_cli::{AnswerError, CommandOutcome, CommandRefusal, Remark, RunScriptError, UNFINISHED};
 use ra_notes::{
     BOOKS_TOO_LONG, NO_BOOK, NO_INPUT, NO_SEED_DONE, NO_WORD, SEEDS_LEFT, UNEXPLAINED, cause_text,
     cluster_text, mark_cause_text, of_check, of_choices, of_command, of_drawing, of_end,
@@ -15,7 +15,7 @@ use std::io::Write;
 pub fn write_notes<N: Write>(
     alloc: Global,
     source: &NoteSource<'_>,
-    outcome: &Outcome,
+    outcome: &CommandOutcome,
     notes: &mut N,
 ) {
     match &outcome.remark {
@@ -77,15 +77,15 @@ fn cause_of(alloc: Global, source: &NoteSource<'_>, remark: &Remark) -> Said {
 }
 
 /// Returns what there is to say about a refusal, nothing if the writer failed, since a refusal does not say how.
-fn refusal_of(alloc: Global, source: &NoteSource<'_>, refusal: Refusal) -> Said {
+fn refusal_of(alloc: Global, source: &NoteSource<'_>, refusal: CommandRefusal) -> Said {
     match refusal {
-        Refusal::Command(why) => of_command(alloc, source.arguments, why),
-        Refusal::Answer(why) => of_answer(alloc, source.arguments, why),
-        Refusal::Choices(why) => of_choices(alloc, source.asked.choices(), why),
-        Refusal::Perform(why) => of_performance(why),
-        Refusal::Check(why) => of_check(why),
-        Refusal::Draw(why) => of_drawing(alloc, source.arguments, why),
-        Refusal::Cluster(why) => of_run(why),
+        CommandRefusal::Command(why) => of_command(alloc, source.arguments, why),
+        CommandRefusal::Answer(why) => of_answer(alloc, source.arguments, why),
+        CommandRefusal::Choices(why) => of_choices(alloc, source.asked.choices(), why),
+        CommandRefusal::Perform(why) => of_performance(why),
+        CommandRefusal::Check(why) => of_check(why),
+        CommandRefusal::Draw(why) => of_drawing(alloc, source.arguments, why),
+        CommandRefusal::Cluster(why) => of_run(why),
     }
 }
 

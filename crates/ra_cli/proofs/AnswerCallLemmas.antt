@@ -13,7 +13,8 @@ use Rattle.ra_world.specs.declared.error.ReadFault.TheVariants as read
 use Rattle.ra_world.specs.Input.{Reads}
 use Rattle.ra_cli.specs.declared.error.AnswerError.{AnswerError}
 use Rattle.ra_cli.specs.declared.error.AnswerError.TheVariants as fault
-use Rattle.ra_cli.specs.Answer.{Carries, IsMember, IsStrange, IsUnwanted, IsAnswered, Refuses}
+use Rattle.ra_stamp.specs.Member.{IsMember}
+use Rattle.ra_cli.specs.Answer.{Carries, IsStrange, IsUnwanted, IsAnswered, Refuses}
 use Rattle.ra_cli.specs.AnswerCall.{ComesTo, IsOfInput, of_receive}
 use Rattle.ra_cli.specs.Line.{IsLine}
 use Rattle.ra_cli.proofs.Refusals.{for_each, refuses_input, answers_input, not_nil}
@@ -56,20 +57,24 @@ pub no_member : {T : Type 0} (node nodes : ℕ) (old before : Option (List ℕ))
     → ComesTo {T = T} node nodes old old before before S W (Err why)
 no_member node nodes old before S W why refuses early s w = record {
   ok = tt;
-  refused = for_each old node nodes why refuses;
   cause = ([], refuses []);
   member = tt;
   untouched = λ _. s;
-  unwritten = λ _. w;
-  prefix = λ is. elim early [
-    | inl count ↦ absurd cc
-    | inr node ↦ absurd cc
-  ];
-  failed = λ is. elim early [
-    | inl count ↦ absurd cc
-    | inr node ↦ absurd cc
-  ];
-  at_most = ([], omega arith, Consumes-nil old);
+  reads = record {
+    refused = for_each old node nodes why refuses;
+    failed = λ is. elim early [
+      | inl count ↦ absurd cc
+      | inr node ↦ absurd cc
+    ];
+    at_most = ([], omega arith, Consumes-nil old);
+  };
+  writes = record {
+    unwritten = λ _. w;
+    prefix = λ is. elim early [
+      | inl count ↦ absurd cc
+      | inr node ↦ absurd cc
+    ];
+  };
 }
 
 -- a refusal of each input by a node that is one of them
@@ -94,31 +99,33 @@ no_input node nodes old new before S W given why member from failed at_most w =
     elim (of_reader given why from) [
       | inl (g, e) ↦ record {
         ok = tt;
-        refused = for_each old node nodes why (refuses_each node nodes old why member (inl e));
         cause = ([], refuses_each node nodes old why member (inl e) []);
         member = tt;
         untouched = λ is. elim is [
           | inl count ↦ absurd cc
           | inr node ↦ absurd cc
         ];
-        unwritten = λ _. w;
-        prefix = λ is. absurd cc;
-        failed = λ is. failed g;
-        at_most = at_most;
+        reads = record {
+          refused = for_each old node nodes why (refuses_each node nodes old why member (inl e));
+          failed = λ is. failed g;
+          at_most = at_most;
+        };
+        writes = record { unwritten = λ _. w; prefix = λ is. absurd cc };
       }
       | inr (g, e) ↦ record {
         ok = tt;
-        refused = for_each old node nodes why (refuses_each node nodes old why member (inr e));
         cause = ([], refuses_each node nodes old why member (inr e) []);
         member = tt;
         untouched = λ is. elim is [
           | inl count ↦ absurd cc
           | inr node ↦ absurd cc
         ];
-        unwritten = λ _. w;
-        prefix = λ is. absurd cc;
-        failed = λ is. absurd cc;
-        at_most = at_most;
+        reads = record {
+          refused = for_each old node nodes why (refuses_each node nodes old why member (inr e));
+          failed = λ is. absurd cc;
+          at_most = at_most;
+        };
+        writes = record { unwritten = λ _. w; prefix = λ is. absurd cc };
       }
     ]
 
@@ -128,17 +135,18 @@ pub no_answer : {T : Type 0} (node nodes : ℕ) (old new before : Option (List �
     → ComesTo {T = T} node nodes old new before before S W (Err why)
 no_answer node nodes old new before S W taken why member reads refuses (unread, unwritten) w = record {
   ok = tt;
-  refused = refuses_input old new node nodes taken why unwritten reads refuses;
   cause = (taken, refuses);
   member = tt;
   untouched = λ is. elim is [
     | inl count ↦ absurd ((subst (Refuses node nodes taken) count refuses) member.count)
     | inr none ↦ absurd ((subst (Refuses node nodes taken) none refuses).1 member)
   ];
-  unwritten = λ _. w;
-  prefix = λ is. absurd (unwritten (let e : why ≡ fault.Write = cc in e));
-  failed = λ is. absurd (unread (let e : why ≡ fault.Read = cc in e));
-  at_most = (taken, reads.at_most, reads.taken);
+  reads = record {
+    refused = refuses_input old new node nodes taken why unwritten reads refuses;
+    failed = λ is. absurd (unread (let e : why ≡ fault.Read = cc in e));
+    at_most = (taken, reads.at_most, reads.taken);
+  };
+  writes = record { unwritten = λ _. w; prefix = λ is. absurd (unwritten (let e : why ≡ fault.Write = cc in e)) };
 }
 
 -- the answer was not written, or not all of it
@@ -150,20 +158,24 @@ not_written node nodes old new before after S W taken output prefix rest reads a
     let some : output ≢ [] = not_nil output prefix rest parts left in
     record {
       ok = tt;
-      refused = of_known old (λ input. IsAnswered node nodes input output × Consumes old new input)
-          (λ input. Refuses node nodes input fault.Write) (λ input h. (output, h.0, some)) known;
       cause = (taken, (output, answered, some));
       member = tt;
       untouched = λ is. elim is [
         | inl count ↦ absurd cc
         | inr none ↦ absurd cc
       ];
-      unwritten = λ no. absurd (no refl);
-      prefix = λ is. of_known old (λ input. IsAnswered node nodes input output × Consumes old new input)
-          (λ input. (f : List ℕ) × (b : List ℕ) × IsAnswered node nodes input (f ++ b) × (b ≢ []) × Appends before after f)
-          (λ input h. (prefix, rest, subst (λ (xs : List ℕ). IsAnswered node nodes input xs) parts h.0, left, appends)) known;
-      failed = λ is. absurd cc;
-      at_most = (taken, reads.at_most, reads.taken);
+      reads = record {
+        refused = of_known old (λ input. IsAnswered node nodes input output × Consumes old new input)
+            (λ input. Refuses node nodes input fault.Write) (λ input h. (output, h.0, some)) known;
+        failed = λ is. absurd cc;
+        at_most = (taken, reads.at_most, reads.taken);
+      };
+      writes = record {
+        unwritten = λ no. absurd (no refl);
+        prefix = λ is. of_known old (λ input. IsAnswered node nodes input output × Consumes old new input)
+            (λ input. (f b : List ℕ) × IsAnswered node nodes input (f ++ b) × (b ≢ []) × Appends before after f)
+            (λ input h. (prefix, rest, subst (λ (xs : List ℕ). IsAnswered node nodes input xs) parts h.0, left, appends)) known;
+      };
     }
 
 -- the answer was written
@@ -174,12 +186,9 @@ written node nodes old new before after S W taken output done member reads answe
   ok = of_known old (λ input. IsAnswered node nodes input output × Consumes old new input)
       (λ input. (o : List ℕ) × IsAnswered node nodes input o × Consumes old new input × Appends before after o)
       (λ input h. (output, h.0, h.1, appends)) (answers_input old new node nodes taken output reads answered);
-  refused = tt;
   cause = tt;
   member = member;
   untouched = tt;
-  unwritten = tt;
-  prefix = λ is. absurd cc;
-  failed = λ is. absurd cc;
-  at_most = (taken, reads.at_most, reads.taken);
+  reads = record { refused = tt; failed = λ is. absurd cc; at_most = (taken, reads.at_most, reads.taken) };
+  writes = record { unwritten = tt; prefix = λ is. absurd cc };
 }

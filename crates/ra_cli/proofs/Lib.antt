@@ -3,6 +3,7 @@ mod Replies
 mod Refusals
 mod AnswerCallLemmas
 mod Passed
+mod Transfers
 mod Numbers
 mod Scripts
 mod ClusterRuns
@@ -18,3 +19,4 @@ mod TaskLemmas
 mod Orderly
 mod TaskStatuses
 mod Helped
+mod TaskServed

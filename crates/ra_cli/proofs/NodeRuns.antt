@@ -1,14 +1,15 @@
 -- What it means for the statuses that `ra node` ended so.
-use Rattle.std.proofs.Common.{◌≡◌, ℕ, List, length, slice_get, Option, Some, Ok, Err, sym, ap, subst, ◌∙◌, inl, inr, codes, arith}
+use Rattle.std.proofs.Common.{◌≡◌, ℕ, List, [], ◌++◌, length, slice_get, Option, Some, Ok, Err, sym, ap, subst, ◌∙◌, inl, inr, codes, arith}
+use Rattle.std.proofs.lemmas.List.{append-nil}
 use Rattle.std.proofs.lemmas.Option.{same_Some}
 use Rattle.std.specs.Io.KnownBytes.{Appends}
 use Rattle.ra_book.specs.declared.error.BookFault.TheVariants as book
 use Rattle.ra_cli.specs.NodeRun.{ServesNode}
 use Rattle.ra_task.specs.Arguments.{AreNodeArguments}
 use Rattle.ra_cli.specs.Refusals.{IsOfReader, IsOfWriter}
-use Rattle.ra_cli.specs.Statuses.{IsRefused}
+use Rattle.ra_cli.specs.Statuses.{IsRefused, Writes}
 use Rattle.ra_cli.specs.declared.error.AnswerError.TheVariants.{Line}
-use Rattle.ra_cli.specs.declared.refusal_lines.Refusal.TheVariants.{Answer}
+use Rattle.ra_cli.specs.declared.refusal_lines.CommandRefusal.TheVariants.{Answer}
 use Rattle.ra_cli.proofs.Statuses.{of_answer}
 
 no_reader : IsOfReader (Answer Line) → ⊥
@@ -20,6 +21,16 @@ no_reader (inr (inr (inr (inr is)))) = absurd cc
 
 no_writer : IsOfWriter (Answer Line) → ⊥
 no_writer is = let wrong = of_answer Line is in absurd cc
+
+-- the line of a reader that failed was written, or as much of it as the writer took
+pub unread_line : (line : List ℕ) (before after : Option (List ℕ)) (status : ℕ) → line ≡ codes "refused Read\n" → Writes line 1 before after status
+    → (said : List ℕ) × (rest : List ℕ) × (codes "refused Read\n" ≡ said ++ rest) × Appends before after said
+unread_line line before after status is (inl (one, all)) = (line, [], sym is ∙ sym (append-nil line), all)
+unread_line line before after status is (inr (one, said, rest, parts, left, some)) = (said, rest, sym is ∙ parts, some)
+
+pub unread_status : (line : List ℕ) (before after : Option (List ℕ)) (status : ℕ) → Writes line 1 before after status → status ≡ 1
+unread_status line before after status (inl (one, all)) = one
+unread_status line before after status (inr part) = part.0
 
 -- status 2 comes with the line of a refusal
 pub no_book : (old new before after : Option (List ℕ)) (status : ℕ) → ServesNode old new before after status → status ≡ 2 → IsRefused before after

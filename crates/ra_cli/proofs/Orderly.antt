@@ -31,8 +31,8 @@ use Rattle.ra_task.specs.declared.command_line.PolicyName.TheVariants.{Oldest, N
 use Rattle.ra_task.specs.declared.command_line.Task.{Task}
 use Rattle.ra_task.specs.declared.command_line.Task.TheVariants as task
 use Rattle.ra_task.specs.declared.command_line.search.Search.{Search}
-use Rattle.ra_cli.specs.declared.refusal_lines.Refusal.{Refusal}
-use Rattle.ra_cli.specs.declared.refusal_lines.Refusal.TheVariants as refusal
+use Rattle.ra_cli.specs.declared.refusal_lines.CommandRefusal.{CommandRefusal}
+use Rattle.ra_cli.specs.declared.refusal_lines.CommandRefusal.TheVariants as refusal
 use Rattle.ra_task.specs.Finishing.{HasNoChoices, IsFaithful, RunsFaithfully}
 use Rattle.ra_task.specs.Named.{IsNamed}
 use Rattle.ra_cli.specs.Refusals.{IsOfReader, IsOfWriter, choices_word, perform_word, refused_line, run_word, word_of}
@@ -159,7 +159,7 @@ none_wordless laws faults (Some search) first last input lost repeated h =
     laws.worded search.format (chance faults h.seed) input (by_chance faults h.seed lost repeated).unrepeated h.unwritten
 
 -- it is refused for want of memory only
-pub refused_for_memory : FinishingLaws → (asked : Task) (input : List ℕ) (why : Refusal) → IsOrderly input → RunsFaithfully asked → HasNoChoices asked
+pub refused_for_memory : FinishingLaws → (asked : Task) (input : List ℕ) (why : CommandRefusal) → IsOrderly input → RunsFaithfully asked → HasNoChoices asked
     → (IsOfReader why → ⊥) → (IsOfWriter why → ⊥) → IsCauseFor asked input why → word_of why ≡ codes "Memory"
 refused_for_memory laws (task.Answer node nodes) input why orderly faithful plain reader writer cause = absurd faithful
 refused_for_memory laws (task.Sim name choices format) input why orderly faithful plain reader writer (inl (fault, is, cause)) =
@@ -204,7 +204,7 @@ never_three law asked None new before after status left = tt
 never_three law asked (Some input) new before after status left = λ orderly faithful is. law asked input new before after orderly faithful (left is)
 
 -- and status 2 comes only with the line for want of memory
-pub only_memory : ((asked : Task) (input : List ℕ) (why : Refusal) → IsOrderly input → RunsFaithfully asked → HasNoChoices asked
+pub only_memory : ((asked : Task) (input : List ℕ) (why : CommandRefusal) → IsOrderly input → RunsFaithfully asked → HasNoChoices asked
     → (IsOfReader why → ⊥) → (IsOfWriter why → ⊥) → IsCauseFor asked input why → word_of why ≡ codes "Memory")
     → (asked : Task) (known before after : Option (List ℕ)) (status : ℕ) → (status ≡ 2 → IsRefusedBy asked known before after)
     → IfSome known (λ input. IsOrderly input → RunsFaithfully asked → HasNoChoices asked → status ≡ 2 → Appends before after (refused_line (codes "Memory")))

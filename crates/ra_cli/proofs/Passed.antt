@@ -1,5 +1,5 @@
 -- What a refusal is that `?` passes on.
-use Rattle.std.proofs.Common.{◌≡◌, ◌≢◌, Result, Ok, Err, sym, subst, ◌∙◌}
+use Rattle.std.proofs.Common.{◌≡◌, ◌≢◌, ℕ, List, Result, Ok, Err, sym, subst}
 use Rattle.std.specs.Prelude.{IfErr, IsErrAnd}
 use Rattle.ra_world.specs.declared.error.ReadFault.{ReadFault}
 use Rattle.ra_world.specs.declared.error.ReadFault.TheVariants as read
@@ -10,17 +10,12 @@ use Rattle.ra_script.specs.declared.error.ScriptError.TheVariants as script
 use Rattle.ra_cluster.specs.declared.cluster.cluster_run.ClusterError.{ClusterError}
 use Rattle.ra_cluster.specs.declared.cluster.cluster_run.ClusterError.TheVariants as cluster
 use Rattle.ra_cli.specs.declared.error.RunScriptError.TheVariants as fault
-use Rattle.ra_cli.specs.ClusterRun.{of_read, of_script, of_choices, of_cluster}
+use Rattle.ra_cli.specs.ClusterRun.{RefusesRun, of_read, of_script, of_choices, of_cluster}
 
 -- what holds of the refusal holds of the result
 pub passed : {V E : Type 0} (r : Result V E) (x : E) (P : E → Type 0) → IsErrAnd r (λ e. e ≡ x) → P x → IfErr r P
 passed (Ok v) x P is h = absurd is
 passed (Err e) x P is h = subst P (sym is) h
-
--- it is the one that the result has
-pub is_this : {V E : Type 0} (r : Result V E) (x y : E) → IsErrAnd r (λ e. e ≡ x) → r ≡ Err y → x ≡ y
-is_this (Ok v) x y is e = absurd is
-is_this (Err f) x y is e = let same : f ≡ y = cc in sym is ∙ same
 
 -- ---- That of a reader
 
@@ -35,6 +30,10 @@ read_no_cluster read.Memory other e = absurd cc
 pub read_failed : (why : ReadFault) → of_read why ≡ fault.Read → why ≡ read.Read
 read_failed read.Read e = cc
 read_failed read.Memory e = absurd cc
+
+pub unread_is_refused : (why : ReadFault) (input : List ℕ) → RefusesRun input (of_read why)
+unread_is_refused read.Read input = tt
+unread_is_refused read.Memory input = tt
 
 -- ---- That of a text that is no script
 
@@ -82,13 +81,10 @@ cluster_no_write cluster.Lost e = absurd cc
 cluster_no_write cluster.UnderWay e = absurd cc
 cluster_no_write cluster.Memory e = absurd cc
 
--- ---- That of a writer, and none
+-- ---- That of a writer
 
 pub write_no_read : {A : Type 0} → fault.Write ≡ fault.Read → A
 write_no_read e = absurd cc
-
-pub no_refusal : {V E A : Type 0} (v : V) (x : E) → Ok v ≡ Err x → A
-no_refusal v x e = absurd cc
 
 -- ---- That of choices without words
 

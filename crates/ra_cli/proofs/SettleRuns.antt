@@ -5,7 +5,7 @@ use Rattle.ra_world.specs.Input.{Reads}
 use Rattle.ra_trace.specs.declared.error.TraceError.{TraceError}
 use Rattle.ra_trace.specs.declared.error.TraceError.TheVariants as fault
 use Rattle.ra_task.specs.declared.settle_arguments.SettleTask.{SettleTask}
-use Rattle.ra_cli.specs.declared.refusal_lines.Refusal.TheVariants.{Check}
+use Rattle.ra_cli.specs.declared.refusal_lines.CommandRefusal.TheVariants.{Check}
 use Rattle.ra_cli.specs.Refusals.{IsOfReader, IsOfWriter, refused_line, trace_word}
 use Rattle.ra_cli.specs.SettleRun.{Contradicts, ReadsBooks, RefusesInput, ServesSettle, Settles, TellsSettled}
 use Rattle.ra_cli.specs.Statuses.{IsRefused, IsSaid, PrintsRefusal, Writes}

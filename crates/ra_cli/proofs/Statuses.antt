@@ -23,14 +23,14 @@ use Rattle.ra_task.specs.declared.cluster_output.ClusterOutput.{ClusterOutput}
 use Rattle.ra_cli.specs.declared.error.RunScriptError.{RunScriptError}
 use Rattle.ra_cli.specs.declared.error.RunScriptError.TheVariants as run
 use Rattle.ra_task.specs.declared.command_line.search.Search.{Search}
-use Rattle.ra_cli.specs.declared.refusal_lines.Refusal.{Refusal}
-use Rattle.ra_cli.specs.declared.refusal_lines.Refusal.TheVariants.{Command, Answer, Choices, Perform, Check, Draw, Cluster}
+use Rattle.ra_cli.specs.declared.refusal_lines.CommandRefusal.{CommandRefusal}
+use Rattle.ra_cli.specs.declared.refusal_lines.CommandRefusal.TheVariants.{Command, Answer, Choices, Perform, Check, Draw, Cluster}
 use Rattle.ra_cli.specs.Answer.{IsAnswered}
 use Rattle.ra_cli.specs.Checks.{verdict_text, marks_verdict_text}
 use Rattle.ra_cli.specs.ClusterRun.{IsClusterRun}
 use Rattle.ra_cli.specs.Refusals.{IsOfReader, IsOfWriter, refused_line, word_of}
 use Rattle.ra_cli.specs.Statuses.{IsRefused, IsSaid, IsBroken, IsPrinted, BreaksOff, PrintsRefusal, Writes}
-use Rattle.ra_cli.specs.Surveyed.{IsTold}
+use Rattle.ra_cli.specs.Surveyed.{MayBeTold}
 use Rattle.ra_task.specs.Arguments.{GivesNode, HasMarksOption, PrintsBy}
 use Rattle.ra_cli.proofs.ClusterRuns.{of_known}
 use Rattle.ra_cli.proofs.Helping.{for_each}
@@ -82,28 +82,28 @@ of_draw fault (inr (inr (inr is))) = cc
 
 -- ---- Status 2
 
-pub refused : (refusal : Refusal) (before between after : Option (List ℕ)) → ((IsOfWriter refusal → ⊥) → between ≡ before)
+pub refused : (refusal : CommandRefusal) (before between after : Option (List ℕ)) → ((IsOfWriter refusal → ⊥) → between ≡ before)
     → (IsOfReader refusal → ⊥) × (IsOfWriter refusal → ⊥) × Appends between after (refused_line (word_of refusal)) → IsRefused before after
 refused refusal before between after same h =
     (refusal, h.0, h.1, subst (λ (o : Option (List ℕ)). Appends o after (refused_line (word_of refusal))) (same h.1) h.2)
 
 -- ---- Status 1
 
-line_of_reader : (refusal : Refusal) → IsOfReader refusal → refused_line (word_of refusal) ≡ codes "refused Read\n"
-line_of_reader refusal (inl is) = ap (λ (r : Refusal). refused_line (word_of r)) is
-line_of_reader refusal (inr (inl is)) = ap (λ (r : Refusal). refused_line (word_of r)) is
-line_of_reader refusal (inr (inr (inl is))) = ap (λ (r : Refusal). refused_line (word_of r)) is
-line_of_reader refusal (inr (inr (inr (inl is)))) = ap (λ (r : Refusal). refused_line (word_of r)) is
-line_of_reader refusal (inr (inr (inr (inr is)))) = ap (λ (r : Refusal). refused_line (word_of r)) is
+line_of_reader : (refusal : CommandRefusal) → IsOfReader refusal → refused_line (word_of refusal) ≡ codes "refused Read\n"
+line_of_reader refusal (inl is) = ap (λ (r : CommandRefusal). refused_line (word_of r)) is
+line_of_reader refusal (inr (inl is)) = ap (λ (r : CommandRefusal). refused_line (word_of r)) is
+line_of_reader refusal (inr (inr (inl is))) = ap (λ (r : CommandRefusal). refused_line (word_of r)) is
+line_of_reader refusal (inr (inr (inr (inl is)))) = ap (λ (r : CommandRefusal). refused_line (word_of r)) is
+line_of_reader refusal (inr (inr (inr (inr is)))) = ap (λ (r : CommandRefusal). refused_line (word_of r)) is
 
 -- of a refusal that is not the writer's
-said : (arguments : List (List ℕ)) (old before after : Option (List ℕ)) (refusal : Refusal) → IsSaid refusal before after → IsBroken arguments old before after
+said : (arguments : List (List ℕ)) (old before after : Option (List ℕ)) (refusal : CommandRefusal) → IsSaid refusal before after → IsBroken arguments old before after
 said arguments old before after refusal (inl (reader, all)) = inl (subst (Appends before after) (line_of_reader refusal reader) all)
 said arguments old before after refusal (inr (prefix, rest, is, left, some)) =
     inr (for_each old (λ input. BreaksOff arguments input before after) (λ input. (prefix, rest, inl (refusal, sym is), left, some)))
 
 -- of any refusal
-pub broken : (arguments : List (List ℕ)) (old before between after : Option (List ℕ)) (refusal : Refusal)
+pub broken : (arguments : List (List ℕ)) (old before between after : Option (List ℕ)) (refusal : CommandRefusal)
     → (IsOfWriter refusal → IfSome old (λ input. BreaksOff arguments input before between)) → (IsOfWriter refusal → after ≡ between)
     → ((IsOfWriter refusal → ⊥) → between ≡ before)
     → IsOfWriter refusal ⊎ ((IsOfWriter refusal → ⊥) × IsSaid refusal between after) → IsBroken arguments old before after
@@ -115,7 +115,7 @@ broken arguments old before between after refusal fails stays same (inr (other, 
 -- ---- What comes of a refusal
 
 -- nothing is written after the writer failed
-pub of_writer : (refusal : Refusal) (before after : Option (List ℕ)) (Unwritten : Type 0) (status : ℕ) → status ≡ 1 → IsOfWriter refusal → Unwritten
+pub of_writer : (refusal : CommandRefusal) (before after : Option (List ℕ)) (Unwritten : Type 0) (status : ℕ) → status ≡ 1 → IsOfWriter refusal → Unwritten
     → PrintsRefusal refusal before after Unwritten status
 of_writer refusal before after Unwritten status one writer unwritten = record {
   range = broken_at_most_2 status one;
@@ -126,7 +126,7 @@ of_writer refusal before after Unwritten status one writer unwritten = record {
 }
 
 -- its line is written, or a prefix of it, if the reader failed
-pub of_reader : (refusal : Refusal) (line : List ℕ) (before after : Option (List ℕ)) (Unwritten : Type 0) (result status : ℕ) → status ≡ result
+pub of_reader : (refusal : CommandRefusal) (line : List ℕ) (before after : Option (List ℕ)) (Unwritten : Type 0) (result status : ℕ) → status ≡ result
     → line ≡ refused_line (word_of refusal) → IsOfReader refusal → (IsOfWriter refusal → ⊥) → Writes line 1 before after result
     → PrintsRefusal refusal before after Unwritten status
 of_reader refusal line before after Unwritten result status same is reader other writes = record {
@@ -149,7 +149,7 @@ of_reader refusal line before after Unwritten result status same is reader other
     said (inr (_, prefix, rest, parts, left, some)) = inr (prefix, rest, sym is ∙ parts, left, some)
 
 -- and if neither failed
-pub of_others : (refusal : Refusal) (line : List ℕ) (before after : Option (List ℕ)) (Unwritten : Type 0) (result status : ℕ) → status ≡ result
+pub of_others : (refusal : CommandRefusal) (line : List ℕ) (before after : Option (List ℕ)) (Unwritten : Type 0) (result status : ℕ) → status ≡ result
     → line ≡ refused_line (word_of refusal) → (IsOfReader refusal → ⊥) → (IsOfWriter refusal → ⊥) → Writes line 2 before after result
     → PrintsRefusal refusal before after Unwritten status
 of_others refusal line before after Unwritten result status same is no_reader no_writer (inl (two, all)) = record {
@@ -222,11 +222,10 @@ of_cluster_run arguments printed old before after by =
     (λ input (prefix, rest, runs, left, some). (prefix, rest, inr (inr (inr (inr (inl (printed, by, runs))))), left, some))
 
 pub of_surveyed : (arguments : List (List ℕ)) (faults : Option FaultRates) (find : Option Search) (first last : ℕ) (old before after : Option (List ℕ))
-    → IfSome old (λ input. (prefix rest : List ℕ) × (finished : Bool) × IsTold faults find first last input (prefix ++ rest) finished × (rest ≢ [])
-    × Appends before after prefix)
+    → IfSome old (λ input. (prefix rest : List ℕ) × MayBeTold faults find first last input (prefix ++ rest) × (rest ≢ []) × Appends before after prefix)
     → IfSome old (λ input. BreaksOff arguments input before after)
 of_surveyed arguments faults find first last old before after =
-    of_known old (λ input. (prefix rest : List ℕ) × (finished : Bool) × IsTold faults find first last input (prefix ++ rest) finished × (rest ≢ [])
-    × Appends before after prefix) (λ input. BreaksOff arguments input before after)
-    (λ input (prefix, rest, finished, says, left, some).
+    of_known old (λ input. (prefix rest : List ℕ) × MayBeTold faults find first last input (prefix ++ rest) × (rest ≢ []) × Appends before after prefix)
+    (λ input. BreaksOff arguments input before after)
+    (λ input (prefix, rest, (finished, says), left, some).
     (prefix, rest, inr (inr (inr (inr (inr (inr (inr (faults, find, first, last, finished, says))))))), left, some))

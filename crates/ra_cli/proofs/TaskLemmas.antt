@@ -24,8 +24,8 @@ use Rattle.ra_task.specs.declared.command_line.PolicyName.{PolicyName}
 use Rattle.ra_task.specs.declared.command_line.Task.{Task}
 use Rattle.ra_task.specs.declared.command_line.Task.TheVariants as task
 use Rattle.ra_task.specs.declared.command_line.input_kind.InputKind.{InputKind}
-use Rattle.ra_cli.specs.declared.refusal_lines.Refusal.{Refusal}
-use Rattle.ra_cli.specs.declared.refusal_lines.Refusal.TheVariants.{Check, Choices, Draw, Perform}
+use Rattle.ra_cli.specs.declared.refusal_lines.CommandRefusal.{CommandRefusal}
+use Rattle.ra_cli.specs.declared.refusal_lines.CommandRefusal.TheVariants.{Check, Choices, Draw, Perform}
 use Rattle.ra_cli.proofs.ClusterRuns.{of_known}
 use Rattle.ra_cli.proofs.Helping.{for_each}
 use Rattle.ra_cli.proofs.PictureLemmas.{of_input}
@@ -33,12 +33,12 @@ use Rattle.ra_cli.proofs.PictureLemmas.{of_input}
 -- ---- Refusals
 
 -- a refusal that was printed, and its cause
-pub refused_for : (Cause : Refusal → Type 0) (why : Refusal) (before between after : Option (List ℕ)) → ((IsOfWriter why → ⊥) → between ≡ before)
+pub refused_for : (Cause : CommandRefusal → Type 0) (why : CommandRefusal) (before between after : Option (List ℕ)) → ((IsOfWriter why → ⊥) → between ≡ before)
     → (IsOfReader why → ⊥) × (IsOfWriter why → ⊥) × Appends between after (refused_line (word_of why)) → Cause why → IsRefusedFor Cause before after
 refused_for Cause why before between after same h cause =
     (why, h.0, h.1, subst (λ (o : Option (List ℕ)). Appends o after (refused_line (word_of why))) (same h.1) h.2, cause)
 
-pub without_cause : (Cause : Refusal → Type 0) (before after : Option (List ℕ)) → IsRefusedFor Cause before after → IsRefused before after
+pub without_cause : (Cause : CommandRefusal → Type 0) (before after : Option (List ℕ)) → IsRefusedFor Cause before after → IsRefused before after
 without_cause Cause before after (why, reader, writer, out, cause) = (why, reader, writer, out)
 
 -- a text is not checked

@@ -3,7 +3,7 @@ use Rattle.std.proofs.Common.{◌≡◌, ℕ, ◌⊎◌, List, Option, refl, sub
 use Rattle.std.specs.Prelude.{IfSome}
 use Rattle.std.specs.Io.KnownBytes.{Appends}
 use Rattle.ra_task.specs.declared.command_line.Task.{Task}
-use Rattle.ra_cli.specs.declared.refusal_lines.Refusal.{Refusal}
+use Rattle.ra_cli.specs.declared.refusal_lines.CommandRefusal.{CommandRefusal}
 use Rattle.ra_cli.specs.Refusals.{IsOfWriter}
 use Rattle.ra_cli.specs.Statuses.{BreaksOff, IsBroken, IsPrinted, PrintsRefusal, Writes}
 use Rattle.ra_cli.specs.Tasks.{Does, IsCauseFor, IsDoneBy, IsLeftBy, Suits}
@@ -69,7 +69,7 @@ module _ (asked : Task) (old new before after : Option (List ℕ)) (Untouched : 
       if_denied text (subst (λ (w : ℕ). Writes text w before after status) three writes) (left invalid) printed
 
   -- it was refused, after `between` was written
-  pub if_refused : (between : Option (List ℕ)) (why : Refusal) (Unwritten : Type 0) → PrintsRefusal why between after Unwritten status
+  pub if_refused : (between : Option (List ℕ)) (why : CommandRefusal) (Unwritten : Type 0) → PrintsRefusal why between after Unwritten status
       → (Unwritten → after ≡ between) → ((IsOfWriter why → ⊥) → between ≡ before)
       → (IsOfWriter why → (arguments : List (List ℕ)) → Suits arguments asked → IfSome old (λ input. BreaksOff arguments input before between))
       → IfSome old (λ input. IsCauseFor asked input why)
@@ -78,20 +78,20 @@ module _ (asked : Task) (old new before after : Option (List ℕ)) (Untouched : 
     range = at_most_3 status printed.range;
     done = λ zero. none_of_done status printed.not_done zero;
     unfinished = λ three. none_of_3 status printed.range three;
-    refused = λ two. refused_for (λ (r : Refusal). IfSome old (λ input. IsCauseFor asked input r)) why before between after same (printed.refused two) cause;
+    refused = λ two. refused_for (λ (r : CommandRefusal). IfSome old (λ input. IsCauseFor asked input r)) why before between after same (printed.refused two) cause;
     broken = λ arguments fits one. broken arguments old before between after why (λ is. fails is arguments fits)
         (λ is. stays (printed.unwritten is).1) same (printed.broken one);
   }
 
   -- it was refused before anything was written, and not because the writer failed
-  pub if_refused_at_once : (why : Refusal) (Unwritten : Type 0) → PrintsRefusal why before after Unwritten status → (IsOfWriter why → ⊥)
+  pub if_refused_at_once : (why : CommandRefusal) (Unwritten : Type 0) → PrintsRefusal why before after Unwritten status → (IsOfWriter why → ⊥)
       → IfSome old (λ input. IsCauseFor asked input why)
       → Does asked old new before after Untouched status
   if_refused_at_once why Unwritten printed never cause = record {
     range = at_most_3 status printed.range;
     done = λ zero. none_of_done status printed.not_done zero;
     unfinished = λ three. none_of_3 status printed.range three;
-    refused = λ two. refused_for (λ (r : Refusal). IfSome old (λ input. IsCauseFor asked input r)) why before before after (λ _. refl) (printed.refused two) cause;
+    refused = λ two. refused_for (λ (r : CommandRefusal). IfSome old (λ input. IsCauseFor asked input r)) why before before after (λ _. refl) (printed.refused two) cause;
     broken = λ arguments fits one. broken arguments old before before after why (λ is. absurd (never is)) (λ is. absurd (never is))
         (λ _. refl) (printed.broken one);
   }

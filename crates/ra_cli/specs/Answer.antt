@@ -3,6 +3,7 @@ use Rattle.std.specs.Prelude.{◌≡◌, ◌≢◌, ℕ, ◌+◌, ◌≤◌, ◌
 use Rattle.hex.specs.Hex.{decode_of, encode_lower}
 use Rattle.ra_stamp.specs.declared.message.Message.{Message}
 use Rattle.ra_stamp.specs.Message.{from_of, to_of, name_of}
+use Rattle.ra_stamp.specs.Member.{IsMember}
 use Rattle.ra_stamp.specs.NodeId.{IsNodeNumber}
 use Rattle.ra_frame.specs.declared.frame.Frame.{Frame}
 use Rattle.ra_frame.specs.FrameText.{IsFrameText, IsWrittenText}
@@ -20,12 +21,6 @@ Spells input bytes = (digits : List ℕ) × IsLine input digits × (decode_of di
 -- the input is a line of the hexadecimal digits of this frame's text, in either version
 abbrev pub Carries : List ℕ → Frame → Type 0
 Carries input frame = (bytes : List ℕ) × Spells input bytes × IsFrameText bytes frame
-
--- there are 1 to 64 nodes, and the node is one of them
-pub record IsMember (node nodes : ℕ) : Type 0 where
-  pub count : IsNodeNumber nodes
-  pub first : 1 ≤ node
-  pub last : node ≤ nodes
 
 -- what an idle node that has met no number sends when a message about some resource comes, and whether it enters
 abbrev pub Reacts : ℕ → ℕ → Message → List Message → Bool → Type 0

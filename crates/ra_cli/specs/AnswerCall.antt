@@ -1,11 +1,13 @@
 -- What comes of a call of `answer`.
-use Rattle.std.specs.Prelude.{◌≡◌, ◌≢◌, ◌⊎◌, ℕ, ◌≤◌, ◌<◌, List, [], ◌++◌, length, Result, Option, IfSome, IfErr, OnOk, IsErrOf}
+use Rattle.std.specs.Prelude.{◌≡◌, ◌≢◌, ◌⊎◌, ℕ, List, Result, Option, IfSome, IfErr, OnOk}
 use Rattle.std.specs.Io.KnownBytes.{Consumes, Appends}
 use Rattle.ra_automaton.specs.declared.error.ReceiveError.{ReceiveError}
 use Rattle.ra_automaton.specs.declared.error.ReceiveError.TheVariants as receive
 use Rattle.ra_cli.specs.declared.error.AnswerError.{AnswerError}
 use Rattle.ra_cli.specs.declared.error.AnswerError.TheVariants as fault
-use Rattle.ra_cli.specs.Answer.{IsMember, IsAnswered, Refuses}
+use Rattle.ra_stamp.specs.Member.{IsMember}
+use Rattle.ra_cli.specs.Answer.{IsAnswered, Refuses}
+use Rattle.ra_cli.specs.InputOutput.{ReadsInput, WritesOutput}
 
 -- the refusal of a frame whose message is not taken
 abbrev pub of_receive : ReceiveError → AnswerError
@@ -21,14 +23,12 @@ IsOfInput why = (why ≢ fault.Read) × (why ≢ fault.Write)
 -- stay as they were: two of the propositions are these.
 pub record ComesTo {T : Type 0} (node nodes : ℕ) (old new before after : Option (List ℕ)) (same_reader same_writer : Type 0)
     (result : Result T AnswerError) : Type 0 where
+  -- what is read is a line of digits to its end, and what is written is the answer to it and nothing else
   pub ok : OnOk result (IfSome old (λ input. (output : List ℕ) × IsAnswered node nodes input output × Consumes old new input
       × Appends before after output))
-  pub refused : IfErr result (λ why. IfSome old (λ input. Refuses node nodes input why))
+  -- if the reader tells nothing of its input, a refusal still has a cause, and the node is one of the nodes
   pub cause : IfErr result (λ why. (input : List ℕ) × Refuses node nodes input why)
   pub member : OnOk result (IsMember node nodes)
   pub untouched : IfErr result (λ why. (why ≡ fault.BadCount) ⊎ (why ≡ fault.BadNode) → same_reader)
-  pub unwritten : IfErr result (λ why. why ≢ fault.Write → same_writer)
-  pub prefix : IsErrOf result fault.Write → IfSome old (λ input. (prefix : List ℕ) × (rest : List ℕ)
-      × IsAnswered node nodes input (prefix ++ rest) × (rest ≢ []) × Appends before after prefix)
-  pub failed : IsErrOf result fault.Read → (taken : List ℕ) × (length taken < 258) × Consumes old new taken
-  pub at_most : (taken : List ℕ) × (length taken ≤ 258) × Consumes old new taken
+  pub reads : ReadsInput fault.Read 258 (Refuses node nodes) old new result
+  pub writes : WritesOutput fault.Write (IsAnswered node nodes) old before after same_writer result

@@ -1,5 +1,6 @@
 pub mod Line
 pub mod Answer
+pub mod InputOutput
 pub mod AnswerCall
 pub mod Refusals
 pub mod Performs

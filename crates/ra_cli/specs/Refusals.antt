@@ -22,8 +22,8 @@ use Rattle.ra_draw.specs.declared.error.DrawError.{DrawError}
 use Rattle.ra_draw.specs.declared.error.DrawError.TheVariants as draw
 use Rattle.ra_cli.specs.declared.error.RunScriptError.{RunScriptError}
 use Rattle.ra_cli.specs.declared.error.RunScriptError.TheVariants as run
-use Rattle.ra_cli.specs.declared.refusal_lines.Refusal.{Refusal}
-use Rattle.ra_cli.specs.declared.refusal_lines.Refusal.TheVariants.{Command, Answer, Choices, Perform, Check, Draw, Cluster}
+use Rattle.ra_cli.specs.declared.refusal_lines.CommandRefusal.{CommandRefusal}
+use Rattle.ra_cli.specs.declared.refusal_lines.CommandRefusal.TheVariants.{Command, Answer, Choices, Perform, Check, Draw, Cluster}
 
 -- the word for what is wrong with a frame
 abbrev pub frame_word : FrameError → List ℕ
@@ -128,7 +128,7 @@ run_word run.Memory = codes "Memory"
 run_word run.Write = codes "Write"
 
 -- the word for a refusal of any command
-abbrev pub word_of : Refusal → List ℕ
+abbrev pub word_of : CommandRefusal → List ℕ
 word_of (Command why) = command_word why
 word_of (Answer why) = answer_word why
 word_of (Choices why) = choices_word why
@@ -142,11 +142,11 @@ abbrev pub refused_line : List ℕ → List ℕ
 refused_line word = codes "refused " ++ word ++ codes "\n"
 
 -- the reader failed
-abbrev pub IsOfReader : Refusal → Type 0
+abbrev pub IsOfReader : CommandRefusal → Type 0
 IsOfReader refusal = (refusal ≡ Answer answer.Read) ⊎ (refusal ≡ Perform perform.Read) ⊎ (refusal ≡ Check trace.Read)
     ⊎ (refusal ≡ Cluster run.Read) ⊎ (refusal ≡ Draw draw.Read)
 
 -- the writer failed
-abbrev pub IsOfWriter : Refusal → Type 0
+abbrev pub IsOfWriter : CommandRefusal → Type 0
 IsOfWriter refusal = (refusal ≡ Answer answer.Write) ⊎ (refusal ≡ Perform perform.Write) ⊎ (refusal ≡ Cluster run.Write)
     ⊎ (refusal ≡ Draw draw.Write)

@@ -7,7 +7,7 @@ use Rattle.ra_script.specs.declared.performing.output_kind.OutputKind.{OutputKin
 use Rattle.ra_script.specs.Performed.{IsOrderly, IsPerformedAs}
 use Rattle.ra_task.specs.declared.cluster_output.ClusterOutput.{ClusterOutput}
 use Rattle.ra_task.specs.declared.settle_arguments.SettleTask.{SettleTask}
-use Rattle.ra_cli.specs.declared.refusal_lines.Refusal.{Refusal}
+use Rattle.ra_cli.specs.declared.refusal_lines.CommandRefusal.{CommandRefusal}
 use Rattle.ra_task.specs.declared.command_line.search.Search.{Search}
 use Rattle.ra_cli.specs.Answer.{IsAnswered}
 use Rattle.ra_task.specs.Arguments.{AreSimArguments, IsHelpArgument, GivesNoChoices, GivesNode, PrintsBy, SimsFaithfully}
@@ -49,17 +49,17 @@ Writes text wanted before after status = ((status ≡ wanted) × Appends before 
 
 -- status 2: the line of a refusal was written and nothing else, and neither the reader nor the writer failed
 abbrev pub IsRefused : (before after : Option (List ℕ)) → Type 0
-IsRefused before after = (refusal : Refusal) × (IsOfReader refusal → ⊥) × (IsOfWriter refusal → ⊥)
+IsRefused before after = (refusal : CommandRefusal) × (IsOfReader refusal → ⊥) × (IsOfWriter refusal → ⊥)
     × Appends before after (refused_line (word_of refusal))
 
 -- a refusal that is not the writer's: the reader failed and the line of the refusal was written, or the writer failed
 -- at that line
-abbrev pub IsSaid : Refusal → (before after : Option (List ℕ)) → Type 0
+abbrev pub IsSaid : CommandRefusal → (before after : Option (List ℕ)) → Type 0
 IsSaid refusal before after = (IsOfReader refusal × Appends before after (refused_line (word_of refusal)))
     ⊎ ((prefix rest : List ℕ) × (refused_line (word_of refusal) ≡ prefix ++ rest) × (rest ≢ []) × Appends before after prefix)
 
 -- What comes of a refusal, by the status. `Unwritten` says that nothing was written.
-pub record PrintsRefusal (refusal : Refusal) (before after : Option (List ℕ)) (Unwritten : Type 0) (status : ℕ) : Type 0 where
+pub record PrintsRefusal (refusal : CommandRefusal) (before after : Option (List ℕ)) (Unwritten : Type 0) (status : ℕ) : Type 0 where
   pub range : status ≤ 2
   pub not_done : 1 ≤ status
   -- after a fault of the writer nothing is written
@@ -70,7 +70,7 @@ pub record PrintsRefusal (refusal : Refusal) (before after : Option (List ℕ)) 
 -- what the arguments print for an input: the line of a refusal, what came of the input, or a text of help
 abbrev pub IsPrinted : (arguments : List (List ℕ)) → (input text : List ℕ) → Type 0
 IsPrinted arguments input text =
-    ((refusal : Refusal) × (text ≡ refused_line (word_of refusal)))
+    ((refusal : CommandRefusal) × (text ≡ refused_line (word_of refusal)))
     ⊎ ((node nodes : ℕ) × GivesNode arguments node nodes × IsAnswered node nodes input text)
     ⊎ ((policy : Policy) × (format : OutputKind) × (finished : Bool) × IsPerformedAs format policy input text finished)
     ⊎ IsJudged arguments input text

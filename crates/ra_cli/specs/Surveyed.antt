@@ -71,6 +71,10 @@ abbrev pub IsTold : Option FaultRates → Option Search → (first last : ℕ) �
 IsTold faults None first last input output finished = IsSurveyed faults first last input output finished
 IsTold faults (Some search) first last input output finished = IsFound faults search first last input output finished
 
+-- the same, whether each run is finished or not
+abbrev pub MayBeTold : Option FaultRates → Option Search → (first last : ℕ) → (input output : List ℕ) → Type 0
+MayBeTold faults find first last input output = (finished : Bool) × IsTold faults find first last input output finished
+
 -- the choices of the run that is looked for are to be printed, and no word stands for one of them
 abbrev pub FoundHasNoWords : Option FaultRates → Option Search → (first last : ℕ) → (input : List ℕ) → Type 0
 FoundHasNoWords faults None first last input = ⊥

@@ -29,8 +29,8 @@ use Rattle.ra_task.specs.declared.command_line.Task.TheVariants as task
 use Rattle.ra_cli.specs.declared.error.AnswerError.{AnswerError}
 use Rattle.ra_cli.specs.declared.error.RunScriptError.{RunScriptError}
 use Rattle.ra_task.specs.declared.command_line.input_kind.InputKind.{InputKind}
-use Rattle.ra_cli.specs.declared.refusal_lines.Refusal.{Refusal}
-use Rattle.ra_cli.specs.declared.refusal_lines.Refusal.TheVariants as refusal
+use Rattle.ra_cli.specs.declared.refusal_lines.CommandRefusal.{CommandRefusal}
+use Rattle.ra_cli.specs.declared.refusal_lines.CommandRefusal.TheVariants as refusal
 
 -- ---- What is read and written
 
@@ -81,7 +81,7 @@ IsLeftBy (task.Help text) old new before after = ⊥
 -- ---- Refusals
 
 -- why a run under a policy is refused: the choices are not a list of choices, or the run under it is refused
-abbrev pub RefusesNamed : PolicyName → (choices : List ℕ) → OutputKind → (input : List ℕ) → Refusal → Type 0
+abbrev pub RefusesNamed : PolicyName → (choices : List ℕ) → OutputKind → (input : List ℕ) → CommandRefusal → Type 0
 RefusesNamed name choices format input why =
     ((fault : ChoicesError) × (why ≡ refusal.Choices fault) × (fault ≡ Choice → choices_of choices ≡ None))
     ⊎ ((fault : PerformError) × (why ≡ refusal.Perform fault) × (policy : Policy) × IsNamed name choices policy
@@ -93,7 +93,7 @@ abbrev pub RefusesPart : InputKind → Part → (input : List ℕ) → DrawError
 RefusesPart kind part input fault = IsOfPart fault → IsOfKind kind input × IsUnfit part input fault
 
 -- why a task is refused, of an input that is known
-abbrev pub IsCauseFor : Task → (input : List ℕ) → Refusal → Type 0
+abbrev pub IsCauseFor : Task → (input : List ℕ) → CommandRefusal → Type 0
 IsCauseFor (task.Answer node nodes) input why =
     (fault : AnswerError) × (why ≡ refusal.Answer fault) × Refuses node nodes input fault
 IsCauseFor (task.Sim policy choices format) input why = RefusesNamed policy choices.now format input why
@@ -108,8 +108,8 @@ IsCauseFor (task.Help text) input why = ⊥
 
 -- status 2: the line of a refusal was written and nothing else, for such a cause, and neither the reader nor the writer
 -- failed
-abbrev pub IsRefusedFor : (Cause : Refusal → Type 0) → (before after : Option (List ℕ)) → Type 0
-IsRefusedFor Cause before after = (why : Refusal) × (IsOfReader why → ⊥) × (IsOfWriter why → ⊥)
+abbrev pub IsRefusedFor : (Cause : CommandRefusal → Type 0) → (before after : Option (List ℕ)) → Type 0
+IsRefusedFor Cause before after = (why : CommandRefusal) × (IsOfReader why → ⊥) × (IsOfWriter why → ⊥)
     × Appends before after (refused_line (word_of why)) × Cause why
 
 -- the same, for a cause for which the task is refused

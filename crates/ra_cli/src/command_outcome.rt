@@ -1,7 +1,7 @@
 //! What came of a command.
 ghost use Rattle.std.specs.Prelude.{◌≡◌};
 
-use crate::refusal_lines::Refusal;
+use crate::refusal_lines::CommandRefusal;
 use ra_book::TextCause;
 use ra_stamp::Mark;
 use ra_trace::{Cause, MarkCause, MarksVerdict, Verdict};
@@ -14,7 +14,7 @@ pub const UNFINISHED: u8 = 3;
 #[derive(Clone, Copy)]
 pub enum Remark {
     /// It was refused.
-    Refused(Refusal),
+    Refused(CommandRefusal),
     /// The run ended with something left to do.
     Unfinished,
     /// The run of some seed ended so.
@@ -57,24 +57,24 @@ fn ran_to_end(status: u8) -> bool {
 
 /// What came of a command: its exit status, and what there is to say of it to a person, if anything.
 #[derive(Clone, Copy)]
-pub struct Outcome {
+pub struct CommandOutcome {
     pub status: u8,
     pub remark: Option<Remark>,
 }
 
-impl Outcome {
+impl CommandOutcome {
     /// Makes it of its parts.
-    pub fn new(status: u8, remark: Option<Remark>) -> Outcome
+    pub fn new(status: u8, remark: Option<Remark>) -> CommandOutcome
         ensures { result.status ≡ status }
     {
-        Outcome { status, remark }
+        CommandOutcome { status, remark }
     }
 
     /// Makes that of a refusal.
-    pub fn refused(status: u8, refusal: Refusal) -> Outcome
+    pub fn refused(status: u8, refusal: CommandRefusal) -> CommandOutcome
         ensures { result.status ≡ status }
     {
-        Outcome::new(status, Some(Remark::Refused(refusal)))
+        CommandOutcome::new(status, Some(Remark::Refused(refusal)))
     }
 
     /// Returns whether nothing was refused, and neither the input nor the output failed.
@@ -83,10 +83,10 @@ impl Outcome {
     }
 
     /// Makes that of a verdict. Of one that could not be printed there is nothing to say but that.
-    pub fn judged(status: u8, remark: Option<Remark>) -> Outcome
+    pub fn judged(status: u8, remark: Option<Remark>) -> CommandOutcome
         ensures { result.status ≡ status }
     {
-        Outcome::new(status, if ran_to_end(status) { remark } else { None })
+        CommandOutcome::new(status, if ran_to_end(status) { remark } else { None })
     }
 }
 

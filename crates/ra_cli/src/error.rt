@@ -13,7 +13,7 @@ use std::fmt;
 use thiserror::Error;
 
 /// Why `answer` gave no answer, in the order in which the causes are looked for.
-#[derive(Clone, Copy, Debug, PartialEq, Eq, Error)]
+#[derive(Clone, Copy, Debug, Error)]
 pub enum AnswerError {
     /// The number of nodes is not 1 to 64.
     BadCount,

@@ -4,7 +4,7 @@ ghost use Rattle.ra_schedule.specs.declared.error.DriveError.{DriveError};
 ghost use Rattle.ra_script.specs.declared.error.PerformError.{PerformError};
 ghost use Rattle.ra_script.specs.Performed.{IsOrderly};
 ghost use Rattle.ra_task.specs.declared.command_line.Task.{Task};
-ghost use Rattle.ra_cli.specs.declared.refusal_lines.Refusal.{Refusal};
+ghost use Rattle.ra_cli.specs.declared.refusal_lines.CommandRefusal.{CommandRefusal};
 ghost use Rattle.ra_task.specs.Finishing.{HasNoChoices, RunsFaithfully};
 ghost use Rattle.ra_cli.specs.Refusals.{IsOfReader, IsOfWriter, word_of};
 ghost use Rattle.ra_cli.specs.Tasks.{IsCauseFor, IsLeftBy};
@@ -19,10 +19,10 @@ use ra_script::{choices_have_words_unless_messages_are_repeated, read_scripts_co
 pub fn orderly_scripts_are_finished()
     ensures finished { (asked : Task) (input : List ℕ) (new before after : Option (List ℕ)) → IsOrderly input → RunsFaithfully asked
         → ¬ IsLeftBy asked (Some input) new before after }
-    ensures only_memory { (asked : Task) (input : List ℕ) (why : Refusal) → IsOrderly input → RunsFaithfully asked
+    ensures only_memory { (asked : Task) (input : List ℕ) (why : CommandRefusal) → IsOrderly input → RunsFaithfully asked
         → HasNoChoices asked → ¬ IsOfReader why → ¬ IsOfWriter why → IsCauseFor asked input why → word_of why ≡ codes "Memory" }
     ensures driven { (asked : Task) (input : List ℕ) (cause : DriveError) → RunsFaithfully asked
-        → ¬ IsCauseFor asked input (Refusal.Perform (PerformError.Drive cause)) }
+        → ¬ IsCauseFor asked input (CommandRefusal.Perform (PerformError.Drive cause)) }
 {
     scripts_come_to_rest();
     seeds_finish_ordered_scripts();

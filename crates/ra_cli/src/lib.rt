@@ -9,9 +9,9 @@ mod laws;
 mod refusal_lines;
 mod serving;
 
-pub use command_outcome::{Outcome, Remark, UNFINISHED};
+pub use command_outcome::{CommandOutcome, Remark, UNFINISHED};
 pub use commands::answer_command::answer;
 pub use error::{AnswerError, RunScriptError};
 pub use ra_task::CommandFault;
-pub use refusal_lines::Refusal;
+pub use refusal_lines::CommandRefusal;
 pub use serving::{do_command, refuse_arguments, serve};

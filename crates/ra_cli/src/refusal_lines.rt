@@ -15,7 +15,7 @@ use ra_trace::TraceError;
 
 /// Why a command was not done.
 #[derive(Clone, Copy)]
-pub enum Refusal {
+pub enum CommandRefusal {
     Command(CommandFault),
     Answer(AnswerError),
     Choices(ChoicesError),
@@ -26,17 +26,17 @@ pub enum Refusal {
 }
 
 /// Returns the line of a refusal: `refused` and its word. It does not allocate.
-pub fn line_of(refusal: Refusal) -> &'static str
+pub fn line_of(refusal: CommandRefusal) -> &'static str
     ensures { result.now ≡ spec.refused_line (spec.word_of refusal) }
 {
     match refusal {
-        Refusal::Command(why) => command_line(why),
-        Refusal::Answer(why) => answer_line(why),
-        Refusal::Choices(why) => choices_line(why),
-        Refusal::Perform(why) => perform_line(why),
-        Refusal::Check(why) => trace_line(why),
-        Refusal::Draw(why) => draw_line(why),
-        Refusal::Cluster(why) => run_line(why),
+        CommandRefusal::Command(why) => command_line(why),
+        CommandRefusal::Answer(why) => answer_line(why),
+        CommandRefusal::Choices(why) => choices_line(why),
+        CommandRefusal::Perform(why) => perform_line(why),
+        CommandRefusal::Check(why) => trace_line(why),
+        CommandRefusal::Draw(why) => draw_line(why),
+        CommandRefusal::Cluster(why) => run_line(why),
     }
 }
 

@@ -1,5 +1,4 @@
-ghost use Rattle.std.specs.Prelude.{true, false, [], ◌++◌, None, ◌≢◌, ◌↔◌, IsTrue, ◌≡◌, ◌≤◌, ◌⊎◌, List, ℕ, map, string_bytes};
-ghost use Rattle.std.specs.Io.KnownBytes.{Appends};
+ghost use Rattle.std.specs.Prelude.{true, false, None, ◌↔◌, IsTrue, ◌≡◌, ◌≤◌, ◌⊎◌, List, ℕ, map, string_bytes};
 ghost use Rattle.ra_task.specs.declared.command_line.Task.{Task};
 ghost use Rattle.ra_cli.specs.Checks.{is_run, is_valid};
 ghost use Rattle.ra_cli.specs.Statuses.{PrintsRefusal, Serves, Writes};
@@ -8,7 +7,7 @@ ghost use Rattle.ra_task.specs.Asked.{Asks};
 ghost use Rattle.ra_script.specs.ChoicesText.{choices_of};
 ghost use Rattle.ra_cli.specs.Refusals.{IsOfReader, IsOfWriter, command_word, refused_line};
 
-use crate::command_outcome::{Outcome, Remark, UNFINISHED, marks_remark_of, remark_of};
+use crate::command_outcome::{CommandOutcome, Remark, UNFINISHED, marks_remark_of, remark_of};
 use crate::commands::cluster_command::run_script;
 use crate::commands::draw_command::{Denial, draw_input};
 use crate::commands::marks_verdict_lines::marks_verdict_text;
@@ -18,7 +17,7 @@ use crate::commands::survey_command::survey_script;
 use crate::commands::verdict_lines::verdict_text;
 use crate::error::RunScriptError;
 use crate::laws::orderly_scripts_are_finished;
-use crate::refusal_lines::{Refusal, line_of};
+use crate::refusal_lines::{CommandRefusal, line_of};
 use crate::{AnswerError, answer};
 use ra_draw::{DrawError, Part};
 use ra_schedule::{Ending, Faults, Observer};
@@ -38,10 +37,10 @@ use std::thread::Threads;
 pub const DONE: u8 = 0;
 
 /// The input or the output failed.
-const BROKEN: u8 = 1;
+pub const BROKEN: u8 = 1;
 
 /// The arguments or the input were refused, memory ran out, or threads did not bring a script to its end.
-const REFUSED: u8 = 2;
+pub const REFUSED: u8 = 2;
 
 /// Writes a text and returns the status, or that of a fault if the writer fails. It does not allocate.
 pub fn written<W: Write>(writer: &mut W, text: &[u8], status: u8) -> u8
@@ -54,60 +53,55 @@ pub fn written<W: Write>(writer: &mut W, text: &[u8], status: u8) -> u8
 }
 
 /// Returns whether the writer failed, so that nothing more is to be written. It does not allocate.
-fn is_of_the_writer(refusal: Refusal) -> bool
+fn is_of_the_writer(refusal: CommandRefusal) -> bool
     ensures { IsTrue result ↔ IsOfWriter refusal }
 {
     matches!(
         refusal,
-        Refusal::Answer(AnswerError::Write)
-            | Refusal::Perform(PerformError::Write)
-            | Refusal::Cluster(RunScriptError::Write)
-            | Refusal::Draw(DrawError::Write)
+        CommandRefusal::Answer(AnswerError::Write)
+            | CommandRefusal::Perform(PerformError::Write)
+            | CommandRefusal::Cluster(RunScriptError::Write)
+            | CommandRefusal::Draw(DrawError::Write)
     )
 }
 
 /// Returns whether the reader failed. It does not allocate.
-fn is_of_the_reader(refusal: Refusal) -> bool
+fn is_of_the_reader(refusal: CommandRefusal) -> bool
     ensures { IsTrue result ↔ IsOfReader refusal }
 {
     matches!(
         refusal,
-        Refusal::Answer(AnswerError::Read)
-            | Refusal::Perform(PerformError::Read)
-            | Refusal::Check(TraceError::Read)
-            | Refusal::Cluster(RunScriptError::Read)
-            | Refusal::Draw(DrawError::Read)
+        CommandRefusal::Answer(AnswerError::Read)
+            | CommandRefusal::Perform(PerformError::Read)
+            | CommandRefusal::Check(TraceError::Read)
+            | CommandRefusal::Cluster(RunScriptError::Read)
+            | CommandRefusal::Draw(DrawError::Read)
     )
 }
 
 /// Prints the line of a refusal and returns what came of it, with status 1 if the reader or the writer failed, and
 /// otherwise 2. After a fault of the writer it prints nothing. It does not allocate.
-pub fn refuse<W: Write>(writer: &mut W, refusal: Refusal) -> Outcome
+pub fn refuse<W: Write>(writer: &mut W, refusal: CommandRefusal) -> CommandOutcome
     ensures { PrintsRefusal refusal (W.contents writer.old) (W.contents writer.new) (writer.new ≡ writer.old) result.status }
 {
     if is_of_the_writer(refusal) {
-        return Outcome::refused(BROKEN, refusal);
+        return CommandOutcome::refused(BROKEN, refusal);
     }
     let line = line_of(refusal).as_bytes();
     if is_of_the_reader(refusal) {
-        Outcome::refused(written(writer, line, BROKEN), refusal)
+        CommandOutcome::refused(written(writer, line, BROKEN), refusal)
     } else {
-        Outcome::refused(written(writer, line, REFUSED), refusal)
+        CommandOutcome::refused(written(writer, line, REFUSED), refusal)
     }
 }
 
 /// Prints why there are no arguments of a command line, and returns the status, 2, or 1 if the writer fails. It does
 /// not allocate.
 pub fn refuse_arguments<W: Write>(writer: &mut W, fault: CommandFault) -> u8
-    ensures { ((result ≡ 2) × Appends (W.contents writer.old) (W.contents writer.new) (refused_line (command_word fault)))
-        ⊎ ((result ≡ 1) × (prefix : List ℕ) × (rest : List ℕ) × (refused_line (command_word fault) ≡ prefix ++ rest) × (rest ≢ [])
-        × Appends (W.contents writer.old) (W.contents writer.new) prefix) }
+    ensures { Writes (refused_line (command_word fault)) 2 (W.contents writer.old) (W.contents writer.new) result }
 {
-    let line = line_of(Refusal::Command(fault)).as_bytes();
-    match write_out(writer, line) {
-        Ok(()) => REFUSED,
-        Err(_) => BROKEN,
-    }
+    let line = line_of(CommandRefusal::Command(fault)).as_bytes();
+    written(writer, line, REFUSED)
 }
 
 /// Answers the reader's frame for this node of this many.
@@ -117,13 +111,13 @@ fn respond<R: Read, W: Write>(
     nodes: u16,
     reader: &mut R,
     writer: &mut W,
-) -> Outcome
+) -> CommandOutcome
     ensures { Does (Task.Answer node nodes) (R.remaining reader.old) (R.remaining reader.new)
         (W.contents writer.old) (W.contents writer.new) (reader.new ≡ reader.old) result.status }
 {
     match answer(alloc, node, nodes, reader, writer) {
-        Ok(()) => Outcome::new(DONE, None),
-        Err(fault) => refuse(writer, Refusal::Answer(fault)),
+        Ok(()) => CommandOutcome::new(DONE, None),
+        Err(fault) => refuse(writer, CommandRefusal::Answer(fault)),
     }
 }
 
@@ -135,7 +129,7 @@ fn simulate<R: Read, W: Write>(
     format: OutputKind,
     reader: &mut R,
     writer: &mut W,
-) -> Outcome
+) -> CommandOutcome
     ensures does { Does (Task.Sim name choices.entry format) (R.remaining reader.old) (R.remaining reader.new)
         (W.contents writer.old) (W.contents writer.new) (reader.new ≡ reader.old) result.status }
     // A text that is not a list of choices is refused before anything is read.
@@ -143,12 +137,12 @@ fn simulate<R: Read, W: Write>(
 {
     let policy = match policy_of(alloc, name, choices) {
         Ok(policy) => policy,
-        Err(fault) => return refuse(writer, Refusal::Choices(fault)),
+        Err(fault) => return refuse(writer, CommandRefusal::Choices(fault)),
     };
     match perform_as(alloc, reader, writer, format, &policy) {
-        Ok(true) => Outcome::new(DONE, None),
-        Ok(false) => Outcome::new(UNFINISHED, Some(Remark::Unfinished)),
-        Err(fault) => refuse(writer, Refusal::Perform(fault)),
+        Ok(true) => CommandOutcome::new(DONE, None),
+        Ok(false) => CommandOutcome::new(UNFINISHED, Some(Remark::Unfinished)),
+        Err(fault) => refuse(writer, CommandRefusal::Perform(fault)),
     }
 }
 
@@ -177,14 +171,14 @@ fn survey_seeds<R: Read, W: Write, O: Observer>(
     reader: &mut R,
     writer: &mut W,
     observer: &mut O,
-) -> Outcome
+) -> CommandOutcome
     ensures { Does (Task.Survey faults find first last) (R.remaining reader.old) (R.remaining reader.new)
         (W.contents writer.old) (W.contents writer.new) (reader.new ≡ reader.old) result.status }
 {
     match survey_script(alloc, faults, find, first, last, reader, writer, observer) {
-        Ok(true) => Outcome::new(DONE, None),
-        Ok(false) => Outcome::new(UNFINISHED, Some(remark_on(find))),
-        Err(fault) => refuse(writer, Refusal::Cluster(fault)),
+        Ok(true) => CommandOutcome::new(DONE, None),
+        Ok(false) => CommandOutcome::new(UNFINISHED, Some(remark_on(find))),
+        Err(fault) => refuse(writer, CommandRefusal::Cluster(fault)),
     }
 }
 
@@ -199,21 +193,21 @@ fn status_of(verdict: &Verdict) -> u8
 }
 
 /// Checks the text of the reader, and writes the lines of its verdict.
-fn judge<R: BufRead, W: Write>(alloc: Global, reader: &mut R, writer: &mut W) -> Outcome
+fn judge<R: BufRead, W: Write>(alloc: Global, reader: &mut R, writer: &mut W) -> CommandOutcome
     ensures { Does Task.Check (R.remaining reader.old) (R.remaining reader.new)
         (W.contents writer.old) (W.contents writer.new) (reader.new ≡ reader.old) result.status }
 {
     let mut due = None;
     let verdict = match check_buffered_with_due(alloc, reader, &mut due) {
         Ok(verdict) => verdict,
-        Err(fault) => return refuse(writer, Refusal::Check(fault)),
+        Err(fault) => return refuse(writer, CommandRefusal::Check(fault)),
     };
     match verdict_text(alloc, &verdict) {
         Ok(text) => {
             let status = written(writer, text.as_bytes(), status_of(&verdict));
-            Outcome::judged(status, remark_of(&verdict, due))
+            CommandOutcome::judged(status, remark_of(&verdict, due))
         }
-        Err(_) => refuse(writer, Refusal::Check(TraceError::Memory)),
+        Err(_) => refuse(writer, CommandRefusal::Check(TraceError::Memory)),
     }
 }
 
@@ -228,30 +222,34 @@ fn marks_status_of(verdict: &MarksVerdict) -> u8
 }
 
 /// Checks the mark log of the reader, and writes the lines of its verdict.
-fn judge_marks<R: BufRead, W: Write>(alloc: Global, reader: &mut R, writer: &mut W) -> Outcome
+fn judge_marks<R: BufRead, W: Write>(
+    alloc: Global,
+    reader: &mut R,
+    writer: &mut W,
+) -> CommandOutcome
     ensures { Does Task.CheckMarks (R.remaining reader.old) (R.remaining reader.new)
         (W.contents writer.old) (W.contents writer.new) (reader.new ≡ reader.old) result.status }
 {
     let verdict = match check_marks_buffered(alloc, reader) {
         Ok(verdict) => verdict,
-        Err(fault) => return refuse(writer, Refusal::Check(fault)),
+        Err(fault) => return refuse(writer, CommandRefusal::Check(fault)),
     };
     match marks_verdict_text(alloc, &verdict) {
         Ok(text) => {
             let status = written(writer, text.as_bytes(), marks_status_of(&verdict));
-            Outcome::judged(status, marks_remark_of(&verdict))
+            CommandOutcome::judged(status, marks_remark_of(&verdict))
         }
-        Err(_) => refuse(writer, Refusal::Check(TraceError::Memory)),
+        Err(_) => refuse(writer, CommandRefusal::Check(TraceError::Memory)),
     }
 }
 
 /// Prints why an input is not drawn.
-fn print_invalid<W: Write>(denial: Denial, writer: &mut W) -> Outcome
+fn print_invalid<W: Write>(denial: Denial, writer: &mut W) -> CommandOutcome
     ensures { Writes (string_bytes denial.line) 3 (W.contents writer.old) (W.contents writer.new) result.status }
 {
     let Denial { line, remark } = denial;
     let status = written(writer, line.as_bytes(), UNFINISHED);
-    Outcome::judged(status, Some(remark))
+    CommandOutcome::judged(status, Some(remark))
 }
 
 /// Draws a part of the reader's input, or writes the line that says why it is not of this kind. Then the whole input is
@@ -263,14 +261,14 @@ fn draw_trace<R: Read, W: Write>(
     reader: &mut R,
     writer: &mut W,
     text: &mut Vec<u8>,
-) -> Outcome
+) -> CommandOutcome
     ensures { Does (Task.Draw kind part) (R.remaining reader.old) (R.remaining reader.new)
         (W.contents writer.old) (W.contents writer.new) (reader.new ≡ reader.old) result.status }
 {
     match draw_input(alloc, kind, part, reader, writer, text) {
-        Ok(None) => Outcome::new(DONE, None),
+        Ok(None) => CommandOutcome::new(DONE, None),
         Ok(Some(denial)) => print_invalid(denial, writer),
-        Err(fault) => refuse(writer, Refusal::Draw(fault)),
+        Err(fault) => refuse(writer, CommandRefusal::Draw(fault)),
     }
 }
 
@@ -281,47 +279,13 @@ fn run_by_threads<T: Threads + Wait + Sync, R: Read, W: Write>(
     printed: ClusterOutput,
     reader: &mut R,
     writer: &mut W,
-) -> Outcome
+) -> CommandOutcome
     ensures { Does (Task.Cluster printed) (R.remaining reader.old) (R.remaining reader.new)
         (W.contents writer.old) (W.contents writer.new) (reader.new ≡ reader.old) result.status }
 {
     match run_script(rt, alloc, printed, reader, writer) {
-        Ok(()) => Outcome::new(DONE, None),
-        Err(fault) => refuse(writer, Refusal::Cluster(fault)),
-    }
-}
-
-/// Does a task, and returns what came of it. An input that was to be drawn and is not of its kind is left in `text`.
-fn do_task<T: Threads + Wait + Sync, R: BufRead, W: Write, O: Observer>(
-    rt: &T,
-    alloc: Global,
-    task: &Task<'_>,
-    reader: &mut R,
-    writer: &mut W,
-    text: &mut Vec<u8>,
-    observer: &mut O,
-) -> Outcome
-    ensures { Does task.now (R.remaining reader.old) (R.remaining reader.new)
-        (W.contents writer.old) (W.contents writer.new) (reader.new ≡ reader.old) result.status }
-{
-    match *task {
-        Task::Answer { node, nodes } => respond(alloc, node, nodes, reader, writer),
-        Task::Sim {
-            policy,
-            choices,
-            format,
-        } => simulate(alloc, policy, choices, format, reader, writer),
-        Task::Survey {
-            faults,
-            find,
-            first,
-            last,
-        } => survey_seeds(alloc, faults, find, first, last, reader, writer, observer),
-        Task::Check => judge(alloc, reader, writer),
-        Task::CheckMarks => judge_marks(alloc, reader, writer),
-        Task::Draw { kind, part } => draw_trace(alloc, kind, part, reader, writer, text),
-        Task::Cluster(printed) => run_by_threads(rt, alloc, printed, reader, writer),
-        Task::Help(ref help) => Outcome::new(written(writer, help.as_bytes(), DONE), None),
+        Ok(()) => CommandOutcome::new(DONE, None),
+        Err(fault) => refuse(writer, CommandRefusal::Cluster(fault)),
     }
 }
 
@@ -335,7 +299,7 @@ pub fn do_command<T: Threads + Wait + Sync, R: BufRead, W: Write, O: Observer>(
     writer: &mut W,
     text: &mut Vec<u8>,
     observer: &mut O,
-) -> Outcome
+) -> CommandOutcome
     ensures { (arguments : List (List ℕ)) → Asks arguments asked.now → Serves arguments (R.remaining reader.old) (R.remaining reader.new)
         (W.contents writer.old) (W.contents writer.new) (reader.new ≡ reader.old) result.status }
 {
@@ -343,8 +307,32 @@ pub fn do_command<T: Threads + Wait + Sync, R: BufRead, W: Write, O: Observer>(
     match *asked {
         Command::Node => be_a_node(alloc, reader, writer),
         Command::Settle(books) => settle_books(alloc, books, reader, writer, text),
-        Command::Task(ref task) => do_task(rt, alloc, task, reader, writer, text, observer),
-        Command::Unknown(fault) => refuse(writer, Refusal::Command(fault)),
+        Command::Task(Task::Answer { node, nodes }) => respond(alloc, node, nodes, reader, writer),
+        Command::Task(
+            Task::Sim {
+                policy,
+                choices,
+                format,
+            },
+        ) => simulate(alloc, policy, choices, format, reader, writer),
+        Command::Task(
+            Task::Survey {
+                faults,
+                find,
+                first,
+                last,
+            },
+        ) => survey_seeds(alloc, faults, find, first, last, reader, writer, observer),
+        Command::Task(Task::Check) => judge(alloc, reader, writer),
+        Command::Task(Task::CheckMarks) => judge_marks(alloc, reader, writer),
+        Command::Task(Task::Draw { kind, part }) => {
+            draw_trace(alloc, kind, part, reader, writer, text)
+        }
+        Command::Task(Task::Cluster(printed)) => run_by_threads(rt, alloc, printed, reader, writer),
+        Command::Task(Task::Help(ref help)) => {
+            CommandOutcome::new(written(writer, help.as_bytes(), DONE), None)
+        }
+        Command::Unknown(fault) => refuse(writer, CommandRefusal::Command(fault)),
     }
 }
 

@@ -1,9 +1,9 @@
-ghost use Rattle.std.specs.Prelude.{◌≡◌, ◌≢◌, ◌<◌, ◌≤◌, ◌⊎◌, List, ℕ, ◌∷◌, [], ◌++◌, length, Ok, Some, All, OnOk, IfOk, IfErr, OnErr, IfSome, IsErrOf, MatchResult};
-ghost use Rattle.std.specs.Io.KnownBytes.{Consumes, Appends};
+ghost use Rattle.std.specs.Prelude.{◌≡◌, ◌⊎◌, List, ℕ, ◌∷◌, [], ◌++◌, Ok, All, OnOk, IfOk, IfErr, IfSome, MatchResult};
 ghost use Rattle.hex.specs.Hex.{decode_of, encode_lower};
+ghost use Rattle.ra_stamp.specs.Member.{IsMember};
 ghost use Rattle.ra_frame.specs.Fits.{Fits};
 ghost use Rattle.ra_frame.specs.FrameText.{IsWrittenText};
-ghost use Rattle.ra_cli.specs.Answer.{Carries, IsMember, IsUnwanted, Reacts, AreLines, IsAnswered, Refuses};
+ghost use Rattle.ra_cli.specs.Answer.{Carries, IsUnwanted, Reacts, AreLines, IsAnswered, Refuses};
 ghost use Rattle.ra_cli.specs.AnswerCall.{ComesTo, IsOfInput, of_receive};
 ghost use Rattle.ra_automaton.specs.State.{IsForNode};
 
@@ -12,12 +12,12 @@ use crate::input_line::{MAX_LINE, line_of};
 use hex::FromHexError;
 use ra_automaton::{Automaton, Reaction, ReceiveError};
 use ra_frame::{Frame, decode, encode};
-use ra_stamp::{Memory, Message, Messages, NodeId};
+use ra_stamp::{Member, MemberError, Memory, Message, Messages, NodeId};
 use ra_world::{read_up_to, write_out};
 use std::alloc::Global;
 use std::io::{Read, Write};
 
-/// Returns the node, if there are that many nodes and it is one of them. It does not allocate.
+/// Returns the node as a member of a cluster of this many nodes. It does not allocate.
 ///
 /// # Errors
 ///
@@ -25,18 +25,23 @@ use std::io::{Read, Write};
 ///
 /// 1. `BadCount`: there are not 1 to 64 nodes.
 /// 2. `BadNode`: the node is not 1 to `nodes`.
-fn member(node: u16, nodes: u16) -> Result<NodeId, AnswerError>
-    ensures ok { IfOk result (λ me. (me ≡ node) × IsMember node nodes) }
+fn member_of(node: u16, nodes: u16) -> Result<Member, AnswerError>
+    ensures ok { IfOk result (λ me. (me.node ≡ node) × (me.nodes ≡ nodes) × IsMember me.node me.nodes) }
     ensures err { IfErr result (λ fault. (input : List ℕ) → Refuses node nodes input fault) }
     ensures early { IfErr result (λ fault.
         (fault ≡ AnswerError.BadCount) ⊎ (fault ≡ AnswerError.BadNode)) }
 {
-    if NodeId::new(nodes).is_none() {
-        return Err(AnswerError::BadCount);
-    }
-    match NodeId::new(node) {
-        Some(me) if node <= nodes => Ok(me),
-        _ => Err(AnswerError::BadNode),
+    let Some(node) = NodeId::new(node) else {
+        // It is a member of no cluster, and the count comes first.
+        return Err(match NodeId::new(nodes) {
+            Some(_) => AnswerError::BadNode,
+            None => AnswerError::BadCount,
+        });
+    };
+    match Member::new(node, nodes) {
+        Ok(me) => Ok(me),
+        Err(MemberError::BadCount) => Err(AnswerError::BadCount),
+        Err(MemberError::BadNode) => Err(AnswerError::BadNode),
     }
 }
 
@@ -132,22 +137,13 @@ fn lines_of(alloc: Global, clock: u64, sends: &Messages) -> Result<Vec<u8>, Memo
 ///
 /// 1. `WrongNode`: the message is for another node.
 /// 2. `Stranger`: its sender is the node itself, or there is no such node.
-/// 3. `Memory`: there is none for the node, before it looks at the message, or for what it sends.
-fn reaction_to(
-    alloc: Global,
-    me: NodeId,
-    nodes: u16,
-    message: &Message,
-) -> Result<Reaction, AnswerError>
-    requires { IsMember me nodes }
-    ensures ok { IfOk result (λ reaction. Reacts me nodes message.now reaction.sends.items reaction.entered) }
-    ensures addressed { OnOk result (IsForNode me nodes message.now) }
-    ensures err { IfErr result (IsUnwanted me nodes message.now) }
+/// 3. `Memory`: there is none for what it sends.
+fn reaction_to(alloc: Global, me: Member, message: &Message) -> Result<Reaction, AnswerError>
+    ensures ok { IfOk result (λ reaction. Reacts me.node me.nodes message.now reaction.sends.items reaction.entered) }
+    ensures addressed { OnOk result (IsForNode me.node me.nodes message.now) }
+    ensures err { IfErr result (IsUnwanted me.node me.nodes message.now) }
 {
-    let opened = Automaton::new(alloc, me, nodes, message.name(), 0);
-    let Ok(mut automaton) = opened else {
-        return Err(AnswerError::Memory);
-    };
+    let mut automaton = Automaton::of(alloc, me, message.name(), 0);
     match automaton.receive(alloc, message) {
         Ok(reaction) => Ok(reaction),
         Err(refused) => Err(refusal_of(refused)),
@@ -170,40 +166,17 @@ fn refusal_of(refused: ReceiveError) -> AnswerError
 /// # Errors
 ///
 /// Those of `frame_in` and `reaction_to`, and then `ClockFull`, if the node's clock would pass 2^62, and `Memory`.
-fn answer_to(alloc: Global, me: NodeId, nodes: u16, input: &[u8]) -> Result<Vec<u8>, AnswerError>
-    requires { IsMember me nodes }
-    ensures { MatchResult result (λ output. IsAnswered me nodes input.now output.items)
-        (λ fault. Refuses me nodes input.now fault × IsOfInput fault) }
+fn answer_to(alloc: Global, me: Member, input: &[u8]) -> Result<Vec<u8>, AnswerError>
+    requires { IsMember me.node me.nodes }
+    ensures { MatchResult result (λ output. IsAnswered me.node me.nodes input.now output.items)
+        (λ fault. Refuses me.node me.nodes input.now fault × IsOfInput fault) }
 {
     let frame = frame_in(alloc, input)?;
-    let reaction = reaction_to(alloc, me, nodes, &frame.message)?;
+    let reaction = reaction_to(alloc, me, &frame.message)?;
     if frame.clock == Frame::MAX_CLOCK {
         return Err(AnswerError::ClockFull);
     }
     Ok(lines_of(alloc, frame.clock + 1, &reaction.sends)?)
-}
-
-/// Reads one line and writes the answer to it, as `answer` does. Its clause is one relation, of which the clauses of `answer` are parts:
-/// each way out is looked at once then.
-///
-/// # Errors
-///
-/// Those of `answer`.
-fn answer_line<R: Read, W: Write>(
-    alloc: Global,
-    node: u16,
-    nodes: u16,
-    reader: &mut R,
-    writer: &mut W,
-) -> Result<(), AnswerError>
-    ensures { ComesTo node nodes (R.remaining reader.old) (R.remaining reader.new) (W.contents writer.old)
-        (W.contents writer.new) (reader.new ≡ reader.old) (writer.new ≡ writer.old) result }
-{
-    let me = member(node, nodes)?;
-    let input = read_up_to(alloc, reader, MAX_LINE + 2)?;
-    let output = answer_to(alloc, me, nodes, &input)?;
-    write_out(writer, &output)?;
-    Ok(())
 }
 
 /// Reads one line, a frame of version 1 or 2 in hexadecimal digits, and writes the frames that an idle node sends when it
@@ -235,31 +208,12 @@ pub fn answer<R: Read, W: Write>(
     reader: &mut R,
     writer: &mut W,
 ) -> Result<(), AnswerError>
-    // What is read is a line of digits to its end, and what is written is the answer to it and nothing else.
-    ensures ok { OnOk result (IfSome (R.remaining reader.old) (λ input. (output : List ℕ)
-        × IsAnswered node nodes input output
-        × Consumes (R.remaining reader.old) (R.remaining reader.new) input
-        × Appends (W.contents writer.old) (W.contents writer.new) output)) }
-
-    ensures refused { IfErr result (λ fault.
-        IfSome (R.remaining reader.old) (λ input. Refuses node nodes input fault)) }
-    // If the reader tells nothing of its input, a refusal still has a cause, and the node is one of the nodes.
-    ensures cause { IfErr result (λ fault. (input : List ℕ) × Refuses node nodes input fault) }
-    ensures member { OnOk result (IsMember node nodes) }
-
-    ensures untouched { IfErr result (λ fault.
-        (fault ≡ AnswerError.BadCount) ⊎ (fault ≡ AnswerError.BadNode) → reader.new ≡ reader.old) }
-    ensures unwritten { IfErr result (λ fault. fault ≢ AnswerError.Write → writer.new ≡ writer.old) }
-    // A fault of the writer comes only with something left to write.
-    ensures prefix { IsErrOf result AnswerError.Write → IfSome (R.remaining reader.old) (λ input.
-        (prefix : List ℕ) × (rest : List ℕ) × IsAnswered node nodes input (prefix ++ rest) × (rest ≢ [])
-        × Appends (W.contents writer.old) (W.contents writer.new) prefix) }
-
-    // A fault of the reader comes only before it gave all that may be taken.
-    ensures failed { IsErrOf result AnswerError.Read → (taken : List ℕ) × (length taken < 258)
-        × Consumes (R.remaining reader.old) (R.remaining reader.new) taken }
-    ensures at_most { (taken : List ℕ) × (length taken ≤ 258)
-        × Consumes (R.remaining reader.old) (R.remaining reader.new) taken }
+    ensures { ComesTo node nodes (R.remaining reader.old) (R.remaining reader.new) (W.contents writer.old)
+        (W.contents writer.new) (reader.new ≡ reader.old) (writer.new ≡ writer.old) result }
 {
-    answer_line(alloc, node, nodes, reader, writer)
+    let me = member_of(node, nodes)?;
+    let input = read_up_to(alloc, reader, MAX_LINE + 2)?;
+    let output = answer_to(alloc, me, &input)?;
+    write_out(writer, &output)?;
+    Ok(())
 }

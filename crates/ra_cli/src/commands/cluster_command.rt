@@ -1,12 +1,13 @@
 //! A script that threads run, from its text to what is printed of the run.
-ghost use Rattle.std.specs.Prelude.{◌≡◌, ◌≢◌, ◌<◌, ◌≤◌, ◌++◌, List, ℕ, [], Ok, length, map, IfOk, IfErr, OnOk, IfSome, IsErrOf, string_bytes};
-ghost use Rattle.std.specs.Io.KnownBytes.{Consumes, Appends};
+ghost use Rattle.std.specs.Prelude.{◌≡◌, ◌≢◌, List, ℕ, Ok, map, IfOk, IfErr, OnOk, IfSome, string_bytes};
+ghost use Rattle.std.specs.Io.KnownBytes.{Consumes};
 ghost use Rattle.ra_world.specs.Run.{IsRun};
 ghost use Rattle.ra_world.specs.Traffic.{Move};
 ghost use Rattle.ra_trace.specs.TraceText.{IsTrace};
 ghost use Rattle.ra_script.specs.ScriptText.{script_of};
 ghost use Rattle.ra_cluster.specs.declared.cluster.cluster_run.ClusterError.{ClusterError};
 ghost use Rattle.ra_cli.specs.ClusterRun.{AreWrittenBooks, IsClusterRun, RunsCluster, RefusesRun, SaysRun, SaysScript, of_cluster};
+ghost use Rattle.ra_cli.specs.InputOutput.{ReadsInput, WritesOutput};
 
 use crate::error::RunScriptError;
 use ra_book::push_book;
@@ -35,14 +36,9 @@ pub fn script_from<R: Read>(alloc: Global, reader: &mut R) -> Result<Script, Run
         (script_of input ≡ Ok script) × Consumes (R.remaining reader.old) (R.remaining reader.new) input)) }
     // If the reader tells nothing of its input, there still is one of which this holds.
     ensures read { IfOk result (λ script. (input : List ℕ) × (script_of input ≡ Ok script)) }
-    ensures refused { IfErr result (λ fault.
-        IfSome (R.remaining reader.old) (λ input. RefusesRun input fault)) }
+    ensures reads { ReadsInput RunScriptError.Read 65537 RefusesRun (R.remaining reader.old) (R.remaining reader.new) result }
     ensures early { IfErr result (λ fault. fault ≢ RunScriptError.Write) }
     ensures unrun { IfErr result (λ fault. (why : ClusterError) → fault ≢ RunScriptError.Cluster why) }
-    ensures failed { IsErrOf result RunScriptError.Read → (taken : List ℕ) × (length taken < 65537)
-        × Consumes (R.remaining reader.old) (R.remaining reader.new) taken }
-    ensures at_most { (taken : List ℕ) × (length taken ≤ 65537)
-        × Consumes (R.remaining reader.old) (R.remaining reader.new) taken }
 {
     let text = read_up_to(alloc, reader, MAX_INPUT)?;
     let script = read_script(alloc, &text)?;
@@ -151,17 +147,9 @@ pub fn run_script<T: Threads + Wait + Sync, R: Read, W: Write>(
     // What is read is a script to its end, and what is written is what came of it and nothing else.
     ensures ok { OnOk result (RunsCluster printed (R.remaining reader.old) (R.remaining reader.new)
         (W.contents writer.old) (W.contents writer.new)) }
-    ensures refused { IfErr result (λ fault.
-        IfSome (R.remaining reader.old) (λ input. RefusesRun input fault)) }
-    ensures unwritten { IfErr result (λ fault. fault ≢ RunScriptError.Write → writer.new ≡ writer.old) }
-    ensures prefix { IsErrOf result RunScriptError.Write → IfSome (R.remaining reader.old) (λ input.
-        (prefix rest : List ℕ) × IsClusterRun printed input (prefix ++ rest) × (rest ≢ [])
-        × Appends (W.contents writer.old) (W.contents writer.new) prefix) }
-    // A fault of the reader comes only before it gave all that may be taken.
-    ensures failed { IsErrOf result RunScriptError.Read → (taken : List ℕ) × (length taken < 65537)
-        × Consumes (R.remaining reader.old) (R.remaining reader.new) taken }
-    ensures at_most { (taken : List ℕ) × (length taken ≤ 65537)
-        × Consumes (R.remaining reader.old) (R.remaining reader.new) taken }
+    ensures reads { ReadsInput RunScriptError.Read 65537 RefusesRun (R.remaining reader.old) (R.remaining reader.new) result }
+    ensures writes { WritesOutput RunScriptError.Write (IsClusterRun printed) (R.remaining reader.old)
+        (W.contents writer.old) (W.contents writer.new) (writer.new ≡ writer.old) result }
 {
     let script = script_from(alloc, reader)?;
     let text = text_of_run(rt, alloc, printed, &script)?;

@@ -6,9 +6,9 @@ ghost use Rattle.ra_task.specs.declared.settle_arguments.SettleTask.{SettleTask}
 ghost use Rattle.ra_cli.specs.SettleRun as spec;
 ghost use Rattle.ra_cli.specs.SettleRun.{Prints, RefusesInput, ServesSettle, TellsSettled, unsettled_line};
 
-use crate::command_outcome::{Outcome, Remark, UNFINISHED};
+use crate::command_outcome::{CommandOutcome, Remark, UNFINISHED};
 use crate::commands::verdict_lines::push_invalid;
-use crate::refusal_lines::Refusal;
+use crate::refusal_lines::CommandRefusal;
 use crate::serving::{DONE, refuse, written};
 use ra_book::{SettleTextError, SettledText, TextCause, settle_text};
 use ra_stamp::Memory;
@@ -77,26 +77,31 @@ fn run_text(alloc: Global, printed: SettleOutput, text: &SettledText) -> Result<
 }
 
 /// Prints that memory ran out.
-fn refuse_memory<W: Write>(writer: &mut W) -> Outcome
+fn refuse_memory<W: Write>(writer: &mut W) -> CommandOutcome
     ensures { (asked : SettleTask) (input : List ℕ)
         → TellsSettled asked input (W.contents writer.old) (W.contents writer.new) result.status }
 {
-    refuse(writer, Refusal::Check(TraceError::Memory))
+    refuse(writer, CommandRefusal::Check(TraceError::Memory))
 }
 
 /// Prints the settled run of a text.
-fn show<W: Write>(alloc: Global, asked: SettleTask, text: &SettledText, writer: &mut W) -> Outcome
+fn show<W: Write>(
+    alloc: Global,
+    asked: SettleTask,
+    text: &SettledText,
+    writer: &mut W,
+) -> CommandOutcome
     ensures { (input : List ℕ) → IsSettledText asked.repeats input text.now
         → TellsSettled asked input (W.contents writer.old) (W.contents writer.new) result.status }
 {
     match run_text(alloc, asked.printed, text) {
-        Ok(output) => Outcome::new(written(writer, output.as_bytes(), DONE), None),
+        Ok(output) => CommandOutcome::new(written(writer, output.as_bytes(), DONE), None),
         Err(_) => refuse_memory(writer),
     }
 }
 
 /// Prints the line of a text that does not settle, or that memory ran out.
-fn contradict<W: Write>(alloc: Global, refused: SettleTextError, writer: &mut W) -> Outcome
+fn contradict<W: Write>(alloc: Global, refused: SettleTextError, writer: &mut W) -> CommandOutcome
     ensures { (asked : SettleTask) (input : List ℕ) → IsUnsettled asked.repeats input refused
         → TellsSettled asked input (W.contents writer.old) (W.contents writer.new) result.status }
 {
@@ -106,14 +111,19 @@ fn contradict<W: Write>(alloc: Global, refused: SettleTextError, writer: &mut W)
     match unsettled_text(alloc, line, cause) {
         Ok(text) => {
             let status = written(writer, text.as_bytes(), UNFINISHED);
-            Outcome::judged(status, Some(Remark::Unsettled { line, cause }))
+            CommandOutcome::judged(status, Some(Remark::Unsettled { line, cause }))
         }
         Err(_) => refuse_memory(writer),
     }
 }
 
 /// Settles the books of a text, and prints what comes of it.
-fn settle_input<W: Write>(alloc: Global, asked: SettleTask, input: &[u8], writer: &mut W) -> Outcome
+fn settle_input<W: Write>(
+    alloc: Global,
+    asked: SettleTask,
+    input: &[u8],
+    writer: &mut W,
+) -> CommandOutcome
     ensures { TellsSettled asked input.now (W.contents writer.old) (W.contents writer.new) result.status }
 {
     match settle_text(alloc, input, asked.repeats) {
@@ -124,12 +134,12 @@ fn settle_input<W: Write>(alloc: Global, asked: SettleTask, input: &[u8], writer
 
 /// Prints that the reader failed, or gave more than a text may have, or that memory ran out, and returns what came of
 /// it.
-fn refuse_input<W: Write>(writer: &mut W, fault: TraceError) -> Outcome
+fn refuse_input<W: Write>(writer: &mut W, fault: TraceError) -> CommandOutcome
     ensures { RefusesInput fault (W.contents writer.old) (W.contents writer.new) result.status }
 {
-    let outcome = refuse(writer, Refusal::Check(fault));
+    let outcome = refuse(writer, CommandRefusal::Check(fault));
     match fault {
-        TraceError::Limit => Outcome::new(outcome.status, Some(Remark::TooManyBooks)),
+        TraceError::Limit => CommandOutcome::new(outcome.status, Some(Remark::TooManyBooks)),
         TraceError::Read | TraceError::Memory => outcome,
     }
 }
@@ -144,7 +154,7 @@ pub fn settle_books<R: Read, W: Write>(
     reader: &mut R,
     writer: &mut W,
     text: &mut Vec<u8>,
-) -> Outcome
+) -> CommandOutcome
     ensures { ServesSettle asked (R.remaining reader.old) (R.remaining reader.new)
         (W.contents writer.old) (W.contents writer.new) result.status }
 {

@@ -1,9 +1,9 @@
 //! A script under many seeds, from its text to the lines of what came of it.
-ghost use Rattle.std.specs.Prelude.{◌≡◌, ◌≢◌, ◌<◌, ◌≤◌, ◌++◌, ◌↔◌, List, ℕ, [], Bool, Ok, codes, length, string_bytes, IsTrue, IfOk, IfErr, IfSome, IsErrOf};
-ghost use Rattle.std.specs.Io.KnownBytes.{Consumes, Appends};
+ghost use Rattle.std.specs.Prelude.{◌≡◌, ◌↔◌, List, ℕ, Ok, codes, string_bytes, IsTrue, IfOk, IsErrOf};
 ghost use Rattle.ra_script.specs.Finding.{IsFirstUnwritten};
 ghost use Rattle.ra_script.specs.ScriptText.{script_of};
-ghost use Rattle.ra_cli.specs.Surveyed.{AllFinished, FoundHasNoWords, IsFound, IsSurveyed, IsTold, RefusesSurvey, SurveysBy};
+ghost use Rattle.ra_cli.specs.InputOutput.{ReadsInput, WritesOutput};
+ghost use Rattle.ra_cli.specs.Surveyed.{AllFinished, FoundHasNoWords, IsFound, IsSurveyed, IsTold, MayBeTold, RefusesSurvey, SurveysBy};
 ghost use Rattle.ra_cli.specs.Surveyed as spec;
 
 use crate::commands::cluster_command::script_from;
@@ -155,17 +155,10 @@ pub fn survey_script<R: Read, W: Write, O: Observer>(
 ) -> Result<bool, RunScriptError>
     ensures ok { IfOk result (SurveysBy faults find first last (R.remaining reader.old) (R.remaining reader.new)
         (W.contents writer.old) (W.contents writer.new)) }
-    ensures refused { IfErr result (λ fault.
-        IfSome (R.remaining reader.old) (λ input. RefusesSurvey faults find first last input fault)) }
-    ensures unwritten { IfErr result (λ fault. fault ≢ RunScriptError.Write → writer.new ≡ writer.old) }
-    ensures prefix { IsErrOf result RunScriptError.Write → IfSome (R.remaining reader.old) (λ input.
-        (prefix rest : List ℕ) × (finished : Bool) × IsTold faults find first last input (prefix ++ rest) finished × (rest ≢ [])
-        × Appends (W.contents writer.old) (W.contents writer.new) prefix) }
-    // A fault of the reader comes only before it gave all that may be taken.
-    ensures failed { IsErrOf result RunScriptError.Read → (taken : List ℕ) × (length taken < 65537)
-        × Consumes (R.remaining reader.old) (R.remaining reader.new) taken }
-    ensures at_most { (taken : List ℕ) × (length taken ≤ 65537)
-        × Consumes (R.remaining reader.old) (R.remaining reader.new) taken }
+    ensures reads { ReadsInput RunScriptError.Read 65537 (RefusesSurvey faults find first last)
+        (R.remaining reader.old) (R.remaining reader.new) result }
+    ensures writes { WritesOutput RunScriptError.Write (MayBeTold faults find first last) (R.remaining reader.old)
+        (W.contents writer.old) (W.contents writer.new) (writer.new ≡ writer.old) result }
 {
     let script = script_from(alloc, reader)?;
     let told = told_of(alloc, &script, faults, find, first, last, observer)?;

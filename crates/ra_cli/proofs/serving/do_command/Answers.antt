@@ -1,31 +1,24 @@
 use Rattle.std.proofs.Common.{arith, ◌≡◌, ◌≢◌, ◌⊎◌, ℕ, ◌≤◌, List, Option, codes, refl, subst, inl, inr}
 use Rattle.std.specs.Io.KnownBytes.{Appends}
 use Rattle.ra_script.specs.Performed.{IsOrderly}
-use Rattle.ra_cli.specs.declared.refusal_lines.Refusal.TheVariants.{Command}
-use Rattle.ra_task.specs.Finishing.{HasNoChoices, RunsFaithfully}
+use Rattle.ra_cli.specs.declared.refusal_lines.CommandRefusal.TheVariants.{Command}
 use Rattle.ra_cli.specs.Refusals.{command_word, refused_line}
 use Rattle.ra_task.specs.declared.settle_arguments.SettleTask.{SettleTask}
 use Rattle.ra_task.specs.declared.command_line.CommandFault.{CommandFault}
 use Rattle.ra_task.specs.declared.command_line.CommandFault.TheVariants as command
-use Rattle.ra_cli.proofs.ClusterRuns.{of_known}
 use Rattle.ra_cli.proofs.Helping.{for_each}
 use Rattle.ra_task.specs.Arguments.{AreNodeArguments, AreSimArguments}
 use Rattle.ra_cli.specs.SettleRun.{ServesSettle}
 use Rattle.ra_task.specs.SettleArguments.{AreSettleArguments, AsksToSettle}
-use Rattle.ra_task.specs.Asked.{AreOtherArguments, AsksForTask}
+use Rattle.ra_task.specs.Asked.{AreOtherArguments}
+use Rattle.ra_task.specs.declared.command_line.Task.TheVariants as task
 use Rattle.ra_cli.proofs.NodeRuns.{no_book, no_sim}
-use Rattle.ra_cli.proofs.Orderly.{never_three, only_memory}
 use Rattle.ra_cli.proofs.SettleRuns.{two_refuses}
 use Rattle.ra_cli.proofs.SettleArguments.{no_node_arguments, no_sim_arguments, one_thing}
 use Rattle.ra_cli.proofs.Statuses.{none_of_command, refused, broken}
-use Rattle.ra_cli.proofs.TaskLemmas.{done, left, suits, without_cause}
+use Rattle.ra_cli.proofs.Helped.{helped}
+use Rattle.ra_cli.proofs.TaskServed.{MemoryOrUsage, served}
 use Rattle.ra_cli.proofs.serving.do_command.Goals as goal
-
--- the line for want of memory was written, or that for arguments that are no command line, which are not the name and
--- `sim`
-abbrev MemoryOrUsage : (arguments : List (List ℕ)) (before after : Option (List ℕ)) → Type 0
-MemoryOrUsage arguments before after = Appends before after (refused_line (codes "Memory"))
-    ⊎ ((AreSimArguments arguments → ⊥) × Appends before after (refused_line (codes "Usage")))
 
 of_fault : (arguments : List (List ℕ)) (fault : CommandFault) (before after : Option (List ℕ)) → (AreSimArguments arguments → ⊥)
     → Appends before after (refused_line (command_word fault)) → MemoryOrUsage arguments before after
@@ -76,41 +69,75 @@ returns-in-Settle g c arguments asks =
       settle = λ other also. subst (λ (p : SettleTask). ServesSettle p old new before after status) (one_thing arguments books other asked also) serves;
     }
 
--- what was done by other arguments
-other_arguments : (A B C D : Type 0) → A ⊎ B ⊎ C → A ⊎ B ⊎ C ⊎ D
-other_arguments A B C D (inl a) = inl a
-other_arguments A B C D (inr (inl b)) = inr (inl b)
-other_arguments A B C D (inr (inr c)) = inr (inr (inl c))
+-- ---- Each task
 
-pub returns-in-Task : goal.returns-in-Task
-returns-in-Task g c arguments asks =
-    let asked = c.in-Task.task in
-    let known : AreOtherArguments arguments × AsksForTask arguments asked = rw c.in-Task.is at asks in
-    let (other, is_asked) = known in
-    let did = c.do_task.ensures in
-    let laws = c.orderly_scripts_are_finished.ensures in
-    let status = c.do_task.result.status in
-    let old = g.R.Read.remaining c.args.reader.now in
-    let new = g.R.Read.remaining c.do_task.new.reader in
-    let before = g.W.Write.contents c.args.writer.now in
-    let after = g.W.Write.contents c.do_task.new.writer in
-    let fits = suits arguments asked is_asked.help is_asked.numbers is_asked.marks in
-    record {
-      range = did.range;
-      done = λ is. other_arguments _ _ _ _ (done arguments asked old new before after _ is_asked.help fits (did.done is));
-      unfinished = λ is. inl (left arguments asked old new before after fits (did.unfinished is));
-      finished = λ sims. of_known old (λ input. IsOrderly input → RunsFaithfully asked → status ≢ 3) (λ input. IsOrderly input → status ≢ 3)
-          (λ input h orderly. h orderly (is_asked.faithful sims)) (never_three laws.finished asked old new before after status did.unfinished);
-      only_memory = λ sims none two. of_known old
-          (λ input. IsOrderly input → RunsFaithfully asked → HasNoChoices asked → status ≡ 2 → Appends before after (refused_line (codes "Memory")))
-          (λ input. IsOrderly input → MemoryOrUsage arguments before after)
-          (λ input h orderly. inl (h orderly (is_asked.faithful sims) (is_asked.choices none) two))
-          (only_memory laws.only_memory asked old before after status did.refused);
-      refused = λ is. without_cause _ before after (did.refused is);
-      broken = λ is. inl (did.broken arguments fits is);
-      node = λ are. absurd (other.no_node are);
-      settle = λ printed settles. absurd (other.no_books (printed, settles));
-    }
+pub returns-in-Task-Answer : goal.returns-in-Task-Answer
+returns-in-Task-Answer g c arguments asks =
+    let law = c.orderly_scripts_are_finished.ensures in
+    let known = rw c.in-Task-Answer.is at asks in
+    let is = rw c.in-Task-Answer.is at c.in-Task-Answer.field-0-is in
+    served law.finished law.only_memory arguments (task.Answer c.in-Task-Answer.node c.in-Task-Answer.nodes) _ _ _ _ _ _
+    (rw is at known) c.respond.ensures
+
+pub returns-in-Task-Sim : goal.returns-in-Task-Sim
+returns-in-Task-Sim g c arguments asks =
+    let law = c.orderly_scripts_are_finished.ensures in
+    let known = rw c.in-Task-Sim.is at asks in
+    let is = rw c.in-Task-Sim.is at c.in-Task-Sim.field-0-is in
+    served law.finished law.only_memory arguments (task.Sim c.in-Task-Sim.policy c.in-Task-Sim.choices c.in-Task-Sim.format) _ _ _ _ _ _
+    (rw is at known) c.simulate.ensures.does
+
+pub returns-in-Task-Survey : goal.returns-in-Task-Survey
+returns-in-Task-Survey g c arguments asks =
+    let law = c.orderly_scripts_are_finished.ensures in
+    let known = rw c.in-Task-Survey.is at asks in
+    let is = rw c.in-Task-Survey.is at c.in-Task-Survey.field-0-is in
+    served law.finished law.only_memory arguments (task.Survey c.in-Task-Survey.faults c.in-Task-Survey.find c.in-Task-Survey.first c.in-Task-Survey.last) _ _ _ _ _ _
+    (rw is at known) c.survey_seeds.ensures
+
+pub returns-in-Task-Check : goal.returns-in-Task-Check
+returns-in-Task-Check g c arguments asks =
+    let law = c.orderly_scripts_are_finished.ensures in
+    let known = rw c.in-Task-Check.is at asks in
+    let is = rw c.in-Task-Check.is at c.in-Task-Check.field-0-is in
+    served law.finished law.only_memory arguments task.Check _ _ _ _ _ _
+    (rw is at known) c.judge.ensures
+
+pub returns-in-Task-CheckMarks : goal.returns-in-Task-CheckMarks
+returns-in-Task-CheckMarks g c arguments asks =
+    let law = c.orderly_scripts_are_finished.ensures in
+    let known = rw c.in-Task-CheckMarks.is at asks in
+    let is = rw c.in-Task-CheckMarks.is at c.in-Task-CheckMarks.field-0-is in
+    served law.finished law.only_memory arguments task.CheckMarks _ _ _ _ _ _
+    (rw is at known) c.judge_marks.ensures
+
+pub returns-in-Task-Draw : goal.returns-in-Task-Draw
+returns-in-Task-Draw g c arguments asks =
+    let law = c.orderly_scripts_are_finished.ensures in
+    let known = rw c.in-Task-Draw.is at asks in
+    let is = rw c.in-Task-Draw.is at c.in-Task-Draw.field-0-is in
+    served law.finished law.only_memory arguments (task.Draw c.in-Task-Draw.kind c.in-Task-Draw.part) _ _ _ _ _ _
+    (rw is at known) c.draw_trace.ensures
+
+pub returns-in-Task-Cluster : goal.returns-in-Task-Cluster
+returns-in-Task-Cluster g c arguments asks =
+    let law = c.orderly_scripts_are_finished.ensures in
+    let known = rw c.in-Task-Cluster.is at asks in
+    let is = rw c.in-Task-Cluster.is at c.in-Task-Cluster.field-0-is in
+    served law.finished law.only_memory arguments (task.Cluster c.in-Task-Cluster.printed) _ _ _ _ _ _
+    (rw is at known) c.run_by_threads.ensures
+
+pub returns-in-Task-Help : goal.returns-in-Task-Help
+returns-in-Task-Help g c arguments asks =
+    let law = c.orderly_scripts_are_finished.ensures in
+    let known = rw c.in-Task-Help.is at asks in
+    let is = rw c.in-Task-Help.is at c.in-Task-Help.field-0-is in
+    rw c.new.ensures (served law.finished law.only_memory arguments (task.Help c.in-Task-Help.help) _ _ _ _ _ _
+    (rw is at known)
+    (helped c.in-Task-Help.help c.as_bytes.result.now _ _ _ _ (c.args.reader.now ≡ c.args.reader.now) c.written.result refl
+    c.as_bytes.ensures.value c.written.ensures))
+
+-- ---- None of them
 
 not_done : (status : ℕ) → 1 ≤ status → status ≡ 0 → ⊥
 not_done status least is = omega (arith, least, is)

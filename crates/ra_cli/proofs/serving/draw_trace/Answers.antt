@@ -1,7 +1,7 @@
 use Rattle.std.proofs.Common.{◌≡◌, ℕ, List, Option, Err, ap, string_bytes, subst, inr}
 use Rattle.ra_task.specs.declared.command_line.Task.TheVariants as task
 use Rattle.ra_cli.specs.Statuses.{Writes}
-use Rattle.ra_cli.specs.declared.refusal_lines.Refusal.TheVariants.{Draw}
+use Rattle.ra_cli.specs.declared.refusal_lines.CommandRefusal.TheVariants.{Draw}
 use Rattle.ra_cli.proofs.PictureLemmas.{of_picture, of_denied}
 use Rattle.ra_cli.proofs.Statuses.{of_draw}
 use Rattle.ra_cli.proofs.TaskLemmas.{of_part}

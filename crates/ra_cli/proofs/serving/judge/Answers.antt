@@ -7,7 +7,7 @@ use Rattle.ra_trace.specs.Verdict.{IsVerdict}
 use Rattle.ra_trace.specs.declared.error.TraceError.TheVariants.{Memory}
 use Rattle.ra_task.specs.declared.command_line.Task.TheVariants as task
 use Rattle.ra_cli.specs.Checks.{Checks, is_valid, verdict_text}
-use Rattle.ra_cli.specs.declared.refusal_lines.Refusal.TheVariants.{Check}
+use Rattle.ra_cli.specs.declared.refusal_lines.CommandRefusal.TheVariants.{Check}
 use Rattle.ra_cli.proofs.Statuses.{none_of_check, of_verdict, writes_as}
 use Rattle.ra_cli.proofs.TaskLemmas.{of_check}
 use Rattle.ra_cli.proofs.TaskStatuses.{if_judged, if_refused_at_once}

@@ -2,7 +2,7 @@ use Rattle.std.proofs.Common.{◌≡◌, Err, refl, ap, inl}
 use Rattle.ra_task.specs.declared.command_line.Task.TheVariants as task
 use Rattle.ra_cli.specs.Answer.{Refuses}
 use Rattle.ra_cli.specs.declared.error.AnswerError.{AnswerError}
-use Rattle.ra_cli.specs.declared.refusal_lines.Refusal.TheVariants.{Answer}
+use Rattle.ra_cli.specs.declared.refusal_lines.CommandRefusal.TheVariants.{Answer}
 use Rattle.ra_cli.proofs.ClusterRuns.{of_known}
 use Rattle.ra_cli.proofs.Statuses.{of_answer, of_answered}
 use Rattle.ra_cli.proofs.TaskStatuses.{if_done, if_refused}
@@ -21,9 +21,9 @@ returns-in-Err g c =
     let after = g.W.Write.contents c.refuse.new.writer in
     if_refused (task.Answer c.args.node c.args.nodes) old new before after (c.answer.new.reader ≡ c.args.reader.now) c.refuse.result.status between (Answer fault)
     (c.refuse.new.writer ≡ c.answer.new.writer) c.refuse.ensures (ap g.W.Write.contents)
-    (λ other. ap g.W.Write.contents (c.in-Err.ensures.unwritten (λ e. other (inl (ap Answer e)))))
+    (λ other. ap g.W.Write.contents (c.in-Err.ensures.writes.unwritten (λ e. other (inl (ap Answer e)))))
     (λ is arguments fits. of_answered arguments c.args.node c.args.nodes old before between fits.0
-    (c.in-Err.ensures.prefix (ap Err (of_answer fault is))))
+    (c.in-Err.ensures.writes.prefix (ap Err (of_answer fault is))))
     (of_known old (λ input. Refuses c.args.node c.args.nodes input fault)
     (λ input. (other : AnswerError) × (Answer fault ≡ Answer other) × Refuses c.args.node c.args.nodes input other)
-    (λ input h. (fault, refl, h)) c.in-Err.ensures.refused)
+    (λ input h. (fault, refl, h)) c.in-Err.ensures.reads.refused)

@@ -1,7 +1,7 @@
 use Rattle.std.proofs.Common.{◌≡◌, Err, ap, inl, inr}
 use Rattle.std.proofs.lemmas.Bool.{false≢true}
 use Rattle.ra_task.specs.declared.command_line.Task.TheVariants as task
-use Rattle.ra_cli.specs.declared.refusal_lines.Refusal.TheVariants.{Choices, Perform}
+use Rattle.ra_cli.specs.declared.refusal_lines.CommandRefusal.TheVariants.{Choices, Perform}
 use Rattle.ra_cli.proofs.Statuses.{none_of_choices, of_perform, of_performed}
 use Rattle.ra_cli.proofs.TaskLemmas.{of_choices, of_named}
 use Rattle.ra_cli.proofs.TaskStatuses.{if_done, if_left, if_refused, if_refused_at_once}

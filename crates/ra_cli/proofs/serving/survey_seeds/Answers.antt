@@ -1,6 +1,6 @@
 use Rattle.std.proofs.Common.{◌≡◌, Err, refl, ap, inl, inr}
 use Rattle.ra_task.specs.declared.command_line.Task.TheVariants as task
-use Rattle.ra_cli.specs.declared.refusal_lines.Refusal.TheVariants.{Cluster}
+use Rattle.ra_cli.specs.declared.refusal_lines.CommandRefusal.TheVariants.{Cluster}
 use Rattle.ra_cli.specs.Surveyed.{RefusesSurvey}
 use Rattle.ra_cli.specs.declared.error.RunScriptError.{RunScriptError}
 use Rattle.ra_cli.proofs.ClusterRuns.{of_known}
@@ -28,9 +28,9 @@ returns-in-Err g c =
     let after = g.W.Write.contents c.refuse.new.writer in
     if_refused (task.Survey c.args.faults c.args.find c.args.first c.args.last) old new before after (c.survey_script.new.reader ≡ c.args.reader.now) c.refuse.result.status between (Cluster fault)
     (c.refuse.new.writer ≡ c.survey_script.new.writer) c.refuse.ensures
-    (ap g.W.Write.contents) (λ other. ap g.W.Write.contents (c.in-Err.ensures.unwritten (λ e. other (inr (inr (inl (ap Cluster e)))))))
+    (ap g.W.Write.contents) (λ other. ap g.W.Write.contents (c.in-Err.ensures.writes.unwritten (λ e. other (inr (inr (inl (ap Cluster e)))))))
     (λ is arguments fits. of_surveyed arguments c.args.faults c.args.find c.args.first c.args.last old before between
-    (c.in-Err.ensures.prefix (ap Err (of_run fault is))))
+    (c.in-Err.ensures.writes.prefix (ap Err (of_run fault is))))
     (of_known old (λ input. RefusesSurvey c.args.faults c.args.find c.args.first c.args.last input fault)
     (λ input. (other : RunScriptError) × (Cluster fault ≡ Cluster other)
-    × RefusesSurvey c.args.faults c.args.find c.args.first c.args.last input other) (λ input h. (fault, refl, h)) c.in-Err.ensures.refused)
+    × RefusesSurvey c.args.faults c.args.find c.args.first c.args.last input other) (λ input h. (fault, refl, h)) c.in-Err.ensures.reads.refused)

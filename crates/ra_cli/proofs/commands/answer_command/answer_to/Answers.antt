@@ -7,14 +7,14 @@ use Rattle.ra_cli.proofs.commands.answer_command.answer_to.Goals as goal
 pub returns-in_err-frame : goal.returns-in_err-frame
 returns-in_err-frame c =
     let p = err_from_is_err_and c.from_residual.result c.from_residual.ensures.1 in
-    rw (p.1, p.2) (c.in_err-frame.ensures.0 c.args.me c.args.nodes c.requires, c.in_err-frame.ensures.1)
+    rw (p.1, p.2) (c.in_err-frame.ensures.0 c.args.me.node c.args.me.nodes c.requires, c.in_err-frame.ensures.1)
 
 pub returns-in_err-reaction : goal.returns-in_err-reaction
 returns-in_err-reaction c =
     let p = err_from_is_err_and c.from_residual-in_err-reaction.result c.from_residual-in_err-reaction.ensures.1 in
     rw (p.1, p.2) (
-      unwanted c.args.me c.args.nodes c.args.input.now c.in_ok-frame.frame _ c.requires c.in_ok-frame.ensures.0 c.in_err-reaction.ensures.err,
-      of_message c.args.me c.args.nodes c.in_ok-frame.frame.message _ c.in_err-reaction.ensures.err,
+      unwanted c.args.me.node c.args.me.nodes c.args.input.now c.in_ok-frame.frame _ c.requires c.in_ok-frame.ensures.0 c.in_err-reaction.ensures.err,
+      of_message c.args.me.node c.args.me.nodes c.in_ok-frame.frame.message _ c.in_err-reaction.ensures.err,
     )
 
 pub returns : goal.returns

@@ -1,8 +1,11 @@
 use Rattle.std.proofs.Common.{Err, ap}
-use Rattle.std.proofs.lemmas.Result.{err_from_is_err_and, IfOk-from_err}
-use Rattle.ra_cli.proofs.Passed.{passed, is_this, read_no_write, read_no_cluster, read_failed, script_no_read, script_no_cluster}
+use Rattle.std.proofs.lemmas.Result.{IfOk-from_err}
+use Rattle.ra_cli.proofs.Helping.{for_each}
+use Rattle.ra_cli.proofs.Passed.{passed, read_no_write, read_no_cluster, read_failed, script_no_read, script_no_cluster, unread_is_refused}
 use Rattle.ra_cli.proofs.Scripts.{refuses_script, refuses_text, reads_script, no_write}
-use Rattle.ra_cli.specs.ClusterRun.{of_read, of_script}
+use Rattle.ra_cli.proofs.Transfers.{reads_badly, reads_well}
+use Rattle.ra_cli.specs.declared.error.RunScriptError.TheVariants.{Read}
+use Rattle.ra_cli.specs.ClusterRun.{RefusesRun, of_read, of_script}
 use Rattle.ra_cli.proofs.commands.cluster_command.script_from.Goals as goal
 
 -- the reader failed, or memory ran out
@@ -21,13 +24,13 @@ pub returns-in_err-text-clause-unrun : goal.returns-in_err-text-clause-unrun
 returns-in_err-text-clause-unrun g c =
     let why = c.in_err-text.field-0.0 in passed c.from_residual.result (of_read why) _ c.from_residual.ensures.1 (read_no_cluster why)
 
-pub returns-in_err-text-clause-failed : goal.returns-in_err-text-clause-failed
-returns-in_err-text-clause-failed g c e =
+pub returns-in_err-text-clause-reads : goal.returns-in_err-text-clause-reads
+returns-in_err-text-clause-reads g c =
     let why = c.in_err-text.field-0.0 in
-    c.in_err-text.ensures.failed (ap Err (read_failed why (is_this c.from_residual.result (of_read why) _ c.from_residual.ensures.1 e)))
-
-pub returns-in_err-text-clause-at_most : goal.returns-in_err-text-clause-at_most
-returns-in_err-text-clause-at_most g c = c.read_up_to.ensures.at_most
+    let old = g.R.Read.remaining c.args.reader.now in
+    reads_badly Read 65537 RefusesRun old _ c.from_residual.result (of_read why) c.from_residual.ensures.1
+    (for_each old (λ input. RefusesRun input (of_read why)) (λ input. unread_is_refused why input))
+    (λ e. c.in_err-text.ensures.failed (ap Err (read_failed why e))) c.read_up_to.ensures.at_most
 
 -- the text is no script
 
@@ -36,14 +39,6 @@ returns-in_err-script-clause-ok g c = IfOk-from_err c.from_residual-in_err-scrip
 
 pub returns-in_err-script-clause-read : goal.returns-in_err-script-clause-read
 returns-in_err-script-clause-read g c = IfOk-from_err c.from_residual-in_err-script.result _ c.from_residual-in_err-script.ensures.0
-
-pub returns-in_err-script-clause-refused : goal.returns-in_err-script-clause-refused
-returns-in_err-script-clause-refused g c =
-    let p = err_from_is_err_and c.from_residual-in_err-script.result c.from_residual-in_err-script.ensures.1 in
-    let why = c.in_err-script.field-0.0 in
-    let refused = rw c.deref.ensures.value at c.in_err-script.ensures.refused in
-    rw (p.1, p.2) (refuses_script (g.R.Read.remaining c.args.reader.now) _ c.in_ok-text.text.items _ (no_write why) c.in_ok-text.ensures.bytes
-    (refuses_text c.in_ok-text.text.items why refused))
 
 pub returns-in_err-script-clause-early : goal.returns-in_err-script-clause-early
 returns-in_err-script-clause-early g c =
@@ -55,13 +50,16 @@ returns-in_err-script-clause-unrun g c =
     let why = c.in_err-script.field-0.0 in
     passed c.from_residual-in_err-script.result (of_script why) _ c.from_residual-in_err-script.ensures.1 (script_no_cluster why)
 
-pub returns-in_err-script-clause-failed : goal.returns-in_err-script-clause-failed
-returns-in_err-script-clause-failed g c e =
+pub returns-in_err-script-clause-reads : goal.returns-in_err-script-clause-reads
+returns-in_err-script-clause-reads g c =
     let why = c.in_err-script.field-0.0 in
-    script_no_read why (is_this c.from_residual-in_err-script.result (of_script why) _ c.from_residual-in_err-script.ensures.1 e)
-
-pub returns-in_err-script-clause-at_most : goal.returns-in_err-script-clause-at_most
-returns-in_err-script-clause-at_most g c = let read = c.in_ok-text.ensures.bytes in (c.in_ok-text.text.items, read.at_most, read.taken)
+    let text = c.in_ok-text.text.items in
+    let read = c.in_ok-text.ensures.bytes in
+    let old = g.R.Read.remaining c.args.reader.now in
+    let refused = rw c.deref.ensures.value at c.in_err-script.ensures.refused in
+    reads_badly Read 65537 RefusesRun old _ c.from_residual-in_err-script.result (of_script why) c.from_residual-in_err-script.ensures.1
+    (refuses_script old _ text (of_script why) (no_write why) read (refuses_text text why refused)) (λ e. script_no_read why e)
+    (text, read.at_most, read.taken)
 
 -- it is one
 
@@ -73,5 +71,7 @@ returns-clause-ok g c =
 pub returns-clause-read : goal.returns-clause-read
 returns-clause-read g c = (c.in_ok-text.text.items, rw c.deref.ensures.value at c.in_ok-script.ensures.ok)
 
-pub returns-clause-at_most : goal.returns-clause-at_most
-returns-clause-at_most g c = let read = c.in_ok-text.ensures.bytes in (c.in_ok-text.text.items, read.at_most, read.taken)
+pub returns-clause-reads : goal.returns-clause-reads
+returns-clause-reads g c =
+    let read = c.in_ok-text.ensures.bytes in
+    reads_well Read 65537 RefusesRun _ _ _ (c.in_ok-text.text.items, read.at_most, read.taken)

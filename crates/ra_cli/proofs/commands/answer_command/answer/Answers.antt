@@ -1,7 +1,7 @@
 use Rattle.std.proofs.Common.{Err, ap, refl}
 use Rattle.std.proofs.lemmas.Result.{err_from_is_err_and}
 use Rattle.ra_cli.proofs.AnswerCallLemmas.{no_member, no_input, no_answer, not_written, written}
-use Rattle.ra_cli.proofs.commands.answer_command.answer_line.Goals as goal
+use Rattle.ra_cli.proofs.commands.answer_command.answer.Goals as goal
 
 pub returns-in_err-me : goal.returns-in_err-me
 returns-in_err-me g c =
@@ -11,27 +11,31 @@ returns-in_err-me g c =
 pub returns-in_err-input : goal.returns-in_err-input
 returns-in_err-input g c =
     let p = err_from_is_err_and c.from_residual-in_err-input.result c.from_residual-in_err-input.ensures.1 in
-    rw (p.1) (no_input c.args.node c.args.nodes _ _ _ _ _ c.in_err-input.field-0.0 p.0 c.in_ok-me.ensures.ok.1 p.2
+    let me = c.in_ok-me.ensures.ok in
+    rw (p.1) (no_input c.args.node c.args.nodes _ _ _ _ _ c.in_err-input.field-0.0 p.0 (rw (me.0, me.1) at me.2) p.2
     (λ fault. c.in_err-input.ensures.failed (ap Err fault)) c.in_err-input.ensures.at_most refl)
 
 pub returns-in_err-output : goal.returns-in_err-output
 returns-in_err-output g c =
     let p = err_from_is_err_and c.from_residual-in_err-output.result c.from_residual-in_err-output.ensures.1 in
-    let refuses = rw (c.deref.ensures.value, c.in_ok-me.ensures.ok.0) at c.in_err-output.ensures.0 in
-    rw (p.1, p.2) (no_answer c.args.node c.args.nodes _ _ _ _ _ c.in_ok-input.input.items _ c.in_ok-me.ensures.ok.1 c.in_ok-input.ensures.bytes refuses
+    let me = c.in_ok-me.ensures.ok in
+    let refuses = rw (c.deref.ensures.value, me.0, me.1) at c.in_err-output.ensures.0 in
+    rw (p.1, p.2) (no_answer c.args.node c.args.nodes _ _ _ _ _ c.in_ok-input.input.items _ (rw (me.0, me.1) at me.2) c.in_ok-input.ensures.bytes refuses
     c.in_err-output.ensures.1 refl)
 
 pub returns-in_err-write_out : goal.returns-in_err-write_out
 returns-in_err-write_out g c =
     let p = err_from_is_err_and c.from_residual-in_err-write_out.result c.from_residual-in_err-write_out.ensures.1 in
-    let answered = rw (c.deref.ensures.value, c.in_ok-me.ensures.ok.0) at c.in_ok-output.ensures in
+    let me = c.in_ok-me.ensures.ok in
+    let answered = rw (c.deref.ensures.value, me.0, me.1) at c.in_ok-output.ensures in
     let left = rw c.deref-2.ensures.value at c.in_err-write_out.ensures.err in
     rw (p.1, p.2) (not_written c.args.node c.args.nodes _ _ _ _ _ _ c.in_ok-input.input.items c.in_ok-output.output.items left.0 left.1
     c.in_ok-input.ensures.bytes answered left.2 left.3 left.4)
 
 pub returns : goal.returns
 returns g c =
-    let answered = rw (c.deref.ensures.value, c.in_ok-me.ensures.ok.0) at c.in_ok-output.ensures in
+    let me = c.in_ok-me.ensures.ok in
+    let answered = rw (c.deref.ensures.value, me.0, me.1) at c.in_ok-output.ensures in
     let appends = rw c.deref-2.ensures.value at c.in_ok-write_out.ensures.ok in
-    written c.args.node c.args.nodes _ _ _ _ _ _ c.in_ok-input.input.items c.in_ok-output.output.items _ c.in_ok-me.ensures.ok.1
+    written c.args.node c.args.nodes _ _ _ _ _ _ c.in_ok-input.input.items c.in_ok-output.output.items _ (rw (me.0, me.1) at me.2)
     c.in_ok-input.ensures.bytes answered appends
