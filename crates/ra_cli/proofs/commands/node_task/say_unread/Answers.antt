@@ -1,6 +1,5 @@
 use Rattle.std.proofs.Common.{◌≡◌, ◌∙◌, codes}
 use Rattle.ra_cli.proofs.NodeRuns.{unread_line, unread_status}
-use Rattle.ra_cli.proofs.Statuses.{writes_as}
 use Rattle.ra_cli.proofs.commands.node_task.say_unread.Goals as goal
 
 pub returns-clause-status : goal.returns-clause-status
