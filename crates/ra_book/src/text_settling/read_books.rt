@@ -75,14 +75,14 @@ fn read_lines(alloc: Global, gathered: &mut Gathered, text: &[u8]) -> Result<u64
     for turn in 0..text.len() {
         let (line, after) = cut(rest, b'\n');
         let number = turn as u64 + 2;
-        let Some(behind) = after else {
+        let Some(after) = after else {
             return Ok(number);
         };
         match gathered.take_line(alloc, number, line) {
             Ok(()) => {}
             Err(fault) => return Err(fault_at(number, fault)),
         }
-        rest = behind;
+        rest = after;
     }
     // Nothing is left: each line took a byte or more.
     Ok(text.len() as u64 + 2)

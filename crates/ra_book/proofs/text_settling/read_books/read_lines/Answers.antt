@@ -25,12 +25,12 @@ pub loop-turn-preserved : goal.loop-turn-preserved
 loop-turn-preserved c =
     let rest = c.loop-turn.rest.now in
     let line = c.cut.result.0.now in
-    let behind = c.in-Some.behind.now in
-    let is : rest ≡ line ++ 10 ∷ behind = rw c.in-Some.is at c.cut.ensures.cut in
+    let after = c.in-Some.after.now in
+    let is : rest ≡ line ++ 10 ∷ after = rw c.in-Some.is at c.cut.ensures.cut in
     record {
-      left = omega (arith, c.loop-turn.invariant.left, ap length is, length-append line (10 ∷ behind));
+      left = omega (arith, c.loop-turn.invariant.left, ap length is, length-append line (10 ∷ after));
       so_far = λ whole first begins gathered.
-          line_more whole rest line behind c.loop-turn.turn (c.loop-turn.turn + 2) c.loop-turn.gathered c.take_line.new.self
+          line_more whole rest line after c.loop-turn.turn (c.loop-turn.turn + 2) c.loop-turn.gathered c.take_line.new.self
           (c.loop-turn.invariant.so_far whole first begins gathered) is c.cut.ensures.before refl c.in-Ok.ensures;
     }
 
@@ -38,11 +38,11 @@ pub returns-in-Err : goal.returns-in-Err
 returns-in-Err c whole first begins gathered =
     let rest = c.loop-turn.rest.now in
     let line = c.cut.result.0.now in
-    let behind = c.in-Some.behind.now in
+    let after = c.in-Some.after.now in
     let number = c.loop-turn.turn + 2 in
-    let is : rest ≡ line ++ 10 ∷ behind = rw c.in-Some.is at c.cut.ensures.cut in
+    let is : rest ≡ line ++ 10 ∷ after = rw c.in-Some.is at c.cut.ensures.cut in
     c.fault_at.ensures whole
-    (λ why wrong. line_wrong whole rest line behind c.loop-turn.turn number why c.loop-turn.gathered c.take_line.new.self
+    (λ why wrong. line_wrong whole rest line after c.loop-turn.turn number why c.loop-turn.gathered c.take_line.new.self
     (c.loop-turn.invariant.so_far whole first begins gathered) is c.cut.ensures.before refl
     (subst (λ (f : LineFault). TakesLine c.loop-turn.gathered number line c.take_line.new.self (Err f)) wrong (rw c.in-Err.is at c.take_line.ensures)))
 
