@@ -62,7 +62,7 @@ class Terminals(RaTest):
                 self.assertEqual((status, note), (0, f"ra: reading {said}\n"))
 
     def test_a_command_that_reads_nothing_says_the_same_on_a_terminal(self):
-        for words in ("sim --help", "", "simm"):
+        for words in ("sim --help", "", "simm", "check --no-such-option"):
             with self.subTest(words=words):
                 self.assertEqual(run_at_terminal(words, "")[2], run(words)[2].decode())
         self.assertEqual(run_at_terminal("sim --help", "")[2], "")

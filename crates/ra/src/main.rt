@@ -8,7 +8,6 @@ mod user_notes;
 use crate::serving_with_notes::{refuse_arguments_with_note, serve_with_notes};
 use ra_cli::CommandFault;
 use ra_notes::{EndReader, RecordingReader, SeenWriter};
-use ra_task::write_waiting_note;
 use std::io::{BufReader, IsTerminal};
 use std::process::ExitCode;
 use std::{env, io};
@@ -37,9 +36,7 @@ fn main(rt: HostRuntime) -> ExitCode {
         }
     };
     let input = rt.reader();
-    if input.is_terminal() {
-        write_waiting_note(arguments.as_slice(), &mut notes);
-    }
+    let at_terminal = input.is_terminal();
     // It is read in small pieces, which would otherwise be a call of the system each.
     let mut reader = match BufReader::new(alloc, EndReader::new(input)) {
         Ok(reader) => RecordingReader::new(alloc, arguments.as_slice(), reader),
@@ -52,6 +49,7 @@ fn main(rt: HostRuntime) -> ExitCode {
         &rt,
         alloc,
         arguments.as_slice(),
+        at_terminal,
         &mut reader,
         &mut writer,
         &mut notes,

@@ -1,8 +1,7 @@
 //! What `ra` does, with notes for a person.
-ghost use Rattle.std.specs.Prelude.{◌≡◌, ◌≢◌, ◌⊎◌, ◌++◌, List, ℕ, [], map, string_bytes};
-ghost use Rattle.std.specs.Io.KnownBytes.{Appends};
+ghost use Rattle.std.specs.Prelude.{◌≡◌, map, string_bytes};
 ghost use Rattle.ra_cli.specs.Refusals.{command_word, refused_line};
-ghost use Rattle.ra_cli.specs.Statuses.{Serves};
+ghost use Rattle.ra_cli.specs.Statuses.{Serves, Writes};
 
 use crate::note_places::NoteSource;
 use crate::user_notes::write_notes;
@@ -10,7 +9,7 @@ use ra_cli::{CommandFault, do_command, refuse_arguments};
 use ra_notes::{
     RecordingReader, SeedProgress, SeenWriter, write_arguments_note, write_output_note,
 };
-use ra_task::command_of;
+use ra_task::{Command, command_of, write_waiting_note};
 use std::alloc::Global;
 use std::io::{BufRead, Write};
 use std::sync::Wait;
@@ -23,14 +22,19 @@ pub fn refuse_arguments_with_note<W: Write, N: Write>(
     fault: CommandFault,
     notes: &mut N,
 ) -> u8
-    ensures { ((result ≡ 2) × Appends (W.contents writer.old.inner) (W.contents writer.new.inner) (refused_line (command_word fault)))
-        ⊎ ((result ≡ 1) × (prefix : List ℕ) × (rest : List ℕ) × (refused_line (command_word fault) ≡ prefix ++ rest) × (rest ≢ [])
-        × Appends (W.contents writer.old.inner) (W.contents writer.new.inner) prefix) }
+    ensures { Writes (refused_line (command_word fault)) 2 (W.contents writer.old.inner) (W.contents writer.new.inner) result }
 {
     let status = refuse_arguments(writer, fault);
     write_arguments_note(fault, notes);
     write_output_note(writer.fault(), notes);
     status
+}
+
+/// Tells the user what a command waits for, if the input is at a terminal.
+fn write_if_at_terminal<N: Write>(at_terminal: bool, asked: &Command<'_>, notes: &mut N) {
+    if at_terminal {
+        write_waiting_note(asked, notes);
+    }
 }
 
 /// Does as [`ra_cli::serve`], and then writes lines for a person to `notes`:
@@ -43,7 +47,8 @@ pub fn refuse_arguments_with_note<W: Write, N: Write>(
 ///   names locked, and for the seed of a run that was found.
 /// - There is a line if `writer` failed, unless that is a pipe that is no longer read.
 ///
-/// While many seeds take long, it writes there how far it is. Each line begins with `ra: `. Nothing of it goes to
+/// If the input is at a terminal, the first line says what the command waits for. While many seeds take long, it writes
+/// there how far it is. Each line begins with `ra: `. Nothing of it goes to
 /// `writer`, and it is left out if memory or `notes` fails, which changes nothing else. To find the place in a script
 /// it is read once more. To find which client waits for which it is run once more, and shrunk once more if it was. For
 /// the mark that is due, a trace that was to be drawn is checked once more.
@@ -51,6 +56,7 @@ pub fn serve_with_notes<T: Threads + Wait + Sync, R: BufRead, W: Write, N: Write
     rt: &T,
     alloc: Global,
     arguments: &[String],
+    at_terminal: bool,
     reader: &mut RecordingReader<R>,
     writer: &mut SeenWriter<W>,
     notes: &mut N,
@@ -60,6 +66,7 @@ pub fn serve_with_notes<T: Threads + Wait + Sync, R: BufRead, W: Write, N: Write
         (W.contents writer.old.inner) (W.contents writer.new.inner) (reader.new ≡ reader.old) result }
 {
     let asked = command_of(alloc, arguments);
+    write_if_at_terminal(at_terminal, &asked, notes);
     let mut progress = SeedProgress::new(alloc, notes);
     let mut text = Vec::new(alloc);
     let outcome = do_command(rt, alloc, &asked, reader, writer, &mut text, &mut progress);

@@ -6,7 +6,7 @@ use ra_notes::{
     cluster_text, mark_cause_text, of_check, of_choices, of_command, of_drawing, of_end,
     of_performance, range_note, text_cause_text, write_hints, write_shrunk_notes,
 };
-use ra_task::{NO_MEMORY, Said, text_of};
+use ra_task::{Command, NO_MEMORY, Notice};
 use std::alloc::Global;
 use std::io::Write;
 
@@ -22,7 +22,7 @@ pub fn write_notes<N: Write>(
         Some(Remark::Unfinished) if source.asked.shrinks() => {
             write_shrunk_notes(alloc, source.asked, source.seen, source.last_seed, notes);
         }
-        Some(remark) => said_of(alloc, source, remark).write(notes),
+        Some(remark) => notice_of(alloc, source, remark).write(notes),
         None => {}
     }
     if outcome.ran_to_end() {
@@ -40,87 +40,81 @@ pub fn write_notes<N: Write>(
 }
 
 /// Returns what there is to say about a remark: what is known about its place in the input, and otherwise its cause.
-fn said_of(alloc: Global, source: &NoteSource<'_>, remark: &Remark) -> Said {
+fn notice_of(alloc: Global, source: &NoteSource<'_>, remark: &Remark) -> Notice {
     match place_of(alloc, source, remark) {
-        Some(text) => Said::Note(text),
+        Some(text) => Notice::Note(text),
         None => cause_of(alloc, source, remark),
     }
 }
 
 /// Returns what there is to say about the cause of a remark.
-fn cause_of(alloc: Global, source: &NoteSource<'_>, remark: &Remark) -> Said {
+fn cause_of(alloc: Global, source: &NoteSource<'_>, remark: &Remark) -> Notice {
     match remark {
         Remark::Refused(refusal) => refusal_of(alloc, source, *refusal),
-        Remark::Unfinished => Said::Text(UNEXPLAINED),
-        Remark::SomeUnfinished => Said::Text(SEEDS_LEFT),
-        Remark::NoneFinished => Said::Text(NO_SEED_DONE),
+        Remark::Unfinished => Notice::Text(UNEXPLAINED),
+        Remark::SomeUnfinished => Notice::Text(SEEDS_LEFT),
+        Remark::NoneFinished => Notice::Text(NO_SEED_DONE),
         Remark::Ends { sent } => of_end(alloc, source.seen, *sent),
-        Remark::NoTrace { line, cause, .. } => Said::Line {
+        Remark::NoTrace { line, cause, .. } => Notice::Line {
             line: *line,
             text: cause_text(*cause),
         },
-        Remark::NoLog { line, cause } => Said::Line {
+        Remark::NoLog { line, cause } => Notice::Line {
             line: *line,
             text: mark_cause_text(*cause),
         },
-        Remark::NoBook => Said::Line {
+        Remark::NoBook => Notice::Line {
             line: 1,
             text: NO_BOOK,
         },
-        Remark::Unread => Said::Text(NO_INPUT),
-        Remark::Unsettled { line, cause, .. } => Said::Line {
+        Remark::Unread => Notice::Text(NO_INPUT),
+        Remark::Unsettled { line, cause, .. } => Notice::Line {
             line: *line,
             text: text_cause_text(*cause),
         },
-        Remark::TooManyBooks => Said::Text(BOOKS_TOO_LONG),
+        Remark::TooManyBooks => Notice::Text(BOOKS_TOO_LONG),
     }
 }
 
 /// Returns what there is to say about a refusal, nothing if the writer failed, since a refusal does not say how.
-fn refusal_of(alloc: Global, source: &NoteSource<'_>, refusal: CommandRefusal) -> Said {
+fn refusal_of(alloc: Global, source: &NoteSource<'_>, refusal: CommandRefusal) -> Notice {
     match refusal {
         CommandRefusal::Command(why) => of_command(alloc, source.arguments, why),
-        CommandRefusal::Answer(why) => of_answer(alloc, source.arguments, why),
+        CommandRefusal::Answer(why) => of_answer(alloc, source.asked, why),
         CommandRefusal::Choices(why) => of_choices(alloc, source.asked.choices(), why),
         CommandRefusal::Perform(why) => of_performance(why),
         CommandRefusal::Check(why) => of_check(why),
-        CommandRefusal::Draw(why) => of_drawing(alloc, source.arguments, why),
+        CommandRefusal::Draw(why) => of_drawing(alloc, source.asked, why),
         CommandRefusal::Cluster(why) => of_run(why),
     }
 }
 
 /// Returns what there is to say about a frame that is not answered.
-fn of_answer(alloc: Global, arguments: &[String], why: AnswerError) -> Said {
+fn of_answer(alloc: Global, asked: &Command<'_>, why: AnswerError) -> Notice {
+    let (node, nodes) = asked.answering_node();
     match why {
-        AnswerError::BadCount => range_note(alloc, arguments, "--nodes", "64"),
-        AnswerError::BadNode => {
-            range_note(
-                alloc,
-                arguments,
-                "--node",
-                text_of(arguments, "--nodes").unwrap_or(""),
-            )
-        }
-        AnswerError::Read => Said::Text(NO_INPUT),
-        AnswerError::Memory => Said::Text(NO_MEMORY),
-        AnswerError::Write => Said::Nothing,
+        AnswerError::BadCount => range_note(alloc, "--nodes", nodes, 64),
+        AnswerError::BadNode => range_note(alloc, "--node", node, nodes),
+        AnswerError::Read => Notice::Text(NO_INPUT),
+        AnswerError::Memory => Notice::Text(NO_MEMORY),
+        AnswerError::Write => Notice::Nothing,
         AnswerError::Line
         | AnswerError::Hex
         | AnswerError::Frame(_)
         | AnswerError::WrongNode
         | AnswerError::Stranger
-        | AnswerError::ClockFull => Said::Text(UNEXPLAINED),
+        | AnswerError::ClockFull => Notice::Text(UNEXPLAINED),
     }
 }
 
 /// Returns what there is to say about a script that is not run by threads, or not under many seeds.
-fn of_run(why: RunScriptError) -> Said {
+fn of_run(why: RunScriptError) -> Notice {
     match why {
-        RunScriptError::Read => Said::Text(NO_INPUT),
-        RunScriptError::Script(_) => Said::Text(UNEXPLAINED),
-        RunScriptError::Cluster(fault) => Said::Text(cluster_text(fault)),
-        RunScriptError::Choice => Said::Text(NO_WORD),
-        RunScriptError::Memory => Said::Text(NO_MEMORY),
-        RunScriptError::Write => Said::Nothing,
+        RunScriptError::Read => Notice::Text(NO_INPUT),
+        RunScriptError::Script(_) => Notice::Text(UNEXPLAINED),
+        RunScriptError::Cluster(fault) => Notice::Text(cluster_text(fault)),
+        RunScriptError::Choice => Notice::Text(NO_WORD),
+        RunScriptError::Memory => Notice::Text(NO_MEMORY),
+        RunScriptError::Write => Notice::Nothing,
     }
 }

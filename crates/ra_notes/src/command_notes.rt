@@ -8,7 +8,7 @@ use ra_draw::DrawError;
 use ra_explain::end_note;
 use ra_schedule::DriveError;
 use ra_script::{ChoicesError, PerformError};
-use ra_task::{CommandFault, NO_MEMORY, Said, is_choice, text_of, usage_note, write_line};
+use ra_task::{Command, CommandFault, NO_MEMORY, Notice, is_choice, usage_note, write_line};
 use ra_trace::TraceError;
 use ra_world::Note;
 use std::alloc::Global;
@@ -34,53 +34,53 @@ pub fn write_output_note<N: Write>(fault: Option<OutputFault>, notes: &mut N) {
 }
 
 /// Returns what there is to say about the end of a trace in which this many messages were sent, or of a mark log.
-pub fn of_end(alloc: Global, text: Option<&[u8]>, sent: u128) -> Said {
+pub fn of_end(alloc: Global, text: Option<&[u8]>, sent: u128) -> Notice {
     let Some(text) = text else {
-        return Said::Text(UNEXPLAINED);
+        return Notice::Text(UNEXPLAINED);
     };
     match end_note(alloc, text, sent) {
-        Ok(Some(text)) => Said::Note(text),
-        Ok(None) => Said::Nothing,
+        Ok(Some(text)) => Notice::Note(text),
+        Ok(None) => Notice::Nothing,
         // Without a note, nothing would seem to be left.
-        Err(_) => Said::Text(UNEXPLAINED),
+        Err(_) => Notice::Text(UNEXPLAINED),
     }
 }
 
 /// Returns what there is to say about arguments for which there is no task.
-pub fn of_command(alloc: Global, arguments: &[String], why: CommandFault) -> Said {
+pub fn of_command(alloc: Global, arguments: &[String], why: CommandFault) -> Notice {
     match why {
         CommandFault::Usage => usage_note(alloc, arguments),
-        CommandFault::Memory => Said::Text(NO_MEMORY),
+        CommandFault::Memory => Notice::Text(NO_MEMORY),
     }
 }
 
 /// Returns the note on an option whose number is not from 1 to `most`.
-pub fn range_note(alloc: Global, arguments: &[String], option: &str, most: &str) -> Said {
+pub fn range_note(alloc: Global, option: &str, number: u16, most: u16) -> Notice {
     let mut note = Note::new(alloc);
     note.push(option);
     note.push(" is ");
-    note.push(text_of(arguments, option).unwrap_or(""));
+    note.number(u64::from(number));
     note.push(": must be 1 to ");
-    note.push(most);
-    Said::of(note)
+    note.number(u64::from(most));
+    Notice::of(note)
 }
 
 /// Returns what there is to say about a list of choices that is not one.
-pub fn of_choices(alloc: Global, choices: &str, why: ChoicesError) -> Said {
+pub fn of_choices(alloc: Global, choices: &str, why: ChoicesError) -> Notice {
     match why {
         ChoicesError::Choice => { no_choice_note(alloc, first_no_choice(alloc, choices)) }
-        ChoicesError::Memory => Said::Text(NO_MEMORY),
+        ChoicesError::Memory => Notice::Text(NO_MEMORY),
     }
 }
 
 /// Returns the note on a word that is not a choice.
-fn no_choice_note(alloc: Global, word: &str) -> Said {
+fn no_choice_note(alloc: Global, word: &str) -> Notice {
     let text = format!(in alloc;
         "--choices: {word:?} is not a choice: expected c, m or l and a number of 1 to 9 digits without leading zeros, with one space between choices"
     );
     match text {
-        Ok(text) => Said::Note(text),
-        Err(_) => Said::Text(NO_MEMORY),
+        Ok(text) => Notice::Note(text),
+        Err(_) => Notice::Text(NO_MEMORY),
     }
 }
 
@@ -95,50 +95,49 @@ fn first_no_choice(alloc: Global, text: &str) -> &str {
 }
 
 /// Returns what there is to say about a script that is not performed.
-pub fn of_performance(why: PerformError) -> Said {
+pub fn of_performance(why: PerformError) -> Notice {
     match why {
-        PerformError::Read => Said::Text(NO_INPUT),
-        PerformError::Drive(DriveError::TurnLimit) => Said::Text(TOO_MANY_TURNS),
-        PerformError::Script(_) | PerformError::Drive(_) => Said::Text(UNEXPLAINED),
-        PerformError::Choice => Said::Text(NO_WORD),
-        PerformError::Memory => Said::Text(NO_MEMORY),
-        PerformError::Write => Said::Nothing,
+        PerformError::Read => Notice::Text(NO_INPUT),
+        PerformError::Drive(DriveError::TurnLimit) => Notice::Text(TOO_MANY_TURNS),
+        PerformError::Script(_) | PerformError::Drive(_) => Notice::Text(UNEXPLAINED),
+        PerformError::Choice => Notice::Text(NO_WORD),
+        PerformError::Memory => Notice::Text(NO_MEMORY),
+        PerformError::Write => Notice::Nothing,
     }
 }
 
 /// Returns what there is to say about a text that has no verdict.
-pub fn of_check(why: TraceError) -> Said {
-    Said::Text(match why {
+pub fn of_check(why: TraceError) -> Notice {
+    Notice::Text(match why {
         TraceError::Read => NO_INPUT,
         TraceError::Limit => TOO_MANY_BYTES,
         TraceError::Memory => NO_MEMORY,
     })
 }
 
-/// Returns the note on a part that has none of this many lines.
-fn no_lines_note(alloc: Global, arguments: &[String], lines: u64) -> Said {
+/// Returns the note on a part from this line on that has none of this many lines.
+fn no_lines_note(alloc: Global, from: u64, lines: u64) -> Notice {
     let mut note = Note::new(alloc);
-    match text_of(arguments, "--from") {
-        Some(from) => {
-            note.push("--from is ");
-            note.push(from);
-        }
-        None => note.push("there is nothing to draw"),
+    if lines == 0 {
+        note.push("there is nothing to draw");
+    } else {
+        note.push("--from is ");
+        note.number(from);
     }
     note.push(": standard input has ");
     note.number(lines);
     note.push(if lines == 1 { " line" } else { " lines" });
-    Said::of(note)
+    Notice::of(note)
 }
 
 /// Returns what there is to say about an input that is not drawn.
-pub fn of_drawing(alloc: Global, arguments: &[String], why: DrawError) -> Said {
+pub fn of_drawing(alloc: Global, asked: &Command<'_>, why: DrawError) -> Notice {
     match why {
-        DrawError::Read => Said::Text(NO_INPUT),
-        DrawError::Limit => Said::Text(TOO_MANY_BYTES),
-        DrawError::NoLines { lines } => no_lines_note(alloc, arguments, lines),
-        DrawError::TooLong => Said::Text(TOO_LONG),
-        DrawError::Memory => Said::Text(NO_MEMORY),
-        DrawError::Write => Said::Nothing,
+        DrawError::Read => Notice::Text(NO_INPUT),
+        DrawError::Limit => Notice::Text(TOO_MANY_BYTES),
+        DrawError::NoLines { lines } => no_lines_note(alloc, asked.first_line(), lines),
+        DrawError::TooLong => Notice::Text(TOO_LONG),
+        DrawError::Memory => Notice::Text(NO_MEMORY),
+        DrawError::Write => Notice::Nothing,
     }
 }

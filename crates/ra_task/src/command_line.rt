@@ -21,7 +21,6 @@ use ra_draw::Part;
 use ra_schedule::{Ending, Faults};
 use ra_script::OutputKind;
 use std::alloc::Global;
-use thiserror::Error;
 
 /// Which policy the arguments name.
 #[derive(Clone, Copy)]
@@ -73,8 +72,7 @@ pub enum Task<'a> {
 }
 
 /// Why the arguments of a command line ask for nothing.
-#[derive(Clone, Copy, Debug, PartialEq, Eq, Error)]
-#[error("{:?}", self)]
+#[derive(Clone, Copy)]
 pub enum CommandFault {
     /// They are no command line of `ra`.
     Usage,
@@ -438,7 +436,7 @@ fn is_help_argument(argument: &str) -> bool
 }
 
 /// Returns whether one of the arguments asks for a text of help or for the version. It does not allocate.
-pub fn asks_for_help(arguments: &[String]) -> bool
+fn asks_for_help(arguments: &[String]) -> bool
     ensures { IsTrue result → Any (λ argument. IsHelpArgument (string_bytes argument)) arguments.now }
 {
     for argument in arguments {

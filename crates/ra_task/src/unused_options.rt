@@ -1,6 +1,6 @@
 //! Options of `sim` that are given but have no effect.
 use crate::command_line::{choices_word, policy_word, text_of};
-use crate::said::write_line;
+use crate::notice::write_line;
 use std::io::Write;
 
 /// An option that has an effect only under some policies.

@@ -67,6 +67,16 @@ const COMMANDS: &[CommandRow] = &[
     },
 ];
 
+/// Returns whether a command has this name. It does not allocate.
+pub fn is_command(name: &str) -> bool {
+    for row in COMMANDS {
+        if row.name == name {
+            return true;
+        }
+    }
+    false
+}
+
 /// Makes a command. The summary of its help has its options, and names --help.
 fn command_of<'a>(
     alloc: Global,

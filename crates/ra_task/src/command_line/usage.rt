@@ -1,10 +1,9 @@
 //! What the parser says about arguments that are not a command line, on one line.
-use crate::command_line::command_rows::command;
-use crate::command_line::{PolicyName, format_of, policy_name, text_of};
+use crate::command_line::command_rows::{command, is_command};
+use crate::command_line::{PolicyName, format_of, policy_name};
+use crate::notice::Notice;
 use crate::policy::is_choice;
-use crate::said::Said;
 use crate::unused_options::is_given;
-use crate::waiting::reads_input;
 use clap::error::ErrorKind;
 use clap::{ArgMatches, Command, Error as ParseError};
 use ra_world::Note;
@@ -146,7 +145,7 @@ fn push_value(note: &mut Note, arguments: &[String], said: &str) -> bool {
 /// Returns the command that the arguments name, or `None`.
 fn command_named(arguments: &[String]) -> Option<&str> {
     let name = arguments.get(1)?.as_str();
-    if reads_input(name) { Some(name) } else { None }
+    if is_command(name) { Some(name) } else { None }
 }
 
 /// Returns the argument that the parser did not expect, if it is not an option.
@@ -266,21 +265,21 @@ fn push_seeds(note: &mut Note, seeds: &str) {
 }
 
 /// Adds what is wrong with arguments of the command `sim` that ask for many seeds.
-fn push_survey(note: &mut Note, arguments: &[String], policy: &PolicyName, sim: &ArgMatches) {
+fn push_survey(note: &mut Note, policy: &PolicyName, sim: &ArgMatches) {
     if !matches!(policy, PolicyName::Seeded(_) | PolicyName::Faulty { .. }) {
         note.push("--seeds requires --policy seeded or faulty; see ra sim --help");
     } else if sim.get_flag("state") {
         note.push(STATE_TEXT);
     } else if (sim.get_flag("trace") || sim.get_flag("as-choices") || sim.get_flag("shrink"))
-        && !is_given(arguments, "--find")
+        && sim.get_str("find").is_none()
     {
         note.push(
             "--seeds takes --trace, --as-choices or --shrink only with --find; see ra sim --help",
         );
-    } else if sim.get_flag("shrink") && text_of(arguments, "--find") == Some("finished") {
+    } else if sim.get_flag("shrink") && sim.get_str("find") == Some("finished") {
         note.push("--shrink cannot be used with --find finished; see ra sim --help");
     } else {
-        push_seeds(note, text_of(arguments, "--seeds").unwrap_or(""));
+        push_seeds(note, sim.get_str("seeds").unwrap_or(""));
     }
 }
 
@@ -294,8 +293,8 @@ fn push_under(note: &mut Note, arguments: &[String], policy: &PolicyName, sim: &
         } else {
             "--as-choices cannot be used with --trace, nor with --policy faulty unless --repeat is 0; see ra sim --help"
         });
-    } else if is_given(arguments, "--seeds") {
-        push_survey(note, arguments, policy, sim);
+    } else if sim.get_str("seeds").is_some() {
+        push_survey(note, policy, sim);
     } else {
         note.push("--find requires --seeds; see ra sim --help");
     }
@@ -341,11 +340,11 @@ fn push_usage<'a>(alloc: Global, note: &mut Note, arguments: &'a [String], comma
 /// Returns what there is to say about arguments that are not a command line of `ra`: what is wrong, the nearest word if
 /// the parser knows one, and where to read more. The parser is run again, so that the contract of `parse` need not
 /// mention notes.
-pub fn usage_note(alloc: Global, arguments: &[String]) -> Said {
+pub fn usage_note(alloc: Global, arguments: &[String]) -> Notice {
     let mut note = Note::new(alloc);
     match command(alloc, false) {
         Ok(command) => push_usage(alloc, &mut note, arguments, command),
         Err(_) => note.refuse_if(true),
     }
-    Said::of(note)
+    Notice::of(note)
 }

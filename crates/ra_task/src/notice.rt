@@ -8,7 +8,7 @@ pub const NO_MEMORY: &str = "out of memory";
 
 /// What there is to say to a person.
 #[derive(Drop)]
-pub enum Said {
+pub enum Notice {
     Nothing,
     /// A text that depends on neither the arguments nor the input.
     Text(&'static str),
@@ -17,29 +17,29 @@ pub enum Said {
     Note(String),
 }
 
-impl Said {
+impl Notice {
     /// Returns what a note says, or that memory ran out for it.
-    pub fn of(note: Note) -> Said {
+    pub fn of(note: Note) -> Notice {
         match note.finish() {
-            Ok(Some(text)) => Said::Note(text),
-            Ok(None) => Said::Nothing,
-            Err(_) => Said::Text(NO_MEMORY),
+            Ok(Some(text)) => Notice::Note(text),
+            Ok(None) => Notice::Nothing,
+            Err(_) => Notice::Text(NO_MEMORY),
         }
     }
 
     /// Writes it as a line. It does not allocate, and ignores a failure of the writer.
     pub fn write<N: Write>(&self, notes: &mut N) {
         match self {
-            Said::Nothing => {}
-            Said::Text(text) => write_line(notes, text),
-            Said::Line { line, text } => {
+            Notice::Nothing => {}
+            Notice::Text(text) => write_line(notes, text),
+            Notice::Line { line, text } => {
                 let mut digits = Buffer::new();
                 write_parts(
                     notes,
                     &["ra: line ", digits.format(*line), ": ", text, "\n"],
                 );
             }
-            Said::Note(text) => write_line(notes, text.as_str()),
+            Notice::Note(text) => write_line(notes, text.as_str()),
         }
     }
 }
