@@ -13,8 +13,6 @@ use Rattle.ra_audit.specs.declared.audit_error.AuditError.TheVariants as audit
 use Rattle.ra_audit.specs.declared.audit_error.AuditFault.{AuditFault}
 use Rattle.ra_audit.specs.declared.audit_error.RoundError.{RoundError}
 use Rattle.ra_audit.specs.declared.audit_error.RoundError.TheVariants as round
-use Rattle.ra_audit.specs.declared.audit_error.FinishError.{FinishError}
-use Rattle.ra_audit.specs.declared.audit_error.FinishError.TheVariants as finish
 use Rattle.ra_cluster.specs.declared.site.take_error.TakeError.{TakeError}
 use Rattle.ra_cluster.specs.declared.site.take_error.TakeError.TheVariants.{NoNode, OutOfTurn, NotNext, Memory}
 use Rattle.ra_frame.specs.declared.frame.Frame.{Frame}
@@ -540,14 +538,6 @@ none_kept_as new noted same = subst (λ (a : AuditState). NoneIsKept a.nodes) (s
 pub if_taken : {E : Type 0} (A : Type 0) (r : Result (Unit {0}) E) → IsOk r → OnOk r A → A
 if_taken A (Ok x) done h = h
 if_taken A (Err e) done h = absurd cc
-
--- ---- The round at the end
-
-pub round_of : (a b : RoundError) → ◌≡◌ {A = Result (Unit {0}) FinishError} (Err (finish.Round a)) (Err (finish.Round b)) → IsErrOf {T = Unit {0}} (Err a) b
-round_of a b e = cc
-
-pub of_round : (a b : RoundError) → IsErrOf {T = Unit {0}} (Err a) b → ◌≡◌ {A = Result (Unit {0}) FinishError} (Err (finish.Round a)) (Err (finish.Round b))
-of_round a b e = cc
 
 -- ---- The fault that a round leaves
 

@@ -7,7 +7,7 @@ use Rattle.ra_frame.specs.declared.frame.Frame.{Frame}
 use Rattle.ra_history.specs.declared.book.event.BookKind.{BookKind}
 use Rattle.ra_history.specs.declared.book.event.BookKind.TheVariants.{Asked, Gave, Got}
 use Rattle.ra_history.specs.declared.book.event.BookEvent.{BookEvent}
-use Rattle.ra_audit.specs.declared.auditor.node_progress.Progress.TheInside.{Inside}
+use Rattle.ra_audit.specs.declared.auditor.node_progress.NodeProgress.TheInside.{Inside}
 use Rattle.ra_history.specs.History.{clock_from, clock_of, clock_after}
 use Rattle.ra_history.proofs.Clocks.{clock_append}
 use Rattle.ra_audit.specs.Audit.{ProgressState, AreNextAt, IsNextAt, IsForNumber, taken_of}

@@ -1,5 +1,5 @@
 -- An auditor as contracts see it: what has happened so far at running nodes, put into one run of the cluster.
-use Rattle.std.specs.Prelude.{◌≡◌, ◌≢◌, ◌↔◌, ◌⊎◌, ℕ, true, ◌-◌, ◌<◌, ◌≤◌, ◌^◌, Option, Some, Result, IsErrOf, OnOk, OnErr, List, [], ◌∷◌, ◌++◌, length, map, flat_map, All, Contains, slice_get, slice_index_or, slice_set}
+use Rattle.std.specs.Prelude.{◌≡◌, ◌≢◌, ◌↔◌, ◌⊎◌, ℕ, true, false, ◌-◌, ◌<◌, ◌≤◌, ◌^◌, Option, Some, None, Result, Ok, Err, IsErrOf, OnOk, OnErr, List, [], ◌∷◌, ◌++◌, length, map, flat_map, All, Contains, slice_get, slice_index_or, slice_set}
 use Rattle.std.specs.List.{Any, AllWithin, range_with_len}
 use Rattle.std.specs.List.Sorted.{IsPermutation}
 use Rattle.ra_stamp.specs.declared.entry.Mark.{Mark}
@@ -15,6 +15,10 @@ use Rattle.ra_world.specs.World.{WorldState}
 use Rattle.ra_world.specs.MainTheorem.{AreGrantedInOrder}
 use Rattle.ra_frame.specs.declared.frame.Frame.{Frame}
 use Rattle.ra_audit.specs.declared.audit_error.AuditFault.{AuditFault}
+use Rattle.ra_audit.specs.declared.audit_error.FinishError.{FinishError}
+use Rattle.ra_audit.specs.declared.audit_error.FinishError.TheVariants.{Round, NeverSent, LostUnsent}
+use Rattle.ra_audit.specs.declared.audit_error.RoundError.{RoundError}
+use Rattle.ra_audit.specs.declared.audit_error.RoundError.TheVariants.{NotAudited, OtherCluster, Fault, NotLost, NotTaken}
 use Rattle.ra_cluster.specs.declared.site.take_error.TakeError.{TakeError}
 use Rattle.ra_cluster.specs.declared.site.take_error.TakeError.TheVariants.{NoNode, OutOfTurn, NotNext, Memory}
 use Rattle.ra_history.specs.declared.book.event.BookKind.{BookKind}
@@ -410,6 +414,34 @@ pub record IsUnsent (clocks : List ℕ) (nodes : List ProgressState) (fault : Au
   pub never_sent : IsNeverSent nodes fault
   pub sure : All (λ s. s.node ≡ from_of never_sent.frame.message
       → (never_sent.frame.clock < clock_of (taken_of s)) ⊎ (fault.event.clock ≤ clock_at clocks fault.node)) nodes
+
+-- What a round of the audit of a cluster answers, and what it makes of the auditor and of the marks that were told.
+pub record AnswersRound (cluster : ClusterState) (old : AuditState) (told : List Mark) (new : AuditState) (told' : List Mark)
+    (answer : Result (Unit {0}) RoundError) : Type 0 where
+  pub audits : Audits old told new told'
+  pub theorem : RunTheorem new.world.count new.world.moves
+  pub ok : OnOk answer (NoneIsReady new.nodes)
+  pub none_reached : OnOk answer (NoneIsReached new.nodes new.losing)
+  pub kept : OnOk answer (NoneIsKept new.nodes)
+  pub may_be_put : OnOk answer (All (MayBePut (clocks_taken old.nodes) new.nodes) new.nodes)
+  pub not_audited : IsErrOf answer NotAudited ↔ (cluster.audited ≡ false)
+  pub other_cluster : IsErrOf answer OtherCluster ↔ ((cluster.audited ≡ true) × (IsAuditorOf cluster old → ⊥))
+  pub unchanged : (IsAuditorOf cluster old → ⊥) → new ≡ old
+  pub known : (fault : AuditFault) → IsAuditorOf cluster old → old.fault ≡ Some fault → IsErrOf answer (Fault fault) × (new ≡ old)
+  pub found : (fault : AuditFault) → old.fault ≡ None → IsErrOf answer (Fault fault)
+      → IsMisfit new.world new.nodes fault ⊎ IsUnsent (clocks_taken old.nodes) new.nodes fault
+  -- so after a round of its cluster, an auditor has a fault exactly if the round answered it
+  pub fault : (fault : AuditFault) → IsAuditorOf cluster old → IsErrOf answer (Fault fault) ↔ (new.fault ≡ Some fault)
+  pub not_lost : (frame : Frame) → IsErrOf answer (NotLost frame) → NoneIsReady new.nodes × IsNotLost new.world new.nodes new.losing frame
+  pub not_taken : (node : ℕ) (cause : TakeError) → IsErrOf answer (NotTaken node cause)
+      → NoneIsReady new.nodes × NoneIsReached new.nodes new.losing × IsNotTaken new.nodes node cause
+
+-- what the last round answered, by what the end of an audit did: `Ok`, unless that round was refused
+abbrev pub last_round : Result (Unit {0}) FinishError → Result (Unit {0}) RoundError
+last_round (Ok done) = Ok done
+last_round (Err (Round refused)) = Err refused
+last_round (Err (NeverSent fault)) = Ok tt
+last_round (Err (LostUnsent frame)) = Ok tt
 
 -- no event that was taken waits
 abbrev pub NoneWaits : List ProgressState → Type 0

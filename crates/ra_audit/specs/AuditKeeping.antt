@@ -2,7 +2,7 @@
 -- of it.
 use Rattle.std.specs.Prelude.{◌≡◌, ◌≢◌, ◌⊎◌, ◌↔◌, ℕ, ◌+◌, ◌-◌, ◌*◌, ◌<◌, ◌≤◌, ◌∷◌, ◌++◌, [], List, Option, Some, None, All, AllPairs, Contains, length, take, drop, slice_get, slice_index_or}
 use Rattle.std.specs.List.{Any}
-use Rattle.ra_audit.specs.declared.auditor.node_progress.Progress.TheInside.{Inside}
+use Rattle.ra_audit.specs.declared.auditor.node_progress.NodeProgress.TheInside.{Inside}
 use Rattle.ra_audit.specs.declared.auditor.noted_losses.Losses.TheInside.{Inside as LossesInside}
 use Rattle.ra_stamp.specs.Message.{from_of, to_of}
 use Rattle.ra_stamp.specs.declared.message.Message.{Message}

@@ -24,7 +24,7 @@ use crate::audit_laws::runs_meet_the_theorem;
 use crate::auditor::closing::check_all;
 use crate::auditor::flights::Flights;
 use crate::auditor::never_sent::{clocks_of, first_unsent};
-use crate::auditor::node_progress::Progress;
+use crate::auditor::node_progress::NodeProgress;
 use crate::auditor::noted_losses::Losses;
 use crate::auditor::put_losses::put_events_and_losses;
 use crate::auditor::unsettled::{first_unsettled, waiting_at};
@@ -52,7 +52,7 @@ pub struct Auditor {
     count: u16,
     start: u64,
     /// By the nodes' numbers, from 1.
-    nodes: Vec<Progress>,
+    nodes: Vec<NodeProgress>,
     /// Of the messages under way, the clocks of the events that sent them.
     flights: Flights,
     losses: Losses,
@@ -156,11 +156,11 @@ impl Auditor {
     }
 
     /// Has a site hand over what has happened since the last time, and takes it and notes the lost frames, as
-    /// [`Progress::take_handed`] does.
+    /// [`NodeProgress::take_handed`] does.
     ///
     /// # Errors
     ///
-    /// `NoNode` exactly if the auditor has no such node, or those of [`Progress::take_handed`].
+    /// `NoNode` exactly if the auditor has no such node, or those of [`NodeProgress::take_handed`].
     pub(crate) fn take_handed<R: Wait>(
         &mut self,
         rt: &R,
@@ -402,7 +402,7 @@ fn note_unsent(unsent: &Option<AuditFault>, fault: &mut Option<AuditFault>)
 
 /// Takes the next events of a node, one of these, as `take` does.
 fn take_into(
-    nodes: &mut [Progress],
+    nodes: &mut [NodeProgress],
     node: NodeId,
     after: u64,
     events: &[BookEvent],
@@ -421,7 +421,7 @@ fn take_into(
 fn take_handed_into<R: Wait>(
     rt: &R,
     alloc: Global,
-    nodes: &mut [Progress],
+    nodes: &mut [NodeProgress],
     losses: &mut Losses,
     site: &Site,
 ) -> Result<(), TakeError>
@@ -438,7 +438,7 @@ fn take_handed_into<R: Wait>(
 }
 
 /// Returns, for each of this many nodes, that nothing was taken from it.
-fn none_taken(alloc: Global, nodes: u16) -> Result<Vec<Progress>, Memory>
+fn none_taken(alloc: Global, nodes: u16) -> Result<Vec<NodeProgress>, Memory>
     ensures { IfOk result (λ progress. progress.items ≡ map fresh_progress (range_with_len 1 nodes)) }
 {
     let mut progress = Vec::new(alloc);
@@ -449,12 +449,12 @@ fn none_taken(alloc: Global, nodes: u16) -> Result<Vec<Progress>, Memory>
 }
 
 /// Puts the node with this number, from which nothing was taken, after the others.
-fn push_fresh(alloc: Global, progress: &mut Vec<Progress>, number: u16) -> Result<(), Memory>
+fn push_fresh(alloc: Global, progress: &mut Vec<NodeProgress>, number: u16) -> Result<(), Memory>
     ensures { OnOk result (progress.new.items ≡ progress.old.items ++ fresh_progress number ∷ []) }
 {
     let Some(node) = NodeId::new(number) else {
         return Err(Memory);
     };
-    progress.push(Progress::new(alloc, node))?;
+    progress.push(NodeProgress::new(alloc, node))?;
     Ok(())
 }

@@ -3,8 +3,7 @@ ghost use Rattle.std.specs.Prelude.{◌≡◌, ◌↔◌, ◌⊎◌, ◌≤◌, 
 ghost use Rattle.ra_audit.specs.declared.audit_error.AuditFault as audit_fault;
 ghost use Rattle.ra_cluster.specs.declared.site.take_error.TakeError.{TakeError};
 ghost use Rattle.ra_frame.specs.declared.frame.Frame.{Frame};
-ghost use Rattle.ra_audit.specs.declared.audit_error.RoundError as round_error;
-ghost use Rattle.ra_audit.specs.Audit.{NoneIsReady, NoneIsReached, NoneWaits, IsNeverSent, IsLeastLeft, IsAhead, IsMisfit, IsNotLost, IsUnsent, MayBePut, IsAudited, HasLost, AllWereSent, IsAuditorOf, RunTheorem, Audits, TakesMore, TakesMoreAt, TakesAllAt, NotTakenAt, IsNotTaken, NoneIsKept, clocks_taken};
+ghost use Rattle.ra_audit.specs.Audit.{NoneIsReady, NoneIsReached, NoneWaits, IsNeverSent, IsLeastLeft, IsAhead, IsMisfit, IsNotLost, IsUnsent, MayBePut, IsAudited, HasLost, AllWereSent, IsAuditorOf, Audits, TakesMore, TakesMoreAt, TakesAllAt, NotTakenAt, IsNotTaken, NoneIsKept, AnswersRound, clocks_taken, last_round};
 ghost use Rattle.ra_stamp.specs.NodeId.{IsNodeNumber};
 
 use crate::audit_laws::runs_meet_the_theorem;
@@ -55,28 +54,7 @@ impl Auditor {
         cluster: &Cluster<G>,
         observer: &mut O,
     ) -> Result<(), RoundError>
-        ensures audits { Audits self.old (O.told observer.old) self.new (O.told observer.new) }
-        ensures theorem { RunTheorem self.new.world.count self.new.world.moves }
-        ensures ok { OnOk result (NoneIsReady self.new.nodes) }
-        ensures none_reached { OnOk result (NoneIsReached self.new.nodes self.new.losing) }
-        ensures kept { OnOk result (NoneIsKept self.new.nodes) }
-        ensures may_be_put { OnOk result (All (MayBePut (clocks_taken self.old.nodes) self.new.nodes) self.new.nodes) }
-        ensures not_audited { IsErrOf result RoundError.NotAudited ↔ (cluster.now.audited ≡ false) }
-        ensures other_cluster { IsErrOf result RoundError.OtherCluster
-            ↔ ((cluster.now.audited ≡ true) × (IsAuditorOf cluster.now self.old → ⊥)) }
-        ensures unchanged { (IsAuditorOf cluster.now self.old → ⊥) → self.new ≡ self.old }
-        ensures known { (fault : audit_fault.AuditFault) → IsAuditorOf cluster.now self.old → self.old.fault ≡ Some fault
-            → IsErrOf result (RoundError.Fault fault) × (self.new ≡ self.old) }
-        ensures found { (fault : audit_fault.AuditFault) → self.old.fault ≡ None → IsErrOf result (RoundError.Fault fault)
-            → IsMisfit self.new.world self.new.nodes fault
-            ⊎ IsUnsent (clocks_taken self.old.nodes) self.new.nodes fault }
-        // So after a round of its cluster, an auditor has a fault exactly if the round answered it.
-        ensures fault { (fault : audit_fault.AuditFault) → IsAuditorOf cluster.now self.old
-            → IsErrOf result (RoundError.Fault fault) ↔ (self.new.fault ≡ Some fault) }
-        ensures not_lost { (frame : Frame) → IsErrOf result (RoundError.NotLost frame)
-            → NoneIsReady self.new.nodes × IsNotLost self.new.world self.new.nodes self.new.losing frame }
-        ensures not_taken { (node : ℕ) (cause : TakeError) → IsErrOf result (RoundError.NotTaken node cause)
-            → NoneIsReady self.new.nodes × NoneIsReached self.new.nodes self.new.losing × IsNotTaken self.new.nodes node cause }
+        ensures { AnswersRound cluster.now self.old (O.told observer.old) self.new (O.told observer.new) result }
     {
         runs_meet_the_theorem();
         match check_round(cluster, self) {
@@ -105,31 +83,13 @@ impl Auditor {
         cluster: &mut Cluster<G>,
         observer: &mut O,
     ) -> Result<(), FinishError>
-        ensures audits { Audits self.old (O.told observer.old) self.new (O.told observer.new) }
-        ensures theorem { RunTheorem self.new.world.count self.new.world.moves }
+        ensures round { AnswersRound cluster.old self.old (O.told observer.old) self.new (O.told observer.new) (last_round result) }
         ensures ok { OnOk result (NoneWaits self.new.nodes) }
         ensures all_lost { OnOk result (self.new.losing ≡ []) }
-        ensures kept { OnOk result (NoneIsKept self.new.nodes) }
-        ensures not_audited { IsErrOf result (FinishError.Round RoundError.NotAudited) ↔ (cluster.old.audited ≡ false) }
-        ensures other_cluster { IsErrOf result (FinishError.Round RoundError.OtherCluster)
-            ↔ ((cluster.old.audited ≡ true) × (IsAuditorOf cluster.old self.old → ⊥)) }
-        ensures unchanged { (IsAuditorOf cluster.old self.old → ⊥) → self.new ≡ self.old }
-        ensures known { (fault : audit_fault.AuditFault) → IsAuditorOf cluster.old self.old → self.old.fault ≡ Some fault
-            → IsErrOf result (FinishError.Round (RoundError.Fault fault)) × (self.new ≡ self.old) }
-        ensures found { (fault : audit_fault.AuditFault) → self.old.fault ≡ None
-            → IsErrOf result (FinishError.Round (RoundError.Fault fault))
-            → IsMisfit self.new.world self.new.nodes fault
-            ⊎ IsUnsent (clocks_taken self.old.nodes) self.new.nodes fault }
-        ensures fault { (fault : audit_fault.AuditFault) → IsAuditorOf cluster.old self.old
-            → IsErrOf result (FinishError.Round (RoundError.Fault fault)) ↔ (self.new.fault ≡ Some fault) }
-        ensures not_lost { (frame : Frame) → IsErrOf result (FinishError.Round (RoundError.NotLost frame))
-            → NoneIsReady self.new.nodes × IsNotLost self.new.world self.new.nodes self.new.losing frame }
-        ensures not_taken { (node : ℕ) (cause : TakeError) → IsErrOf result (FinishError.Round (RoundError.NotTaken node cause))
-            → NoneIsReady self.new.nodes × NoneIsReached self.new.nodes self.new.losing × IsNotTaken self.new.nodes node cause }
         ensures never_sent { (fault : audit_fault.AuditFault) → IsErrOf result (FinishError.NeverSent fault)
-            → NoneIsKept self.new.nodes × IsNeverSent self.new.nodes fault × IsLeastLeft self.new.nodes fault }
+            → IsNeverSent self.new.nodes fault × IsLeastLeft self.new.nodes fault }
         ensures lost_unsent { (frame : Frame) → IsErrOf result (FinishError.LostUnsent frame)
-            → NoneIsKept self.new.nodes × NoneWaits self.new.nodes × IsAhead self.new.nodes self.new.losing frame }
+            → NoneWaits self.new.nodes × IsAhead self.new.nodes self.new.losing frame }
     {
         match self.audit(rt, alloc, cluster, observer) {
             Ok(()) => all_settled(self),
@@ -155,7 +115,7 @@ fn all_settled(auditor: &Auditor) -> Result<(), FinishError>
         → IsNeverSent auditor.now.nodes fault × IsLeastLeft auditor.now.nodes fault }
     ensures lost_unsent { (frame : Frame) → IsErrOf result (FinishError.LostUnsent frame)
         → NoneWaits auditor.now.nodes × IsAhead auditor.now.nodes auditor.now.losing frame }
-    ensures no_round { (refused : round_error.RoundError) → IsErrOf result (FinishError.Round refused) → ⊥ }
+    ensures round { last_round result ≡ Ok tt }
 {
     if let Some(fault) = auditor.unsettled() {
         return Err(FinishError::NeverSent(fault));
@@ -286,13 +246,12 @@ fn take_all<R: Wait, G: Gate + Drop>(
     cluster: &Cluster<G>,
     auditor: &mut Auditor,
 ) -> Result<(), (NodeId, TakeError)>
-    requires { auditor.old.world.count ≡ cluster.now.nodes }
+    requires audited { IsAudited auditor.old.world auditor.old.nodes }
+    requires count { auditor.old.world.count ≡ cluster.now.nodes }
     ensures more { TakesMore auditor.old auditor.new }
     ensures kept { OnOk result (NoneIsKept auditor.new.nodes) }
     ensures not_taken { (node : ℕ) (cause : TakeError) → IsErrOf result (node, cause) → IsNotTaken auditor.new.nodes node cause }
 {
-    // Each reader tells what holds of every auditor.
-    let _fault = auditor.fault();
     for place in 0..cluster.nodes() {
         // Nodes are counted from 1.
         take_from(rt, alloc, cluster, place + 1, auditor)?;

@@ -3,7 +3,7 @@ ghost use Rattle.std.specs.Prelude.{◌≡◌, ◌≢◌, ◌↔◌, ℕ, length
 ghost use Rattle.ra_audit.specs.Audit.{IsAllIn, AreAllIn, IsBehind};
 
 use crate::BehindError;
-use crate::auditor::node_progress::Progress;
+use crate::auditor::node_progress::NodeProgress;
 use ra_cluster::Book;
 use ra_stamp::NodeId;
 
@@ -15,7 +15,7 @@ use ra_stamp::NodeId;
 ///
 /// 1. `OtherCount`: there are more or fewer books than nodes.
 /// 2. `Behind`: the first node of whose book not all is in the run.
-pub fn check_all(nodes: &[Progress], books: &[Book]) -> Result<(), BehindError>
+pub fn check_all(nodes: &[NodeProgress], books: &[Book]) -> Result<(), BehindError>
     ensures ok { OnOk result (AreAllIn nodes.now books.now) }
     ensures other_count { IsErrOf result BehindError.OtherCount ↔ (length books.now ≢ length nodes.now) }
     ensures behind { (node : ℕ) → IsErrOf result (BehindError.Behind node) → IsBehind nodes.now books.now node }
@@ -30,7 +30,7 @@ pub fn check_all(nodes: &[Progress], books: &[Book]) -> Result<(), BehindError>
 }
 
 /// Returns the first node of whose book not all is in the run, or `None` if all of each is.
-fn first_behind(nodes: &[Progress], books: &[Book]) -> Option<NodeId>
+fn first_behind(nodes: &[NodeProgress], books: &[Book]) -> Option<NodeId>
     requires { length books.now ≡ length nodes.now }
     ensures all { IsNone result → AreAllIn nodes.now books.now }
     ensures behind { IfSome result (IsBehind nodes.now books.now) }
@@ -44,7 +44,7 @@ fn first_behind(nodes: &[Progress], books: &[Book]) -> Option<NodeId>
 }
 
 /// Returns the node if not all of the history of this book is in the run, by the clock of the last event.
-fn behind_of(progress: &Progress, book: &Book) -> Option<NodeId>
+fn behind_of(progress: &NodeProgress, book: &Book) -> Option<NodeId>
     ensures all { IsNone result → IsAllIn progress.now book.now }
     ensures behind { IfSome result (λ node. (node ≡ progress.now.node) × (IsAllIn progress.now book.now → ⊥)) }
 {

@@ -9,13 +9,13 @@ ghost use Rattle.ra_audit.specs.Audit.{NoneIsReady, IsReady, IsDue, MayCome, May
 ghost use Rattle.ra_audit.specs.AuditKeeping.{HasNone, IsOfNone};
 
 use crate::AuditFault;
-use crate::auditor::node_progress::Progress;
+use crate::auditor::node_progress::NodeProgress;
 use ra_cluster::BookKind;
 use ra_stamp::Memory;
 use std::alloc::Global;
 
 /// Returns, of each node, the clock of the last event that was taken from it, or 0 before the first.
-pub fn clocks_of(alloc: Global, nodes: &[Progress]) -> Result<Vec<u64>, Memory>
+pub fn clocks_of(alloc: Global, nodes: &[NodeProgress]) -> Result<Vec<u64>, Memory>
     ensures { IfOk result (λ clocks. clocks.items ≡ clocks_taken nodes.now) }
 {
     let mut clocks = Vec::new(alloc);
@@ -28,7 +28,7 @@ pub fn clocks_of(alloc: Global, nodes: &[Progress]) -> Result<Vec<u64>, Memory>
 /// Returns a frame that is the next event of its node and was never sent, or `None` if each frame that waits as the next event of
 /// its node may still be put. The nodes had these clocks before their last events were taken. The cost is linear in the number of
 /// nodes.
-pub fn first_unsent(nodes: &[Progress], clocks: &[u64]) -> Option<AuditFault>
+pub fn first_unsent(nodes: &[NodeProgress], clocks: &[u64]) -> Option<AuditFault>
     requires numbers { (count : ℕ) × (map (λ p. p.node) nodes.now ≡ range_with_len 1 count) }
     requires none_ready { NoneIsReady nodes.now }
     ensures { MatchOption result (All (MayBePut clocks.now nodes.now) nodes.now) (IsUnsent clocks.now nodes.now) }
@@ -53,7 +53,7 @@ fn clock_at(clocks: &[u64], place: usize) -> u64
 
 /// Returns the next event of a node if it is a frame that was never sent. The node had the clock `known` before the last events
 /// of all nodes were taken.
-fn unsent_of(nodes: &[Progress], progress: &Progress, known: u64) -> Option<AuditFault>
+fn unsent_of(nodes: &[NodeProgress], progress: &NodeProgress, known: u64) -> Option<AuditFault>
     requires numbers { (count : ℕ) × (map (λ p. p.node) nodes.now ≡ range_with_len 1 count) }
     requires not_ready { IsReady nodes.now progress.now → ⊥ }
     ensures may { IsNone result → (event : BookEvent) → slice_get progress.now.waiting 0 ≡ Some event
@@ -73,7 +73,7 @@ fn unsent_of(nodes: &[Progress], progress: &Progress, known: u64) -> Option<Audi
 
 /// Returns whether a frame that came at this clock of its node may have been sent by an event that is still to be put into the
 /// run. Other events are not frames.
-fn may_come(nodes: &[Progress], kind: &BookKind, came: u64, known: u64) -> bool
+fn may_come(nodes: &[NodeProgress], kind: &BookKind, came: u64, known: u64) -> bool
     requires { (count : ℕ) × (map (λ p. p.node) nodes.now ≡ range_with_len 1 count) }
     ensures may { IsTrue result → MayCome nodes.now (known < came) kind.now }
     ensures none { result ≡ false → (IsDue nodes.now kind.now → ⊥) → IsOfNone nodes.now (came ≤ known) kind.now }
@@ -95,7 +95,7 @@ fn may_come(nodes: &[Progress], kind: &BookKind, came: u64, known: u64) -> bool
 
 /// Returns whether the event of the sender that has this clock may still be put into the run. The frame came at the clock `came`
 /// of its node, and is new if that is above `known`.
-fn may_come_from(sender: &Progress, clock: u64, came: u64, known: u64) -> bool
+fn may_come_from(sender: &NodeProgress, clock: u64, came: u64, known: u64) -> bool
     ensures may { IsTrue result → MayComeFrom clock (known < came) sender.now }
     ensures none { result ≡ false → clock_of sender.now.settled < clock → HasNone clock (came ≤ known) sender.now }
 {

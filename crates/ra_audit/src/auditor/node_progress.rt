@@ -18,7 +18,7 @@ use std::sync::Wait;
 /// The events of a node, in three parts, one after the other: those that are in the run, of which only proofs know; those that
 /// can't be put into the run yet; and those that its book handed over and that were not taken yet.
 #[derive(Drop)]
-pub struct Progress {
+pub struct NodeProgress {
     node: NodeId,
     /// The clock of the last event that was taken, 0 before the first.
     latest: u64,
@@ -31,7 +31,7 @@ pub struct Progress {
     settled: GhostList<BookEvent>,
 }
 
-impl Model for Progress {
+impl Model for NodeProgress {
     ghost use Rattle.ra_audit.specs.Audit.{ProgressState};
     ghost use Rattle.ra_audit.specs.AuditKeeping.{progress_of, IsKeptProgress};
 
@@ -42,12 +42,12 @@ impl Model for Progress {
     ghost invariant = { IsKeptProgress };
 }
 
-impl Progress {
+impl NodeProgress {
     /// Makes that of a node from which nothing was taken. It does not allocate.
-    pub fn new(alloc: Global, node: NodeId) -> Progress
+    pub fn new(alloc: Global, node: NodeId) -> NodeProgress
         ensures { result ≡ fresh_progress node }
     {
-        Progress {
+        NodeProgress {
             node,
             latest: 0,
             clock: 0,
@@ -143,7 +143,7 @@ impl Progress {
     }
 }
 
-impl Progress {
+impl NodeProgress {
     /// Has the site of the node hand over what has happened since the last time, and takes it. What it handed over before and was
     /// not taken for lack of memory comes first. The frames that it hands over as lost are noted.
     ///

@@ -8,7 +8,7 @@ ghost use Rattle.ra_audit.specs.AuditKeeping.{IsTracked, StaySent};
 
 use crate::audit_laws::messages_of_runs_are_known;
 use crate::auditor::flights::Flights;
-use crate::auditor::node_progress::Progress;
+use crate::auditor::node_progress::NodeProgress;
 use crate::{AuditError, AuditFault, MarkObserver};
 use ra_cluster::{BookEvent, BookKind};
 use ra_frame::Frame;
@@ -29,7 +29,7 @@ use std::alloc::Global;
 pub fn put_all<O: MarkObserver>(
     alloc: Global,
     world: &mut MarklessWorld,
-    nodes: &mut [Progress],
+    nodes: &mut [NodeProgress],
     flights: &mut Flights,
     observer: &mut O,
 ) -> Result<(), AuditError>
@@ -62,7 +62,7 @@ pub fn put_all<O: MarkObserver>(
 fn put_next<O: MarkObserver>(
     alloc: Global,
     world: &mut MarklessWorld,
-    nodes: &mut [Progress],
+    nodes: &mut [NodeProgress],
     flights: &mut Flights,
     place: usize,
     observer: &mut O,
@@ -125,7 +125,7 @@ fn tell_all<O: MarkObserver>(observer: &mut O, marks: &[Mark])
 
 /// Returns the place of a node whose next event can be put, the first one from this place on, and then from the first node
 /// on. Returns `None` if there is none.
-fn ready_near(nodes: &[Progress], near: usize) -> Option<usize>
+fn ready_near(nodes: &[NodeProgress], near: usize) -> Option<usize>
     requires { (count : ℕ) × (map (λ p. p.node) nodes.now ≡ range_with_len 1 count) }
     ensures { MatchOption result (NoneIsReady nodes.now) (λ place. (place < length nodes.now)
         × ((d : ProgressState) → IsReady nodes.now (slice_index_or nodes.now place d))) }
@@ -137,7 +137,7 @@ fn ready_near(nodes: &[Progress], near: usize) -> Option<usize>
 }
 
 /// Returns the first place from this one on of a node whose next event can be put.
-fn ready_from(nodes: &[Progress], start: usize) -> Option<usize>
+fn ready_from(nodes: &[NodeProgress], start: usize) -> Option<usize>
     requires { (count : ℕ) × (map (λ p. p.node) nodes.now ≡ range_with_len 1 count) }
     ensures { MatchOption result (AllWithin (λ p. IsReady nodes.now p → ⊥) nodes.now start (length nodes.now))
         (λ place. (place < length nodes.now)
@@ -152,7 +152,7 @@ fn ready_from(nodes: &[Progress], start: usize) -> Option<usize>
 }
 
 /// Returns whether the next event of a node can be put.
-fn is_ready(nodes: &[Progress], progress: &Progress) -> bool
+fn is_ready(nodes: &[NodeProgress], progress: &NodeProgress) -> bool
     requires { (count : ℕ) × (map (λ p. p.node) nodes.now ≡ range_with_len 1 count) }
     ensures { IsTrue result ↔ IsReady nodes.now progress.now }
 {
@@ -163,7 +163,7 @@ fn is_ready(nodes: &[Progress], progress: &Progress) -> bool
 }
 
 /// Returns whether an event can be put: whether the run has come to the frame, if it is one that came.
-fn is_due(nodes: &[Progress], kind: &BookKind) -> bool
+fn is_due(nodes: &[NodeProgress], kind: &BookKind) -> bool
     requires { (count : ℕ) × (map (λ p. p.node) nodes.now ≡ range_with_len 1 count) }
     ensures { IsTrue result ↔ IsDue nodes.now kind.now }
 {
@@ -174,7 +174,7 @@ fn is_due(nodes: &[Progress], kind: &BookKind) -> bool
 }
 
 /// Returns whether the run has come to a frame: whether all events of its sender up to its clock are in the run.
-pub fn is_reached(nodes: &[Progress], frame: &Frame) -> bool
+pub fn is_reached(nodes: &[NodeProgress], frame: &Frame) -> bool
     requires { (count : ℕ) × (map (λ p. p.node) nodes.now ≡ range_with_len 1 count) }
     ensures { IsTrue result ↔ IsReached nodes.now frame.now }
 {

@@ -8,7 +8,7 @@ ghost use Rattle.ra_audit.specs.AuditKeeping.{LooksAtFirst, IsTracked, StaySent}
 
 use crate::audit_laws::messages_of_runs_are_known;
 use crate::auditor::flights::Flights;
-use crate::auditor::node_progress::Progress;
+use crate::auditor::node_progress::NodeProgress;
 use crate::auditor::noted_losses::Losses;
 use crate::auditor::put_events::{is_reached, put_all};
 use crate::{AuditError, AuditFault, MarkObserver};
@@ -30,7 +30,7 @@ use std::alloc::Global;
 pub fn put_events_and_losses<O: MarkObserver>(
     alloc: Global,
     world: &mut MarklessWorld,
-    nodes: &mut [Progress],
+    nodes: &mut [NodeProgress],
     flights: &mut Flights,
     losses: &mut Losses,
     observer: &mut O,
@@ -67,7 +67,7 @@ pub fn put_events_and_losses<O: MarkObserver>(
 fn put_losses(
     alloc: Global,
     world: &mut MarklessWorld,
-    nodes: &[Progress],
+    nodes: &[NodeProgress],
     flights: &mut Flights,
     losses: &mut Losses,
 ) -> Result<(), AuditError>
@@ -108,7 +108,7 @@ fn put_losses(
 fn put_first(
     alloc: Global,
     world: &mut MarklessWorld,
-    nodes: &[Progress],
+    nodes: &[NodeProgress],
     flights: &mut Flights,
     losses: &mut Losses,
 ) -> Result<(), AuditError>
@@ -155,7 +155,7 @@ fn put_first(
 fn put_loss(
     alloc: Global,
     world: &mut MarklessWorld,
-    nodes: &[Progress],
+    nodes: &[NodeProgress],
     flights: &mut Flights,
     frame: &Frame,
 ) -> Result<(), AuditError>

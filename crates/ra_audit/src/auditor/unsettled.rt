@@ -5,10 +5,10 @@ ghost use Rattle.ra_audit.specs.Audit.{ProgressState, NoneIsReady, NoneWaits, Is
 ghost use Rattle.ra_audit.specs.AuditKeeping.{AreTaken, IsLeastOf, IsLeastWaiting};
 
 use crate::AuditFault;
-use crate::auditor::node_progress::Progress;
+use crate::auditor::node_progress::NodeProgress;
 
 /// Returns how many events were taken and are not in the run.
-pub fn waiting_at(nodes: &[Progress]) -> u128
+pub fn waiting_at(nodes: &[NodeProgress]) -> u128
     requires { length nodes.now ≤ 64 }
     ensures { result ≡ sum_by (λ p. length p.waiting) nodes.now }
 {
@@ -21,7 +21,7 @@ pub fn waiting_at(nodes: &[Progress]) -> u128
 
 /// Returns the event with the least clock of those that were taken and are not in the run, or `None` if all are in it. If
 /// no event can be put, it is a frame that was never sent.
-pub fn first_unsettled(nodes: &[Progress]) -> Option<AuditFault>
+pub fn first_unsettled(nodes: &[NodeProgress]) -> Option<AuditFault>
     requires numbers { (count : ℕ) × (map (λ p. p.node) nodes.now ≡ range_with_len 1 count) }
     requires none_ready { NoneIsReady nodes.now }
     ensures left { MatchOption result (NoneWaits nodes.now) (IsNeverSent nodes.now) }
@@ -31,7 +31,7 @@ pub fn first_unsettled(nodes: &[Progress]) -> Option<AuditFault>
 }
 
 /// Returns the event with the least clock of those that wait first at their nodes, or `None` if none waits.
-fn least_waiting(nodes: &[Progress]) -> Option<AuditFault>
+fn least_waiting(nodes: &[NodeProgress]) -> Option<AuditFault>
     ensures least { IsLeastOf nodes.now result }
     ensures taken { AreTaken nodes.now }
 {
@@ -43,7 +43,7 @@ fn least_waiting(nodes: &[Progress]) -> Option<AuditFault>
 }
 
 /// Returns the event that waits first at a node, or `None` if none waits.
-fn first_of(progress: &Progress) -> Option<AuditFault>
+fn first_of(progress: &NodeProgress) -> Option<AuditFault>
     ensures first { IsLeastOf (progress.now ∷ []) result }
     ensures taken { AreNextAt progress.now.node 0 (taken_of progress.now) }
 {

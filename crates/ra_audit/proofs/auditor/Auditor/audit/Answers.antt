@@ -1,35 +1,46 @@
-use Rattle.std.proofs.Common.{refl, sym, ◌∙◌}
+use Rattle.std.proofs.Common.{◌≡◌, true, false, refl, sym, ◌∙◌}
 use Rattle.std.proofs.lemmas.Option.{none-some}
 use Rattle.ra_audit.proofs.AuditRounds.{audits_nothing}
 use Rattle.ra_audit.proofs.auditor.Auditor.audit.Goals as goal
 
-pub returns-in-Ok-clause-theorem : goal.returns-in-Ok-clause-theorem
-returns-in-Ok-clause-theorem g c =
-    let audited = c.go_round.ensures.audits.audited in
-    c.runs_meet_the_theorem.ensures _ _ _ audited.count audited.run
+pub returns-in-Ok : goal.returns-in-Ok
+returns-in-Ok g c =
+    let fits = c.in-Ok.ensures.ok.0 in
+    let faultless = c.in-Ok.ensures.ok.1 in
+    let says = c.go_round.ensures in
+    record {
+      audits = says.audits;
+      theorem = c.runs_meet_the_theorem.ensures _ _ _ says.audits.audited.count says.audits.audited.run;
+      ok = says.ok;
+      none_reached = says.none_reached;
+      kept = says.kept;
+      may_be_put = says.may_be_put;
+      not_audited = ((λ is. absurd (says.not_audited is)), λ no. let wrong : false ≡ true = sym no ∙ fits.audited in absurd cc);
+      other_cluster = ((λ is. absurd (says.other_cluster is)), λ other. absurd (other.1 fits));
+      unchanged = λ other. absurd (other fits);
+      known = λ fault _ has. absurd (none-some fault (sym faultless ∙ has));
+      found = λ fault _ is. says.found fault is;
+      fault = λ fault _. says.fault fault;
+      not_lost = says.not_lost;
+      not_taken = says.not_taken;
+    }
 
-pub returns-in-Err-clause-audits : goal.returns-in-Err-clause-audits
-returns-in-Err-clause-audits g c =
-    audits_nothing c.args.self.now (g.O.MarkObserver.told c.args.observer.now) c.in-Err.ensures.audited c.in-Err.ensures.lost c.in-Err.ensures.sent
-
-pub returns-in-Err-clause-theorem : goal.returns-in-Err-clause-theorem
-returns-in-Err-clause-theorem g c =
-    let audited = c.in-Err.ensures.audited in
-    c.runs_meet_the_theorem.ensures _ _ _ audited.count audited.run
-
-pub returns-in-Err-clause-known : goal.returns-in-Err-clause-known
-returns-in-Err-clause-known g c fault fits known = ((c.in-Err.ensures.fault fault).1 (fits, known), refl)
-
-pub returns-in-Err-clause-found : goal.returns-in-Err-clause-found
-returns-in-Err-clause-found g c fault none is = absurd (none-some fault (sym none ∙ ((c.in-Err.ensures.fault fault).0 is).1))
-
-pub returns-in-Err-clause-fault : goal.returns-in-Err-clause-fault
-returns-in-Err-clause-fault g c = λ fault fits.
-    let known = c.in-Err.ensures.fault fault in
-    ((λ is. (known.0 is).1), λ has. known.1 (fits, has))
-
-pub returns-in-Ok-clause-found : goal.returns-in-Ok-clause-found
-returns-in-Ok-clause-found g c = λ fault none is. c.go_round.ensures.found fault is
-
-pub returns-in-Ok-clause-fault : goal.returns-in-Ok-clause-fault
-returns-in-Ok-clause-fault g c = λ fault fits. c.go_round.ensures.fault fault
+pub returns-in-Err : goal.returns-in-Err
+returns-in-Err g c =
+    let says = c.in-Err.ensures in
+    record {
+      audits = audits_nothing c.args.self.now (g.O.MarkObserver.told c.args.observer.now) says.audited says.lost says.sent;
+      theorem = c.runs_meet_the_theorem.ensures _ _ _ says.audited.count says.audited.run;
+      ok = tt;
+      none_reached = tt;
+      kept = tt;
+      may_be_put = tt;
+      not_audited = says.not_audited;
+      other_cluster = says.other_cluster;
+      unchanged = λ _. refl;
+      known = λ fault fits has. ((says.fault fault).1 (fits, has), refl);
+      found = λ fault none is. absurd (none-some fault (sym none ∙ ((says.fault fault).0 is).1));
+      fault = λ fault fits. ((λ is. ((says.fault fault).0 is).1), λ has. (says.fault fault).1 (fits, has));
+      not_lost = λ frame is. absurd (says.not_lost frame is);
+      not_taken = λ node cause is. absurd (says.taken node cause is);
+    }

@@ -7,7 +7,7 @@ use Rattle.ra_audit.proofs.auditor.audit_round.take_all.Goals as goal
 
 pub loop-place-init : goal.loop-place-init
 loop-place-init g c = record {
-  up_to = took_nothing c.args.auditor.now c.fault-fault.ensures.audited;
+  up_to = took_nothing c.args.auditor.now c.requires.audited;
   kept = AllWithin-none (λ (p : ProgressState). p.kept ≡ []) c.args.auditor.now.nodes 0;
 }
 
@@ -17,7 +17,7 @@ loop-place-preserved g c =
     let more = c.loop-place.invariant.up_to.more in
     let count = ap (λ (a : AuditState). a.world.count) more.rest in
     let long = length_of mid.world mid.nodes more.audited in
-    let within : c.loop-place.place < length mid.nodes = omega (arith, long, count, c.requires, c.nodes-place-end.ensures, c.loop-place-test.true) in
+    let within : c.loop-place.place < length mid.nodes = omega (arith, long, count, c.requires.count, c.nodes-place-end.ensures, c.loop-place-test.true) in
     record {
       up_to = took_further c.args.auditor.now mid c.take_from.new.auditor c.loop-place.place within c.loop-place.invariant.up_to c.in_ok-take_from.ensures.more;
       kept = none_kept_more mid.nodes c.take_from.new.auditor.nodes c.loop-place.place within c.loop-place.invariant.kept c.in_ok-take_from.ensures.all;
@@ -29,7 +29,7 @@ returns-in_err-take_from-clause-not_taken g c = λ node cause is.
     let more = c.loop-place.invariant.up_to.more in
     let count = ap (λ (a : AuditState). a.world.count) more.rest in
     let long = length_of mid.world mid.nodes more.audited in
-    let within : c.loop-place.place < length mid.nodes = omega (arith, long, count, c.requires, c.nodes-place-end.ensures, c.loop-place-test.true) in
+    let within : c.loop-place.place < length mid.nodes = omega (arith, long, count, c.requires.count, c.nodes-place-end.ensures, c.loop-place-test.true) in
     let p = err_from_is_err_and c.from_residual.result c.from_residual.ensures.1 in
     let at = c.in_err-take_from.ensures.not_taken node cause (sym (ap (λ x. Err x) p.2) ∙ sym p.1 ∙ is) (omega (arith, within)) in
     subst (λ (n : ℕ). IsNotTaken c.take_from.new.auditor.nodes n cause) (sym at.0)
@@ -41,7 +41,7 @@ returns-in_err-take_from-clause-more g c =
     let more = c.loop-place.invariant.up_to.more in
     let count = ap (λ (a : AuditState). a.world.count) more.rest in
     let long = length_of mid.world mid.nodes more.audited in
-    let within : c.loop-place.place < length mid.nodes = omega (arith, long, count, c.requires, c.nodes-place-end.ensures, c.loop-place-test.true) in
+    let within : c.loop-place.place < length mid.nodes = omega (arith, long, count, c.requires.count, c.nodes-place-end.ensures, c.loop-place-test.true) in
     (took_further c.args.auditor.now mid c.take_from.new.auditor c.loop-place.place within c.loop-place.invariant.up_to c.in_err-take_from.ensures.more).more
 
 pub returns-clause-more : goal.returns-clause-more
@@ -55,4 +55,4 @@ returns-clause-kept g c =
     let long = length_of mid.world mid.nodes more.audited in
     All-from_all_within (λ (p : ProgressState). p.kept ≡ []) mid.nodes
     (AllWithin-upto (λ (p : ProgressState). p.kept ≡ []) mid.nodes 0 c.loop-place.place (length mid.nodes)
-    (omega (arith, long, count, c.requires, c.nodes-place-end.ensures, c.loop-place-test.false)) c.loop-place.invariant.kept)
+    (omega (arith, long, count, c.requires.count, c.nodes-place-end.ensures, c.loop-place-test.false)) c.loop-place.invariant.kept)

@@ -1,5 +1,5 @@
 use Rattle.ra_audit.proofs.AuditRounds.{accepted, takes_over}
-use Rattle.ra_audit.proofs.auditor.node_progress.Progress.accept.Goals as goal
+use Rattle.ra_audit.proofs.auditor.node_progress.NodeProgress.accept.Goals as goal
 
 pub returns-clause-takes : goal.returns-clause-takes
 returns-clause-takes c =

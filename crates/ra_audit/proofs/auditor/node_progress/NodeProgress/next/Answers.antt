@@ -2,7 +2,7 @@ use Rattle.std.proofs.Common.{ap, ◌∙◌}
 use Rattle.std.specs.Prelude.{slice_get}
 use Rattle.ra_audit.specs.Audit.{ProgressState}
 use Rattle.ra_audit.proofs.NextEvents.{first_for, next_taken}
-use Rattle.ra_audit.proofs.auditor.node_progress.Progress.next.Goals as goal
+use Rattle.ra_audit.proofs.auditor.node_progress.NodeProgress.next.Goals as goal
 
 pub returns-clause-value : goal.returns-clause-value
 returns-clause-value c = c.first_of.ensures ∙ ap (λ (p : ProgressState). slice_get p.waiting 0) c.self.view_is

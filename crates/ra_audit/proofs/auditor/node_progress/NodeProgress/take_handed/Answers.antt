@@ -7,7 +7,7 @@ use Rattle.ra_history.specs.History.{clock_of}
 use Rattle.ra_audit.specs.Audit.{ProgressState, TakesOver, handed_over}
 use Rattle.ra_audit.specs.AuditKeeping.{LossState}
 use Rattle.ra_audit.proofs.AuditRounds.{refuses_kept, took_kept, took_no_more, asked_after, turn_or_memory}
-use Rattle.ra_audit.proofs.auditor.node_progress.Progress.take_handed.Goals as goal
+use Rattle.ra_audit.proofs.auditor.node_progress.NodeProgress.take_handed.Goals as goal
 
 pub returns-in_err-take_kept-clause-takes : goal.returns-in_err-take_kept-clause-takes
 returns-in_err-take_kept-clause-takes r c =
