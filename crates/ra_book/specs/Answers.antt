@@ -4,9 +4,8 @@ use Rattle.hex.specs.Hex.{encode_lower}
 use Rattle.ra_stamp.specs.Message.{to_of}
 use Rattle.ra_stamp.specs.declared.entry.Mark.{Mark}
 use Rattle.ra_stamp.specs.declared.message.Message.{Message}
-use Rattle.ra_frame.specs.declared.error.FrameError.{FrameError}
-use Rattle.ra_frame.specs.declared.error.FrameError.TheVariants as frame
 use Rattle.ra_frame.specs.FrameText.{IsWrittenText}
+use Rattle.ra_frame.specs.Words as frame
 use Rattle.ra_world.specs.Lines.{field, mark_line}
 use Rattle.ra_history.specs.declared.book.event.BookKind.{BookKind}
 use Rattle.ra_book.specs.declared.answering.line_refusal.Refusal.{Refusal}
@@ -14,26 +13,11 @@ use Rattle.ra_book.specs.declared.answering.line_refusal.Refusal.TheVariants as 
 use Rattle.ra_book.specs.BookText.{IsEvent, IsUnread}
 use Rattle.ra_book.specs.Timed.{Timed, Takes, Refuses}
 
--- the word of what is wrong with a frame
-abbrev pub frame_word : FrameError → List ℕ
-frame_word frame.Short = codes "Short"
-frame_word frame.Version = codes "Version"
-frame_word frame.Kind = codes "Kind"
-frame_word frame.From = codes "From"
-frame_word frame.To = codes "To"
-frame_word frame.SameNode = codes "SameNode"
-frame_word frame.Mode = codes "Mode"
-frame_word frame.Seq = codes "Seq"
-frame_word frame.Clock = codes "Clock"
-frame_word frame.NameLength = codes "NameLength"
-frame_word frame.NameByte = codes "NameByte"
-frame_word frame.Trailing = codes "Trailing"
-
 -- the word of a refusal
 abbrev pub word_of : Refusal → List ℕ
 word_of refusal.Line = codes "Line"
 word_of refusal.Hex = codes "Hex"
-word_of (refusal.Frame fault) = frame_word fault
+word_of (refusal.Frame fault) = frame.word_of fault
 word_of refusal.Busy = codes "Busy"
 word_of refusal.Exhausted = codes "Exhausted"
 word_of refusal.NotHeld = codes "NotHeld"

@@ -1,7 +1,6 @@
 -- What `ra` prints if it does not do what it is asked: the word of each refusal, after `refused`, as one line.
 use Rattle.std.specs.Prelude.{◌≡◌, ℕ, ◌⊎◌, List, ◌++◌, codes}
-use Rattle.ra_frame.specs.declared.error.FrameError.{FrameError}
-use Rattle.ra_frame.specs.declared.error.FrameError.TheVariants as frame
+use Rattle.ra_frame.specs.Words as frame
 use Rattle.ra_script.specs.declared.error.ScriptError.{ScriptError}
 use Rattle.ra_script.specs.declared.error.ScriptError.TheVariants as script
 use Rattle.ra_schedule.specs.declared.error.DriveError.{DriveError}
@@ -24,21 +23,6 @@ use Rattle.ra_cli.specs.declared.error.RunScriptError.{RunScriptError}
 use Rattle.ra_cli.specs.declared.error.RunScriptError.TheVariants as run
 use Rattle.ra_cli.specs.declared.refusal_lines.CommandRefusal.{CommandRefusal}
 use Rattle.ra_cli.specs.declared.refusal_lines.CommandRefusal.TheVariants.{Command, Answer, Choices, Perform, Check, Draw, Cluster}
-
--- the word for what is wrong with a frame
-abbrev pub frame_word : FrameError → List ℕ
-frame_word frame.Short = codes "Short"
-frame_word frame.Version = codes "Version"
-frame_word frame.Kind = codes "Kind"
-frame_word frame.From = codes "From"
-frame_word frame.To = codes "To"
-frame_word frame.SameNode = codes "SameNode"
-frame_word frame.Mode = codes "Mode"
-frame_word frame.Seq = codes "Seq"
-frame_word frame.Clock = codes "Clock"
-frame_word frame.NameLength = codes "NameLength"
-frame_word frame.NameByte = codes "NameByte"
-frame_word frame.Trailing = codes "Trailing"
 
 -- the word for what is wrong with a script
 abbrev pub script_word : ScriptError → List ℕ
@@ -82,7 +66,7 @@ answer_word answer.BadNode = codes "BadNode"
 answer_word answer.Read = codes "Read"
 answer_word answer.Line = codes "Line"
 answer_word answer.Hex = codes "Hex"
-answer_word (answer.Frame why) = frame_word why
+answer_word (answer.Frame why) = frame.word_of why
 answer_word answer.WrongNode = codes "WrongNode"
 answer_word answer.Stranger = codes "Stranger"
 answer_word answer.ClockFull = codes "ClockFull"

@@ -7,7 +7,6 @@ use crate::AnswerError;
 use crate::error::RunScriptError;
 use ra_cluster::ClusterError;
 use ra_draw::DrawError;
-use ra_frame::FrameError;
 use ra_schedule::DriveError;
 use ra_script::{ChoicesError, PerformError, ScriptError};
 use ra_task::CommandFault;
@@ -37,26 +36,6 @@ pub fn line_of(refusal: CommandRefusal) -> &'static str
         CommandRefusal::Check(why) => trace_line(why),
         CommandRefusal::Draw(why) => draw_line(why),
         CommandRefusal::Cluster(why) => run_line(why),
-    }
-}
-
-/// Returns the line that says why a text is no frame. It does not allocate.
-fn frame_line(fault: FrameError) -> &'static str
-    ensures { result.now ≡ spec.refused_line (spec.frame_word fault) }
-{
-    match fault {
-        FrameError::Short => "refused Short\n",
-        FrameError::Version => "refused Version\n",
-        FrameError::Kind => "refused Kind\n",
-        FrameError::From => "refused From\n",
-        FrameError::To => "refused To\n",
-        FrameError::SameNode => "refused SameNode\n",
-        FrameError::Mode => "refused Mode\n",
-        FrameError::Seq => "refused Seq\n",
-        FrameError::Clock => "refused Clock\n",
-        FrameError::NameLength => "refused NameLength\n",
-        FrameError::NameByte => "refused NameByte\n",
-        FrameError::Trailing => "refused Trailing\n",
     }
 }
 
@@ -125,7 +104,7 @@ fn answer_line(fault: AnswerError) -> &'static str
         AnswerError::Read => "refused Read\n",
         AnswerError::Line => "refused Line\n",
         AnswerError::Hex => "refused Hex\n",
-        AnswerError::Frame(why) => frame_line(why),
+        AnswerError::Frame(why) => why.refused_line(),
         AnswerError::WrongNode => "refused WrongNode\n",
         AnswerError::Stranger => "refused Stranger\n",
         AnswerError::ClockFull => "refused ClockFull\n",

@@ -3,3 +3,4 @@ pub mod Format
 pub mod FrameText
 pub mod Faults
 pub mod Checked
+pub mod Words

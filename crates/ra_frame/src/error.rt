@@ -1,3 +1,6 @@
+ghost use Rattle.std.specs.Prelude.{◌≡◌, ◌≤◌, length};
+ghost use Rattle.ra_frame.specs.Words as spec;
+
 use std::fmt;
 use thiserror::Error;
 
@@ -28,6 +31,30 @@ pub enum FrameError {
     NameByte,
     /// Bytes follow the name.
     Trailing,
+}
+
+impl FrameError {
+    /// Returns the line that says that a frame is refused, and why: `refused` and the name of the variant. It has at
+    /// most 40 bytes, and is a constant, so that it can be written even if memory is lacking. It does not allocate.
+    pub fn refused_line(self) -> &'static str
+        ensures text { result.now ≡ spec.refused_line self }
+        ensures short { length result.now ≤ 40 }
+    {
+        match self {
+            FrameError::Short => "refused Short\n",
+            FrameError::Version => "refused Version\n",
+            FrameError::Kind => "refused Kind\n",
+            FrameError::From => "refused From\n",
+            FrameError::To => "refused To\n",
+            FrameError::SameNode => "refused SameNode\n",
+            FrameError::Mode => "refused Mode\n",
+            FrameError::Seq => "refused Seq\n",
+            FrameError::Clock => "refused Clock\n",
+            FrameError::NameLength => "refused NameLength\n",
+            FrameError::NameByte => "refused NameByte\n",
+            FrameError::Trailing => "refused Trailing\n",
+        }
+    }
 }
 
 impl fmt::Display for FrameError {

@@ -1,6 +1,5 @@
 ghost use Rattle.std.specs.Prelude.{◌≡◌, ◌≤◌, length};
 ghost use Rattle.ra_book.specs.Answers as spec;
-ghost use Rattle.ra_book.specs.declared.answering.line_refusal.Refusal.{Refusal};
 
 use ra_frame::FrameError;
 
@@ -29,27 +28,6 @@ pub enum Refusal {
     Memory,
 }
 
-/// Returns the line that says why bytes are no frame. It does not allocate.
-fn frame_line(fault: FrameError) -> &'static str
-    ensures text { result.now ≡ spec.refused_line (Refusal.Frame fault) }
-    ensures short { length result.now ≤ 40 }
-{
-    match fault {
-        FrameError::Short => "refused Short\n",
-        FrameError::Version => "refused Version\n",
-        FrameError::Kind => "refused Kind\n",
-        FrameError::From => "refused From\n",
-        FrameError::To => "refused To\n",
-        FrameError::SameNode => "refused SameNode\n",
-        FrameError::Mode => "refused Mode\n",
-        FrameError::Seq => "refused Seq\n",
-        FrameError::Clock => "refused Clock\n",
-        FrameError::NameLength => "refused NameLength\n",
-        FrameError::NameByte => "refused NameByte\n",
-        FrameError::Trailing => "refused Trailing\n",
-    }
-}
-
 /// Returns the line with which a line is refused. It does not allocate.
 pub fn refused_line(why: Refusal) -> &'static str
     ensures text { result.now ≡ spec.refused_line why }
@@ -58,7 +36,7 @@ pub fn refused_line(why: Refusal) -> &'static str
     match why {
         Refusal::Line => "refused Line\n",
         Refusal::Hex => "refused Hex\n",
-        Refusal::Frame(fault) => frame_line(fault),
+        Refusal::Frame(fault) => fault.refused_line(),
         Refusal::Busy => "refused Busy\n",
         Refusal::Exhausted => "refused Exhausted\n",
         Refusal::NotHeld => "refused NotHeld\n",
