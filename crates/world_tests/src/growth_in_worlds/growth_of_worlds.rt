@@ -1,15 +1,12 @@
 //! Each growth is refused in turn: the call returns `Memory`, leaves everything as it was, and succeeds when made
 //! again.
-use crate::run_tests::runs::{adds, run_of};
+use crate::run_tests::reported_runs::{adds, run_of};
 use crate::script_tests::drives::{driven, summed};
 use crate::script_tests::listing::{found, lockers};
 use crate::script_tests::script_plans::{adds_client, fault_of_client, fault_of_op};
 use crate::world_steps::alike::are_alike;
-use crate::world_steps::world_acts::{
-    ask, deliver, fault_of, leave, lose, new_world, repeat, report_of,
-};
+use crate::world_steps::world_acts::{ASKS, LEAVES, fault_of, new_world, report_of, step_of};
 use crate::world_steps::world_asserting::assert_grown;
-use Act::{Ask, Deliver, Leave, Lose, Repeat};
 use Choice::{Client, Message};
 use ra_schedule::{
     AddClientError, AddOpError, Choice, DriveError, Ending, Faults, NewScriptError, Observer, Op,
@@ -20,78 +17,44 @@ use ra_world::{Report, RunError, Step, StepError, Steps, World, mark_line, repor
 use std::alloc::Global;
 use test_support::{Tried, again, both, entry, id, r, tried_if};
 
-/// What happens in a world of two nodes.
-#[derive(Clone, Copy)]
-enum Act {
-    /// Client 1 of this node asks for `r`.
-    Ask(u16),
-    /// The message that was sent first of those under way is delivered.
-    Deliver,
-    /// Client 1 of this node leaves `r`.
-    Leave(u16),
-    /// The message that was sent first of those under way is lost.
-    Lose,
-    /// The message that was sent first of those under way is repeated.
-    Repeat,
-}
-
 /// Node 1 enters first, then node 2, and then the REQUEST of node 1 is repeated and lost. Its copy is repeated so often
 /// that no room is left for one more.
-const ACTS: [Act; 18] = [
-    Ask(1),
-    Ask(2),
-    Deliver,
-    Deliver,
-    Deliver,
-    Leave(1),
-    Deliver,
-    Leave(2),
-    Ask(1),
-    Repeat,
-    Lose,
-    Repeat,
-    Repeat,
-    Repeat,
-    Repeat,
-    Repeat,
-    Repeat,
-    Repeat,
+const LINES: [&str; 18] = [
+    "ask 1 1 r X",
+    "ask 2 1 r X",
+    "deliver request 1 2 r X 1",
+    "deliver request 2 1 r X 1",
+    "deliver reply 2 1 r 1",
+    "release 1 1 r",
+    "deliver reply 1 2 r 1",
+    "release 2 1 r",
+    "ask 1 1 r X",
+    "repeat request 1 2 r X 2",
+    "lose request 1 2 r X 2",
+    "repeat request 1 2 r X 2",
+    "repeat request 1 2 r X 2",
+    "repeat request 1 2 r X 2",
+    "repeat request 1 2 r X 2",
+    "repeat request 1 2 r X 2",
+    "repeat request 1 2 r X 2",
+    "repeat request 1 2 r X 2",
 ];
 
-/// Returns the step for an act in a world.
-fn step_of(world: &World, act: Act) -> Option<Step> {
-    let first = world.message_at(0);
-    match act {
-        Ask(number) => ask(number, 1, b'r'),
-        Leave(number) => leave(number, 1, b'r'),
-        Deliver => deliver(first),
-        Lose => lose(first),
-        Repeat => repeat(first),
-    }
-}
-
-/// Returns whether an act is done.
-fn does(alloc: Global, world: &mut World, act: Act) -> bool {
-    match step_of(world, act) {
-        Some(step) => fault_of(alloc, world, &step).is_none(),
-        None => false,
-    }
-}
-
-/// Returns whether these acts are done.
-fn do_all(alloc: Global, world: &mut World, acts: &[Act]) -> bool {
-    for act in acts {
-        if !does(alloc, world, *act) {
-            return false;
+/// Returns whether the steps of these lines are made.
+fn do_all(alloc: Global, world: &mut World, lines: &[&str]) -> bool {
+    for line in lines {
+        match step_of(line) {
+            Some(step) if fault_of(alloc, world, &step).is_none() => {}
+            _ => return false,
         }
     }
     true
 }
 
-/// Returns whether a world is like another one in which exactly these acts were done.
-fn is_after(alloc: Global, world: &World, acts: &[Act]) -> bool {
+/// Returns whether a world is like another one in which exactly these steps were made.
+fn is_after(alloc: Global, world: &World, lines: &[&str]) -> bool {
     match new_world(alloc, 2, 0) {
-        Some(mut other) => do_all(alloc, &mut other, acts) && are_alike(alloc, world, &other),
+        Some(mut other) => do_all(alloc, &mut other, lines) && are_alike(alloc, world, &other),
         None => false,
     }
 }
@@ -120,21 +83,21 @@ fn try_step(alloc: Global, world: &mut World, step: &Step) -> Tried {
     }
 }
 
-/// Does an act after those done, and again if memory ran out and the world is unchanged.
-fn try_act(alloc: Global, world: &mut World, done: &[Act], act: Act) -> Tried {
-    let Some(step) = step_of(world, act) else {
+/// Makes the step of a line after those made, and again if memory ran out and the world is unchanged.
+fn try_line(alloc: Global, world: &mut World, made: &[&str], line: &str) -> Tried {
+    let Some(step) = step_of(line) else {
         return Tried::Broken;
     };
     match fault_of(alloc, world, &step) {
         None => Tried::NoFailure,
         Some(fault) => {
-            let is_as_before = fault == StepError::Memory && is_after(alloc, world, done);
+            let is_as_before = fault == StepError::Memory && is_after(alloc, world, made);
             make_again(alloc, world, &step, is_as_before)
         }
     }
 }
 
-/// Returns whether this is the report on all acts.
+/// Returns whether this is the report on all steps.
 fn is_report(report: &Report) -> bool {
     report.marks.len() == 7
         && report.sent == 5
@@ -145,7 +108,7 @@ fn is_report(report: &Report) -> bool {
         && report.waiting == 1
 }
 
-/// Makes the report of a world in which all acts were done. If there is none, memory ran out.
+/// Makes the report of a world in which all steps were made. If there is none, memory ran out.
 fn try_report(alloc: Global, world: &World) -> Result<Tried, bool> {
     match report_of(alloc, world) {
         Some(report) => Ok(tried_if(is_report(&report))),
@@ -153,14 +116,15 @@ fn try_report(alloc: Global, world: &World) -> Result<Tried, bool> {
     }
 }
 
-/// Does all acts, and makes the report.
-fn try_acts(alloc: Global, world: &mut World) -> Tried {
+/// Makes all steps, and the report.
+fn try_steps(alloc: Global, world: &mut World) -> Tried {
     let mut tried = Tried::NoFailure;
-    for place in 0..ACTS.len() {
-        tried = both(tried, try_act(alloc, world, &ACTS[..place], ACTS[place]));
+    for place in 0..LINES.len() {
+        let line = try_line(alloc, world, &LINES[..place], LINES[place]);
+        tried = both(tried, line);
     }
     // The comparison takes memory itself, and at most one growth is refused.
-    if is_after(alloc, world, &ACTS) || is_after(alloc, world, &ACTS) {
+    if is_after(alloc, world, &LINES) || is_after(alloc, world, &LINES) {
         both(
             tried,
             again(try_report(alloc, world), try_report(alloc, world)),
@@ -173,8 +137,8 @@ fn try_acts(alloc: Global, world: &mut World) -> Tried {
 /// What is tried in a new world of two nodes.
 #[derive(Clone, Copy)]
 enum Trial {
-    /// All acts are done.
-    Acts,
+    /// All steps are made.
+    Steps,
     /// A client asks for many names, and a message in the middle is delivered.
     ManyAsks,
     /// The lines of the report are made, as nothing has happened.
@@ -184,7 +148,7 @@ enum Trial {
 /// Tries this in a new world. If it is refused, returns whether memory ran out.
 fn try_in(alloc: Global, world: &mut World, trial: Trial) -> Result<Tried, bool> {
     match trial {
-        Trial::Acts => Ok(try_acts(alloc, world)),
+        Trial::Steps => Ok(try_steps(alloc, world)),
         Trial::ManyAsks => Ok(both(try_asks(alloc, world), try_middle(alloc, world))),
         Trial::Lines => try_lines(alloc, world),
     }
@@ -205,7 +169,7 @@ fn try_world(alloc: Global, trial: Trial) -> Tried {
 
 #[test]
 fn growth_of_a_world(rt: HostRuntime) {
-    assert_grown(&rt, try_world(rt.alloc(), Trial::Acts));
+    assert_grown(&rt, try_world(rt.alloc(), Trial::Steps));
 }
 
 /// 32 letters, of which 1,024 names of two letters are made.
@@ -284,7 +248,7 @@ fn try_run(alloc: Global, steps: &Steps) -> Result<Tried, bool> {
 
 /// Makes a list of the two steps of a lock.
 fn try_pushes(steps: &mut Steps) -> Tried {
-    match (ask(1, 1, b'r'), leave(1, 1, b'r')) {
+    match (step_of(ASKS), step_of(LEAVES)) {
         (Some(asks), Some(leaves)) => both(try_push(steps, &asks), try_push(steps, &leaves)),
         _ => Tried::Broken,
     }

@@ -1,5 +1,5 @@
 //! How a policy drives a script.
-use crate::world_steps::figures::figures;
+use crate::world_steps::report_totals::totals;
 use crate::world_steps::world_asserting::assert_same;
 use Drive::{
     Differ, EndsAtOnce, Finish, Goes, NamesNothing, Repeat, SixteenWritersEnd, SumsUpFourTurns,
@@ -148,10 +148,10 @@ fn is_refused(
     );
 }
 
-/// Asserts that a report is that of one request, its two messages and three marks.
-fn is_of_one_lock(rt: &impl Abort, at: At<'_>, report: &Report) {
-    assert_same(rt, at, &(report.requests, report.sent), &(1, 2));
-    assert_same(rt, at, &report.marks.len(), &3);
+/// Asserts that a run is finished, with one request, its two messages and three marks.
+fn is_of_one_lock(rt: &impl Abort, at: At<'_>, finished: bool, report: &Report) {
+    let came = (finished, report.requests, report.sent, report.marks.len());
+    assert_same(rt, at, &came, &(true, 1, 2, 3));
 }
 
 /// Asserts that a chooser's run of this many turns is finished. Returns its recording.
@@ -230,10 +230,7 @@ fn goes(
 /// Asserts that the four turns of one lock are summed up.
 fn sums_up_four_turns(rt: &(impl Abort + AllocGlobal), at: At<'_>, script: &Script) {
     match summed(rt.alloc(), script, &Policy::Oldest, 4) {
-        Ok(summary) => {
-            assert_same(rt, at, &summary.finished, &true);
-            is_of_one_lock(rt, at, &summary.report);
-        }
+        Ok(summary) => is_of_one_lock(rt, at, summary.finished, &summary.report),
         Err(fault) => assert_same(rt, at, &Some(fault), &None),
     }
 }
@@ -266,9 +263,8 @@ fn is_quiet(
     sent: (u128, u128),
 ) -> Recording {
     let recording = recording(rt, at, script, chooser, limit);
-    assert_same(rt, at, &recording.finished, &true);
-    let expected = [sent.0, sent.1, 0, 0, 0, 0, 0];
-    assert_same(rt, at, &figures(&recording.report), &expected);
+    let came = (recording.finished, totals(&recording.report));
+    assert_same(rt, at, &came, &(true, [sent.0, sent.1, 0, 0, 0, 0, 0]));
     recording
 }
 
@@ -290,38 +286,27 @@ fn all_are_finished(
     }
 }
 
-/// Returns whether two runs had the same steps.
-fn have_the_same_steps(one: &Recording, other: &Recording) -> bool {
-    one.steps.as_slice() == other.steps.as_slice()
-}
-
-/// Returns whether two seeds lead to the same steps.
-fn lead_to_the_same(
-    rt: &(impl Abort + AllocGlobal),
-    at: At<'_>,
-    script: &Script,
-    one: u64,
-    other: u64,
-) -> bool {
-    let one = recording(rt, at, script, Chooser::Seeded(one), 100);
-    let other = recording(rt, at, script, Chooser::Seeded(other), 100);
-    have_the_same_steps(&one, &other)
-}
-
 /// Asserts that each seed below 100 leads twice to the same steps.
 fn repeat_themselves(rt: &(impl Abort + AllocGlobal), at: At<'_>, script: &Script) {
     for seed in 0..100 {
-        assert_same(rt, at, &lead_to_the_same(rt, at, script, seed, seed), &true);
+        let one = recording(rt, at, script, Chooser::Seeded(seed), 100);
+        let other = recording(rt, at, script, Chooser::Seeded(seed), 100);
+        assert_same(rt, at, &one.steps.as_slice(), &other.steps.as_slice());
     }
 }
 
 /// Asserts that some seed below 100 leads to other steps than seed 0.
 fn differ(rt: &(impl Abort + AllocGlobal), at: At<'_>, script: &Script) {
-    let mut is_other = false;
+    let first = recording(rt, at, script, Chooser::Seeded(0), 100);
     for seed in 1..100 {
-        is_other = is_other || !lead_to_the_same(rt, at, script, 0, seed);
+        let other = recording(rt, at, script, Chooser::Seeded(seed), 100);
+        if other.steps.as_slice() != first.steps.as_slice() {
+            return;
+        }
     }
-    assert_same(rt, at, &is_other, &true);
+    panic!(rt;
+        "{at}: expected other steps by some seed than by seed 0, and the same came by each below 100"
+    );
 }
 
 /// Returns the client that asks first with seed 0.
@@ -357,7 +342,7 @@ pub fn drives(rt: &(impl Abort + AllocGlobal), at: At<'_>, script: &Script, driv
         NamesNothing(chooser) => is_refused(rt, at, script, *chooser, 100, DriveError::BadPlace),
         TakesFourTurns => {
             let recording = ends_after(rt, at, script, Chooser::Oldest, 4);
-            is_of_one_lock(rt, at, &recording.report);
+            is_of_one_lock(rt, at, recording.finished, &recording.report);
         }
         SumsUpNoThreeTurns => {
             let fault = summed(rt.alloc(), script, &Policy::Oldest, 3).err();

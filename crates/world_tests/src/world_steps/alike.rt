@@ -1,5 +1,5 @@
 //! Whether two worlds are alike in all that they show.
-use crate::world_steps::figures::figures;
+use crate::world_steps::report_totals::totals;
 use crate::world_steps::world_acts::report_of;
 use ra_world::{Report, World};
 use std::alloc::Global;
@@ -16,7 +16,7 @@ fn have_the_same_messages(one: &World, other: &World) -> bool {
 
 /// Returns whether two reports are the same.
 fn are_the_same(one: &Report, other: &Report) -> bool {
-    one.marks.as_slice() == other.marks.as_slice() && figures(one) == figures(other)
+    one.marks.as_slice() == other.marks.as_slice() && totals(one) == totals(other)
 }
 
 /// Returns whether a world reports this.

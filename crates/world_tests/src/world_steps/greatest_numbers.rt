@@ -1,8 +1,6 @@
 //! Worlds at the greatest number: it is given out, and after it nobody asks.
-use crate::world_steps::world_acts::{Act, Scene, Wire, Wish, follow};
-use Act::{Ask, Deliver, HasSteps, LeavesWith, Refuses, Reports};
-use Wire::Replies;
-use Wish::Asks;
+use crate::world_steps::world_acts::{Act, Scene, follow};
+use Act::{HasSteps, Refuses, Reports, Runs, UnderWay};
 use ra_world::{NodeRefusal, StepError};
 
 const SCENES: &[Scene] = &[
@@ -11,7 +9,7 @@ const SCENES: &[Scene] = &[
         2,
         18446744073709551615,
         &[
-            Refuses(Asks(1, 1), StepError::Node(NodeRefusal::Exhausted)),
+            Refuses("ask 1 1 r X", StepError::Node(NodeRefusal::Exhausted)),
             HasSteps(0),
         ],
     ),
@@ -22,21 +20,22 @@ const SCENES: &[Scene] = &[
         2,
         18446744073709551613,
         &[
-            Ask(1, 1, b'r'),
-            Deliver(2),
-            Ask(1, 2, b'r'),
-            Ask(2, 3, b'r'),
-            Deliver(1),
-            LeavesWith(
-                Replies(1, 2, 18446744073709551615),
-                "leave 1 1 r X 18446744073709551614",
+            Runs(
+                "ask 1 1 r X\nrequest 1 1 r X 18446744073709551614\n\
+                 deliver request 1 2 r X 18446744073709551614\n\
+                 deliver reply 2 1 r 18446744073709551614\nenter 1 1 r X 18446744073709551614\n\
+                 ask 1 2 r X\nask 2 3 r X\nrequest 2 3 r X 18446744073709551615\n\
+                 deliver request 2 1 r X 18446744073709551615\n",
             ),
-            Deliver(1),
+            UnderWay(""),
+            Runs("release 1 1 r\nleave 1 1 r X 18446744073709551614\n"),
+            UnderWay("deliver reply 1 2 r 18446744073709551615\n"),
+            Runs("deliver reply 1 2 r 18446744073709551615\nenter 2 3 r X 18446744073709551615\n"),
             Reports(
                 "request 1 1 r X 18446744073709551614\nenter 1 1 r X 18446744073709551614\n\
                  request 2 3 r X 18446744073709551615\nleave 1 1 r X 18446744073709551614\n\
-                 enter 2 3 r X 18446744073709551615\n",
-                [2, 4, 0, 0, 0, 1],
+                 enter 2 3 r X 18446744073709551615\n\
+                 requests 2\nmessages 4\nunder-way 0\nlost 0\nwaiting 0\nqueued 1\n",
             ),
         ],
     ),

@@ -1,8 +1,6 @@
 //! Messages under way: in which order they are, and that each is delivered or lost once.
-use crate::world_steps::world_acts::{Act, Scene, Wire, Wish, follow};
-use Act::{Ask, Deliver, HasSteps, Lose, Refuses, Reports, UnderWay};
-use Wire::{Replies, Requests};
-use Wish::Delivers;
+use crate::world_steps::world_acts::{Act, Scene, follow};
+use Act::{HasSteps, Refuses, Reports, Runs, UnderWay};
 use ra_world::StepError;
 
 const SCENES: &[Scene] = &[
@@ -11,22 +9,23 @@ const SCENES: &[Scene] = &[
         2,
         0,
         &[
-            Ask(1, 1, b'r'),
-            Deliver(1),
-            Refuses(Delivers(Requests(2)), StepError::NotUnderWay),
+            Runs("ask 1 1 r X\nrequest 1 1 r X 1\ndeliver request 1 2 r X 1\n"),
+            Refuses("deliver request 1 2 r X 1", StepError::NotUnderWay),
             HasSteps(2),
-            Reports("request 1 1 r X 1\n", [1, 2, 1, 0, 1, 0]),
+            Reports(
+                "request 1 1 r X 1\n\
+                 requests 1\nmessages 2\nunder-way 1\nlost 0\nwaiting 1\nqueued 0\n",
+            ),
         ],
     ),
     Scene(
-        "messages stand under way in the order of sending",
+        "messages are under way in the order of sending",
         3,
         0,
         &[
-            Ask(1, 1, b'r'),
-            Deliver(1),
+            Runs("ask 1 1 r X\nrequest 1 1 r X 1\ndeliver request 1 2 r X 1\n"),
             // The REQUEST to node 3 comes before the REPLY of node 2.
-            UnderWay(&[Requests(3), Replies(2, 1, 1)]),
+            UnderWay("deliver request 1 3 r X 1\ndeliver reply 2 1 r 1\n"),
             HasSteps(2),
         ],
     ),
@@ -35,9 +34,8 @@ const SCENES: &[Scene] = &[
         2,
         0,
         &[
-            Ask(1, 1, b'r'),
-            Lose,
-            Refuses(Delivers(Requests(2)), StepError::NotUnderWay),
+            Runs("ask 1 1 r X\nrequest 1 1 r X 1\nlose request 1 2 r X 1\n"),
+            Refuses("deliver request 1 2 r X 1", StepError::NotUnderWay),
         ],
     ),
 ];

@@ -1,8 +1,6 @@
 //! Which modes two nodes hold beside each other.
 use crate::world_steps::world_acts::{Act, Scene, follow};
-use Act::{AskIn, Deliver, Leave, Reports, UnderWay};
-use Mode::{IntentExclusive, IntentShared, Shared};
-use ra_stamp::Mode;
+use Act::{AskIn, Deliver, Often, Reports, Runs, UnderWay};
 use std::process::Abort;
 use test_support::{Modes, PAIRS};
 
@@ -12,15 +10,16 @@ const SCENES: &[Scene] = &[
         2,
         0,
         &[
-            AskIn(1, 1, IntentExclusive),
-            AskIn(2, 2, IntentShared),
-            Deliver(4),
-            Leave(1, 1, b'r'),
-            Leave(2, 2, b'r'),
+            Runs(
+                "ask 1 1 r IX\nrequest 1 1 r IX 1\nask 2 2 r IS\nrequest 2 2 r IS 1\n\
+                 deliver request 1 2 r IX 1\ndeliver request 2 1 r IS 1\ndeliver reply 2 1 r 1\n\
+                 enter 1 1 r IX 1\ndeliver reply 1 2 r 1\nenter 2 2 r IS 1\nrelease 1 1 r\n\
+                 leave 1 1 r IX 1\nrelease 2 2 r\nleave 2 2 r IS 1\n",
+            ),
             Reports(
                 "request 1 1 r IX 1\nrequest 2 2 r IS 1\nenter 1 1 r IX 1\nenter 2 2 r IS 1\n\
-                 leave 1 1 r IX 1\nleave 2 2 r IS 1\n",
-                [2, 4, 0, 0, 0, 0],
+                 leave 1 1 r IX 1\nleave 2 2 r IS 1\n\
+                 requests 2\nmessages 4\nunder-way 0\nlost 0\nwaiting 0\nqueued 0\n",
             ),
         ],
     ),
@@ -29,16 +28,16 @@ const SCENES: &[Scene] = &[
         2,
         0,
         &[
-            AskIn(1, 1, IntentExclusive),
-            AskIn(2, 2, Shared),
-            Deliver(3),
-            Leave(1, 1, b'r'),
-            Deliver(1),
-            Leave(2, 2, b'r'),
+            Runs(
+                "ask 1 1 r IX\nrequest 1 1 r IX 1\nask 2 2 r S\nrequest 2 2 r S 1\n\
+                 deliver request 1 2 r IX 1\ndeliver request 2 1 r S 1\ndeliver reply 2 1 r 1\n\
+                 enter 1 1 r IX 1\nrelease 1 1 r\nleave 1 1 r IX 1\ndeliver reply 1 2 r 1\n\
+                 enter 2 2 r S 1\nrelease 2 2 r\nleave 2 2 r S 1\n",
+            ),
             Reports(
                 "request 1 1 r IX 1\nrequest 2 2 r S 1\nenter 1 1 r IX 1\nleave 1 1 r IX 1\n\
-                 enter 2 2 r S 1\nleave 2 2 r S 1\n",
-                [2, 4, 0, 0, 0, 0],
+                 enter 2 2 r S 1\nleave 2 2 r S 1\n\
+                 requests 2\nmessages 4\nunder-way 0\nlost 0\nwaiting 0\nqueued 0\n",
             ),
         ],
     ),
@@ -54,14 +53,14 @@ fn two_nodes_hold_modes_that_go_together(rt: HostRuntime) {
 fn goes_together(rt: &(impl Abort + AllocGlobal), pair: &Modes) {
     let (before, after) = if pair.3 { (4, 0) } else { (3, 1) };
     let acts = [
-        AskIn(1, 1, pair.1),
-        AskIn(2, 2, pair.2),
+        AskIn(1, pair.1),
+        AskIn(2, pair.2),
         Deliver(before),
-        UnderWay(&[]),
-        Leave(1, 1, b'r'),
+        UnderWay(""),
+        Often("release 1 1 r", 1),
         Deliver(after),
-        UnderWay(&[]),
-        Leave(2, 2, b'r'),
+        UnderWay(""),
+        Often("release 2 2 r", 1),
     ];
     follow(rt, &[Scene(pair.0, 2, 0, &acts)]);
 }

@@ -1,11 +1,9 @@
 //! Messages that are repeated: what is under way then, what comes of a copy, and which of equal messages goes first.
-use crate::world_steps::world_acts::{Act, ONE_LOCK_MARKS, Scene, Wire, Wish, follow};
+use crate::world_steps::world_acts::{Act, Scene, follow};
 use Act::{
-    Accepts, Ask, Deliver, HasRepeats, HasSteps, IsQuiet, Leave, Lock, Lose, Makes, MakesNear,
-    MakesNothing, Often, Refuses, Rejects, Repeat, Reports, ReportsText, UnderWay,
+    Accepts, Deliver, HasRepeats, HasSteps, IsQuiet, Lock, MakesNear, MakesNothing, Often, Refuses,
+    Rejects, Reports, Runs, UnderWay,
 };
-use Wire::{Replies, Requests};
-use Wish::{Delivers, Loses, Repeats};
 use ra_world::StepError;
 
 /// The report of a run of two nodes, in which the REQUEST of a client that locks and unlocks `r` comes twice.
@@ -27,15 +25,14 @@ const SCENES: &[Scene] = &[
         2,
         0,
         &[
-            Ask(1, 1, b'r'),
-            MakesNothing(Repeats(Requests(2))),
-            Makes(Delivers(Requests(2))),
-            Makes(Delivers(Requests(2))),
-            UnderWay(&[Replies(2, 1, 1), Replies(2, 1, 1)]),
-            Makes(Delivers(Replies(2, 1, 1))),
-            MakesNothing(Delivers(Replies(2, 1, 1))),
-            Leave(1, 1, b'r'),
-            ReportsText(ANSWERED_TWICE),
+            Runs("ask 1 1 r X\nrequest 1 1 r X 1\n"),
+            MakesNothing("repeat request 1 2 r X 1"),
+            Runs("deliver request 1 2 r X 1\ndeliver request 1 2 r X 1\n"),
+            UnderWay("deliver reply 2 1 r 1\ndeliver reply 2 1 r 1\n"),
+            Runs("deliver reply 2 1 r 1\nenter 1 1 r X 1\n"),
+            MakesNothing("deliver reply 2 1 r 1"),
+            Runs("release 1 1 r\nleave 1 1 r X 1\n"),
+            Reports(ANSWERED_TWICE),
             HasRepeats(1),
         ],
     ),
@@ -45,25 +42,23 @@ const SCENES: &[Scene] = &[
         2,
         0,
         &[
-            Ask(1, 1, b'r'),
-            Makes(Repeats(Requests(2))),
-            Makes(Delivers(Requests(2))),
-            Makes(Delivers(Replies(2, 1, 1))),
-            Leave(1, 1, b'r'),
-            Ask(1, 1, b'r'),
-            Makes(Delivers(Requests(2))),
-            MakesNothing(Delivers(Replies(2, 1, 1))),
-            Reports(
-                "request 1 1 r X 1\nenter 1 1 r X 1\nleave 1 1 r X 1\nrequest 1 1 r X 2\n",
-                [2, 4, 1, 0, 1, 0],
+            Runs(
+                "ask 1 1 r X\nrequest 1 1 r X 1\nrepeat request 1 2 r X 1\n\
+                 deliver request 1 2 r X 1\ndeliver reply 2 1 r 1\nenter 1 1 r X 1\nrelease 1 1 r\n\
+                 leave 1 1 r X 1\nask 1 1 r X\nrequest 1 1 r X 2\ndeliver request 1 2 r X 1\n",
             ),
-            Deliver(1),
-            UnderWay(&[Replies(2, 1, 2)]),
-            Deliver(1),
+            MakesNothing("deliver reply 2 1 r 1"),
             Reports(
                 "request 1 1 r X 1\nenter 1 1 r X 1\nleave 1 1 r X 1\nrequest 1 1 r X 2\n\
-                 enter 1 1 r X 2\n",
-                [2, 5, 0, 0, 0, 0],
+                 requests 2\nmessages 4\nunder-way 1\nlost 0\nwaiting 1\nqueued 0\n",
+            ),
+            Runs("deliver request 1 2 r X 2\n"),
+            UnderWay("deliver reply 2 1 r 2\n"),
+            Runs("deliver reply 2 1 r 2\nenter 1 1 r X 2\n"),
+            Reports(
+                "request 1 1 r X 1\nenter 1 1 r X 1\nleave 1 1 r X 1\nrequest 1 1 r X 2\n\
+                 enter 1 1 r X 2\n\
+                 requests 2\nmessages 5\nunder-way 0\nlost 0\nwaiting 0\nqueued 0\n",
             ),
             HasRepeats(1),
         ],
@@ -73,14 +68,15 @@ const SCENES: &[Scene] = &[
         2,
         0,
         &[
-            Ask(1, 1, b'r'),
-            Makes(Repeats(Requests(2))),
-            UnderWay(&[Requests(2), Requests(2)]),
-            Makes(Loses(Requests(2))),
-            Makes(Loses(Requests(2))),
-            Refuses(Repeats(Requests(2)), StepError::NotUnderWay),
+            Runs("ask 1 1 r X\nrequest 1 1 r X 1\nrepeat request 1 2 r X 1\n"),
+            UnderWay("deliver request 1 2 r X 1\ndeliver request 1 2 r X 1\n"),
+            Runs("lose request 1 2 r X 1\nlose request 1 2 r X 1\n"),
+            Refuses("repeat request 1 2 r X 1", StepError::NotUnderWay),
             HasSteps(4),
-            Reports("request 1 1 r X 1\n", [1, 1, 0, 2, 1, 0]),
+            Reports(
+                "request 1 1 r X 1\n\
+                 requests 1\nmessages 1\nunder-way 0\nlost 2\nwaiting 1\nqueued 0\n",
+            ),
             HasRepeats(1),
         ],
     ),
@@ -89,14 +85,14 @@ const SCENES: &[Scene] = &[
         2,
         0,
         &[
-            Refuses(Repeats(Requests(2)), StepError::NotUnderWay),
-            Ask(1, 1, b'r'),
-            Accepts(Repeats(Requests(2))),
-            Rejects(Repeats(Requests(3))),
-            Rejects(Repeats(Replies(2, 1, 1))),
-            Deliver(1),
-            Refuses(Repeats(Requests(2)), StepError::NotUnderWay),
-            Accepts(Repeats(Replies(2, 1, 1))),
+            Refuses("repeat request 1 2 r X 1", StepError::NotUnderWay),
+            Runs("ask 1 1 r X\nrequest 1 1 r X 1\n"),
+            Accepts("repeat request 1 2 r X 1"),
+            Rejects("repeat request 1 3 r X 1"),
+            Rejects("repeat reply 2 1 r 1"),
+            Runs("deliver request 1 2 r X 1\n"),
+            Refuses("repeat request 1 2 r X 1", StepError::NotUnderWay),
+            Accepts("repeat reply 2 1 r 1"),
             HasSteps(2),
             HasRepeats(0),
         ],
@@ -116,19 +112,25 @@ const COPIES: &[Scene] = &[
         3,
         0,
         &[
-            Ask(1, 1, b'r'),
-            UnderWay(&[Requests(2), Requests(3)]),
-            MakesNear(Repeats(Requests(2)), 1),
-            UnderWay(&[Requests(2), Requests(3), Requests(2)]),
-            MakesNear(Delivers(Requests(2)), 2),
-            UnderWay(&[Requests(3), Requests(2), Replies(2, 1, 1)]),
-            MakesNear(Repeats(Requests(3)), 0),
-            MakesNear(Loses(Requests(3)), 3),
-            UnderWay(&[Requests(2), Replies(2, 1, 1), Requests(3)]),
+            Runs("ask 1 1 r X\nrequest 1 1 r X 1\n"),
+            UnderWay("deliver request 1 2 r X 1\ndeliver request 1 3 r X 1\n"),
+            MakesNear("repeat request 1 2 r X 1", 1),
+            UnderWay(
+                "deliver request 1 2 r X 1\ndeliver request 1 3 r X 1\ndeliver request 1 2 r X 1\n",
+            ),
+            MakesNear("deliver request 1 2 r X 1", 2),
+            UnderWay(
+                "deliver request 1 3 r X 1\ndeliver request 1 2 r X 1\ndeliver reply 2 1 r 1\n",
+            ),
+            MakesNear("repeat request 1 3 r X 1", 0),
+            MakesNear("lose request 1 3 r X 1", 3),
+            UnderWay(
+                "deliver request 1 2 r X 1\ndeliver reply 2 1 r 1\ndeliver request 1 3 r X 1\n",
+            ),
             Deliver(1),
-            UnderWay(&[Replies(2, 1, 1), Requests(3), Replies(2, 1, 1)]),
-            MakesNear(Delivers(Replies(2, 1, 1)), 2),
-            UnderWay(&[Requests(3), Replies(2, 1, 1)]),
+            UnderWay("deliver reply 2 1 r 1\ndeliver request 1 3 r X 1\ndeliver reply 2 1 r 1\n"),
+            MakesNear("deliver reply 2 1 r 1", 2),
+            UnderWay("deliver request 1 3 r X 1\ndeliver reply 2 1 r 1\n"),
             HasRepeats(2),
         ],
     ),
@@ -138,16 +140,17 @@ const COPIES: &[Scene] = &[
         2,
         0,
         &[
-            Ask(1, 1, b'r'),
-            Makes(Repeats(Requests(2))),
-            Lose,
-            Makes(Repeats(Requests(2))),
-            Lose,
-            Makes(Repeats(Requests(2))),
-            UnderWay(&[Requests(2), Requests(2)]),
+            Runs(
+                "ask 1 1 r X\nrequest 1 1 r X 1\nrepeat request 1 2 r X 1\nlose request 1 2 r X 1\n\
+                 repeat request 1 2 r X 1\nlose request 1 2 r X 1\nrepeat request 1 2 r X 1\n",
+            ),
+            UnderWay("deliver request 1 2 r X 1\ndeliver request 1 2 r X 1\n"),
             Deliver(4),
-            Leave(1, 1, b'r'),
-            Reports(ONE_LOCK_MARKS, [1, 3, 0, 2, 0, 0]),
+            Runs("release 1 1 r\nleave 1 1 r X 1\n"),
+            Reports(
+                "request 1 1 r X 1\nenter 1 1 r X 1\nleave 1 1 r X 1\n\
+                 requests 1\nmessages 3\nunder-way 0\nlost 2\nwaiting 0\nqueued 0\n",
+            ),
             HasRepeats(3),
         ],
     ),
@@ -157,41 +160,42 @@ const COPIES: &[Scene] = &[
         2,
         0,
         &[
-            Ask(2, 2, b'r'),
-            Deliver(2),
-            Ask(1, 1, b'r'),
-            Repeat,
-            Deliver(2),
-            UnderWay(&[]),
-            Leave(2, 2, b'r'),
-            UnderWay(&[Replies(2, 1, 2)]),
-            Deliver(1),
-            Leave(1, 1, b'r'),
+            Runs(
+                "ask 2 2 r X\nrequest 2 2 r X 1\ndeliver request 2 1 r X 1\ndeliver reply 1 2 r 1\n\
+                 enter 2 2 r X 1\nask 1 1 r X\nrequest 1 1 r X 2\nrepeat request 1 2 r X 2\n\
+                 deliver request 1 2 r X 2\ndeliver request 1 2 r X 2\n",
+            ),
+            UnderWay(""),
+            Runs("release 2 2 r\nleave 2 2 r X 1\n"),
+            UnderWay("deliver reply 2 1 r 2\n"),
+            Runs("deliver reply 2 1 r 2\nenter 1 1 r X 2\nrelease 1 1 r\nleave 1 1 r X 2\n"),
             Reports(
                 "request 2 2 r X 1\nenter 2 2 r X 1\nrequest 1 1 r X 2\nleave 2 2 r X 1\n\
-                 enter 1 1 r X 2\nleave 1 1 r X 2\n",
-                [2, 4, 0, 0, 0, 0],
+                 enter 1 1 r X 2\nleave 1 1 r X 2\n\
+                 requests 2\nmessages 4\nunder-way 0\nlost 0\nwaiting 0\nqueued 0\n",
             ),
             HasRepeats(1),
         ],
     ),
     // If nothing was repeated two messages are sent for each request and other node; a copy may have one more sent.
     Scene(
-        "messages are counted where nothing was repeated, once",
+        "messages are counted if nothing was repeated",
         3,
         0,
         &[Lock(1, 4), HasRepeats(0), IsQuiet(3, 1, 4)],
     ),
     Scene(
-        "messages are counted where nothing was repeated, twice",
+        "messages are counted if one was repeated",
         3,
         0,
         &[
-            Ask(1, 1, b'r'),
-            Repeat,
+            Runs("ask 1 1 r X\nrequest 1 1 r X 1\nrepeat request 1 2 r X 1\n"),
             Deliver(6),
-            Leave(1, 1, b'r'),
-            Reports(ONE_LOCK_MARKS, [1, 5, 0, 0, 0, 0]),
+            Runs("release 1 1 r\nleave 1 1 r X 1\n"),
+            Reports(
+                "request 1 1 r X 1\nenter 1 1 r X 1\nleave 1 1 r X 1\n\
+                 requests 1\nmessages 5\nunder-way 0\nlost 0\nwaiting 0\nqueued 0\n",
+            ),
             HasRepeats(1),
         ],
     ),
@@ -209,23 +213,26 @@ const MANY: &[Scene] = &[Scene(
     3,
     0,
     &[
-        Ask(1, 1, b'r'),
-        Often(Repeats(Requests(3)), 5_000),
-        Often(Repeats(Requests(2)), 4_999),
-        Often(Delivers(Requests(3)), 2_000),
-        Often(Loses(Requests(2)), 500),
-        Often(Loses(Requests(3)), 1_000),
-        Often(Delivers(Replies(3, 1, 1)), 2_000),
-        Often(Delivers(Requests(2)), 4_500),
-        Often(Delivers(Requests(3)), 2_001),
-        Refuses(Delivers(Requests(2)), StepError::NotUnderWay),
-        Refuses(Delivers(Requests(3)), StepError::NotUnderWay),
+        Runs("ask 1 1 r X\nrequest 1 1 r X 1\n"),
+        Often("repeat request 1 3 r X 1", 5_000),
+        Often("repeat request 1 2 r X 1", 4_999),
+        Often("deliver request 1 3 r X 1", 2_000),
+        Often("lose request 1 2 r X 1", 500),
+        Often("lose request 1 3 r X 1", 1_000),
+        Often("deliver reply 3 1 r 1", 2_000),
+        Often("deliver request 1 2 r X 1", 4_500),
+        Often("deliver request 1 3 r X 1", 2_001),
+        Refuses("deliver request 1 2 r X 1", StepError::NotUnderWay),
+        Refuses("deliver request 1 3 r X 1", StepError::NotUnderWay),
         Deliver(6_501),
-        UnderWay(&[]),
-        Leave(1, 1, b'r'),
+        UnderWay(""),
+        Runs("release 1 1 r\nleave 1 1 r X 1\n"),
         HasSteps(28_503),
         HasRepeats(9_999),
-        Reports(ONE_LOCK_MARKS, [1, 8503, 0, 1500, 0, 0]),
+        Reports(
+            "request 1 1 r X 1\nenter 1 1 r X 1\nleave 1 1 r X 1\n\
+             requests 1\nmessages 8503\nunder-way 0\nlost 1500\nwaiting 0\nqueued 0\n",
+        ),
     ],
 )];
 

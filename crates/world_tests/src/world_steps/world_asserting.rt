@@ -1,19 +1,14 @@
-//! How a test ends that does not find what it should. It prints what was expected and what came.
+//! How a test ends that does not find what it should. `test_support` has what it prints then.
 use ra_stamp::Memory;
 use std::fmt::{Debug, Display};
 use std::process::Abort;
-use test_support::{At, Tried, printed};
+use test_support::{At, Difference, Tried, first_misprint, row};
 
-/// Asserts that what came there is what was expected.
-pub fn assert_same<T: Debug + PartialEq>(rt: &impl Abort, at: At<'_>, came: &T, expected: &T) {
-    if came != expected {
-        panic!(rt; "{at}: expected {expected:?}, and {came:?} came");
+/// Asserts that calls of which a growth was refused had the right answer, and changed nothing.
+pub fn assert_grown(rt: &impl Abort, tried: Tried) {
+    if let Some(fault) = tried.fault() {
+        panic!(rt; "{fault}");
     }
-}
-
-/// Asserts that what came of the row with this number, from 0 up, is what was expected.
-pub fn assert_row<T: Debug + PartialEq>(rt: &impl Abort, row: usize, came: &T, expected: &T) {
-    assert_same(rt, At("the table", "row", row), came, expected);
 }
 
 /// Asserts that there is this text.
@@ -24,15 +19,21 @@ pub fn assert_text(rt: &impl Abort, at: At<'_>, came: Result<String, Memory>, ex
     }
 }
 
-/// Asserts that each of these values prints as the text beside it.
-pub fn assert_prints<T: Display>(rt: &(impl Abort + AllocGlobal), rows: &[(T, &str)]) {
-    for row in 0..rows.len() {
-        let came = printed(rt.alloc(), &rows[row].0);
-        assert_row(rt, row, &came.as_str(), &rows[row].1);
+/// Asserts that what came there is what was expected.
+pub fn assert_same<T: Debug + PartialEq>(rt: &impl Abort, at: At<'_>, came: &T, expected: &T) {
+    if came != expected {
+        panic!(rt; "{}", Difference { at, expected, came });
     }
 }
 
-/// Asserts that calls of which a growth was refused had the right answer, and changed nothing.
-pub fn assert_grown(rt: &impl Abort, tried: Tried) {
-    assert_same(rt, At("calls", "try", 0), &tried.fault(), &None);
+/// Asserts that each of these values prints as the text beside it.
+pub fn assert_prints<T: Display>(rt: &(impl Abort + AllocGlobal), rows: &[(T, &str)]) {
+    if let Some((text, came)) = first_misprint(rt.alloc(), rows) {
+        assert_same(rt, row(text), &came.as_str(), &text);
+    }
+}
+
+/// Asserts that what came of the row with this number, from 0 up, is what was expected.
+pub fn assert_row<T: Debug + PartialEq>(rt: &impl Abort, row: usize, came: &T, expected: &T) {
+    assert_same(rt, At("the table", "row", row), came, expected);
 }

@@ -1,11 +1,11 @@
 //! What is printed of worlds and of schedules: refusals, reports and faults.
 use crate::world_steps::world_acts::{Act, Scene, follow};
-use crate::world_steps::world_asserting::{assert_prints, assert_row, assert_text};
-use Act::{Lock, ReportsText};
+use crate::world_steps::world_asserting::{assert_prints, assert_same, assert_text};
+use Act::{Lock, Reports};
 use ra_schedule::{AddClientError, AddOpError, DriveError, NewScriptError};
 use ra_stamp::{Mark, Mode, Name};
 use ra_world::{NewError, NodeRefusal, RunError, StepError, mark_line};
-use test_support::{At, ONE_LOCK_LINES, assert_words, entry};
+use test_support::{ONE_LOCK_LINES, assert_words, entry, row};
 
 /// Why a step is refused, with its word.
 const CAUSES: &[(StepError, &str)] = &[
@@ -34,7 +34,7 @@ const SCENES: &[Scene] = &[Scene(
     "a report is printed as its lines",
     2,
     0,
-    &[Lock(1, 2), ReportsText(ONE_LOCK_LINES)],
+    &[Lock(1, 2), Reports(ONE_LOCK_LINES)],
 )];
 
 #[test]
@@ -51,9 +51,9 @@ fn the_greatest_numbers_are_printed(rt: HostRuntime) {
             let mode = Mode::SharedIntentExclusive;
             let mark = Mark::Requested(entry(64, u32::MAX, name, mode, u64::MAX));
             let came = mark_line(rt.alloc(), &mark);
-            assert_text(&rt, At("the greatest mark", "row", 0), came, line);
+            assert_text(&rt, row("the greatest mark"), came, line);
         }
-        Err(fault) => assert_row(&rt, 0, &Some(fault), &None),
+        Err(fault) => assert_same(&rt, row("the longest name"), &Some(fault), &None),
     }
 }
 

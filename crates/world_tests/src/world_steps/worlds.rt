@@ -1,8 +1,6 @@
 //! How a world goes on: which steps it accepts, which clients enter or wait, and how far it comes.
-use crate::world_steps::world_acts::{Act, ONE_LOCK_MARKS, Scene, Wire, Wish, follow};
-use Act::{Accepts, Ask, Deliver, HasSteps, IsQuiet, Leave, Lock, Rejects, Reports};
-use Wire::{Replies, Requests};
-use Wish::{Asks, Delivers, Leaves, Loses};
+use crate::world_steps::world_acts::{Act, Scene, follow};
+use Act::{Accepts, Deliver, HasSteps, IsQuiet, Lock, Rejects, Reports, Runs};
 
 const SCENES: &[Scene] = &[
     Scene(
@@ -10,14 +8,14 @@ const SCENES: &[Scene] = &[
         2,
         0,
         &[
-            Ask(1, 1, b'r'),
-            Accepts(Delivers(Requests(2))),
-            Accepts(Loses(Requests(2))),
-            Accepts(Asks(2, 2)),
-            Rejects(Delivers(Requests(3))),
-            Rejects(Loses(Replies(2, 1, 1))),
-            Rejects(Leaves),
-            Rejects(Asks(3, 1)),
+            Runs("ask 1 1 r X\nrequest 1 1 r X 1\n"),
+            Accepts("deliver request 1 2 r X 1"),
+            Accepts("lose request 1 2 r X 1"),
+            Accepts("ask 2 2 r X"),
+            Rejects("deliver request 1 3 r X 1"),
+            Rejects("lose reply 2 1 r 1"),
+            Rejects("release 1 1 r"),
+            Rejects("ask 3 1 r X"),
         ],
     ),
     Scene(
@@ -25,9 +23,12 @@ const SCENES: &[Scene] = &[
         16,
         0,
         &[
-            Ask(1, 1, b'r'),
+            Runs("ask 1 1 r X\nrequest 1 1 r X 1\n"),
             Deliver(30),
-            Reports("request 1 1 r X 1\nenter 1 1 r X 1\n", [1, 30, 0, 0, 0, 0]),
+            Reports(
+                "request 1 1 r X 1\nenter 1 1 r X 1\n\
+                 requests 1\nmessages 30\nunder-way 0\nlost 0\nwaiting 0\nqueued 0\n",
+            ),
         ],
     ),
     Scene(
@@ -35,10 +36,13 @@ const SCENES: &[Scene] = &[
         64,
         0,
         &[
-            Ask(1, 1, b'r'),
+            Runs("ask 1 1 r X\nrequest 1 1 r X 1\n"),
             Deliver(126),
-            Leave(1, 1, b'r'),
-            Reports(ONE_LOCK_MARKS, [1, 126, 0, 0, 0, 0]),
+            Runs("release 1 1 r\nleave 1 1 r X 1\n"),
+            Reports(
+                "request 1 1 r X 1\nenter 1 1 r X 1\nleave 1 1 r X 1\n\
+                 requests 1\nmessages 126\nunder-way 0\nlost 0\nwaiting 0\nqueued 0\n",
+            ),
         ],
     ),
     // Clients 1 and 2 lock `a` and `b`, and then each asks for the other's name.
@@ -47,17 +51,17 @@ const SCENES: &[Scene] = &[
         2,
         0,
         &[
-            Ask(1, 1, b'a'),
-            Ask(2, 2, b'b'),
-            Deliver(3),
-            Ask(1, 1, b'b'),
-            Deliver(1),
-            Ask(2, 2, b'a'),
-            Deliver(2),
+            Runs(
+                "ask 1 1 a X\nrequest 1 1 a X 1\nask 2 2 b X\nrequest 2 2 b X 1\n\
+                 deliver request 1 2 a X 1\ndeliver request 2 1 b X 1\ndeliver reply 2 1 a 1\n\
+                 enter 1 1 a X 1\nask 1 1 b X\nrequest 1 1 b X 2\ndeliver reply 1 2 b 1\n\
+                 enter 2 2 b X 1\nask 2 2 a X\nrequest 2 2 a X 2\ndeliver request 1 2 b X 2\n\
+                 deliver request 2 1 a X 2\n",
+            ),
             Reports(
                 "request 1 1 a X 1\nrequest 2 2 b X 1\nenter 1 1 a X 1\nrequest 1 1 b X 2\n\
-                 enter 2 2 b X 1\nrequest 2 2 a X 2\n",
-                [4, 6, 0, 0, 2, 0],
+                 enter 2 2 b X 1\nrequest 2 2 a X 2\n\
+                 requests 4\nmessages 6\nunder-way 0\nlost 0\nwaiting 2\nqueued 0\n",
             ),
         ],
     ),

@@ -1,15 +1,13 @@
 //! Runs of a list of steps: what is reported about them, and at which step they are refused.
-use crate::world_steps::world_acts::{Wire, Wish, step};
-use crate::world_steps::world_asserting::{assert_row, assert_text};
+use crate::world_steps::world_acts::step_of;
+use crate::world_steps::world_asserting::{assert_same, assert_text};
 use Answer::{Refused, Reported};
-use Wire::Requests;
-use Wish::{Asks, Leaves, Loses};
 use ra_world::{
     NewError, NodeRefusal, Report, RunError, Step, StepError, Steps, World, report_text, run,
 };
 use std::alloc::Global;
 use std::process::Abort;
-use test_support::At;
+use test_support::{At, row};
 
 /// What `run` answers.
 #[derive(Clone, Copy)]
@@ -20,8 +18,8 @@ enum Answer {
     Refused(RunError),
 }
 
-/// The number of nodes, the steps of a run from 0, and the answer.
-struct Case(u16, &'static [Wish], Answer);
+/// What it shows, the number of nodes, the steps of a run from 0 as lines of a trace, and the answer.
+struct Case(&'static str, u16, &'static [&'static str], Answer);
 
 /// Adds a step, if there is one. Returns whether there was a step and room for it.
 pub fn adds(steps: &mut Steps, step: Option<Step>) -> bool {
@@ -31,40 +29,20 @@ pub fn adds(steps: &mut Steps, step: Option<Step>) -> bool {
     }
 }
 
-/// Adds these steps. Returns whether there was room.
-pub fn adds_all(steps: &mut Steps, wishes: &[Wish]) -> bool {
-    for wish in wishes {
-        if !adds(steps, step(*wish)) {
-            return false;
+/// Returns the list of the steps that these lines tell.
+pub fn steps_of(rt: &(impl Abort + AllocGlobal), lines: &[&str]) -> Steps {
+    let mut steps = Steps::new(rt.alloc());
+    for line in lines {
+        if !adds(&mut steps, step_of(line)) {
+            panic!(rt; "{line:?} tells no step, or there is no memory for it");
         }
     }
-    true
+    steps
 }
 
 /// Returns what `run` answers for steps whose numbers begin at `start`.
 pub fn run_of(alloc: Global, nodes: u16, start: u64, steps: &Steps) -> Result<Report, RunError> {
     run(alloc, nodes, start, steps)
-}
-
-/// Returns what `run` answers for these steps, from 0.
-fn answer_to(alloc: Global, nodes: u16, wishes: &[Wish]) -> Result<Report, RunError> {
-    let mut steps = Steps::new(alloc);
-    if adds_all(&mut steps, wishes) {
-        run_of(alloc, nodes, 0, &steps)
-    } else {
-        Err(RunError::Memory)
-    }
-}
-
-/// Asserts that the report of the row with this number is the answer.
-fn assert_reported(rt: &(impl Abort + AllocGlobal), row: usize, report: &Report, expected: Answer) {
-    match expected {
-        Reported(text) => {
-            let came = report_text(rt.alloc(), report);
-            assert_text(rt, At("the report", "row", row), came, text);
-        }
-        Refused(fault) => assert_row(rt, row, &None, &Some(fault)),
-    }
 }
 
 /// Returns the refusal that is the answer, or `None` if the steps are made.
@@ -77,12 +55,20 @@ fn fault_in(answer: Answer) -> Option<RunError> {
 
 /// Asserts that each case has the expected answer.
 fn assert_cases(rt: &(impl Abort + AllocGlobal), cases: &[Case]) {
-    for row in 0..cases.len() {
-        let Case(nodes, wishes, expected) = &cases[row];
-        match answer_to(rt.alloc(), *nodes, wishes) {
-            Ok(report) => assert_reported(rt, row, &report, *expected),
-            Err(fault) => assert_row(rt, row, &Some(fault), &fault_in(*expected)),
+    for Case(label, nodes, lines, expected) in cases {
+        let at = row(label);
+        match run_of(rt.alloc(), *nodes, 0, &steps_of(rt, lines)) {
+            Ok(report) => assert_reported(rt, at, &report, *expected),
+            Err(fault) => assert_same(rt, at, &Some(fault), &fault_in(*expected)),
         }
+    }
+}
+
+/// Asserts that a report is the answer.
+fn assert_reported(rt: &(impl Abort + AllocGlobal), at: At<'_>, report: &Report, expected: Answer) {
+    match expected {
+        Reported(text) => assert_text(rt, at, report_text(rt.alloc(), report), text),
+        Refused(fault) => assert_same(rt, at, &None, &Some(fault)),
     }
 }
 
@@ -90,40 +76,45 @@ fn assert_cases(rt: &(impl Abort + AllocGlobal), cases: &[Case]) {
 fn a_run_ends_at_the_first_step_that_is_refused(rt: HostRuntime) {
     const CASES: &[Case] = &[
         Case(
+            "a client asks twice",
             2,
-            &[Asks(1, 1), Asks(1, 1)],
+            &["ask 1 1 r X", "ask 1 1 r X"],
             Refused(RunError::Refused {
                 place: 2,
                 cause: StepError::Node(NodeRefusal::Busy),
             }),
         ),
         Case(
+            "a client leaves what it does not hold",
             2,
-            &[Leaves],
+            &["release 1 1 r"],
             Refused(RunError::Refused {
                 place: 1,
                 cause: StepError::Node(NodeRefusal::NotHeld),
             }),
         ),
         Case(
+            "there is no such node",
             2,
-            &[Asks(3, 1)],
+            &["ask 3 1 r X"],
             Refused(RunError::Refused {
                 place: 1,
                 cause: StepError::NoNode,
             }),
         ),
         Case(
+            "it leaves twice what it does not hold",
             2,
-            &[Leaves, Leaves],
+            &["release 1 1 r", "release 1 1 r"],
             Refused(RunError::Refused {
                 place: 1,
                 cause: StepError::Node(NodeRefusal::NotHeld),
             }),
         ),
         Case(
+            "twice there is no such node",
             2,
-            &[Asks(3, 1), Asks(3, 1)],
+            &["ask 3 1 r X", "ask 3 1 r X"],
             Refused(RunError::Refused {
                 place: 1,
                 cause: StepError::NoNode,
@@ -145,23 +136,25 @@ queued 0
 #[test]
 fn a_cluster_has_one_to_sixty_four_nodes(rt: HostRuntime) {
     const CASES: &[Case] = &[
-        Case(0, &[], Refused(RunError::BadCount)),
-        Case(65, &[], Refused(RunError::BadCount)),
-        Case(1, &[], Reported(NOTHING)),
-        Case(64, &[], Reported(NOTHING)),
+        Case("no node", 0, &[], Refused(RunError::BadCount)),
+        Case("65 nodes", 65, &[], Refused(RunError::BadCount)),
+        Case("one node", 1, &[], Reported(NOTHING)),
+        Case("64 nodes", 64, &[], Reported(NOTHING)),
     ];
     assert_cases(&rt, CASES);
     for nodes in [0, 65] {
         let fault = World::new(rt.alloc(), nodes, 0).err();
-        assert_row(&rt, usize::from(nodes), &fault, &Some(NewError::BadCount));
+        let at = At("a world", "with this many nodes:", usize::from(nodes));
+        assert_same(&rt, at, &fault, &Some(NewError::BadCount));
     }
 }
 
 #[test]
 fn the_client_of_a_lost_request_waits(rt: HostRuntime) {
     const CASES: &[Case] = &[Case(
+        "a lost request",
         2,
-        &[Asks(1, 1), Loses(Requests(2))],
+        &["ask 1 1 r X", "lose request 1 2 r X 1"],
         Reported(
             "request 1 1 r X 1
 requests 1
