@@ -358,8 +358,8 @@ const IN_ORDER: &[Scene] = &[
             Has(&[ASKED]),
         ],
     ),
-    // Of two equal messages, the one that was found is taken. If another message is at that place, the first of the two is
-    // taken.
+    // Of two equal messages, the one that was found is taken. If another message is at that place, before the one taken last,
+    // and at the end, the first of the two is taken. Then the one at the end is taken.
     Scene(
         "of equal messages the one that was found is taken",
         &[
@@ -368,9 +368,12 @@ const IN_ORDER: &[Scene] = &[
             FindsAt(ASKED, 2),
             TakesNear(ASKED, 2),
             Has(&[ASKED, REPLIED]),
-            Puts(&[ASKED]),
+            Puts(&[ASKED, REPLIED]),
             TakesNear(ASKED, 1),
-            Has(&[REPLIED, ASKED]),
+            Has(&[REPLIED, ASKED, REPLIED]),
+            Puts(&[ASKED]),
+            TakesNear(ASKED, 0),
+            Has(&[REPLIED, ASKED, REPLIED]),
         ],
     ),
     Scene(
