@@ -149,13 +149,7 @@ digits_of : (line : List ℕ) (why : Refusal) → why ≢ refusal.Line → IsUnr
 digits_of line refusal.Line other h = absurd (other refl)
 digits_of line refusal.Hex other h = (h.0, h.1)
 digits_of line (refusal.Frame fault) other h = (h.0, h.1)
-digits_of line refusal.Busy other h = absurd h
-digits_of line refusal.Exhausted other h = absurd h
-digits_of line refusal.NotHeld other h = absurd h
-digits_of line refusal.WrongNode other h = absurd h
-digits_of line refusal.Stranger other h = absurd h
-digits_of line refusal.ClockFull other h = absurd h
-digits_of line refusal.Memory other h = absurd h
+digits_of line (refusal.Event why) other h = absurd h
 
 module _ (lines : LineLaws) (laws : HistoryLaws) where
   first_not_refused : (books : List BookState) (line : List ℕ) (node nodes start : ℕ) → IsFirst line node nodes start → IsRefused books line → ⊥

@@ -76,13 +76,7 @@ event_is_read law line kind (refusal.Frame fault) h (digits, form, (others, has'
     let one : bytes ≡ others = cc in
     let both : None ≡ Some fault = sym (law bytes frame text) ∙ (ap first_fault one ∙ wrong) in
     absurd cc
-event_is_read law line kind refusal.Busy h none = absurd none
-event_is_read law line kind refusal.Exhausted h none = absurd none
-event_is_read law line kind refusal.NotHeld h none = absurd none
-event_is_read law line kind refusal.WrongNode h none = absurd none
-event_is_read law line kind refusal.Stranger h none = absurd none
-event_is_read law line kind refusal.ClockFull h none = absurd none
-event_is_read law line kind refusal.Memory h none = absurd none
+event_is_read law line kind (refusal.Event cause) h none = absurd none
 
 -- what is sent has one text
 one_sends : OneText → (clock : ℕ) (sends : List Message) (a b : List ℕ) → AreSends clock sends a → AreSends clock sends b → a ≡ b

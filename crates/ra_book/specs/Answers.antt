@@ -8,23 +8,31 @@ use Rattle.ra_frame.specs.FrameText.{IsWrittenText}
 use Rattle.ra_frame.specs.Words as frame
 use Rattle.ra_world.specs.Lines.{field, mark_line}
 use Rattle.ra_history.specs.declared.book.event.BookKind.{BookKind}
+use Rattle.ra_history.specs.declared.error.BookError.{BookError}
+use Rattle.ra_history.specs.declared.error.BookError.TheVariants as error
 use Rattle.ra_book.specs.declared.answering.line_refusal.Refusal.{Refusal}
 use Rattle.ra_book.specs.declared.answering.line_refusal.Refusal.TheVariants as refusal
 use Rattle.ra_book.specs.BookText.{IsEvent, IsUnread}
 use Rattle.ra_book.specs.Timed.{Timed, Takes, Refuses}
+
+-- the word of why an event is refused
+abbrev pub event_word : BookError → List ℕ
+event_word error.Failed = codes "Failed"
+event_word (error.Frame fault) = frame.word_of fault
+event_word error.Busy = codes "Busy"
+event_word error.Exhausted = codes "Exhausted"
+event_word error.NotHeld = codes "NotHeld"
+event_word error.WrongNode = codes "WrongNode"
+event_word error.Stranger = codes "Stranger"
+event_word error.ClockFull = codes "ClockFull"
+event_word error.Memory = codes "Memory"
 
 -- the word of a refusal
 abbrev pub word_of : Refusal → List ℕ
 word_of refusal.Line = codes "Line"
 word_of refusal.Hex = codes "Hex"
 word_of (refusal.Frame fault) = frame.word_of fault
-word_of refusal.Busy = codes "Busy"
-word_of refusal.Exhausted = codes "Exhausted"
-word_of refusal.NotHeld = codes "NotHeld"
-word_of refusal.WrongNode = codes "WrongNode"
-word_of refusal.Stranger = codes "Stranger"
-word_of refusal.ClockFull = codes "ClockFull"
-word_of refusal.Memory = codes "Memory"
+word_of (refusal.Event cause) = event_word cause
 
 -- the answer to a line that is refused
 abbrev pub refused_line : Refusal → List ℕ
@@ -55,7 +63,7 @@ pub record Reacts (old : Timed) (line : List ℕ) (sends : List Message) (marks 
 
 -- the line is no event, or one that is refused; the node is as it was
 pub record Stays (old : Timed) (line : List ℕ) (new : Timed) (why : Refusal) : Type 0 where
-  pub cause : IsUnread line why ⊎ ((kind : BookKind) × IsEvent line kind × Refuses old kind why)
+  pub cause : IsUnread line why ⊎ ((kind : BookKind) × (cause : BookError) × (why ≡ refusal.Event cause) × IsEvent line kind × Refuses old kind cause)
   pub new_is : new ≡ old
 
 -- the node takes the line, and this is the answer

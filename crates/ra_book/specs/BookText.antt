@@ -14,7 +14,7 @@ use Rattle.ra_trace.specs.TraceText.{IsClientNumber}
 use Rattle.ra_history.specs.declared.book.event.BookKind.{BookKind}
 use Rattle.ra_history.specs.declared.book.event.BookKind.TheVariants.{Asked, Gave, Got}
 use Rattle.ra_book.specs.declared.answering.line_refusal.Refusal.{Refusal}
-use Rattle.ra_book.specs.declared.answering.line_refusal.Refusal.TheVariants.{Line, Hex, Frame as Faulty, Busy, Exhausted, NotHeld, WrongNode, Stranger, ClockFull, Memory}
+use Rattle.ra_book.specs.declared.answering.line_refusal.Refusal.TheVariants.{Line, Hex, Frame as Faulty, Event}
 
 -- the first line: the number of the node, how many nodes there are, and the number with which each resource begins
 abbrev pub first_text : ℕ → ℕ → ℕ → List ℕ
@@ -63,13 +63,7 @@ abbrev pub IsNoFrame : List ℕ → Refusal → Type 0
 IsNoFrame digits Hex = (bytes : List ℕ) → HasBytes digits bytes → ⊥
 IsNoFrame digits (Faulty fault) = (bytes : List ℕ) × HasBytes digits bytes × (first_fault bytes ≡ Some fault)
 IsNoFrame digits Line = ⊥
-IsNoFrame digits Busy = ⊥
-IsNoFrame digits Exhausted = ⊥
-IsNoFrame digits NotHeld = ⊥
-IsNoFrame digits WrongNode = ⊥
-IsNoFrame digits Stranger = ⊥
-IsNoFrame digits ClockFull = ⊥
-IsNoFrame digits Memory = ⊥
+IsNoFrame digits (Event cause) = ⊥
 
 -- the line is this event; a frame comes in version 1 or 2
 abbrev pub IsEvent : List ℕ → BookKind → Type 0
@@ -77,15 +71,9 @@ IsEvent line (Asked client name mode) = HasForm line (Ask client name mode)
 IsEvent line (Gave client name) = HasForm line (Release client name)
 IsEvent line (Got frame) = (digits : List ℕ) × HasForm line (Receive digits) × IsFrameOf digits frame
 
--- Why a line is no event: it has none of the forms, or its digits stand for no frame. The other refusals are of events.
+-- Why a line is no event: it has none of the forms, or its digits stand for no frame. The other refusals are those of events.
 abbrev pub IsUnread : List ℕ → Refusal → Type 0
 IsUnread line Line = (form : Form) → HasForm line form → ⊥
 IsUnread line Hex = (digits : List ℕ) × HasForm line (Receive digits) × IsNoFrame digits Hex
 IsUnread line (Faulty fault) = (digits : List ℕ) × HasForm line (Receive digits) × IsNoFrame digits (Faulty fault)
-IsUnread line Busy = ⊥
-IsUnread line Exhausted = ⊥
-IsUnread line NotHeld = ⊥
-IsUnread line WrongNode = ⊥
-IsUnread line Stranger = ⊥
-IsUnread line ClockFull = ⊥
-IsUnread line Memory = ⊥
+IsUnread line (Event cause) = ⊥

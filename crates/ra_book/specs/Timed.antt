@@ -17,8 +17,8 @@ use Rattle.ra_node.specs.Events.{NodeEvent, IsForThisNode}
 use Rattle.ra_history.specs.History.{node_event, clock_after}
 use Rattle.ra_history.specs.declared.book.event.BookKind.{BookKind}
 use Rattle.ra_history.specs.declared.book.event.BookKind.TheVariants.{Asked, Gave, Got}
-use Rattle.ra_book.specs.declared.answering.line_refusal.Refusal.{Refusal}
-use Rattle.ra_book.specs.declared.answering.line_refusal.Refusal.TheVariants as refusal
+use Rattle.ra_history.specs.declared.error.BookError.{BookError}
+use Rattle.ra_history.specs.declared.error.BookError.TheVariants as error
 use Rattle.ra_book.specs.declared.answering.timed_node.TimedNode.TheInside.{Inside}
 
 -- a node, and the clock of its last event
@@ -40,8 +40,8 @@ timed_of t = record { node = t.node; clock = t.clock }
 
 -- what holds of the fields
 pub record IsTimed (t : Inside) : Type 0 where
-  pub me_is : t.node.me ≡ t.me
-  pub nodes_is : t.node.nodes ≡ t.nodes
+  pub me_is : t.node.me ≡ t.member.node
+  pub nodes_is : t.node.nodes ≡ t.member.nodes
   pub consistent : IsConsistentNode t.node
 
 -- the event happens, with what it sends and marks, and the clock goes on; no clock is above 2^62
@@ -67,24 +67,23 @@ MayTake node (Asked client name mode) = MayAsk (resource_at node name) client
 MayTake node (Gave client name) = (entry : Entry) × Holds (resource_at node name) client entry
 MayTake node (Got frame) = IsForNode node.me node.nodes frame.message
 
--- why the node does not take an event, whatever its clock; what is refused to a line that is no event is left out
-abbrev pub NodeRefuses : NodeState → BookKind → Refusal → Type 0
-NodeRefuses node kind refusal.Busy =
+-- why the node does not take an event, whatever its clock; a node has no fault, and a frame that comes to it is one
+abbrev pub NodeRefuses : NodeState → BookKind → BookError → Type 0
+NodeRefuses node kind error.Busy =
     (client : ℕ) × (name : List ℕ) × (mode : Mode) × (kind ≡ Asked client name mode) × IsBusy (resource_at node name) client
-NodeRefuses node kind refusal.Exhausted =
+NodeRefuses node kind error.Exhausted =
     (client : ℕ) × (name : List ℕ) × (mode : Mode) × (kind ≡ Asked client name mode)
     × (IsBusy (resource_at node name) client → ⊥) × ((resource_at node name).state.highest ≡ greatest_number)
-NodeRefuses node kind refusal.NotHeld =
+NodeRefuses node kind error.NotHeld =
     (client : ℕ) × (name : List ℕ) × (kind ≡ Gave client name) × ((entry : Entry) → Holds (resource_at node name) client entry → ⊥)
-NodeRefuses node kind refusal.WrongNode = (frame : Frame) × (kind ≡ Got frame) × (to_of frame.message ≢ node.me)
-NodeRefuses node kind refusal.Stranger =
+NodeRefuses node kind error.WrongNode = (frame : Frame) × (kind ≡ Got frame) × (to_of frame.message ≢ node.me)
+NodeRefuses node kind error.Stranger =
     (frame : Frame) × (kind ≡ Got frame) × (to_of frame.message ≡ node.me)
     × ((from_of frame.message ≡ node.me) ⊎ (node.nodes < from_of frame.message))
-NodeRefuses node kind refusal.ClockFull = ⊥
-NodeRefuses node kind refusal.Memory = ⊥
-NodeRefuses node kind refusal.Line = ⊥
-NodeRefuses node kind refusal.Hex = ⊥
-NodeRefuses node kind (refusal.Frame fault) = ⊥
+NodeRefuses node kind error.ClockFull = ⊥
+NodeRefuses node kind error.Memory = ⊥
+NodeRefuses node kind error.Failed = ⊥
+NodeRefuses node kind (error.Frame fault) = ⊥
 
 -- the node takes the event, with what it sends and marks
 pub record NodeTakes (old : NodeState) (kind : BookKind) (sends : List Message) (marks : List Mark) (new : NodeState) : Type 0 where
@@ -92,13 +91,13 @@ pub record NodeTakes (old : NodeState) (kind : BookKind) (sends : List Message) 
   pub event : NodeEvent old (node_event kind) sends marks new
 
 -- the node does not take the event, or there is no memory for it, and it is as it was
-pub record NodeStays (old : NodeState) (kind : BookKind) (new : NodeState) (why : Refusal) : Type 0 where
-  pub cause : NodeRefuses old kind why ⊎ ((why ≡ refusal.Memory) × MayTake old kind)
+pub record NodeStays (old : NodeState) (kind : BookKind) (new : NodeState) (why : BookError) : Type 0 where
+  pub cause : NodeRefuses old kind why ⊎ ((why ≡ error.Memory) × MayTake old kind)
   pub node_is : new ≡ old
 
 -- why an event is refused: the node does not take it, or there is no clock for it, or no memory
-abbrev pub Refuses : Timed → BookKind → Refusal → Type 0
+abbrev pub Refuses : Timed → BookKind → BookError → Type 0
 Refuses at kind why =
     NodeRefuses at.node kind why
-    ⊎ ((why ≡ refusal.ClockFull) × MayTake at.node kind × (2 ^ 62 < clock_after at.clock kind))
-    ⊎ ((why ≡ refusal.Memory) × MayTake at.node kind × (clock_after at.clock kind ≤ 2 ^ 62))
+    ⊎ ((why ≡ error.ClockFull) × MayTake at.node kind × (2 ^ 62 < clock_after at.clock kind))
+    ⊎ ((why ≡ error.Memory) × MayTake at.node kind × (clock_after at.clock kind ≤ 2 ^ 62))

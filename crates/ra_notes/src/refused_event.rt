@@ -5,7 +5,7 @@ ghost use Rattle.ra_book.specs.Timed.{CanCome};
 use crate::book_openings::Opening;
 use ra_book::{MAX_LINE, Refusal, TimedNode, event_of};
 use ra_explain::Stage;
-use ra_history::BookKind;
+use ra_history::{BookError, BookKind};
 use ra_stamp::{Mark, Mode, Name};
 use ra_world::cut;
 use std::alloc::Global;
@@ -103,7 +103,7 @@ fn take_event(
             }
             Ok(())
         }
-        Err(why) => Err(why),
+        Err(cause) => Err(Refusal::Event(cause)),
     }
 }
 
@@ -143,7 +143,7 @@ pub fn refused_event(
         };
         match take_line(alloc, &mut node, &mut standing, place, shown) {
             Ok(()) => rest = after,
-            Err(Refusal::Memory) => return None,
+            Err(Refusal::Event(BookError::Memory)) => return None,
             Err(why) => return Some((why, standing)),
         }
     }

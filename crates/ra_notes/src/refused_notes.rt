@@ -5,6 +5,7 @@ use ra_explain::{
     Stage, push_digits_fault, push_exhausted, push_frame_fault, push_not_held, push_stage,
 };
 use ra_frame::Frame;
+use ra_history::BookError;
 use ra_world::Note;
 
 /// What comes before the digits of a frame.
@@ -42,9 +43,9 @@ fn push_frame_node(note: &mut Note, first: &First, frame: &Frame, is_for_another
 }
 
 /// Adds why a client may not do what it does at the line.
-fn push_client(note: &mut Note, why: Refusal, standing: &Standing) {
+fn push_client(note: &mut Note, why: BookError, standing: &Standing) {
     let (client, name, mode) = (standing.client, &standing.name, standing.mode);
-    if !matches!(why, Refusal::Busy | Refusal::NotHeld) {
+    if !matches!(why, BookError::Busy | BookError::NotHeld) {
         push_exhausted(note, name);
         return;
     }
@@ -53,10 +54,10 @@ fn push_client(note: &mut Note, why: Refusal, standing: &Standing) {
         None => push_not_held(note, client, name, None),
     }
     note.push(match (why, standing.stage) {
-        (Refusal::Busy, Some(Stage::Holds)) => {
+        (BookError::Busy, Some(Stage::Holds)) => {
             " and may not ask for it again: expected its release first"
         }
-        (Refusal::Busy, _) => {
+        (BookError::Busy, _) => {
             " and may not ask for it again: expected its grant and its release first"
         }
         (_, Some(_)) => " and does not hold it: expected its grant first",
@@ -78,10 +79,14 @@ pub fn push_refused(
     match (why, frame, standing) {
         (Refusal::Hex, _, _) => push_digits_fault(note, digits, RECEIVE.len()),
         (Refusal::Frame(fault), _, _) => push_frame_fault(note, digits, fault),
-        (Refusal::WrongNode, Some(frame), _) => push_frame_node(note, first, frame, true),
-        (Refusal::Stranger, Some(frame), _) => push_frame_node(note, first, frame, false),
-        (Refusal::ClockFull, _, _) => note.push(NO_CLOCK),
-        (why, _, Some(standing)) => push_client(note, why, standing),
+        (Refusal::Event(BookError::WrongNode), Some(frame), _) => {
+            push_frame_node(note, first, frame, true)
+        }
+        (Refusal::Event(BookError::Stranger), Some(frame), _) => {
+            push_frame_node(note, first, frame, false)
+        }
+        (Refusal::Event(BookError::ClockFull), _, _) => note.push(NO_CLOCK),
+        (Refusal::Event(cause), _, Some(standing)) => push_client(note, cause, standing),
         // An event that no client makes is refused for one of the causes above.
         _ => {}
     }

@@ -45,7 +45,10 @@ fn react(alloc: Global, node: &mut TimedNode, line: &Line) -> Result<Outcome, Re
     ensures fits { IfOk result (λ outcome. FitAt node.new.clock outcome.sends.items) }
 {
     match event_in(line) {
-        Ok(kind) => node.take(alloc, &kind),
+        Ok(kind) => match node.take(alloc, &kind) {
+            Ok(outcome) => Ok(outcome),
+            Err(cause) => Err(Refusal::Event(cause)),
+        },
         Err(why) => Err(why),
     }
 }

@@ -2,9 +2,10 @@ ghost use Rattle.std.specs.Prelude.{◌≡◌, ◌≤◌, length};
 ghost use Rattle.ra_book.specs.Answers as spec;
 
 use ra_frame::FrameError;
+use ra_history::BookError;
 
 /// Why a line of a book is refused, in the order in which the causes are looked for.
-#[derive(Clone, Copy, Debug, PartialEq, Eq)]
+#[derive(Clone, Copy)]
 pub enum Refusal {
     /// It has none of the forms of lines, or more than 256 bytes.
     Line,
@@ -12,20 +13,26 @@ pub enum Refusal {
     Hex,
     /// The bytes are no frame.
     Frame(FrameError),
-    /// The client that asks waits, is queued or holds on that name.
-    Busy,
-    /// No number is left for the name.
-    Exhausted,
-    /// The client that leaves does not hold the name.
-    NotHeld,
-    /// The frame is for another node.
-    WrongNode,
-    /// The frame's sender is this node or above the number of nodes.
-    Stranger,
-    /// The event's clock would pass 2^62.
-    ClockFull,
-    /// Memory ran out.
-    Memory,
+    /// The node does not take the event, or there is no clock or no memory for it.
+    Event(BookError),
+}
+
+/// Returns the line that says why an event is refused. It does not allocate.
+fn event_line(cause: BookError) -> &'static str
+    ensures text { result.now ≡ spec.refused_line (Refusal.Event cause) }
+    ensures short { length result.now ≤ 40 }
+{
+    match cause {
+        BookError::Failed => "refused Failed\n",
+        BookError::Frame(fault) => fault.refused_line(),
+        BookError::Busy => "refused Busy\n",
+        BookError::Exhausted => "refused Exhausted\n",
+        BookError::NotHeld => "refused NotHeld\n",
+        BookError::WrongNode => "refused WrongNode\n",
+        BookError::Stranger => "refused Stranger\n",
+        BookError::ClockFull => "refused ClockFull\n",
+        BookError::Memory => "refused Memory\n",
+    }
 }
 
 /// Returns the line with which a line is refused. It does not allocate.
@@ -37,12 +44,6 @@ pub fn refused_line(why: Refusal) -> &'static str
         Refusal::Line => "refused Line\n",
         Refusal::Hex => "refused Hex\n",
         Refusal::Frame(fault) => fault.refused_line(),
-        Refusal::Busy => "refused Busy\n",
-        Refusal::Exhausted => "refused Exhausted\n",
-        Refusal::NotHeld => "refused NotHeld\n",
-        Refusal::WrongNode => "refused WrongNode\n",
-        Refusal::Stranger => "refused Stranger\n",
-        Refusal::ClockFull => "refused ClockFull\n",
-        Refusal::Memory => "refused Memory\n",
+        Refusal::Event(cause) => event_line(cause),
     }
 }

@@ -1,19 +1,17 @@
 ghost use Rattle.std.specs.Prelude.{◌≡◌, ◌≤◌, MatchResult, MatchOption, IfOk};
 ghost use Rattle.ra_book.specs.Timed.{Takes, Refuses};
 
-use crate::Refusal;
 use crate::answering::node_event::{happen, refusal_of};
-use ra_history::{BookKind, clock_after};
+use ra_history::{BookError, BookKind, clock_after};
 use ra_node::{Node, Outcome, events_keep_a_node_consistent, events_leave_other_names};
-use ra_stamp::NodeId;
+use ra_stamp::{Member, NodeId};
 use std::alloc::Global;
 use std::marker::Model;
 
 /// A node and its clock, and no history: what it takes does not grow with the number of events, but with the names that it meets.
 #[derive(Drop)]
 pub struct TimedNode {
-    me: NodeId,
-    nodes: u16,
+    member: Member,
     node: Node,
     clock: u64,
 }
@@ -39,13 +37,10 @@ impl TimedNode {
     pub fn new(alloc: Global, node: NodeId, nodes: NodeId, start: u64) -> Option<TimedNode>
         ensures { MatchOption result (node ≤ nodes → ⊥) (λ made. made ≡ opening node nodes start) }
     {
-        events_keep_a_node_consistent();
-        let count = nodes.get();
-        let opened = Node::new(alloc, node, count, start).ok()?;
+        let member = Member::new(node, nodes.get()).ok()?;
         Some(TimedNode {
-            me: node,
-            nodes: count,
-            node: opened,
+            member,
+            node: Node::of(alloc, member, start),
             clock: 0,
         })
     }
@@ -67,7 +62,7 @@ impl TimedNode {
     /// 1. `Busy`, `Exhausted`, `NotHeld`, `WrongNode`, `Stranger`: those of the node's call.
     /// 2. `ClockFull`: the clock would pass 2^62.
     /// 3. `Memory`: the call can be made again.
-    pub fn take(&mut self, alloc: Global, kind: &BookKind) -> Result<Outcome, Refusal>
+    pub fn take(&mut self, alloc: Global, kind: &BookKind) -> Result<Outcome, BookError>
         requires { CanCome kind.now }
         ensures taken { MatchResult result
             (λ outcome. Takes self.old kind.now outcome.sends.items outcome.marks.items self.new)
@@ -76,31 +71,23 @@ impl TimedNode {
     {
         events_keep_a_node_consistent();
         events_leave_other_names();
-        take_event(
-            alloc,
-            self.me,
-            self.nodes,
-            &mut self.node,
-            &mut self.clock,
-            kind,
-        )
+        take_event(alloc, self.member, &mut self.node, &mut self.clock, kind)
     }
 }
 
-/// Makes an event happen at node `me` of `nodes`, whose clock is this.
+/// Makes an event happen at the node of a member, whose clock is this.
 ///
 /// # Errors
 ///
 /// Those of [`TimedNode::take`].
 fn take_event(
     alloc: Global,
-    me: NodeId,
-    nodes: u16,
+    member: Member,
     node: &mut Node,
     clock: &mut u64,
     kind: &BookKind,
-) -> Result<Outcome, Refusal>
-    requires { (node.old.me ≡ me) × (node.old.nodes ≡ nodes) }
+) -> Result<Outcome, BookError>
+    requires { (node.old.me ≡ member.node) × (node.old.nodes ≡ member.nodes) }
     ensures { MatchResult result
         (λ outcome. Takes (record { node = node.old; clock = clock.old }) kind.now
         outcome.sends.items outcome.marks.items (record { node = node.new; clock = clock.new }))
@@ -115,9 +102,9 @@ fn take_event(
             }
             Err(why) => Err(why),
         },
-        Err(_) => match refusal_of(me, nodes, node, kind) {
+        Err(_) => match refusal_of(member, node, kind) {
             Some(why) => Err(why),
-            None => Err(Refusal::ClockFull),
+            None => Err(BookError::ClockFull),
         },
     }
 }

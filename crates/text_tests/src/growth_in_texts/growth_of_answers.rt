@@ -2,8 +2,8 @@
 ghost use Rattle.ra_book.specs.Timed.{CanCome};
 
 use crate::text_asserting::{assert_grown, assert_same};
-use ra_book::{Refusal, TimedNode, answer_book, event_of};
-use ra_history::BookKind;
+use ra_book::{TimedNode, answer_book, event_of};
+use ra_history::{BookError, BookKind};
 use ra_stamp::NodeId;
 use std::alloc::Global;
 use std::io;
@@ -124,7 +124,7 @@ fn take(alloc: Global, node: &mut TimedNode, kind: &BookKind, line: &Line) -> Re
     let clock = node.clock();
     match node.take(alloc, kind) {
         Ok(outcome) => Ok(tried_if(outcome.sends.len() == line.1 && outcome.marks.len() == line.2)),
-        Err(why) => Err(why == Refusal::Memory && node.clock() == clock),
+        Err(why) => Err(why == BookError::Memory && node.clock() == clock),
     }
 }
 
