@@ -3,6 +3,6 @@
 #![tactic(auto)]
 
 #[cfg(test)]
-mod calls;
+mod cli_calls;
 #[cfg(test)]
-mod words;
+mod cli_words;

@@ -5,15 +5,12 @@ use ra_cluster::{ClusterError, Stop};
 use ra_script::ScriptError;
 use std::fmt::Display;
 use std::process::Abort;
+use test_support::first_misprint;
 
 /// Ends the test if one of these values does not print as the text beside it.
 fn assert_prints<R: Abort + AllocGlobal, T: Display>(rt: &R, rows: &[(T, &str)]) {
-    for (value, expected) in rows {
-        match value.to_string(rt.alloc()) {
-            Ok(came) if came.as_str() == *expected => {}
-            Ok(came) => panic!(rt; "expected {expected:?}, and {came:?} came"),
-            Err(_) => panic!(rt; "there is no memory for a text"),
-        }
+    if let Some((expected, came)) = first_misprint(rt.alloc(), rows) {
+        panic!(rt; "expected {expected:?}, and {came:?} came");
     }
 }
 
