@@ -9,7 +9,7 @@ use ra_stamp::{Entry, Mode};
 use std::alloc::Global;
 use std::process::Abort;
 use std::sync::Wait;
-use test_support::{At, Tried, again, r};
+use test_support::{Tried, again, r, row};
 
 /// Sends a frame from node 1 to node 2.
 fn send_one<R: Wait + Abort>(rt: &R, alloc: Global, post: &Post) -> Result<(), Option<SendError>> {
@@ -61,7 +61,7 @@ fn refusal_of_lock<R: Wait>(
 /// Has a client lock `r` at a site, and lock it again if memory ran out, when the site has to be as before. Then the client unlocks it,
 /// which needs no memory.
 fn try_site<R: Wait + Abort>(rt: &R, alloc: Global, all: &Cluster, site: &Site) -> Tried {
-    let (at, before) = (At("a client of one site", "lock", 0), state_of(rt, site));
+    let (at, before) = (row("a client of one site locks"), state_of(rt, site));
     let (mut tried, mut came) = (Tried::NoFailure, refusal_of_lock(rt, alloc, all, site));
     if came == Some(WANTING) {
         assert_same(rt, at, &state_of(rt, site), &before);

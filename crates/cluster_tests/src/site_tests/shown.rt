@@ -1,6 +1,6 @@
 //! What is shown when a cluster of sites has done its steps.
 use crate::site_tests::site_cluster::{Answer, Cluster};
-use crate::whole_clusters::cluster_asserting::{assert_same, assert_so, fail_at};
+use crate::whole_clusters::cluster_asserting::{assert_same, fail_at};
 use crate::whole_clusters::cluster_values::{books_of, entry, node, settled};
 use ra_cluster::{Book, Grant, Sent, Settled, SiteError, Stop};
 use ra_frame::Frame;
@@ -8,7 +8,7 @@ use ra_stamp::Mode;
 use ra_world::{Report, Step, report_text};
 use std::alloc::Global;
 use std::process::Abort;
-use test_support::{At, r, request};
+use test_support::{At, part, r, request};
 
 /// A book at the end: its fault, and how many events it has.
 #[derive(Clone, Copy)]
@@ -59,10 +59,10 @@ fn end_of(books: &[Book], place: usize) -> Option<(Option<Stop>, u64)> {
 pub fn assert_ended(rt: &impl Abort, words: &str, books: &[Book], ended: &[Ended]) {
     for place in 0..ended.len() {
         let Ended(fault, events) = ended[place];
-        let at = At(words, "the end of book", place);
+        let at = At(words, "the end of book", place + 1);
         assert_same(rt, at, &end_of(books, place), &Some((fault, events)));
     }
-    let at = At(words, "books beside book", 0);
+    let at = part(words, "how many books");
     assert_same(rt, at, &books.len(), &ended.len());
 }
 
@@ -127,10 +127,18 @@ fn told(alloc: Global, books: &[Book], grants: &[Grant]) -> Option<Told> {
 
 /// Asserts that the books settle with the grants, of which there are more than this many, into a run that tells of a loss.
 fn assert_lost_after(rt: &impl Abort, alloc: Global, at: At<'_>, after: &After, least: usize) {
-    let are_many = after.grants.len() > least;
-    assert_so(rt, at, "there are as many grants", are_many);
-    let tells = matches!(told(alloc, &after.books, &after.grants), Some((true, _, _)));
-    assert_so(rt, at, "the run tells of a loss", tells);
+    let (grants, more) = (after.grants.len(), least.saturating_add(1));
+    assert_same(rt, at, &grants.min(more), &more);
+    let lost = match told(alloc, &after.books, &after.grants) {
+        Some((lost, _, _)) => Some(lost),
+        None => None,
+    };
+    assert_same(
+        rt,
+        part(at.0, "whether the run tells of a loss"),
+        &lost,
+        &Some(true),
+    );
 }
 
 /// Asserts that this is shown.
@@ -141,9 +149,11 @@ fn assert_shown(rt: &impl Abort, alloc: Global, at: At<'_>, after: &After, shown
     match shown {
         Shown::Books(ended) => assert_ended(rt, at.0, &after.books, ended),
         Shown::Fault(number, fault) => {
-            let came = end_of(&after.books, number.wrapping_sub(1));
-            let is_right = matches!(came, Some((Some(stop), _)) if stop == fault);
-            assert_so(rt, at, "the node has this fault", is_right);
+            let came = match end_of(&after.books, number.wrapping_sub(1)) {
+                Some((came, _)) => came,
+                None => None,
+            };
+            assert_same(rt, at, &came, &Some(fault));
         }
         Shown::Sent(place, lost) => assert_same(rt, at, &is_lost(one, place), &Some(lost)),
         Shown::OneLoss => assert_one_loss(rt, alloc, at, one, &after.books),
@@ -170,7 +180,7 @@ pub fn assert_all_shown(rt: &impl Abort, alloc: Global, words: &str, after: &Aft
         assert_shown(
             rt,
             alloc,
-            At(words, "what is shown at", place),
+            At(words, "what is shown at", place + 1),
             after,
             all[place],
         );

@@ -169,7 +169,7 @@ fn add_whole(all: &mut Vec<Cluster>, cluster: Cluster) {
 /// keeps a thread that steps at the node `kept`.
 ///
 /// A cluster that a function owns is expensive to prove, so it is in a list that tests lend.
-pub fn cluster_behind(alloc: Global, nodes: u16, start: u64, most: u64, kept: u16) -> Vec<Cluster> {
+pub fn gated_cluster(alloc: Global, nodes: u16, start: u64, most: u64, kept: u16) -> Vec<Cluster> {
     let mut all = Vec::new(alloc);
     let gate = Keeps {
         counting: Counting::new(most, true),
@@ -184,7 +184,7 @@ pub fn cluster_behind(alloc: Global, nodes: u16, start: u64, most: u64, kept: u1
 
 /// Makes a cluster of this many nodes, whose numbers begin after 0, with a gate that lets all steps pass.
 pub fn make_cluster(alloc: Global, nodes: u16) -> Vec<Cluster> {
-    cluster_behind(alloc, nodes, 0, u64::MAX, 0)
+    gated_cluster(alloc, nodes, 0, u64::MAX, 0)
 }
 
 /// Closes the cluster, and returns its books.

@@ -1,8 +1,8 @@
 //! What a cluster of sites with a post does and shows, step by step, with clients on threads of their own.
 use crate::site_tests::shown::{Shown, after_all, assert_all_shown};
-use crate::site_tests::site_cluster::{Cluster, cluster_behind, loses_inbox, send, taken_from};
-use crate::whole_clusters::cluster_asserting::{assert_same, assert_so, fail_at};
-use crate::whole_clusters::cluster_values::{comes_to, entry, request};
+use crate::site_tests::site_cluster::{Cluster, gated_cluster, loses_inbox, send, taken_from};
+use crate::whole_clusters::cluster_asserting::{assert_comes_to, assert_same, fail_at};
+use crate::whole_clusters::cluster_values::{entry, request};
 use crate::whole_clusters::plays::{Acts, follow};
 use Step::{
     ClosesPost, ComesToBeStopped, ComesToStep, HasLeft, HasLeftOne, HasStepped, HaveEnded, LetsGo,
@@ -20,7 +20,7 @@ use std::sync::Wait;
 use std::sync::atomic::Ordering;
 use std::thread;
 use std::thread::Threads;
-use test_support::At;
+use test_support::{At, part};
 
 /// What a thread of its own does. All locks are exclusive.
 #[derive(Clone, Copy)]
@@ -180,15 +180,18 @@ fn refusal<R: Wait>(rt: &R, alloc: Global, all: &Cluster, site: &Site) -> Option
     all.unlock_at(rt, alloc, site, 2, &OpenGate).err()
 }
 
-/// Returns whether a site comes to be stopped, for which it is looked many times.
-fn comes_to_be_stopped<R: Wait>(rt: &R, alloc: Global, all: &Cluster, site: &Site) -> bool {
+/// The refusal of a site that is stopped.
+const FAILED: SiteError = SiteError::Refused(BookError::Failed);
+
+/// Returns that refusal once the site is stopped, for which it is looked many times, or otherwise the last one.
+fn last_refusal<R: Wait>(rt: &R, alloc: Global, all: &Cluster, site: &Site) -> Option<SiteError> {
     for _ in 0..1_000_000u32 {
-        if refusal(rt, alloc, all, site) == Some(SiteError::Refused(BookError::Failed)) {
-            return true;
+        if refusal(rt, alloc, all, site) == Some(FAILED) {
+            return Some(FAILED);
         }
         thread::yield_now();
     }
-    false
+    refusal(rt, alloc, all, site)
 }
 
 /// Yields a few hundred times, each time after it had the lock of the site of node 1. Nothing can tell that another client sleeps then.
@@ -270,8 +273,8 @@ fn act_at_a_site<R: AllocGlobal + Wait + Abort>(rt: &R, at: At<'_>, all: &Cluste
             unlocks(rt, at, all, number, client, Err(fault))
         }
         ComesToBeStopped(number) => {
-            let is_stopped = comes_to_be_stopped(rt, rt.alloc(), all, all.site(rt, number));
-            assert_so(rt, at, "the site is stopped", is_stopped);
+            let came = last_refusal(rt, rt.alloc(), all, all.site(rt, number));
+            assert_same(rt, at, &came, &Some(FAILED));
         }
         LetsSleep => let_sleep(rt, rt.alloc(), all, all.site(rt, 1)),
         _ => act_at_the_post(rt, at, all, step),
@@ -290,14 +293,15 @@ fn use_often<R: AllocGlobal + Wait + Abort>(
         let Ok(grant) = all.lock_at(rt, rt.alloc(), site, 1, Mode::Exclusive, &OpenGate) else {
             return;
         };
-        let is_kept = all.grants.lock(rt).push(grant).is_ok();
-        assert_so(rt, at, "there is memory for the grant", is_kept);
+        if all.grants.lock(rt).push(grant).is_err() {
+            fail_at(rt, at, "there is no memory for the grant");
+        }
         if closing == Some(turn) {
             all.post.close(rt);
         }
         let came = all.unlock_at(rt, rt.alloc(), site, 1, &OpenGate);
         // The node is stopped, so that no other node need be.
-        if came == Err(SiteError::Refused(BookError::Failed)) {
+        if came == Err(FAILED) {
             return;
         }
         assert_same(rt, at, &came, &Ok(()));
@@ -312,8 +316,8 @@ fn work<R: AllocGlobal + Wait + Abort>(rt: &R, at: At<'_>, all: &Cluster, task: 
             *all.answer.lock(rt) = Some(answer);
         }
         Task::Uses(number, client) => {
-            let is_let_in = lock(rt, all, number, client).is_ok();
-            assert_so(rt, at, "the client is let in", is_let_in);
+            let refused = lock(rt, all, number, client).err();
+            assert_same(rt, at, &refused, &None);
             unlocks(rt, at, all, number, client, Ok(()));
         }
         Task::Carries(number) => all.pump_number(rt, number, &OpenGate),
@@ -340,7 +344,7 @@ impl Acts for Stage<'_> {
     }
 
     fn act<R: AllocGlobal + Wait + Abort>(&self, rt: &R, place: usize) {
-        let (at, all) = (At(self.row.words, "step", place), self.all);
+        let (at, all) = (At(self.row.words, "step", place + 1), self.all);
         let Some(step) = self.row.steps.get(place) else {
             fail_at(rt, at, "there is no such step");
         };
@@ -354,18 +358,12 @@ impl Acts for Stage<'_> {
                     &steps,
                 )
             }
-            ComesToStep(steps) => {
-                let comes = comes_to(&all.gate.counting.steps, steps);
-                assert_so(rt, at, "the gate counts as many steps", comes);
-            }
+            ComesToStep(steps) => assert_comes_to(rt, at, &all.gate.counting.steps, steps),
             LetsGo => {
                 let before = all.gate.goes.fetch_add(1, Ordering::SeqCst);
                 assert_same(rt, at, &before, &0);
             }
-            HaveEnded(threads) => {
-                let come = comes_to(&all.ended, threads);
-                assert_so(rt, at, "as many threads end", come);
-            }
+            HaveEnded(threads) => assert_comes_to(rt, at, &all.ended, threads),
             Stays(threads) => assert_same(rt, at, &ended_for_a_while(all, threads), &threads),
             other => act_at_a_site(rt, at, all, other),
         }
@@ -390,8 +388,13 @@ fn step_through<R: AllocGlobal + Threads + Wait + Abort + Sync>(
     all: &mut Cluster,
     row: &'static Row,
 ) {
-    let at = At(row.words, "before step", 0);
-    assert_so(rt, at, "there is such an inbox", lose(all, row.gone));
+    if !lose(all, row.gone) {
+        fail_at(
+            rt,
+            part(row.words, "the inbox that is gone"),
+            "there is none",
+        );
+    }
     let all = &*all;
     follow(
         rt,
@@ -404,10 +407,10 @@ fn step_through<R: AllocGlobal + Threads + Wait + Abort + Sync>(
 
 /// Has a cluster do and show all of a row. Ends the test if something else comes of it.
 pub fn perform<R: AllocGlobal + Threads + Wait + Abort + Sync>(rt: &R, row: &'static Row) {
-    let mut clusters = cluster_behind(rt.alloc(), row.nodes, row.start, row.most, row.kept);
+    let mut clusters = gated_cluster(rt.alloc(), row.nodes, row.start, row.most, row.kept);
     match clusters.get_mut(0) {
         Some(all) => step_through(rt, all, row),
-        None => fail_at(rt, At(row.words, "step", 0), "there is no such cluster"),
+        None => fail_at(rt, part(row.words, "at first"), "there is no such cluster"),
     }
     if let Some(all) = clusters.pop() {
         assert_all_shown(

@@ -33,9 +33,9 @@ const COUNTS: &[(u16, Result<usize, NewPostError>)] = &[
 
 #[test]
 fn a_post_has_1_to_64_nodes(rt: HostRuntime) {
-    for place in 0..COUNTS.len() {
-        let came = inboxes_of(rt.alloc(), COUNTS[place].0);
-        assert_same(&rt, At("a post", "row", place), &came, &COUNTS[place].1);
+    for (nodes, expected) in COUNTS {
+        let at = At("a post", "with this many nodes:", usize::from(*nodes));
+        assert_same(&rt, at, &inboxes_of(rt.alloc(), *nodes), expected);
     }
 }
 

@@ -1,6 +1,6 @@
 //! How a script that threads run comes to its end, or fails to.
 use crate::thread_scripts::letter_scripts::{Client, script_of};
-use crate::whole_clusters::cluster_asserting::{assert_same, assert_so};
+use crate::whole_clusters::cluster_asserting::assert_same;
 use crate::whole_clusters::cluster_values::{entry, ran};
 use ra_cluster::{ClusterError, Gate, Settled};
 use ra_stamp::{Entry, Mark, Mode};
@@ -8,7 +8,7 @@ use ra_world::Step;
 use std::process::Abort;
 use std::sync::Wait;
 use std::thread::Threads;
-use test_support::At;
+use test_support::{At, part};
 
 /// How many steps or marks there are: asks, deliveries, enters, leaves and others.
 type Counts = [u128; 5];
@@ -81,14 +81,14 @@ fn conflict(one: &Entry, other: &Entry) -> bool {
     one.mode != Mode::Shared || other.mode != Mode::Shared
 }
 
-/// Returns whether no grant comes too early.
-fn exclude_each_other(marks: &[Mark]) -> bool {
+/// Returns the first mark of a grant that comes too early, or `None` if none does.
+fn first_too_early(marks: &[Mark]) -> Option<Mark> {
     for place in 0..marks.len() {
         if is_too_early(marks, place) {
-            return false;
+            return marks.get(place).copied();
         }
     }
-    true
+    None
 }
 
 /// Asserts that this many requests were made and messages sent, and nothing is left: no message is under way, lost
@@ -101,29 +101,36 @@ fn assert_done(rt: &impl Abort, at: At<'_>, settled: &Settled, requests: u128, s
     assert_same(rt, at, &messages, &(0, 0, 0));
     assert_same(rt, at, &(report.waiting, report.queued), &(0, 0));
     assert_counted(rt, at, settled, requests, sent);
-    let are_apart = exclude_each_other(report.marks.as_slice());
-    assert_so(rt, at, "no grant comes too early", are_apart);
+    let too_early = first_too_early(report.marks.as_slice());
+    assert_same(
+        rt,
+        part(at.0, "a grant that comes too early"),
+        &too_early,
+        &None,
+    );
 }
 
-/// Returns whether both marks are there, the first before the second.
-fn are_in_order(marks: &[Mark], first: Mark, second: Mark) -> bool {
-    let mut has_first = false;
+/// Returns the first two marks of which each is one of these, in the order in which they come.
+fn in_order(marks: &[Mark], one: Mark, other: Mark) -> (Option<Mark>, Option<Mark>) {
+    let mut first = None;
     for mark in marks {
-        if *mark == second {
-            return has_first;
+        if *mark == one || *mark == other {
+            if first.is_some() {
+                return (first, Some(*mark));
+            }
+            first = Some(*mark);
         }
-        has_first = has_first || *mark == first;
     }
-    false
+    (first, None)
 }
 
 /// Asserts that the client at the first of these nodes enters `r` with number 1, and after it that at the second with number 2. Each
 /// client has the number of its node.
 fn assert_order(rt: &impl Abort, at: At<'_>, marks: &[Mark], first: u16, second: u16) {
-    let one = entry(rt, first, u32::from(first), Mode::Exclusive, 1);
-    let two = entry(rt, second, u32::from(second), Mode::Exclusive, 2);
-    let are_so = are_in_order(marks, Mark::Entered(one), Mark::Entered(two));
-    assert_so(rt, at, "the client of the first node enters first", are_so);
+    let one = Mark::Entered(entry(rt, first, u32::from(first), Mode::Exclusive, 1));
+    let two = Mark::Entered(entry(rt, second, u32::from(second), Mode::Exclusive, 2));
+    let due = (Some(one), Some(two));
+    assert_same(rt, at, &in_order(marks, one, two), &due);
 }
 
 /// How a script ends.

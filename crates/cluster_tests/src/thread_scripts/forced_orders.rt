@@ -51,7 +51,7 @@ fn what_settles_is_what_the_threads_did(rt: HostRuntime) {
             r: r(),
             others: AtomicU64::new(0),
         };
-        let at = At("a client is kept", "row", place);
+        let at = At("a client is kept", "of node", usize::from(kept));
         assert_ends(&rt, at, 2, OWN_AND_R, &gate, End::InOrder(other, kept));
     }
 }

@@ -10,7 +10,7 @@ use std::sync::Wait;
 use std::sync::atomic::{AtomicU64, Ordering};
 use std::thread;
 use std::thread::Threads;
-use test_support::At;
+use test_support::{At, row};
 
 /// How the gate of two clients holds up the one until the other comes.
 #[derive(Clone, Copy)]
@@ -106,7 +106,7 @@ struct Met(Meeting, u16, &'static [Client], u128, u64, u64);
 fn assert_meet<R: AllocGlobal + Threads + Wait + Abort + Sync>(rt: &R, met: &Met) {
     let Met(meeting, nodes, clients, sent, one, two) = met;
     let (gate, end) = (Meets::new(*meeting), End::Done(2, *sent));
-    let at = At("two clients meet", "the run of row", 0);
+    let at = row("two clients meet");
     assert_ends(rt, at, *nodes, clients, &gate, end);
     gate.assert_seen(rt, at, *one, *two);
 }
@@ -198,17 +198,13 @@ fn a_node_steps_under_its_lock(rt: HostRuntime) {
     let gate = Alone {
         within: (AtomicU64::new(0), AtomicU64::new(0)),
     };
-    let at = At(
-        "four writers, and a gate that stays in each step",
-        "the run of row",
-        0,
-    );
+    let at = row("four writers, and a gate that stays in each step");
     assert_ends(&rt, at, 2, FOUR_WRITERS, &gate, End::Done(4, 8));
 }
 
-/// How many nodes two writers have, how many of their steps a gate lets pass, whether it lets everybody be inside or nobody, and how the
-/// script ends.
-struct Stopped(u16, u64, bool, End);
+/// What it shows, how many nodes two writers have, how many of their steps a gate lets pass, whether it lets everybody be inside or
+/// nobody, and how the script ends.
+struct Stopped(&'static str, u16, u64, bool, End);
 
 /// The gate stops the script.
 const STOPS: End = End::Fails(ClusterError::Fault(Stop::Gate));
@@ -216,21 +212,26 @@ const STOPS: End = End::Fails(ClusterError::Fault(Stop::Gate));
 /// Gates that stop two writers, and one that does not: with three nodes the run takes 12 steps, two asks, two leaves and eight frames
 /// that come.
 const STOPPED: &[Stopped] = &[
-    Stopped(3, u64::MAX, false, STOPS),
-    Stopped(3, 0, true, STOPS),
-    Stopped(3, 1, true, STOPS),
-    Stopped(3, 5, true, STOPS),
-    Stopped(3, 11, true, STOPS),
-    Stopped(2, u64::MAX, false, STOPS),
-    Stopped(3, 12, true, End::Done(2, 8)),
+    Stopped(
+        "nobody is inside, of three nodes",
+        3,
+        u64::MAX,
+        false,
+        STOPS,
+    ),
+    Stopped("no step passes", 3, 0, true, STOPS),
+    Stopped("one step passes", 3, 1, true, STOPS),
+    Stopped("five steps pass", 3, 5, true, STOPS),
+    Stopped("eleven steps pass", 3, 11, true, STOPS),
+    Stopped("nobody is inside, of two nodes", 2, u64::MAX, false, STOPS),
+    Stopped("twelve steps pass", 3, 12, true, End::Done(2, 8)),
 ];
 
 #[test]
 fn a_gate_stops_the_cluster(rt: HostRuntime) {
     for place in 0..STOPPED.len() {
-        let Stopped(nodes, steps, inside, end) = STOPPED[place];
+        let Stopped(label, nodes, steps, inside, end) = STOPPED[place];
         let gate = Counting::new(steps, inside);
-        let at = At("a gate that may stop two writers", "row", place);
-        assert_ends(&rt, at, nodes, TWO_WRITERS, &gate, end);
+        assert_ends(&rt, row(label), nodes, TWO_WRITERS, &gate, end);
     }
 }

@@ -13,7 +13,7 @@ use std::alloc::Global;
 use std::process::Abort;
 use std::sync::{Mutex, Wait};
 use std::thread::Threads;
-use test_support::At;
+use test_support::{At, part};
 
 /// The grant of `r` that is kept of a request: its node, client, mode and number.
 #[derive(Clone, Copy)]
@@ -41,10 +41,10 @@ fn assert_granted(rt: &impl Abort, words: &str, came: &[Grant], all: &[Granted])
     for place in 0..all.len() {
         let Granted(node, client, mode, seq) = all[place];
         let entry = entry(rt, node, client, mode, seq);
-        let at = At(words, "grant", place);
+        let at = At(words, "grant", place + 1);
         assert_same(rt, at, &came.get(place).copied(), &Some(Grant { entry }));
     }
-    let at = At(words, "grants beside grant", 0);
+    let at = part(words, "how many grants");
     assert_same(rt, at, &came.len(), &all.len());
 }
 
@@ -95,7 +95,7 @@ fn assert_ends<R: AllocGlobal + Threads + Wait + Abort + Sync>(rt: &R, script: &
 pub fn perform<R: AllocGlobal + Threads + Wait + Abort + Sync>(rt: &R, row: &Row) {
     match script_of(rt.alloc(), 2, &[row.client]) {
         Some(script) => assert_ends(rt, &script, row),
-        None => fail_at(rt, At(row.words, "row", 0), "there is no such script"),
+        None => fail_at(rt, part(row.words, "at first"), "there is no such script"),
     }
 }
 

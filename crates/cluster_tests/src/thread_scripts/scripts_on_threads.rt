@@ -9,7 +9,7 @@ use std::process::Abort;
 use std::sync::Wait;
 use std::sync::atomic::Ordering;
 use std::thread::Threads;
-use test_support::{At, assert_words};
+use test_support::{assert_words, row};
 
 /// What the only client does, also in a few words, how the script ends, and how often the node steps.
 struct Alone(&'static str, &'static [Does], End, u64);
@@ -18,7 +18,7 @@ struct Alone(&'static str, &'static [Does], End, u64);
 fn assert_alone<R: AllocGlobal + Threads + Wait + Abort + Sync>(rt: &R, rows: &[Alone]) {
     for Alone(words, ops, end, steps) in rows {
         let gate = Counting::open();
-        let at = At(words, "the run of row", 0);
+        let at = row(words);
         assert_ends(rt, at, 1, &[Client(1, ops)], &gate, *end);
         assert_same(rt, at, &gate.steps.load(Ordering::SeqCst), steps);
     }
@@ -80,18 +80,22 @@ fn names_in_order_are_taken_and_given_back(rt: HostRuntime) {
     assert_alone(&rt, IN_ORDER);
 }
 
-/// Where the tests are that have no row.
-const RUN: At<'static> = At("clients of several nodes", "the run of row", 0);
-
 #[test]
 fn two_writers_of_three_nodes(rt: HostRuntime) {
     let end = End::Done(2, 8);
-    assert_ends(&rt, RUN, 3, TWO_WRITERS, &OpenGate, end);
+    assert_ends(
+        &rt,
+        row("two writers of three nodes"),
+        3,
+        TWO_WRITERS,
+        &OpenGate,
+        end,
+    );
 }
 
 #[test]
 fn no_clients_do_nothing(rt: HostRuntime) {
-    assert_ends(&rt, RUN, 64, &[], &OpenGate, End::Done(0, 0));
+    assert_ends(&rt, row("no clients"), 64, &[], &OpenGate, End::Done(0, 0));
 }
 
 /// A client holds `a` exclusively and `b` shared at the same time.
@@ -116,7 +120,14 @@ const TWELVE: &[Client] = &[
 #[test]
 fn many_clients_of_many_nodes(rt: HostRuntime) {
     // 4 clients with two locks and 8 with one, and 6 messages for each lock.
-    assert_ends(&rt, RUN, 4, TWELVE, &OpenGate, End::Done(16, 96));
+    assert_ends(
+        &rt,
+        row("twelve clients of four nodes"),
+        4,
+        TWELVE,
+        &OpenGate,
+        End::Done(16, 96),
+    );
 }
 
 /// Returns a writer for each of 64 nodes.
@@ -134,7 +145,14 @@ fn writers_of_64_nodes() -> [Client; 64] {
 fn as_many_nodes_and_clients_as_there_may_be(rt: HostRuntime) {
     // Each of the 64 requests sends a REQUEST to each of the 63 other nodes, and gets a REPLY from it.
     let clients = writers_of_64_nodes();
-    assert_ends(&rt, RUN, 64, &clients, &OpenGate, End::Done(64, 8064));
+    assert_ends(
+        &rt,
+        row("64 clients of 64 nodes"),
+        64,
+        &clients,
+        &OpenGate,
+        End::Done(64, 8064),
+    );
 }
 
 /// Why a node was stopped is not printed.

@@ -1,18 +1,29 @@
-//! How a test ends that does not find what it should. It prints what was expected and what came.
+//! How a test ends that does not find what it should. `test_support` has what it prints then.
+use crate::whole_clusters::cluster_values::comes_to;
 use std::fmt::{Debug, Display};
 use std::process::Abort;
-use test_support::{At, Tried, printed};
+use std::sync::atomic::{AtomicU64, Ordering};
+use test_support::{At, Difference, Tried, first_misprint, row};
 
 /// Asserts that what came there is what was expected.
 pub fn assert_same<T: Debug + PartialEq>(rt: &impl Abort, at: At<'_>, came: &T, expected: &T) {
     if came != expected {
-        panic!(rt; "{at}: expected {expected:?}, and {came:?} came");
+        panic!(rt; "{}", Difference { at, expected, came });
     }
 }
 
-/// Asserts that what is expected there is so.
-pub fn assert_so(rt: &impl Abort, at: At<'_>, expected: &str, so: bool) {
-    assert!(rt; so, "{at}: expected that {expected}, which is not so");
+/// Waits until a number is at least `least`, for which it is looked many times. Asserts that it came to that.
+pub fn assert_comes_to(rt: &impl Abort, at: At<'_>, number: &AtomicU64, least: u64) {
+    if !comes_to(number, least) {
+        assert_same(rt, at, &number.load(Ordering::SeqCst), &least);
+    }
+}
+
+/// Asserts that each of these values prints as the text beside it.
+pub fn assert_prints<T: Display>(rt: &(impl Abort + AllocGlobal), rows: &[(T, &str)]) {
+    if let Some((text, came)) = first_misprint(rt.alloc(), rows) {
+        assert_same(rt, row(text), &came.as_str(), &text);
+    }
 }
 
 /// Ends the test: nothing like this was expected there.
@@ -22,18 +33,7 @@ pub fn fail_at(rt: &impl Abort, at: At<'_>, came: &str) -> ! {
 
 /// Asserts that calls of which a growth was refused had the right answer, and changed nothing.
 pub fn assert_grown(rt: &impl Abort, tried: Tried) {
-    assert_same(rt, At("calls", "try", 0), &tried.fault(), &None);
-}
-
-/// Asserts that each of these values prints as the text beside it.
-pub fn assert_prints<R: Abort + AllocGlobal, T: Display>(rt: &R, rows: &[(T, &str)]) {
-    for place in 0..rows.len() {
-        let came = printed(rt.alloc(), &rows[place].0);
-        assert_same(
-            rt,
-            At("what is printed", "row", place),
-            &came.as_str(),
-            &rows[place].1,
-        );
+    if let Some(fault) = tried.fault() {
+        panic!(rt; "{fault}");
     }
 }

@@ -1,6 +1,6 @@
 //! Calls of a cluster. Their contracts are long, so tests make them by these functions, which have none.
 use ra_cluster::{Book, CallError, Cluster, Gate, Grant, Held, NewPostError, Site, Stop};
-use ra_stamp::{Mode, Name, NodeId};
+use ra_stamp::{Entry, Mode, Name, NodeId};
 use std::alloc::Global;
 use std::process::Abort;
 use std::sync::Wait;
@@ -96,14 +96,14 @@ pub fn unlock<R: Wait, G: Gate + Drop>(
     cluster.unlock(rt, alloc, node, client, r())
 }
 
-/// Looks whether the node has this grant, and then stops the cluster if there is a cause. Returns whether the node had it.
+/// Looks who holds the name of a grant at its node, and then stops the cluster if there is a cause. Returns who held it.
 fn work<R: Wait, G: Gate + Drop>(
     rt: &R,
     cluster: &Cluster<G>,
     node: NodeId,
     grant: Grant,
     cause: Option<Stop>,
-) -> bool {
+) -> Option<Entry> {
     let holder = match cluster.site(node) {
         Some(site) => site.holder(rt, &grant.entry.name),
         None => None,
@@ -111,10 +111,10 @@ fn work<R: Wait, G: Gate + Drop>(
     if let Some(stop) = cause {
         cluster.stop(rt, stop);
     }
-    holder == Some(grant.entry)
+    holder
 }
 
-/// Has a client of a node lock `r` exclusively, look whether it holds it, stop the cluster if there is a cause, and unlock `r`.
+/// Has a client of a node lock `r` exclusively, look who holds it, stop the cluster if there is a cause, and unlock `r`.
 ///
 /// # Errors
 ///
@@ -126,7 +126,7 @@ pub fn use_name<R: Wait, G: Gate + Drop>(
     node: NodeId,
     client: u32,
     cause: Option<Stop>,
-) -> Result<Held<bool>, CallError> {
+) -> Result<Held<Option<Entry>>, CallError> {
     let mode = Mode::Exclusive;
     cluster.with_lock(
         rt,

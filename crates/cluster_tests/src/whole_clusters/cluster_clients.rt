@@ -1,9 +1,9 @@
 //! Clients of a whole cluster on threads of their own, and what a watchdog sees of them.
-use crate::whole_clusters::cluster_asserting::{assert_same, assert_so, fail_at};
+use crate::whole_clusters::cluster_asserting::{assert_comes_to, assert_same, fail_at};
 use crate::whole_clusters::cluster_calls::{
     books_at_the_end, clusters_of, lock, site, site_of, unlock, use_name,
 };
-use crate::whole_clusters::cluster_values::{comes_to, entry, node, settled};
+use crate::whole_clusters::cluster_values::{entry, node, settled};
 use crate::whole_clusters::plays::{Acts, follow};
 use Act::{
     ClosesPost, HasGranted, HasNoNode, HaveEnded, LetsSleep, Locks, RefusesToLock, RefusesToUnlock,
@@ -192,7 +192,7 @@ fn uses<R: AllocGlobal + Wait + Abort>(
     let came = match use_name(rt, rt.alloc(), stage.cluster, node, client, cause) {
         Ok(held) => {
             *stage.grant.lock(rt) = Some(held.grant);
-            assert_so(rt, at, "the client holds the name", held.value);
+            assert_same(rt, at, &held.value, &Some(held.grant.entry));
             Ok(held.unlocked)
         }
         Err(refused) => Err(refused),
@@ -221,8 +221,11 @@ fn assert_no_node<R: AllocGlobal + Wait + Abort>(
     number: u16,
 ) {
     stage.cluster.pump(rt, rt.alloc(), node(rt, number));
-    let has_none = site_of(stage.cluster, number).is_none();
-    assert_so(rt, at, "there is no such node", has_none);
+    let came = match site_of(stage.cluster, number) {
+        Some(site) => Some(site.node()),
+        None => None,
+    };
+    assert_same(rt, at, &came, &None);
 }
 
 /// Yields a few hundred times. Nothing tells that the others sleep then.
@@ -279,7 +282,7 @@ impl Acts for Stage<'_> {
     }
 
     fn act<R: AllocGlobal + Wait + Abort>(&self, rt: &R, place: usize) {
-        let at = At(self.row.words, "act", place);
+        let at = At(self.row.words, "act", place + 1);
         let Some(act) = self.row.acts.get(place) else {
             fail_at(rt, at, "there is no such act");
         };
@@ -291,14 +294,7 @@ impl Acts for Stage<'_> {
             }
             HasNoNode(number) => assert_no_node(rt, at, self, number),
             Sees(number, seen) => assert_seen(rt, at, site(rt, self.cluster, number), seen),
-            HaveEnded(threads) => {
-                assert_so(
-                    rt,
-                    at,
-                    "as many threads end",
-                    comes_to(&self.ended, threads),
-                )
-            }
+            HaveEnded(threads) => assert_comes_to(rt, at, &self.ended, threads),
             LetsSleep => let_sleep(),
             ClosesPost => self.cluster.close_post(rt),
             Stops => self.cluster.stop(rt, self.cause),

@@ -1,5 +1,5 @@
 //! What a whole cluster answers if its gate or a stop ends it, and what its clients get.
-use crate::whole_clusters::cluster_asserting::{assert_prints, assert_same, assert_so};
+use crate::whole_clusters::cluster_asserting::{assert_prints, assert_same};
 use crate::whole_clusters::cluster_calls::{books_at_the_end, clusters_of, lock, site, use_name};
 use crate::whole_clusters::cluster_values::{CAUSES, Counting, node};
 use crate::whole_clusters::plays::{Scene, play};
@@ -10,7 +10,7 @@ use std::process::Abort;
 use std::sync::Wait;
 use std::sync::atomic::Ordering;
 use std::thread::Threads;
-use test_support::{At, r};
+use test_support::{At, r, row};
 
 /// What a client meets that locks and unlocks a name: whether it is let in and, if it is, whether it gives the name back.
 type Met = Result<Result<(), SiteError>, CallError>;
@@ -69,13 +69,13 @@ pub fn pass<R: AllocGlobal + Threads + Wait + Abort + Sync>(rt: &R, row: &Passed
     }
     let events = events_of(&books_at_the_end(rt.alloc(), clusters));
     assert_same(rt, at, &events, &Some(due));
-    let asked = gate.steps.load(Ordering::SeqCst);
-    let is_asked = if steps == 4 {
-        asked == 4
+    let (asked, refused) = (gate.steps.load(Ordering::SeqCst), steps.saturating_add(1));
+    // All of four steps pass. Of fewer, the next one is refused, and others may come after it.
+    if steps == 4 {
+        assert_same(rt, at, &asked, &steps);
     } else {
-        asked > steps
-    };
-    assert_so(rt, at, "the gate was asked about each step", is_asked);
+        assert_same(rt, at, &asked.min(refused), &refused);
+    }
 }
 
 #[test]
@@ -171,7 +171,8 @@ fn assert_refused<R: AllocGlobal + Wait + Abort>(rt: &R, start: u64, turn: usize
         } else {
             None
         };
-        assert_same(rt, At("a client locks twice", "lock", place), &came, &due);
+        let at = At("a client locks twice", "lock", place + 1);
+        assert_same(rt, at, &came, &due);
     }
 }
 
@@ -206,7 +207,7 @@ fn assert_run<R: AllocGlobal + Threads + Wait + Abort + Sync>(
 
 /// Does so with a cluster of three nodes. Ends the test if something else comes of it.
 pub fn run_nothing<R: AllocGlobal + Threads + Wait + Abort + Sync>(rt: &R) {
-    let at = At("a closure that starts no client", "row", 0);
+    let at = row("a closure that starts no client");
     let clusters = clusters_of(rt.alloc(), 3, 0, OpenGate);
     if let Some(cluster) = clusters.first() {
         assert_run(rt, at, cluster);

@@ -54,7 +54,7 @@ pub fn in_a_thread<R: Threads + Abort, T: Send, F: FnOnce() -> T + Send>(rt: &R,
         // Without it `join` would wait forever for a thread that does not end.
         move || assert!(rt;
             comes_within(MOST_LOOKS_FOR_THE_END, ends, 1),
-            "the thread ends"
+            "expected that a thread ends, and it did not"
         ),
     );
     given

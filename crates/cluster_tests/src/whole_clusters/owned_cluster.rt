@@ -40,7 +40,7 @@ fn a_cluster_has_1_to_64_nodes(rt: HostRuntime) {
             Some(fault) => Err(fault),
             None => Ok((nodes, usize::from(nodes))),
         };
-        let at = At("a cluster of some nodes", "row", place);
+        let at = At("a cluster", "with this many nodes:", usize::from(nodes));
         assert_same(&rt, at, &counts_of(rt.alloc(), nodes), &due);
     }
 }

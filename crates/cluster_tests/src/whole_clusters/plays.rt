@@ -1,8 +1,8 @@
 //! What tests do on threads that may wait for one another, so that a test fails if they do not end.
 use crate::site_tests::site_steps;
 use crate::thread_scripts::own_threads;
-use crate::whole_clusters::cluster_asserting::assert_so;
-use crate::whole_clusters::cluster_values::{comes_to, in_a_thread};
+use crate::whole_clusters::cluster_asserting::{assert_comes_to, fail_at};
+use crate::whole_clusters::cluster_values::in_a_thread;
 use crate::whole_clusters::{cluster_clients, cluster_ends};
 use ra_cluster::Stop;
 use std::process::Abort;
@@ -37,16 +37,17 @@ pub fn follow<R: AllocGlobal + Threads + Wait + Abort + Sync, A: Acts>(
                     acts.act(rt, place);
                     ended.fetch_add(1, Ordering::SeqCst);
                 });
-                let at = At(words, "act", place);
-                assert_so(rt, at, "a thread is started", starts.is_ok());
+                if starts.is_err() {
+                    fail_at(rt, At(words, "act", place + 1), "no thread is started");
+                }
                 started = started.saturating_add(1);
             } else {
                 acts.act(rt, place);
             }
         }
         // The scope would wait forever for a client that is not woken.
-        let at = At(words, "after act", count);
-        assert_so(rt, at, "all threads end", comes_to(ended, started));
+        let at = At(words, "the threads that end, after act", count);
+        assert_comes_to(rt, at, ended, started);
     });
 }
 
