@@ -3,7 +3,7 @@ use crate::audit_tests::audited_clusters::{
     Ended, assert_ended, closed, clusters_of, comes, refusal_of_lock, refusal_of_unlock, site,
 };
 use crate::audit_tests::audits::{Came, Shown, assert_losses, fault_of, loses};
-use crate::kept_books::history_asserting::{assert_same, assert_so, fail_at};
+use crate::kept_books::history_asserting::{assert_same, fail_at};
 use crate::kept_books::history_values::{node, request};
 use Act::{
     Asks, Audits, AuditsAnew, Comes, Ends, Enters, HandsOver, HasAt, HasLosses, IsRefused, Leaves,
@@ -22,7 +22,7 @@ use std::sync::Wait;
 use std::sync::atomic::{AtomicU64, Ordering};
 use std::thread;
 use std::thread::Threads;
-use test_support::{At, Tried, both};
+use test_support::{At, Tried, both, row as row_at};
 
 /// The answer of a call that found no memory and did nothing.
 const WANTING: SiteError = SiteError::Refused(BookError::Memory);
@@ -440,7 +440,7 @@ fn done_running<R: AllocGlobal + Wait + Abort>(
 ) -> Tried {
     let mut tried = Tried::NoFailure;
     for place in 0..row.running.len() {
-        let at = At(row.words, "act of the running cluster", place);
+        let at = At(row.words, "act of the running cluster", place + 1);
         tried = both(tried, does(rt, at, cluster, auditor, row.running[place]));
     }
     tried
@@ -468,7 +468,7 @@ fn done<R: AllocGlobal + Threads + Wait + Abort + Sync>(
 ) -> Tried {
     let mut tried = run_first(rt, cluster, auditor, row);
     for place in 0..row.acts.len() {
-        let at = At(row.words, "act", place);
+        let at = At(row.words, "act", place + 1);
         let came = match row.acts[place] {
             Ends(answer) => ends(rt, at, cluster, auditor, answer),
             other => does(rt, at, cluster, auditor, other),
@@ -523,20 +523,20 @@ fn perform<R: AllocGlobal + Threads + Wait + Abort + Sync>(rt: &R, row: &Row) {
 /// How often it is looked for the end of the thread of a row.
 const MOST_LOOKS: u64 = 20_000_000;
 
-/// Returns whether a thread has counted its end, for which it is looked many times.
-fn has_ended(ends: &AtomicU64) -> bool {
+/// Waits until a thread has counted its end, for which it is looked many times. Ends the test if it does not.
+fn await_end(rt: &impl Abort, at: At<'_>, ends: &AtomicU64) {
     for _ in 0..MOST_LOOKS {
         if ends.load(Ordering::SeqCst) > 0 {
-            return true;
+            return;
         }
         thread::yield_now();
     }
-    false
+    fail_at(rt, at, "its thread does not end");
 }
 
 /// Has a thread of its own do and show all of a row. If it does not end, the test ends after many looks.
 fn play<R: AllocGlobal + Threads + Wait + Abort + Sync>(rt: &R, row: &Row) {
-    let (at, ends) = (At(row.words, "the thread of row", 0), AtomicU64::new(0));
+    let (at, ends) = (row_at(row.words), AtomicU64::new(0));
     let ends = &ends;
     let ((), ()) = thread::join(
         rt,
@@ -545,7 +545,7 @@ fn play<R: AllocGlobal + Threads + Wait + Abort + Sync>(rt: &R, row: &Row) {
             ends.fetch_add(1, Ordering::SeqCst);
         },
         // Without it `join` would wait forever for a thread that does not end.
-        move || assert_so(rt, at, "it ends", has_ended(ends)),
+        move || await_end(rt, at, ends),
     );
 }
 

@@ -1,15 +1,15 @@
 //! The clusters of audits: how they are made and closed, what client 1 of a node does, and frames that come although no node
 //! sent them. The contracts of most calls are long, so tests make them by these functions, which have none.
-use crate::kept_books::history_asserting::{assert_same, assert_so, fail_at};
+use crate::kept_books::history_asserting::{assert_same, fail_at};
 use crate::kept_books::history_values::node;
-use ra_cluster::{CallError, Cluster, Inbox, OpenGate, Post, Site, is_site_of};
+use ra_cluster::{CallError, Cluster, Inbox, OpenGate, Post, SendError, Site, is_site_of};
 use ra_frame::Frame;
 use ra_history::{Book, Stop};
 use ra_stamp::{Mode, NodeId};
 use std::alloc::Global;
 use std::process::Abort;
 use std::sync::Wait;
-use test_support::{At, id, r};
+use test_support::{At, id, part, r};
 
 /// Closes the cluster, if there is one, and returns its books.
 pub fn closed(alloc: Global, mut clusters: Vec<Cluster<OpenGate>>) -> Vec<Book> {
@@ -41,10 +41,10 @@ pub struct Ended(pub Option<Stop>, pub u64);
 
 /// Asserts that there are as many books, and that each ends so.
 pub fn assert_ended(rt: &impl Abort, words: &str, books: &[Book], ended: &[Ended]) {
-    let at = At(words, "books beside book", 0);
+    let at = part(words, "how many books");
     assert_same(rt, at, &books.len(), &ended.len());
     for place in 0..ended.len() {
-        let (at, Ended(fault, events)) = (At(words, "the end of book", place), ended[place]);
+        let (at, Ended(fault, events)) = (At(words, "the end of book", place + 1), ended[place]);
         match books.get(place) {
             Some(book) => assert_same(
                 rt,
@@ -109,9 +109,18 @@ fn carry<R: AllocGlobal + Wait + Abort>(rt: &R, at: At<'_>, site: &Site, inbox: 
     site.pump(rt, rt.alloc(), inbox, &post, &others, &OpenGate);
 }
 
-/// Sends a frame. Returns whether it fits and is sent.
-fn is_sent<R: Wait>(rt: &R, alloc: Global, post: &Post, frame: &Frame) -> bool {
-    frame.fits() && post.send(rt, alloc, frame).is_ok()
+/// Sends a frame. Returns what the post answers, or `None` if the frame does not fit.
+fn answer_to<R: Wait>(
+    rt: &R,
+    alloc: Global,
+    post: &Post,
+    frame: &Frame,
+) -> Option<Result<(), SendError>> {
+    if frame.fits() {
+        Some(post.send(rt, alloc, frame))
+    } else {
+        None
+    }
 }
 
 /// Has a frame come to the site of its destination node, one of two, by a post of its own.
@@ -125,8 +134,8 @@ pub fn comes<R: AllocGlobal + Wait + Abort>(
     let Ok((post, inboxes)) = Post::new(rt.alloc(), 2) else {
         fail_at(rt, at, "there is no memory for the frame's post");
     };
-    let sent = is_sent(rt, rt.alloc(), &post, frame);
-    assert_so(rt, at, "the frame is sent", sent);
+    let answer = answer_to(rt, rt.alloc(), &post, frame);
+    assert_same(rt, at, &answer, &Some(Ok(())));
     post.close(rt);
     match inboxes.get(usize::from(to).wrapping_sub(1)) {
         Some(inbox) => carry(rt, at, site(rt, cluster, to), inbox),

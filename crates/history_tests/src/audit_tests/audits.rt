@@ -5,13 +5,13 @@ use crate::kept_books::book_steps::Step::Takes;
 use crate::kept_books::book_steps::{ASK, ASKS, Wire, frame};
 use crate::kept_books::histories::Done::AtNode;
 use crate::kept_books::histories::{Done, ONE, TWO, books_after};
-use crate::kept_books::history_asserting::{assert_same, assert_so, fail_at};
+use crate::kept_books::history_asserting::{assert_same, fail_at};
 use crate::kept_books::history_values::{entry, node};
 use Act::{Advances, AdvancesInParts, Finds, FindsNotLost, Gets, Has, HasLosses, Leaves, Loses};
 use ra_audit::{AuditError, AuditFault, Auditor, MarkObserver, TakeError, Told};
 use ra_frame::Frame;
 use ra_history::{Book, BookEvent, BookKind};
-use ra_stamp::{Entry, Mark, Mode, NodeId};
+use ra_stamp::{Entry, Mark, Memory, Mode, NodeId};
 use std::alloc::Global;
 use std::process::Abort;
 use test_support::{At, Tried, both};
@@ -205,18 +205,18 @@ pub fn assert_losses(rt: &impl Abort, at: At<'_>, auditor: &Auditor, due: (u64, 
 }
 
 /// Notes a frame as lost, of which callers know the answer alone, so that their proofs are short.
-fn lose(auditor: &mut Auditor, frame: &Frame) -> bool {
-    auditor.lose(&[*frame]).is_ok()
+fn lose(auditor: &mut Auditor, frame: &Frame) -> Result<(), Memory> {
+    auditor.lose(&[*frame])
 }
 
 /// Notes a frame as lost, and notes it again if memory ran out, when all has to be as before.
 pub fn loses(rt: &impl Abort, at: At<'_>, auditor: &mut Auditor, frame: &Frame) -> Tried {
     let before = (auditor.lost(), auditor.losing());
-    if lose(auditor, frame) {
+    if lose(auditor, frame).is_ok() {
         return Tried::NoFailure;
     }
     assert_losses(rt, at, auditor, before);
-    assert_so(rt, at, "there is memory for it then", lose(auditor, frame));
+    assert_same(rt, at, &lose(auditor, frame), &Ok(()));
     Tried::RetrySucceeded
 }
 
@@ -269,7 +269,7 @@ fn all_acts(
 ) -> Tried {
     let mut tried = Tried::NoFailure;
     for place in 0..all.len() {
-        let at = At(words, "act", place);
+        let at = At(words, "act", place + 1);
         let came = acts(rt, alloc, at, auditor, observer, books, all[place]);
         tried = both(tried, came);
     }

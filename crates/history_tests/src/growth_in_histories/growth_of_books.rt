@@ -65,10 +65,12 @@ fn try_rows(
     let (mut tried, words) = (Tried::NoFailure, "events, sent frames and clock");
     for place in 0..rows.len() {
         let Row(call, kept) = rows[place];
-        assert_same(rt, At(words, "call", place), &counts_of(book), &kept);
+        let at = At(words, "before call", place + 1);
+        assert_same(rt, at, &counts_of(book), &kept);
         tried = both(tried, try_call(alloc, book, call, kept));
     }
-    assert_same(rt, At(words, "call", rows.len()), &counts_of(book), &end);
+    let at = At(words, "after call", rows.len());
+    assert_same(rt, at, &counts_of(book), &end);
     tried
 }
 

@@ -6,10 +6,9 @@ use crate::audit_tests::audit_acts::{Act, LOSING, Row, Sends, hand_over};
 use crate::audit_tests::audited_clusters::{clusters_of, refusal_of_lock, refusal_of_unlock, site};
 use crate::audit_tests::audits::Shown;
 use crate::growth_in_histories::growth_of_rounds::grow;
-use crate::kept_books::history_asserting::{assert_grown, assert_so};
+use crate::kept_books::history_asserting::{assert_grown, assert_same};
 use ra_cluster::{Cluster, OpenGate, Stop};
-use ra_frame::Frame;
-use ra_stamp::Mode;
+use ra_stamp::{Message, Mode};
 use std::alloc::Global;
 use std::process::Abort;
 use std::sync::Wait;
@@ -32,12 +31,12 @@ const NO_ROUND: Rounds = Rounds {
     lost: 0,
 };
 
-/// Returns whether this frame is sent if a client of node 1 locks the name: its REQUEST, or the REPLY of node 2.
-fn was_sent(frame: Frame) -> bool {
-    match frame.clock {
-        1 => frame.message == request(1, 2, 1),
-        2 => frame.message == reply(2, 1, 1),
-        _ => false,
+/// Returns the message that is sent at this clock if a client of node 1 locks the name: its REQUEST, or the REPLY of node 2.
+fn sent_at(clock: u64) -> Option<Message> {
+    match clock {
+        1 => Some(request(1, 2, 1)),
+        2 => Some(reply(2, 1, 1)),
+        _ => None,
     }
 }
 
@@ -54,11 +53,10 @@ fn node_after<R: AllocGlobal + Wait + Abort>(
         usize::from(number),
     );
     let (tried, (latest, lost, first)) = hand_over(rt, at, cluster, number, clock);
-    let is_right = match first {
-        Some(frame) => lost == 1 && was_sent(frame),
-        None => true,
-    };
-    assert_so(rt, at, "just a frame that was sent is lost", is_right);
+    if let Some(frame) = first {
+        let came = (lost, Some(frame.message));
+        assert_same(rt, at, &came, &(1, sent_at(frame.clock)));
+    }
     (tried, latest, lost)
 }
 

@@ -11,7 +11,7 @@ use ra_history::{Book, Grant, SettleError, Settled};
 use ra_stamp::Mode;
 use std::alloc::Global;
 use std::process::Abort;
-use test_support::{At, Tried, again};
+use test_support::{Tried, again, row};
 
 /// What is done to two books: the client of node 1 asks, enters and leaves.
 pub const ONE_LOCK: &[Done] = &[
@@ -26,7 +26,7 @@ type Due = (u64, (u128, u128), (u128, u128));
 
 /// Asserts that books settled into such a run, in which no message is under way.
 fn assert_run(rt: &impl Abort, settled: &Settled, due: Due) {
-    let (at, report) = (At("books settle", "the run of row", 0), &settled.report);
+    let (at, report) = (row("books settle"), &settled.report);
     let (made, left) = (
         (report.requests, report.sent),
         (report.lost, report.waiting),

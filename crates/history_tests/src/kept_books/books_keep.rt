@@ -15,7 +15,7 @@ use ra_frame::FrameError;
 use ra_history::{BookError, MarkLostError, NewError, Stop};
 use ra_stamp::Mode;
 use std::process::Abort;
-use test_support::{At, assert_words};
+use test_support::{assert_words, row};
 
 /// The same REQUEST at clock 2^62-1.
 const ASKS_LATE: [u8; 25] = [
@@ -28,19 +28,18 @@ const ASKS_LAST: [u8; 25] = [
     2, 1, 0, 1, 0, 2, 1, 0, 0, 0, 0, 0, 0, 0, 1, 0x40, 0, 0, 0, 0, 0, 0, 0, 1, b'r',
 ];
 
-/// A node, how many there are, and why there is no book of it.
-const NO_BOOKS: &[(u16, u16, NewError)] = &[
-    (1, 0, NewError::BadCount),
-    (1, 65, NewError::BadCount),
-    (3, 2, NewError::BadNode),
+/// A node and how many there are, in words and as numbers, and why there is no book of it.
+const NO_BOOKS: &[(&str, u16, u16, NewError)] = &[
+    ("node 1 of 0", 1, 0, NewError::BadCount),
+    ("node 1 of 65", 1, 65, NewError::BadCount),
+    ("node 3 of 2", 3, 2, NewError::BadNode),
 ];
 
 #[test]
 fn bad_counts_and_nodes_make_no_book(rt: HostRuntime) {
-    for place in 0..NO_BOOKS.len() {
-        let (me, nodes, fault) = NO_BOOKS[place];
-        let came = new_book(rt.alloc(), me, nodes, 0).err();
-        assert_same(&rt, At("no book", "row", place), &came, &Some(fault));
+    for (label, me, nodes, fault) in NO_BOOKS {
+        let came = new_book(rt.alloc(), *me, *nodes, 0).err();
+        assert_same(&rt, row(label), &came, &Some(*fault));
     }
 }
 

@@ -1,15 +1,15 @@
 //! Books to which something was done, and grants that clients got.
 use crate::kept_books::book_steps::Call::Receive;
 use crate::kept_books::book_steps::{Step, does, takes};
-use crate::kept_books::history_asserting::{assert_so, fail_at};
+use crate::kept_books::history_asserting::{assert_same, fail_at};
 use crate::kept_books::history_values::{bytes_of, entry, new_book};
 use Done::{AtNode, Loses, Passes};
 use ra_frame::Frame;
-use ra_history::{Book, Grant};
+use ra_history::{Book, Grant, MarkLostError};
 use ra_stamp::Mode;
 use std::alloc::Global;
 use std::process::Abort;
-use test_support::At;
+use test_support::{At, row};
 
 /// A book in which nothing has happened: that of node `me` of `nodes`, in which each name begins with the number
 /// `start`.
@@ -100,12 +100,13 @@ fn arrives(rt: &impl Abort, alloc: Global, at: At<'_>, books: &mut [Book], frame
     }
 }
 
-/// Flags the frame that the book of a node sent at this place as lost. Returns whether it is taken.
-fn mark_lost(books: &mut [Book], number: u16, place: u64) -> bool {
+/// Flags the frame that the book of a node sent at this place as lost. Returns what the book answers, or `None` if there is no such
+/// frame.
+fn mark_lost(books: &mut [Book], number: u16, place: u64) -> Option<Result<(), MarkLostError>> {
     let sent = sent(books, number, place);
     match (books.get_mut(usize::from(number).wrapping_sub(1)), sent) {
-        (Some(book), Some(frame)) => book.mark_lost(&frame).is_ok(),
-        _ => false,
+        (Some(book), Some(frame)) => Some(book.mark_lost(&frame)),
+        _ => None,
     }
 }
 
@@ -121,8 +122,7 @@ fn is_done(rt: &impl Abort, alloc: Global, at: At<'_>, books: &mut [Book], done:
             None => fail_at(rt, at, "there is no such frame"),
         },
         Loses(number, place) => {
-            let is_lost = mark_lost(books, number, place);
-            assert_so(rt, at, "there is such a frame, which is not lost", is_lost);
+            assert_same(rt, at, &mark_lost(books, number, place), &Some(Ok(())));
             true
         }
     }
@@ -131,7 +131,7 @@ fn is_done(rt: &impl Abort, alloc: Global, at: At<'_>, books: &mut [Book], done:
 /// Does all of this to the books, in order. Returns whether there was memory for it.
 fn are_done(rt: &impl Abort, alloc: Global, words: &str, books: &mut [Book], all: &[Done]) -> bool {
     for place in 0..all.len() {
-        let at = At(words, "what is done at", place);
+        let at = At(words, "act", place + 1);
         if !is_done(rt, alloc, at, books, all[place]) {
             return false;
         }
@@ -158,9 +158,10 @@ pub fn books_after(
 /// Asserts that a book does and shows these steps, in order.
 fn follow(rt: &impl Abort, alloc: Global, words: &str, book: &mut Book, steps: &[Step<'_>]) {
     for place in 0..steps.len() {
-        let at = At(words, "step", place);
-        let has_memory = does(rt, alloc, at, book, steps[place]);
-        assert_so(rt, at, "there is memory for it", has_memory);
+        let at = At(words, "step", place + 1);
+        if !does(rt, alloc, at, book, steps[place]) {
+            fail_at(rt, at, "there is no memory for it");
+        }
     }
 }
 
@@ -169,7 +170,7 @@ pub fn assert_follows(rt: &impl Abort, alloc: Global, words: &str, made: Made, s
     let mut books = new_books(alloc, &[made]);
     match books.get_mut(0) {
         Some(book) => follow(rt, alloc, words, book, steps),
-        None => fail_at(rt, At(words, "step", 0), "there is no such book"),
+        None => fail_at(rt, row(words), "there is no such book"),
     }
 }
 

@@ -12,7 +12,7 @@ use ra_schedule::{Op, Script};
 use ra_stamp::Mode;
 use std::alloc::Global;
 use std::process::Abort;
-use test_support::{At, r};
+use test_support::{r, row};
 
 /// What a client of node 1 does with `r`.
 #[derive(Clone, Copy)]
@@ -80,7 +80,7 @@ fn refusal_of(
 fn assert_outcome(rt: &impl Abort, alloc: Global, case: &Case, script: &Script) {
     let books = books_after(rt, alloc, case.shows, case.made, case.done);
     let grants = grants_of(rt, alloc, case.granted);
-    let at = At(case.shows, "the refusal of row", 0);
+    let at = row(case.shows);
     let lengths = (books.len(), grants.len());
     assert_same(rt, at, &lengths, &(case.made.len(), case.granted.len()));
     let came = refusal_of(alloc, script, &books, &grants);
@@ -92,7 +92,7 @@ fn assert_outcomes<R: Abort + AllocGlobal>(rt: &R, cases: &[Case]) {
     for case in cases {
         match script_of(rt.alloc(), case) {
             Some(script) => assert_outcome(rt, rt.alloc(), case, &script),
-            None => fail_at(rt, At(case.shows, "row", 0), "there is no such script"),
+            None => fail_at(rt, row(case.shows), "there is no such script"),
         }
     }
 }

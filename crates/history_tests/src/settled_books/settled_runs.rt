@@ -6,78 +6,42 @@ use crate::kept_books::histories::Done::{AtNode, Passes};
 use crate::kept_books::histories::{
     Done, Granted, Made, ONE, TWO, books_after, grants_of, new_books,
 };
-use crate::kept_books::history_asserting::{assert_prints, assert_same, assert_so, fail_at};
-use crate::kept_books::history_values::{node, request, settled};
+use crate::kept_books::history_asserting::{assert_prints, assert_same, fail_at};
+use crate::kept_books::history_values::settled;
 use Mode::{Exclusive, Shared};
 use Outcome::{Refused, Settles};
-use Seen::{Asked, Left, Lost, Replied, Requested};
 use ra_history::{Book, Grant, SettleError, Settled, is_cluster};
 use ra_stamp::Mode;
+use ra_trace::Line;
 use ra_world::{Report, Step, report_text};
 use std::alloc::Global;
 use std::process::Abort;
-use test_support::{At, assert_words, message_between, r};
-
-/// A step of the run. All steps are about `r`, and the client of each node has the node's number.
-#[derive(Clone, Copy)]
-enum Seen {
-    /// The client of this node asks.
-    Asked(u16, Mode),
-    /// The client of this node leaves.
-    Left(u16),
-    /// A REQUEST from the first node is delivered to the second.
-    Requested(u16, u16, Mode),
-    /// A REPLY from the first node is delivered to the second.
-    Replied(u16, u16),
-    /// A REQUEST from the first node to the second is lost.
-    Lost(u16, u16, Mode),
-}
+use test_support::{At, assert_words, part, row};
 
 /// The outcome of settling books.
 #[derive(Clone, Copy)]
 enum Outcome {
     /// They are refused for this reason.
     Refused(SettleError),
-    /// They settle into these steps, with a report that prints as this text.
-    Settles(&'static [Seen], &'static str),
+    /// They settle into the steps of these lines of a trace, with a report that prints as this text.
+    Settles(&'static [&'static str], &'static str),
 }
 
-/// Returns the step of the run.
-fn step(rt: &impl Abort, seen: Seen) -> Step {
-    let name = r();
-    match seen {
-        Asked(number, mode) => Step::Ask {
-            node: node(rt, number),
-            client: u32::from(number),
-            name,
-            mode,
-        },
-        Left(number) => Step::Leave {
-            node: node(rt, number),
-            client: u32::from(number),
-            name,
-        },
-        Requested(from, to, mode) => Step::Deliver(request(rt, from, to, mode, 1)),
-        Replied(from, to) => Step::Deliver(message_between(
-            node(rt, from),
-            node(rt, to),
-            name,
-            None,
-            1,
-        )),
-        Lost(from, to, mode) => Step::Lose(request(rt, from, to, mode, 1)),
+/// Returns the step that a line of a trace tells, or `None` if it tells none.
+fn step_of(line: &str) -> Option<Step> {
+    match Line::parse(line.as_bytes()) {
+        Some(Line::Stepped(step)) => Some(step),
+        _ => None,
     }
 }
 
-/// Asserts that these are the steps of a run.
-fn assert_steps(rt: &impl Abort, words: &str, came: &[Step], expected: &[Seen]) {
-    for place in 0..expected.len() {
-        let due = Some(step(rt, expected[place]));
-        let at = At(words, "step", place);
-        assert_same(rt, at, &came.get(place).copied(), &due);
+/// Asserts that these lines tell the steps of a run.
+fn assert_steps(rt: &impl Abort, words: &str, came: &[Step], lines: &[&str]) {
+    assert_same(rt, part(words, "how many steps"), &came.len(), &lines.len());
+    for place in 0..lines.len() {
+        let at = part(words, lines[place]);
+        assert_same(rt, at, &came.get(place).copied(), &step_of(lines[place]));
     }
-    let at = At(words, "steps beside step", 0);
-    assert_same(rt, at, &came.len(), &expected.len());
 }
 
 /// Asserts that a report prints as this text.
@@ -96,7 +60,7 @@ fn assert_settled(
     settled: &Settled,
     outcome: Outcome,
 ) {
-    let at = At(words, "the report of row", 0);
+    let at = row(words);
     match outcome {
         Settles(steps, text) => {
             assert_steps(rt, words, settled.steps.as_slice(), steps);
@@ -112,9 +76,10 @@ fn assert_refused(rt: &impl Abort, words: &str, found: Option<SettleError>, outc
         Settles(..) => None,
         Refused(fault) => Some(fault),
     };
-    let at = At(words, "the refusal of row", 0);
-    assert_same(rt, at, &found, &due);
-    assert_so(rt, at, "the books are a cluster", found.is_some());
+    if found.is_none() {
+        fail_at(rt, row(words), "the books are no cluster");
+    }
+    assert_same(rt, row(words), &found, &due);
 }
 
 /// Asserts that books are a cluster and settle with grants into this outcome.
@@ -146,33 +111,33 @@ fn assert_outcomes<R: Abort + AllocGlobal>(rt: &R, rows: &[Row]) {
     for row in rows {
         let books = books_after(rt, alloc, row.words, &[ONE, TWO], row.done);
         let grants = grants_of(rt, alloc, row.granted);
-        let at = At(row.words, "grants beside grant", 0);
+        let at = part(row.words, "how many grants");
         assert_same(rt, at, &grants.len(), &row.granted.len());
         assert_comes(rt, alloc, row.words, &books, &grants, row.outcome);
     }
 }
 
 /// Asserts that there are such books, and that they are a cluster or are not.
-fn assert_cluster<R: Abort + AllocGlobal>(rt: &R, place: usize, made: &[Made], expected: bool) {
-    let (books, at) = (new_books(rt.alloc(), made), At("a cluster", "row", place));
+fn assert_cluster<R: Abort + AllocGlobal>(rt: &R, label: &str, made: &[Made], expected: bool) {
+    let books = new_books(rt.alloc(), made);
     let came = (books.len(), is_cluster(&books));
-    assert_same(rt, at, &came, &(made.len(), expected));
+    assert_same(rt, row(label), &came, &(made.len(), expected));
 }
 
 /// Books that are not a cluster.
-const NO_CLUSTERS: &[&[Made]] = &[
-    &[TWO, ONE],
-    &[ONE, ONE],
-    &[ONE, Made { nodes: 3, ..TWO }],
-    &[ONE, Made { start: 7, ..TWO }],
-    &[],
+const NO_CLUSTERS: &[(&str, &[Made])] = &[
+    ("node 2 first", &[TWO, ONE]),
+    ("node 1 twice", &[ONE, ONE]),
+    ("a book of three nodes", &[ONE, Made { nodes: 3, ..TWO }]),
+    ("another start", &[ONE, Made { start: 7, ..TWO }]),
+    ("no book", &[]),
 ];
 
 #[test]
 fn books_of_all_nodes_in_order_are_a_cluster(rt: HostRuntime) {
-    assert_cluster(&rt, 0, &[ONE, TWO], true);
-    for place in 0..NO_CLUSTERS.len() {
-        assert_cluster(&rt, place, NO_CLUSTERS[place], false);
+    assert_cluster(&rt, "both nodes", &[ONE, TWO], true);
+    for (label, made) in NO_CLUSTERS {
+        assert_cluster(&rt, label, made, false);
     }
 }
 
@@ -188,16 +153,16 @@ const LOCKS_ONCE: &[Done] = &[
 const FIRST: Granted = Granted(1, 1, Exclusive, 1);
 
 /// The run into which this settles.
-const LOCKED_ONCE: &[Seen] = &[
-    Asked(1, Exclusive),
-    Requested(1, 2, Exclusive),
-    Replied(2, 1),
-    Left(1),
+const LOCKED_ONCE: &[&str] = &[
+    "ask 1 1 r X",
+    "deliver request 1 2 r X 1",
+    "deliver reply 2 1 r 1",
+    "release 1 1 r",
 ];
 
 /// The run in which client 1 of node 1 asks, and the REQUEST to node 2 is lost.
 const LOST_ONCE: Outcome = Settles(
-    &[Asked(1, Exclusive), Lost(1, 2, Exclusive)],
+    &["ask 1 1 r X", "lose request 1 2 r X 1"],
     "request 1 1 r X 1\nrequests 1\nmessages 1\nunder-way 0\nlost 1\nwaiting 1\nqueued 0\n",
 );
 
@@ -216,15 +181,15 @@ const READ_AT_ONCE: &[Done] = &[
 ];
 
 /// The run into which this settles.
-const READS_AT_ONCE: &[Seen] = &[
-    Asked(1, Shared),
-    Asked(2, Shared),
-    Requested(2, 1, Shared),
-    Requested(1, 2, Shared),
-    Replied(2, 1),
-    Replied(1, 2),
-    Left(1),
-    Left(2),
+const READS_AT_ONCE: &[&str] = &[
+    "ask 1 1 r S",
+    "ask 2 2 r S",
+    "deliver request 2 1 r S 1",
+    "deliver request 1 2 r S 1",
+    "deliver reply 2 1 r 1",
+    "deliver reply 1 2 r 1",
+    "release 1 1 r",
+    "release 2 2 r",
 ];
 
 /// What settles.
@@ -341,15 +306,15 @@ fn who_reads_at_once_has_the_same_clocks(rt: HostRuntime) {
     for book in &books {
         assert_four_clocks(&rt, words, book);
     }
-    assert_same(&rt, At(words, "books beside book", 0), &books.len(), &2);
+    assert_same(&rt, part(words, "how many books"), &books.len(), &2);
 }
 
 /// Asserts that a book has four events, and the clock of each is its place plus one.
 fn assert_four_clocks(rt: &impl Abort, words: &str, book: &Book) {
     let events = book.events().as_slice();
-    assert_same(rt, At(words, "events beside event", 0), &events.len(), &4);
+    assert_same(rt, part(words, "how many events"), &events.len(), &4);
     for place in 0..events.len() {
-        let at = At(words, "the clock of event", place);
+        let at = At(words, "the clock of event", place + 1);
         assert_same(rt, at, &events[place].clock, &(place as u64 + 1));
     }
 }
