@@ -76,18 +76,11 @@ impl BufRead for FailingReader<'_> {
 pub struct FailingWriter<'a> {
     /// What is left of the text.
     pub left: &'a [u8],
-    /// Whether a byte came that was not the next one.
-    pub differs: bool,
+    /// The first byte that came and was not the next one.
+    pub other: Option<u8>,
     /// How many writes are left before the fault, if there is to be one.
     pub before_fault: Option<usize>,
     pub fault: Option<io::ErrorKind>,
-}
-
-impl FailingWriter<'_> {
-    /// Returns whether just `count` bytes of this text were taken and nothing else.
-    pub fn has_taken(&self, text: &[u8], count: usize) -> bool {
-        !self.differs && text.get(count..) == Some(self.left)
-    }
 }
 
 impl Write for FailingWriter<'_> {
@@ -108,7 +101,8 @@ impl Write for FailingWriter<'_> {
         }
         match self.left {
             [next, rest @ ..] if *next == buf[0] => self.left = rest,
-            _ => self.differs = true,
+            _ if self.other.is_none() => self.other = Some(buf[0]),
+            _ => {}
         }
         Ok(1)
     }
@@ -126,7 +120,7 @@ pub fn failing_writer(
 ) -> FailingWriter<'_> {
     FailingWriter {
         left: text,
-        differs: false,
+        other: None,
         before_fault: Some(before_fault),
         fault,
     }

@@ -7,9 +7,9 @@ use std::alloc::Global;
 use std::io;
 use std::io::{Read, Write};
 use std::process::Abort;
-use test_support::FailingReader;
+use test_support::{FailingReader, part, row};
 
-/// A part of a trace, and how often some words occur in its picture.
+/// A trace, a part of it, and how often some words occur in the picture of that.
 #[derive(Clone, Copy)]
 struct Row(&'static str, Part, &'static [(&'static str, u64)]);
 
@@ -62,8 +62,9 @@ fn picture_of(alloc: Global, trace: &[u8], part: Part) -> Option<String> {
 
 /// Asserts that each of these words is in a picture as often as its row says.
 fn assert_has(rt: &impl Abort, picture: &str, words: &[(&str, u64)]) {
-    for row in words {
-        assert_same(rt, row.0, &count_in(picture, row.0), &row.1);
+    for (word, count) in words {
+        let at = part("how often a picture has", word);
+        assert_same(rt, at, &count_in(picture, word), count);
     }
 }
 
@@ -76,24 +77,31 @@ const IN_EACH: &[(&str, u64)] = &[
     ("url(http", 0),
 ];
 
-/// Asserts that a picture is as a row says, and is one element without a script or another file.
-fn assert_picture(rt: &impl Abort, picture: Option<String>, row: &Row) {
+/// How each picture begins.
+const BEGINS: &str = "<svg xmlns=\"http://www.w3.org/2000/svg\" ";
+
+/// How each picture ends.
+const ENDS: &str = "</svg>\n";
+
+/// Asserts that a picture has these words so often, and is one element without a script or another file.
+fn assert_picture(rt: &impl Abort, picture: Option<String>, words: &[(&str, u64)]) {
     let Some(picture) = picture else {
-        return assert_same(rt, row.0, &"no picture", &"a picture");
+        panic!(rt; "expected a picture, and none came");
     };
     let text = picture.as_str();
-    let begins = text.starts_with("<svg xmlns=\"http://www.w3.org/2000/svg\" ");
-    assert_same(rt, row.0, &begins, &true);
-    assert_same(rt, row.0, &text.ends_with("</svg>\n"), &true);
+    let (start, end) = (text.get(..BEGINS.len()), text.len().checked_sub(ENDS.len()));
+    assert_same(rt, row("the start of a picture"), &start, &Some(BEGINS));
+    let end = text.get(end.unwrap_or(0)..);
+    assert_same(rt, row("the end of a picture"), &end, &Some(ENDS));
     assert_has(rt, text, IN_EACH);
-    assert_has(rt, text, row.2);
+    assert_has(rt, text, words);
 }
 
 /// Asserts that each row of a trace is so.
 fn assert_pictures(rt: &(impl Abort + AllocGlobal), rows: &[Row]) {
     for row in rows {
         let picture = picture_of(rt.alloc(), row.0.as_bytes(), row.1);
-        assert_picture(rt, picture, row);
+        assert_picture(rt, picture, row.2);
     }
 }
 
@@ -110,7 +118,7 @@ fn a_part_may_begin_at_0_but_not_after_its_end(rt: HostRuntime) {
     let mut picture = Vec::new(rt.alloc());
     let came = drawn_to(rt.alloc(), &mut reader, &mut picture, lines(20, 10));
     let no_lines = Err(DrawError::NoLines { lines: 9 });
-    assert_same(&rt, "what came", &came, &no_lines);
+    assert_same(&rt, row("what came"), &came, &no_lines);
 }
 
 /// A reader that fails is a fault, and nothing is drawn.
@@ -120,9 +128,9 @@ fn a_reader_that_fails_is_a_fault(rt: HostRuntime) {
     let mut reader = FailingReader::new(trace, 1, Some(139), io::ErrorKind::Interrupted);
     let mut picture = Vec::new(rt.alloc());
     let came = drawn_to(rt.alloc(), &mut reader, &mut picture, Part::WHOLE);
-    assert_same(&rt, "what came", &came, &Err(DrawError::Read));
-    assert_same(&rt, "bytes that are left", &reader.bytes.len(), &1);
-    assert_same(&rt, "bytes that are drawn", &picture.len(), &0);
+    assert_same(&rt, row("what came"), &came, &Err(DrawError::Read));
+    assert_same(&rt, row("bytes that are left"), &reader.bytes.len(), &1);
+    assert_same(&rt, row("bytes that are drawn"), &picture.len(), &0);
 }
 
 /// A writer that fails is a fault, and has what came before.
@@ -131,7 +139,7 @@ fn a_writer_that_fails_is_a_fault(rt: HostRuntime) {
     let mut reader = ONE_LOCK.as_bytes();
     let mut writer = failing("<svg xmlns=", 7, Some(io::ErrorKind::Interrupted));
     let came = drawn_to(rt.alloc(), &mut reader, &mut writer, Part::WHOLE);
-    assert_same(&rt, "what came", &came, &Err(DrawError::Write));
-    assert_same(&rt, "bytes that are left", &writer.left.len(), &4);
-    assert_same(&rt, "whether another byte came", &writer.differs, &false);
+    assert_same(&rt, row("what came"), &came, &Err(DrawError::Write));
+    assert_same(&rt, row("bytes that are left"), &writer.left.len(), &4);
+    assert_same(&rt, row("another byte"), &writer.other, &None);
 }

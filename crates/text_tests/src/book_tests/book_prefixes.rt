@@ -5,7 +5,7 @@ use crate::text_asserting::assert_same;
 use ra_book::{BookFault, answer_book};
 use std::io::{BufRead, ErrorKind};
 use std::process::Abort;
-use test_support::FailingReader;
+use test_support::{FailingReader, row};
 
 const BOOK: &str = "book 1 1 1 0\nask 7 door X\nno line\nrelease 7 door\n";
 
@@ -34,8 +34,8 @@ fn assert_read<B: BufRead>(
 ) {
     let mut written = Vec::new(rt.alloc());
     let came = answer_book(rt.alloc(), reader, &mut written);
-    assert_same(rt, "the answers", &text(&written), &text(answers));
-    assert_same(rt, "the end", &came, &end);
+    assert_same(rt, row("the answers"), &text(&written), &text(answers));
+    assert_same(rt, row("the end"), &came, &end);
 }
 
 /// Adds the answers to these bytes of the book, if it has no others. Returns whether there was room.
@@ -55,13 +55,9 @@ fn adds_answers(text: &mut Vec<u8>, bytes: &[u8]) -> bool {
 /// Returns the answers to these bytes of the book, if it has no others.
 fn answers_to(rt: &(impl Abort + AllocGlobal), bytes: &[u8]) -> Vec<u8> {
     let mut answers = Vec::new(rt.alloc());
-    let is_made = adds_answers(&mut answers, bytes);
-    assert_same(
-        rt,
-        "whether there is memory for the answers",
-        &is_made,
-        &true,
-    );
+    if !adds_answers(&mut answers, bytes) {
+        panic!(rt; "there are other answers, or there is no memory for these");
+    }
     answers
 }
 
@@ -101,7 +97,8 @@ fn assert_unread(rt: &(impl Abort + AllocGlobal), bytes: &[u8], fault: ErrorKind
     let mut reader = FailingReader::new(BOOK.as_bytes(), 1, Some(bytes.len()), fault);
     assert_read(rt, &mut reader, Err(BookFault::Read), &answers);
     let left = BOOK.len().saturating_sub(bytes.len());
-    assert_same(rt, "the bytes that are left", &reader.bytes.len(), &left);
+    let at = row("the bytes that are left");
+    assert_same(rt, at, &reader.bytes.len(), &left);
 }
 
 /// All answers to what was read were written when the reader fails, and it is not asked again.

@@ -1,12 +1,13 @@
 //! Writers that fail, and what is written before more input is waited for.
 use crate::text_asserting::assert_same;
+use crate::trace_tests::traced_steps::assert_left;
 use ra_book::{BookFault, answer_book};
 use std::alloc::Global;
 use std::cell::Cell;
 use std::io;
 use std::io::{BufRead, ErrorKind, Read, Write};
 use std::process::Abort;
-use test_support::failing_writer;
+use test_support::{failing_writer, row};
 
 const BOOK: &str = "book 1 1 1 0\nask 7 door X\n";
 
@@ -26,10 +27,9 @@ fn assert_unwritten(rt: &(impl Abort + AllocGlobal), count: usize, fault: Option
     let mut reader = BOOK.as_bytes();
     let mut writer = failing_writer(ANSWERS.as_bytes(), count, fault);
     let came = answered(rt.alloc(), &mut reader, &mut writer);
-    assert_same(rt, "the end", &came, &Err(BookFault::Write));
+    assert_same(rt, row("the end"), &came, &Err(BookFault::Write));
     let left = ANSWERS.len().saturating_sub(count);
-    assert_same(rt, "the bytes that are left", &writer.left.len(), &left);
-    assert_same(rt, "whether another byte came", &writer.differs, &false);
+    assert_left(rt, row("the bytes that are left"), &writer, left);
 }
 
 /// What was written before a writer fails is a prefix of the answers, and nothing is written after that.
@@ -121,16 +121,12 @@ fn assert_passed_on(
     writer: &mut Passed<'_>,
 ) {
     let came = answered(rt.alloc(), reader, writer);
-    assert_same(rt, "the end", &came, &Ok(()));
+    assert_same(rt, row("the end"), &came, &Ok(()));
     // `ok` has 3 bytes, the answer to the ask 43, that to the wrong line 13, and that to the leave 22.
     let expected: &[usize] = &[0, 3, 46, 59, 81, 81];
     let noted = reader.noted.as_slice();
-    assert_same(
-        rt,
-        "the bytes passed on before each piece",
-        &noted,
-        &expected,
-    );
+    let at = row("the bytes passed on before each piece");
+    assert_same(rt, at, &noted, &expected);
 }
 
 /// All that is answered is passed on whenever more input may have to be waited for, also in the middle of a line.

@@ -9,7 +9,7 @@ use std::alloc::Global;
 use std::io;
 use std::io::Write;
 use std::process::Abort;
-use test_support::{Tried, again, both, tried_if};
+use test_support::{Tried, again, both, row, tried_if};
 
 /// A line that comes twice: the answer when it comes first, and the answer after that.
 struct Pair(&'static str, &'static str);
@@ -92,7 +92,7 @@ fn lines_that_are_refused_for_memory_come_again(rt: HostRuntime) {
         count: 0,
     };
     let came = answer_book(rt.alloc(), &mut reader, &mut kept);
-    assert_same(&rt, "the end", &came, &Ok(()));
+    assert_same(&rt, row("the end"), &came, &Ok(()));
     let text = kept.bytes.get(..kept.count).unwrap_or(b"");
     assert_grown(&rt, tried_in(str::from_utf8(text).unwrap_or("")));
 }

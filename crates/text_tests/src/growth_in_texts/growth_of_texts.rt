@@ -102,12 +102,12 @@ fn taking(text: &str) -> FailingWriter<'_> {
 
 /// Returns whether nothing was written of this text.
 fn is_untouched(writer: &FailingWriter<'_>, text: &str) -> bool {
-    writer.left.len() == text.len() && !writer.differs
+    writer.left.len() == text.len() && writer.other.is_none()
 }
 
 /// Returns whether the whole text was written, and nothing else.
 fn is_whole(writer: &FailingWriter<'_>) -> bool {
-    writer.left.is_empty() && !writer.differs
+    writer.left.is_empty() && writer.other.is_none()
 }
 
 /// Writes the trace of a run. If that is refused, returns whether memory ran out and nothing was written.

@@ -1,6 +1,6 @@
 //! What `ra_explain` and `ra_script` tell a person: what is asked of them, and what is to be said.
 use crate::script_texts::choice_words::choices_of;
-use crate::text_asserting::assert_row;
+use crate::text_asserting::assert_same;
 use Asked::{Choice, Digits, Field, Frame, Kept, Order, Script, Unanswered, Unfinished};
 use ra_explain::{
     LineCause, choices_note, digits_note, frame_note, line_note, order_note, script_end_note,
@@ -13,6 +13,7 @@ use ra_stamp::{Mark, Memory};
 use ra_trace::{Cause, MarkCause, TraceError, Verdict, check_buffered_with_due};
 use std::alloc::Global;
 use std::process::Abort;
+use test_support::row;
 
 /// Why a line is wrong.
 #[derive(Clone, Copy)]
@@ -159,22 +160,22 @@ pub fn said(alloc: Global, asked: Asked) -> Told {
     }
 }
 
-/// Asserts that this text is said, or nothing if the text is empty, of the row with this number, from 0 up.
-pub fn assert_told(rt: &impl Abort, row: usize, said: Told, text: &str) {
+/// Asserts that this text is said, or nothing if the text is empty.
+pub fn assert_told(rt: &impl Abort, label: &str, said: Told, text: &str) {
     let came = match &said {
         Ok(Some(note)) => note.as_str(),
         Ok(None) => "",
         Err(Memory) => "no memory",
     };
-    assert_row(rt, row, &came, &text);
+    assert_same(rt, row(label), &came, &text);
 }
 
 /// What is asked about, and what is to be said, or nothing if the text is empty.
 pub struct Note(pub Asked, pub &'static str);
 
-/// Asserts that the right text is said of each row.
-pub fn assert_said(rt: &(impl Abort + AllocGlobal), notes: &[Note]) {
-    for row in 0..notes.len() {
-        assert_told(rt, row, said(rt.alloc(), notes[row].0), notes[row].1);
+/// Asserts that the right text is said of each row. The text tells of which.
+pub fn assert_said(rt: &(impl Abort + AllocGlobal), label: &str, notes: &[Note]) {
+    for Note(asked, text) in notes {
+        assert_told(rt, label, said(rt.alloc(), *asked), text);
     }
 }

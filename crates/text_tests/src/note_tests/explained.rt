@@ -142,7 +142,7 @@ const AFTER_OTHERS: &[Note] = &[
 
 #[test]
 fn what_is_said_of_a_line_after_others(rt: HostRuntime) {
-    assert_said(&rt, AFTER_OTHERS);
+    assert_said(&rt, "a line after others", AFTER_OTHERS);
 }
 
 /// Two clients at two nodes that lock two names in opposite orders.
@@ -179,7 +179,7 @@ const UNSAID: &[Note] = &[
 
 #[test]
 fn nothing_is_said_where_nothing_is_wrong(rt: HostRuntime) {
-    assert_said(&rt, UNSAID);
+    assert_said(&rt, "nothing is wrong", UNSAID);
 }
 
 /// Returns choices by which a REQUEST is repeated, and its copy is still under way when the client has finished.
@@ -202,12 +202,8 @@ fn messages_that_are_left_are_said(rt: HostRuntime) {
     let text = "the run did not finish: all operations are done, but messages are under way";
     match copied(rt.alloc()) {
         Some(policy) => {
-            assert_told(
-                &rt,
-                0,
-                said_of_run(rt.alloc(), ONE_LOCK_SCRIPT, &policy),
-                text,
-            )
+            let said = said_of_run(rt.alloc(), ONE_LOCK_SCRIPT, &policy);
+            assert_told(&rt, "a message is left", said, text)
         }
         None => panic!(rt; "there is no memory for the choices"),
     }

@@ -1,21 +1,13 @@
 //! How lists of choices are read.
-use crate::text_asserting::assert_row;
+use crate::text_asserting::assert_same;
 use ra_schedule::{Choice, Choices};
 use ra_script::{ChoicesError, read_choices};
 use std::alloc::Global;
-use std::process::Abort;
+use test_support::part;
 
 /// Returns what `read_choices` answers.
 pub fn choices_of(alloc: Global, text: &str) -> Result<Choices, ChoicesError> {
     read_choices(alloc, text)
-}
-
-/// Asserts that a text is read as these choices, in the row with this number.
-fn assert_read(rt: &(impl Abort + AllocGlobal), row: usize, text: &str, expected: &[Choice]) {
-    match choices_of(rt.alloc(), text) {
-        Ok(choices) => assert_row(rt, row, &choices.as_slice(), &expected),
-        Err(fault) => assert_row(rt, row, &Some(fault), &None),
-    }
 }
 
 #[test]
@@ -32,7 +24,11 @@ fn choices_are_read_in_order(rt: HostRuntime) {
             ],
         ),
     ];
-    for row in 0..ROWS.len() {
-        assert_read(&rt, row, ROWS[row].0, ROWS[row].1);
+    for (text, expected) in ROWS {
+        let at = part("the choices", text);
+        match choices_of(rt.alloc(), text) {
+            Ok(choices) => assert_same(&rt, at, &choices.as_slice(), expected),
+            Err(fault) => assert_same(&rt, at, &Some(fault), &None),
+        }
     }
 }

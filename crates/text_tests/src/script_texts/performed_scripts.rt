@@ -1,14 +1,14 @@
 //! How a script is performed if its reader fails, or the writer of its text.
 use crate::shared_texts::{ONE_LOCK, ONE_LOCK_LENGTH, ONE_LOCK_SCRIPT, failing};
-use crate::text_asserting::assert_row;
-use crate::trace_tests::traced_steps::assert_whole;
+use crate::text_asserting::assert_same;
+use crate::trace_tests::traced_steps::assert_left;
 use OutputKind::{Choices, Lines, Shrunk, State, Trace};
 use ra_schedule::Policy;
 use ra_script::{OutputKind, PerformError, perform, perform_as, perform_trace};
 use std::alloc::Global;
 use std::io;
 use std::process::Abort;
-use test_support::{FailingReader, FailingWriter, ONE_LOCK_LINES};
+use test_support::{At, FailingReader, FailingWriter, ONE_LOCK_LINES, row};
 
 /// How many bytes the lines of the run have of which the trace is [`ONE_LOCK`].
 const ONE_LOCK_LINES_LENGTH: usize = 110;
@@ -82,32 +82,44 @@ fn fault_of(
     performed(alloc, reader, writer, format, &Policy::Oldest).err()
 }
 
+/// What is written of the script, in words and as a format, and how many bytes it has.
+const FORMATS: &[(&str, OutputKind, usize)] = &[
+    ("the lines", Lines, ONE_LOCK_LINES_LENGTH),
+    ("the trace", Trace, ONE_LOCK_LENGTH),
+    ("the choices", Choices, ONE_LOCK_CHOICES_LENGTH),
+    ("the shrunk choices", Shrunk, ONE_LOCK_SHRUNK_LENGTH),
+    ("the state", State, ONE_LOCK_STATE_LENGTH),
+];
+
 /// Asserts that the fault of a reader after each number of bytes is named, and no byte is read after it and none written.
-fn assert_unread(rt: &(impl Abort + AllocGlobal), format: OutputKind) {
+fn assert_unread(rt: &(impl Abort + AllocGlobal), label: &str, format: OutputKind) {
     for before_fault in 0..=ONE_LOCK_SCRIPT.len() {
         let mut reader = script_reader(Some(before_fault));
         let mut writer = failing("", 1000, None);
         let fault = fault_of(rt.alloc(), &mut reader, &mut writer, format);
-        assert_row(rt, before_fault, &fault, &Some(PerformError::Read));
+        let at = At(
+            label,
+            "before the fault of the reader, bytes:",
+            before_fault,
+        );
+        assert_same(rt, at, &fault, &Some(PerformError::Read));
         let taken = ONE_LOCK_SCRIPT.len().checked_sub(reader.bytes.len());
-        assert_row(rt, before_fault, &taken, &Some(before_fault));
-        assert_row(rt, before_fault, &writer.differs, &false);
+        assert_same(rt, at, &taken, &Some(before_fault));
+        assert_same(rt, at, &writer.other, &None);
     }
 }
 
-/// A row is here the number of bytes before the fault.
 #[test]
 fn a_reader_that_fails_after_any_byte_is_a_fault(rt: HostRuntime) {
-    assert_unread(&rt, Lines);
-    assert_unread(&rt, Trace);
-    assert_unread(&rt, Choices);
-    assert_unread(&rt, Shrunk);
-    assert_unread(&rt, State);
+    for (label, format, _) in FORMATS {
+        assert_unread(&rt, label, *format);
+    }
 }
 
 /// Asserts that the fault of a writer after this many bytes is named, and just these are written.
 fn assert_prefix(
     rt: &(impl Abort + AllocGlobal),
+    label: &str,
     format: OutputKind,
     before_fault: usize,
     fault: Option<io::ErrorKind>,
@@ -116,34 +128,41 @@ fn assert_prefix(
     let mut reader = script_reader(None);
     let mut writer = failing(text, before_fault, fault);
     let came = fault_of(rt.alloc(), &mut reader, &mut writer, format);
-    assert_row(rt, before_fault, &came, &Some(PerformError::Write));
-    let taken = text.len().checked_sub(writer.left.len());
-    assert_row(rt, before_fault, &taken, &Some(before_fault));
-    assert_row(rt, before_fault, &writer.differs, &false);
+    let at = At(
+        label,
+        "before the fault of the writer, bytes:",
+        before_fault,
+    );
+    assert_same(rt, at, &came, &Some(PerformError::Write));
+    let left = text.len().saturating_sub(before_fault);
+    assert_left(rt, at, &writer, left);
 }
 
 /// Asserts that it is so after each number of bytes, for a fault after which other writers would try again, and for a write that
 /// takes nothing. Asserts, too, that all is written byte by byte to a writer that would fail after it.
-fn assert_unwritten(rt: &(impl Abort + AllocGlobal), format: OutputKind, length: usize) {
+fn assert_unwritten(
+    rt: &(impl Abort + AllocGlobal),
+    label: &str,
+    format: OutputKind,
+    length: usize,
+) {
     let text = text_of(format);
-    assert_row(rt, length, &text.len(), &length);
+    assert_same(rt, row(label), &text.len(), &length);
     for before_fault in 0..length {
-        assert_prefix(rt, format, before_fault, Some(io::ErrorKind::Interrupted));
-        assert_prefix(rt, format, before_fault, None);
+        let fault = Some(io::ErrorKind::Interrupted);
+        assert_prefix(rt, label, format, before_fault, fault);
+        assert_prefix(rt, label, format, before_fault, None);
     }
     let mut reader = script_reader(None);
     let mut writer = failing(text, length, None);
     let came = fault_of(rt.alloc(), &mut reader, &mut writer, format);
-    assert_row(rt, length, &came, &None);
-    assert_whole(rt, length, &writer);
+    assert_same(rt, row(label), &came, &None);
+    assert_left(rt, row(label), &writer, 0);
 }
 
-/// A row is here the number of bytes before the fault.
 #[test]
 fn a_writer_that_fails_after_any_byte_has_those_before(rt: HostRuntime) {
-    assert_unwritten(&rt, Lines, ONE_LOCK_LINES_LENGTH);
-    assert_unwritten(&rt, Trace, ONE_LOCK_LENGTH);
-    assert_unwritten(&rt, Choices, ONE_LOCK_CHOICES_LENGTH);
-    assert_unwritten(&rt, Shrunk, ONE_LOCK_SHRUNK_LENGTH);
-    assert_unwritten(&rt, State, ONE_LOCK_STATE_LENGTH);
+    for (label, format, length) in FORMATS {
+        assert_unwritten(&rt, label, *format, *length);
+    }
 }

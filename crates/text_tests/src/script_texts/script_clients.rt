@@ -1,12 +1,12 @@
 //! The nodes, the clients and the operations that are read of a script.
 use crate::shared_texts::all_kinds;
-use crate::text_asserting::assert_row;
+use crate::text_asserting::assert_same;
 use ra_schedule::{Op, Script};
 use ra_script::{ScriptError, read_script};
 use ra_stamp::Mode;
 use std::alloc::Global;
 use std::process::Abort;
-use test_support::r;
+use test_support::{At, r, row};
 
 /// Returns what `read_script` answers.
 pub fn script_of(alloc: Global, text: &[u8]) -> Result<Script, ScriptError> {
@@ -44,20 +44,19 @@ fn assert_client(rt: &impl Abort, script: &Script, client: u32, node: u16, ops: 
         Some(found) => found.get(),
         None => 0,
     };
-    let row = client as usize;
-    assert_row(rt, row, &found, &node);
-    assert_row(rt, row, &script.ops_of(client), &Some(ops.len() as u64));
+    let at = At("a script", "client", client as usize);
+    assert_same(rt, at, &found, &node);
+    assert_same(rt, at, &script.ops_of(client), &Some(ops.len() as u64));
     for place in 0..ops.len() {
-        assert_row(rt, row, &script.op(client, place as u64), &Some(ops[place]));
+        assert_same(rt, at, &script.op(client, place as u64), &Some(ops[place]));
     }
 }
 
-/// A row is here a client.
 #[test]
 fn an_example_gives_its_nodes_clients_and_operations(rt: HostRuntime) {
     let script = read(&rt, EXAMPLE);
-    assert_row(&rt, 0, &script.nodes(), &2);
-    assert_row(&rt, 0, &script.clients(), &3);
+    let counts = (script.nodes(), script.clients());
+    assert_same(&rt, row("nodes and clients"), &counts, &(2, 3));
     let first = [Op::Lock(r(), Mode::Exclusive), Op::Unlock(r())];
     let second = [
         Op::Lock(r(), Mode::Shared),
@@ -90,7 +89,6 @@ const MODES: &[Mode] = &[
     Mode::SharedIntentExclusive,
 ];
 
-/// A row is here a client.
 #[test]
 fn each_mode_is_read_from_its_word(rt: HostRuntime) {
     let script = read(&rt, EACH_MODE);

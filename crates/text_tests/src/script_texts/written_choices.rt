@@ -1,13 +1,13 @@
 //! How lists of choices are written, and which ones have no text.
 use crate::script_texts::performed_scripts::{performed, reader_of};
 use crate::shared_texts::{ONE_LOCK_SCRIPT, failing};
-use crate::text_asserting::{assert_row, assert_same};
+use crate::text_asserting::assert_same;
 use Choice::{Client, Lost, Message, Repeated};
 use ra_schedule::{Choice, Choices, Faults, Policy};
 use ra_script::{ChoicesError, OutputKind, PerformError, choices_text};
 use std::alloc::Global;
 use std::process::Abort;
-use test_support::FailingWriter;
+use test_support::{FailingWriter, part, row};
 
 /// Makes a list of choices, or `None` if there is no memory for it.
 fn listed(alloc: Global, choices: &[Choice]) -> Option<Choices> {
@@ -26,11 +26,12 @@ fn written(alloc: Global, choices: &[Choice]) -> Result<String, ChoicesError> {
     }
 }
 
-/// Asserts that this is how choices are written, in the row with this number.
-fn assert_written(rt: &(impl Abort + AllocGlobal), row: usize, choices: &[Choice], text: &str) {
+/// Asserts that this is how choices are written.
+fn assert_written(rt: &(impl Abort + AllocGlobal), choices: &[Choice], text: &str) {
+    let at = part("the choices", text);
     match written(rt.alloc(), choices) {
-        Ok(written) => assert_row(rt, row, &written.as_str(), &text),
-        Err(fault) => assert_row(rt, row, &Some(fault), &None),
+        Ok(written) => assert_same(rt, at, &written.as_str(), &text),
+        Err(fault) => assert_same(rt, at, &Some(fault), &None),
     }
 }
 
@@ -45,23 +46,29 @@ fn choices_are_written_in_order(rt: HostRuntime) {
             "c1 m0 l12 c999999999",
         ),
     ];
-    for row in 0..ROWS.len() {
-        assert_written(&rt, row, ROWS[row].0, ROWS[row].1);
+    for (choices, text) in ROWS {
+        assert_written(&rt, choices, text);
     }
 }
 
 #[test]
 fn repeats_and_ten_digits_have_no_text(rt: HostRuntime) {
-    const ROWS: &[&[Choice]] = &[
-        &[Repeated(0)],
-        &[Client(1), Message(0), Repeated(1)],
-        &[Client(1_000_000_000)],
-        &[Message(1_000_000_000), Client(1)],
-        &[Lost(18_446_744_073_709_551_615)],
+    const ROWS: &[(&str, &[Choice])] = &[
+        ("a repeat", &[Repeated(0)]),
+        ("a repeat at the end", &[Client(1), Message(0), Repeated(1)]),
+        ("a client of ten digits", &[Client(1_000_000_000)]),
+        (
+            "a message of ten digits",
+            &[Message(1_000_000_000), Client(1)],
+        ),
+        (
+            "the loss of the greatest",
+            &[Lost(18_446_744_073_709_551_615)],
+        ),
     ];
-    for row in 0..ROWS.len() {
-        let fault = written(rt.alloc(), ROWS[row]).err();
-        assert_row(&rt, row, &fault, &Some(ChoicesError::Choice));
+    for (label, choices) in ROWS {
+        let fault = written(rt.alloc(), choices).err();
+        assert_same(&rt, row(label), &fault, &Some(ChoicesError::Choice));
     }
 }
 
@@ -74,19 +81,14 @@ fn fault_by(alloc: Global, seed: u64, writer: &mut FailingWriter<'_>) -> Option<
     performed(alloc, &mut reader, writer, OutputKind::Choices, &policy).err()
 }
 
-/// Returns whether by some seed below 100 a message is repeated, for which there is no word, so that nothing is written.
-fn is_refused_by_some_seed(alloc: Global) -> bool {
-    for seed in 0..100 {
-        let mut writer = failing("", 1_000, None);
-        if fault_by(alloc, seed, &mut writer) == Some(PerformError::Choice) {
-            return !writer.differs;
-        }
-    }
-    false
-}
-
+/// By some seed below 100 a message is repeated, for which there is no word, so that nothing is written.
 #[test]
 fn a_run_with_a_repeat_has_no_words(rt: HostRuntime) {
-    let label = "whether the choices of a run with a repeat are refused with Choice";
-    assert_same(&rt, label, &is_refused_by_some_seed(rt.alloc()), &true);
+    for seed in 0..100 {
+        let mut writer = failing("", 1_000, None);
+        if fault_by(rt.alloc(), seed, &mut writer) == Some(PerformError::Choice) {
+            return assert_same(&rt, row("another byte"), &writer.other, &None);
+        }
+    }
+    panic!(rt; "expected that a run by some seed below 100 is refused with Choice, and none was");
 }

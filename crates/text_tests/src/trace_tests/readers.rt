@@ -1,7 +1,7 @@
 //! How texts are read that are checked; and how far `check` and `check_buffered` read, and how they treat readers that fail or
 //! give a text in pieces.
 use crate::shared_texts::{ONE_LOCK, ONE_LOCK_LENGTH, Part, TWO_LOCKS, text_of};
-use crate::text_asserting::assert_row;
+use crate::text_asserting::assert_same;
 use ErrorKind::{BrokenPipe, Interrupted, WouldBlock};
 use Part::{Text, Times};
 use Way::{Failing, InPieces, Within};
@@ -13,7 +13,7 @@ use std::alloc::Global;
 use std::fmt::Debug;
 use std::io::ErrorKind;
 use std::process::Abort;
-use test_support::FailingReader;
+use test_support::{At, FailingReader, row};
 
 /// The result of checking a trace.
 type Checked = Result<Verdict, TraceError>;
@@ -70,8 +70,14 @@ impl Judged for MarksVerdict {
     }
 }
 
-/// The parts of a text, how it is read, the result, and how many of its bytes are taken.
-pub type Case<V> = (&'static [Part<'static>], Way, Result<V, TraceError>, usize);
+/// A label, the parts of a text, how it is read, the result, and how many of its bytes are taken.
+pub type Case<V> = (
+    &'static str,
+    &'static [Part<'static>],
+    Way,
+    Result<V, TraceError>,
+    usize,
+);
 
 /// Returns a reader of a text.
 pub fn reader(text: &[u8], way: Way) -> FailingReader<'_> {
@@ -87,35 +93,29 @@ pub fn checked_text<V: Judged>(alloc: Global, text: &[u8], way: Way) -> Result<V
     V::read(alloc, &mut reader(text, way), way, false)
 }
 
-/// Asserts that the text of this row has this verdict, and that this many of its bytes are taken, both by reads and from a buffer.
+/// Asserts that a text has this verdict, and that this many of its bytes are taken, both by reads and from a buffer.
 fn assert_comes<V: Judged>(
     rt: &(impl Abort + AllocGlobal),
-    row: usize,
+    at: At<'_>,
     text: &[u8],
     way: Way,
     wanted: &Result<V, TraceError>,
     taken: usize,
 ) {
     let (mut given, mut shown) = (reader(text, way), reader(text, way));
-    assert_row(
-        rt,
-        row,
-        &V::read(rt.alloc(), &mut given, way, false),
-        wanted,
-    );
-    assert_row(rt, row, &V::read(rt.alloc(), &mut shown, way, true), wanted);
+    assert_same(rt, at, &V::read(rt.alloc(), &mut given, way, false), wanted);
+    assert_same(rt, at, &V::read(rt.alloc(), &mut shown, way, true), wanted);
     let left = text.len().checked_sub(taken);
-    assert_row(rt, row, &Some(given.bytes.len()), &left);
-    assert_row(rt, row, &Some(shown.bytes.len()), &left);
+    assert_same(rt, at, &Some(given.bytes.len()), &left);
+    assert_same(rt, at, &Some(shown.bytes.len()), &left);
 }
 
 /// Asserts that each case holds.
 pub fn assert_cases<V: Judged>(rt: &(impl Abort + AllocGlobal), cases: &[Case<V>]) {
-    for row in 0..cases.len() {
-        let case = &cases[row];
-        match text_of(rt.alloc(), case.0) {
-            Some(text) => assert_comes(rt, row, &text, case.1, &case.2, case.3),
-            None => panic!(rt; "there is no memory for the text"),
+    for (label, parts, way, wanted, taken) in cases {
+        match text_of(rt.alloc(), parts) {
+            Some(text) => assert_comes(rt, row(label), &text, *way, wanted, *taken),
+            None => panic!(rt; "{label}: there is no memory for the text"),
         }
     }
 }
@@ -125,7 +125,8 @@ fn assert_fault<V: Judged>(rt: &(impl Abort + AllocGlobal), text: &str, fault: E
     let read: Result<V, TraceError> = Err(TraceError::Read);
     for taken in 0..=text.len() {
         let way = Failing(taken, fault);
-        assert_comes(rt, taken, text.as_bytes(), way, &read, taken);
+        let at = At("a reader that fails", "after bytes:", taken);
+        assert_comes(rt, at, text.as_bytes(), way, &read, taken);
     }
 }
 
@@ -144,17 +145,18 @@ fn the_pieces_of_a_text_do_not_matter(rt: HostRuntime) {
         messages: 8,
     });
     const CASES: &[Case<Verdict>] = &[
-        (TEXT, InPieces(1), VALID, TWO_LOCKS.len()),
-        (TEXT, InPieces(2), VALID, TWO_LOCKS.len()),
-        (TEXT, InPieces(7), VALID, TWO_LOCKS.len()),
-        (TEXT, InPieces(64), VALID, TWO_LOCKS.len()),
+        ("one byte", TEXT, InPieces(1), VALID, TWO_LOCKS.len()),
+        ("two bytes", TEXT, InPieces(2), VALID, TWO_LOCKS.len()),
+        ("seven bytes", TEXT, InPieces(7), VALID, TWO_LOCKS.len()),
+        ("64 bytes", TEXT, InPieces(64), VALID, TWO_LOCKS.len()),
     ];
     assert_cases(&rt, CASES);
 }
 
 #[test]
 fn a_reader_that_failed_is_not_tried_again(rt: HostRuntime) {
-    assert_row(&rt, 0, &ONE_LOCK.len(), &ONE_LOCK_LENGTH);
+    let at = row("the bytes of ONE_LOCK");
+    assert_same(&rt, at, &ONE_LOCK.len(), &ONE_LOCK_LENGTH);
     assert_not_tried_again::<Verdict>(&rt, ONE_LOCK);
 }
 
@@ -178,11 +180,29 @@ fn nothing_after_the_first_wrong_line_is_read(rt: HostRuntime) {
         cause: Cause::Marks,
     });
     const CASES: &[Case<Verdict>] = &[
-        (TEXT, Failing(90, WouldBlock), MARKS, 84),
-        (TEXT, Failing(84, WouldBlock), MARKS, 84),
-        (TEXT, Failing(83, WouldBlock), Err(TraceError::Read), 83),
-        (TEXT, Failing(70, WouldBlock), Err(TraceError::Read), 70),
-        (TEXT, InPieces(64), MARKS, 84),
+        ("a fault later", TEXT, Failing(90, WouldBlock), MARKS, 84),
+        (
+            "a fault after the line",
+            TEXT,
+            Failing(84, WouldBlock),
+            MARKS,
+            84,
+        ),
+        (
+            "a fault at its end",
+            TEXT,
+            Failing(83, WouldBlock),
+            Err(TraceError::Read),
+            83,
+        ),
+        (
+            "a fault before it",
+            TEXT,
+            Failing(70, WouldBlock),
+            Err(TraceError::Read),
+            70,
+        ),
+        ("no fault", TEXT, InPieces(64), MARKS, 84),
     ];
     assert_cases(&rt, CASES);
 }
@@ -197,10 +217,22 @@ fn at_most_128_bytes_of_a_line_are_read(rt: HostRuntime) {
         cause: Cause::Line,
     });
     const CASES: &[Case<Verdict>] = &[
-        (&[Times(LETTERS, 2)], InPieces(64), NONE, 128),
-        (&[Times(LETTERS, 2), Text("\nx")], InPieces(64), NONE, 128),
-        (&[Times(LETTERS, 3)], InPieces(64), NONE, 128),
-        (&[Times(LETTERS, 1), Text("\nx")], InPieces(64), NONE, 65),
+        ("128 letters", &[Times(LETTERS, 2)], InPieces(64), NONE, 128),
+        (
+            "128 letters in a line",
+            &[Times(LETTERS, 2), Text("\nx")],
+            InPieces(64),
+            NONE,
+            128,
+        ),
+        ("192 letters", &[Times(LETTERS, 3)], InPieces(64), NONE, 128),
+        (
+            "64 letters in a line",
+            &[Times(LETTERS, 1), Text("\nx")],
+            InPieces(64),
+            NONE,
+            65,
+        ),
     ];
     assert_cases(&rt, CASES);
 }
@@ -212,7 +244,13 @@ fn one_byte_after_the_last_line_is_read(rt: HostRuntime) {
         line: 10,
         cause: Cause::Line,
     });
-    const CASES: &[Case<Verdict>] = &[(TEXT, InPieces(64), TENTH, ONE_LOCK_LENGTH + 1)];
+    const CASES: &[Case<Verdict>] = &[(
+        "two more bytes",
+        TEXT,
+        InPieces(64),
+        TENTH,
+        ONE_LOCK_LENGTH + 1,
+    )];
     assert_cases(&rt, CASES);
 }
 
@@ -224,9 +262,15 @@ fn a_text_has_at_most_as_many_bytes_as_the_limit_says(rt: HostRuntime) {
         messages: 2,
     });
     const CASES: &[Case<Verdict>] = &[
-        (TEXT, Within(140), VALID, 140),
-        (TEXT, Within(139), Err(TraceError::Limit), 140),
-        (TEXT, Within(0), Err(TraceError::Limit), 1),
+        ("the limit 140", TEXT, Within(140), VALID, 140),
+        (
+            "the limit 139",
+            TEXT,
+            Within(139),
+            Err(TraceError::Limit),
+            140,
+        ),
+        ("the limit 0", TEXT, Within(0), Err(TraceError::Limit), 1),
     ];
     assert_cases(&rt, CASES);
 }

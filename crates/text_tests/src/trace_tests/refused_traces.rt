@@ -1,11 +1,11 @@
 //! Lists of steps that have no trace because one step is refused: the first, or one after many others.
 use crate::shared_texts::failing;
-use crate::text_asserting::assert_row;
+use crate::text_asserting::assert_same;
 use crate::trace_tests::traced_steps::{adds, adds_line, fault_of_steps, text_of_steps};
 use ra_trace::WriteTraceError;
 use ra_world::{NodeRefusal, RunError, Step, StepError, Steps};
 use std::process::Abort;
-use test_support::{reply, request};
+use test_support::{At, part, reply, request, row};
 
 /// Client 1 of node 1 leaves `r`.
 const LEAVES: &str = "release 1 1 r";
@@ -41,10 +41,10 @@ const EXHAUSTED: StepError = StepError::Node(NodeRefusal::Exhausted);
 
 const NOT_HELD: StepError = StepError::Node(NodeRefusal::NotHeld);
 
-/// Asserts that two nodes refuse the step at this place for the cause of a row, so that there is no trace and nothing is written.
+/// Asserts that two nodes refuse the step at this place for the cause of a case, so that there is no trace and nothing is written.
 fn assert_no_trace(
     rt: &(impl Abort + AllocGlobal),
-    row: usize,
+    at: At<'_>,
     case: &Case,
     steps: &Steps,
     place: u64,
@@ -53,15 +53,11 @@ fn assert_no_trace(
     let refused = Some(WriteTraceError::Run(RunError::Refused { place, cause }));
     let mut writer = failing("", 0, None);
     let fault = fault_of_steps(alloc, 2, start, steps, &mut writer);
-    assert_row(rt, row, &fault, &refused);
-    assert_row(
-        rt,
-        row,
-        &(writer.differs, writer.before_fault),
-        &(false, Some(0)),
-    );
+    assert_same(rt, at, &fault, &refused);
+    let came = (writer.other, writer.before_fault);
+    assert_same(rt, at, &came, &(None, Some(0)));
     let fault = text_of_steps(alloc, 2, start, steps).err();
-    assert_row(rt, row, &fault, &refused);
+    assert_same(rt, at, &fault, &refused);
 }
 
 /// Adds the step of a case, as the first step or after 39 others, and one more step. Returns whether there was room.
@@ -73,10 +69,12 @@ fn adds_case(steps: &mut Steps, case: &Case, place: u64) -> bool {
 
 /// Asserts that the step of each case is refused at this place.
 fn assert_refused(rt: &(impl Abort + AllocGlobal), cases: &[Case], place: u64) {
-    for row in 0..cases.len() {
-        let mut steps = Steps::new(rt.alloc());
-        assert_row(rt, row, &adds_case(&mut steps, &cases[row], place), &true);
-        assert_no_trace(rt, row, &cases[row], &steps, place);
+    for case in cases {
+        let (at, mut steps) = (part("a run with this step", case.0), Steps::new(rt.alloc()));
+        if !adds_case(&mut steps, case, place) {
+            panic!(rt; "{at}: this is no step, or there is no memory for the list");
+        }
+        assert_no_trace(rt, at, case, &steps, place);
     }
 }
 
@@ -121,19 +119,20 @@ fn lines_in(text: &str) -> u64 {
 }
 
 /// Asserts that the 39 steps, with client 1's leave as the fortieth, have a trace of this many lines.
-fn assert_lines(rt: &(impl Abort + AllocGlobal), row: usize, start: u64, lines: u64) {
+fn assert_lines(rt: &(impl Abort + AllocGlobal), label: &str, start: u64, lines: u64) {
     let mut steps = Steps::new(rt.alloc());
-    let is_made = adds_39_steps(&mut steps, start) && adds_line(&mut steps, LEAVES);
-    assert_row(rt, row, &is_made, &true);
+    if !adds_39_steps(&mut steps, start) || !adds_line(&mut steps, LEAVES) {
+        panic!(rt; "{label}: there is no memory for the list");
+    }
     match text_of_steps(rt.alloc(), 2, start, &steps) {
-        Ok(text) => assert_row(rt, row, &lines_in(text.as_str()), &lines),
-        Err(fault) => assert_row(rt, row, &Some(fault), &None),
+        Ok(text) => assert_same(rt, row(label), &lines_in(text.as_str()), &lines),
+        Err(fault) => assert_same(rt, row(label), &Some(fault), &None),
     }
 }
 
 /// A line for each of 40 steps and 30 marks, and the first and the last line.
 #[test]
 fn the_steps_before_have_their_lines(rt: HostRuntime) {
-    assert_lines(&rt, 0, 0, 72);
-    assert_lines(&rt, 1, TEN_LEFT, 72);
+    assert_lines(&rt, "40 steps from 0", 0, 72);
+    assert_lines(&rt, "40 steps when ten numbers are left", TEN_LEFT, 72);
 }

@@ -48,10 +48,10 @@ end
 #[test]
 fn repeats_have_their_lines(rt: HostRuntime) {
     const WRITTEN: &[Written] = &[
-        Written(2, REPEATED_REQUEST),
-        Written(2, LATE_COPY),
-        Written(2, LOST_COPIES),
-        Written(2, REPEATED_REPLY),
+        Written("a REQUEST that is repeated", 2, REPEATED_REQUEST),
+        Written("a late copy", 2, LATE_COPY),
+        Written("lost copies", 2, LOST_COPIES),
+        Written("a REPLY that is repeated", 2, REPEATED_REPLY),
     ];
     assert_written(&rt, WRITTEN);
 }
@@ -104,11 +104,11 @@ end
 #[test]
 fn each_step_is_written(rt: HostRuntime) {
     const WRITTEN: &[Written] = &[
-        Written(64, ALL_KINDS),
-        Written(1, EACH_MODE),
-        Written(2, ONE_LOCK),
-        Written(2, LOST_REQUEST),
-        Written(2, LOST_REPLY),
+        Written("each kind of byte in a name", 64, ALL_KINDS),
+        Written("each mode", 1, EACH_MODE),
+        Written("one lock", 2, ONE_LOCK),
+        Written("a lost REQUEST", 2, LOST_REQUEST),
+        Written("a lost REPLY", 2, LOST_REPLY),
     ];
     assert_written(&rt, WRITTEN);
 }
@@ -149,5 +149,9 @@ end
 
 #[test]
 fn a_leave_and_the_next_request_are_written_under_one_release(rt: HostRuntime) {
-    assert_written(&rt, &[Written(2, AT_TWO_NODES), Written(1, ALONE)]);
+    const WRITTEN: &[Written] = &[
+        Written("at two nodes", 2, AT_TWO_NODES),
+        Written("alone", 1, ALONE),
+    ];
+    assert_written(&rt, WRITTEN);
 }

@@ -1,11 +1,11 @@
 //! The steps of a run, as they are read of its trace, and the trace that is written of them.
 use crate::shared_texts::failing;
-use crate::text_asserting::assert_row;
+use crate::text_asserting::assert_same;
 use ra_trace::{Line, WriteTraceError, trace_text, write_trace};
 use ra_world::{Step, Steps};
 use std::alloc::Global;
 use std::process::Abort;
-use test_support::FailingWriter;
+use test_support::{At, FailingWriter, row};
 
 /// The reply to the first of two clients at one node is lost, and the second waits.
 pub const LOST_REPLY: &str = "trace 2 2 0
@@ -99,21 +99,21 @@ pub fn fault_of(
     }
 }
 
-/// Asserts that the whole text of a row was written, and nothing else.
-pub fn assert_whole(rt: &impl Abort, row: usize, writer: &FailingWriter<'_>) {
-    assert_row(rt, row, &writer.left.len(), &0);
-    assert_row(rt, row, &writer.differs, &false);
+/// Asserts that a writer took this many bytes less than all, and no other one.
+pub fn assert_left(rt: &impl Abort, at: At<'_>, writer: &FailingWriter<'_>, left: usize) {
+    let came = (writer.left.len(), writer.other);
+    assert_same(rt, at, &came, &(left, None));
 }
 
-/// How many nodes there are, and a trace.
-pub struct Written(pub u16, pub &'static str);
+/// What it shows, how many nodes there are, and a trace.
+pub struct Written(pub &'static str, pub u16, pub &'static str);
 
 /// Asserts that of the steps that each trace tells just this trace is written.
 pub fn assert_written(rt: &(impl Abort + AllocGlobal), rows: &[Written]) {
-    for row in 0..rows.len() {
-        let mut writer = failing(rows[row].1, 1000, None);
-        let fault = fault_of(rt.alloc(), rows[row].0, rows[row].1, &mut writer);
-        assert_row(rt, row, &fault, &None);
-        assert_whole(rt, row, &writer);
+    for Written(label, nodes, trace) in rows {
+        let mut writer = failing(trace, 1000, None);
+        let fault = fault_of(rt.alloc(), *nodes, trace, &mut writer);
+        assert_same(rt, row(label), &fault, &None);
+        assert_left(rt, row(label), &writer, 0);
     }
 }

@@ -1,49 +1,45 @@
 //! Traces as they are written, and writers that fail.
 use crate::shared_texts::{ONE_LOCK, ONE_LOCK_LENGTH, TWO_LOCKS, failing};
-use crate::text_asserting::{assert_row, assert_same};
+use crate::text_asserting::assert_same;
 use crate::trace_tests::traced_steps::{
-    LOST_REPLY, Written, assert_whole, assert_written, fault_of,
+    LOST_REPLY, Written, assert_left, assert_written, fault_of,
 };
 use ra_trace::WriteTraceError;
 use ra_world::{NodeRefusal, RunError, StepError};
 use std::io;
 use std::process::Abort;
+use test_support::{At, row};
 
-/// How many nodes there are, lines of steps, and why they are no run.
-struct Refused(u16, &'static str, RunError);
+/// What it shows, how many nodes there are, lines of steps, and why they are no run.
+struct Refused(&'static str, u16, &'static str, RunError);
 
 /// Asserts that nothing is written of steps that are no run.
 fn assert_no_runs(rt: &(impl Abort + AllocGlobal), rows: &[Refused]) {
-    for row in 0..rows.len() {
+    for Refused(label, nodes, lines, cause) in rows {
         let mut writer = failing("", 0, None);
-        let fault = fault_of(rt.alloc(), rows[row].0, rows[row].1, &mut writer);
-        assert_row(rt, row, &fault, &Some(WriteTraceError::Run(rows[row].2)));
-        assert_row(rt, row, &writer.differs, &false);
+        let fault = fault_of(rt.alloc(), *nodes, lines, &mut writer);
+        assert_same(rt, row(label), &fault, &Some(WriteTraceError::Run(*cause)));
+        assert_left(rt, row(label), &writer, 0);
     }
 }
 
 /// A loss and a step without marks have their lines, too.
 #[test]
 fn runs_have_their_traces(rt: HostRuntime) {
-    assert_written(
-        &rt,
-        &[
-            Written(2, ONE_LOCK),
-            Written(3, TWO_LOCKS),
-            Written(2, LOST_REPLY),
-        ],
-    );
-    assert_same(
-        &rt,
-        "the bytes of ONE_LOCK",
-        &ONE_LOCK.len(),
-        &ONE_LOCK_LENGTH,
-    );
+    const WRITTEN: &[Written] = &[
+        Written("one lock", 2, ONE_LOCK),
+        Written("two locks", 3, TWO_LOCKS),
+        Written("a lost REPLY", 2, LOST_REPLY),
+    ];
+    assert_written(&rt, WRITTEN);
+    let at = row("the bytes of ONE_LOCK");
+    assert_same(&rt, at, &ONE_LOCK.len(), &ONE_LOCK_LENGTH);
 }
 
 /// What can't happen.
 const NO_RUNS: &[Refused] = &[
     Refused(
+        "there is no such node",
         2,
         "ask 3 1 r X\n",
         RunError::Refused {
@@ -51,10 +47,10 @@ const NO_RUNS: &[Refused] = &[
             cause: StepError::NoNode,
         },
     ),
-    Refused(65, "ask 3 1 r X\n", RunError::BadCount),
-    Refused(0, "", RunError::BadCount),
-    // A message can't be delivered twice.
+    Refused("65 nodes", 65, "ask 3 1 r X\n", RunError::BadCount),
+    Refused("no node", 0, "", RunError::BadCount),
     Refused(
+        "a message is delivered twice",
         2,
         "ask 1 1 r X\ndeliver request 1 2 r X 1\ndeliver request 1 2 r X 1\n",
         RunError::Refused {
@@ -62,8 +58,8 @@ const NO_RUNS: &[Refused] = &[
             cause: StepError::NotUnderWay,
         },
     ),
-    // A message can't be repeated if it and its copy are lost.
     Refused(
+        "a message is repeated when it and its copy are lost",
         2,
         "ask 1 1 r X
 repeat request 1 2 r X 1
@@ -76,8 +72,8 @@ repeat request 1 2 r X 1
             cause: StepError::NotUnderWay,
         },
     ),
-    // A client can't ask twice.
     Refused(
+        "a client asks twice",
         2,
         "ask 1 1 r X\nask 1 1 r X\n",
         RunError::Refused {
@@ -101,15 +97,10 @@ fn assert_prefix(
     let mut writer = failing(ONE_LOCK, before_fault, fault);
     let came = fault_of(rt.alloc(), 2, ONE_LOCK, &mut writer);
     let expected = (fault, Some(WriteTraceError::Write));
-    assert_row(rt, before_fault, &(fault, came), &expected);
+    let at = At("a writer that fails", "after bytes:", before_fault);
+    assert_same(rt, at, &(fault, came), &expected);
     let left = ONE_LOCK.len().saturating_sub(before_fault);
-    assert_row(
-        rt,
-        before_fault,
-        &(fault, writer.left.len()),
-        &(fault, left),
-    );
-    assert_row(rt, before_fault, &(fault, writer.differs), &(fault, false));
+    assert_left(rt, at, &writer, left);
 }
 
 /// Asserts that a writer that fails so after some bytes is not tried again, and that one that would fail after all gets them.
@@ -119,11 +110,11 @@ fn assert_not_tried_again(rt: &(impl Abort + AllocGlobal), fault: Option<io::Err
     }
     let mut writer = failing(ONE_LOCK, ONE_LOCK_LENGTH, fault);
     let came = fault_of(rt.alloc(), 2, ONE_LOCK, &mut writer);
-    assert_row(rt, ONE_LOCK_LENGTH, &came, &None);
-    assert_whole(rt, ONE_LOCK_LENGTH, &writer);
+    let at = row("a writer that would fail after all bytes");
+    assert_same(rt, at, &came, &None);
+    assert_left(rt, at, &writer, 0);
 }
 
-/// A row is here the number of bytes before the fault.
 #[test]
 fn a_writer_that_failed_is_not_tried_again(rt: HostRuntime) {
     assert_not_tried_again(&rt, Some(io::ErrorKind::Interrupted));

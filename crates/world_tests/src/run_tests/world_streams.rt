@@ -1,11 +1,11 @@
 //! How bytes are read up to a limit and written, also if a reader or a writer fails.
-use crate::world_steps::world_asserting::{assert_prints, assert_row};
+use crate::world_steps::world_asserting::{assert_prints, assert_same};
 use ra_world::{ReadFault, WriteFault, read_up_to, write_out};
 use std::alloc::Global;
 use std::io;
 use std::io::Read;
 use std::process::Abort;
-use test_support::{FailingReader, assert_words, failing_writer};
+use test_support::{At, FailingReader, assert_words, failing_writer, row};
 
 /// The bytes that are read and written.
 const BYTES: &[u8] = b"abc";
@@ -20,18 +20,14 @@ fn read<R: Read>(alloc: Global, reader: &mut R, limit: usize) -> Result<Vec<u8>,
     read_up_to(alloc, reader, limit)
 }
 
-/// Asserts that no reader that fails so is read again, wherever it fails. A row is the number of bytes before the fault.
+/// Asserts that no reader that fails so is read again, wherever it fails.
 fn assert_not_read_again(rt: &(impl Abort + AllocGlobal), fault: io::ErrorKind) {
     for before_fault in 0..=3 {
         let mut reader = failing_reader(before_fault, fault);
         let came = read(rt.alloc(), &mut reader, 4).err();
-        assert_row(rt, before_fault, &came, &Some(ReadFault::Read));
-        assert_row(
-            rt,
-            before_fault,
-            &Some(reader.bytes),
-            &BYTES.get(before_fault..),
-        );
+        let at = At("a reader that fails", "after bytes:", before_fault);
+        assert_same(rt, at, &came, &Some(ReadFault::Read));
+        assert_same(rt, at, &Some(reader.bytes), &BYTES.get(before_fault..));
     }
 }
 
@@ -46,29 +42,25 @@ fn a_reader_that_failed_is_not_tried_again(rt: HostRuntime) {
 /// Asserts that this comes of a reader up to a limit.
 fn assert_read<R: Read>(
     rt: &(impl Abort + AllocGlobal),
-    row: usize,
+    at: At<'_>,
     reader: &mut R,
     limit: usize,
     expected: &[u8],
 ) {
     match read(rt.alloc(), reader, limit) {
-        Ok(came) => assert_row(rt, row, &came.as_slice(), &expected),
-        Err(fault) => assert_row(rt, row, &Some(fault), &None),
+        Ok(came) => assert_same(rt, at, &came.as_slice(), &expected),
+        Err(fault) => assert_same(rt, at, &Some(fault), &None),
     }
 }
 
-/// One more read would fail. A row is the limit.
+/// One more read would fail.
 #[test]
 fn nothing_is_read_after_the_limit(rt: HostRuntime) {
     for limit in 0..=3 {
         let mut reader = failing_reader(limit, io::ErrorKind::BrokenPipe);
-        assert_read(
-            &rt,
-            limit,
-            &mut reader,
-            limit,
-            BYTES.get(..limit).unwrap_or(b"?"),
-        );
+        let at = At("a reader that fails then", "with the limit", limit);
+        let expected = BYTES.get(..limit).unwrap_or(b"?");
+        assert_read(&rt, at, &mut reader, limit, expected);
     }
 }
 
@@ -77,7 +69,8 @@ fn nothing_is_read_after_the_limit(rt: HostRuntime) {
 fn the_limit_may_be_more_than_there_is_room_for(rt: HostRuntime) {
     let bytes = [b'a'; 10_000];
     let mut reader = bytes.as_slice();
-    assert_read(&rt, 0, &mut reader, usize::MAX, &bytes);
+    let at = row("the greatest limit");
+    assert_read(&rt, at, &mut reader, usize::MAX, &bytes);
 }
 
 /// Asserts that [`BYTES`] are written or not to a writer that fails so after this many writes, and that it has taken these then.
@@ -89,18 +82,13 @@ fn assert_taken(rt: &impl Abort, before_fault: usize, fault: Option<io::ErrorKin
     } else {
         Ok(())
     };
-    assert_row(rt, before_fault, &came, &expected);
-    assert_row(rt, before_fault, &writer.differs, &false);
-    assert_row(
-        rt,
-        before_fault,
-        &Some(writer.left),
-        &BYTES.get(before_fault..),
-    );
+    let at = At("a writer that fails", "after bytes:", before_fault);
+    assert_same(rt, at, &came, &expected);
+    assert_same(rt, at, &writer.other, &None);
+    assert_same(rt, at, &Some(writer.left), &BYTES.get(before_fault..));
 }
 
-/// Asserts that a writer that fails so is not written to again, wherever it fails, and takes all if it would fail after that. A
-/// row is the number of bytes before the fault.
+/// Asserts that a writer that fails so is not written to again, wherever it fails, and takes all if it would fail after that.
 fn assert_not_written_again(rt: &impl Abort, fault: Option<io::ErrorKind>) {
     for before_fault in 0..=3 {
         assert_taken(rt, before_fault, fault);

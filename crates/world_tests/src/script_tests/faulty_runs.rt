@@ -4,13 +4,14 @@
 //! PCG XSL RR 128/64, written from the rules in docs/ALGORITHM.md and docs/FORMATS.md. All others were found by hand.
 use crate::script_tests::drives::{Chooser, Drive};
 use crate::script_tests::script_plans::{Plan, Scene, carry_out};
-use crate::world_steps::world_asserting::assert_row;
+use crate::world_steps::world_asserting::assert_same;
 use Chooser::{Faulty, Listed, Seeded};
 use Drive::{Goes, NamesNothing, TakesMoreTurns};
 use Mode::Exclusive;
 use Plan::{AddsLocker, Drives};
 use ra_schedule::{Choice, Faults};
 use ra_stamp::Mode;
+use test_support::row;
 
 /// How many of 1,000 messages are lost and how many repeated, and whether such faults are allowed.
 const RANGES: &[(u16, u16, bool)] = &[
@@ -29,9 +30,11 @@ const RANGES: &[(u16, u16, bool)] = &[
 
 #[test]
 fn faults_are_at_most_all_messages_and_few_repeats(rt: HostRuntime) {
-    for row in 0..RANGES.len() {
-        let (lose, repeat, expected) = RANGES[row];
-        assert_row(&rt, row, &Faults::new(lose, repeat).is_some(), &expected);
+    for (lose, repeat, expected) in RANGES {
+        let is_allowed = Faults::new(*lose, *repeat).is_some();
+        let at = row("losses and repeats of 1,000, and whether they are allowed");
+        let came = (*lose, *repeat, is_allowed);
+        assert_same(&rt, at, &came, &(*lose, *repeat, *expected));
     }
 }
 
@@ -55,7 +58,7 @@ const BY_CHANCE: &[Scene] = &[
     ),
     // So the two policies' runs of one seed differ even if no fault befalls a message.
     Scene(
-        "a word is drawn for each message also where there are no faults",
+        "a word is drawn for each message even if there are no faults",
         2,
         &[
             AddsLocker(1, Exclusive),

@@ -1,7 +1,7 @@
 //! The choices of a run, and the first seed that comes to an end.
 use crate::script_tests::drives::{Chooser, driven, policy};
 use crate::script_tests::script_plans::adds_locker;
-use crate::world_steps::world_asserting::{assert_row, assert_same};
+use crate::world_steps::world_asserting::assert_same;
 use Chooser::{Faulty, Newest, Oldest, Seeded};
 use Ending::{Finished, Stuck};
 use ra_schedule::{
@@ -11,7 +11,7 @@ use ra_schedule::{
 use ra_stamp::{Memory, Mode};
 use std::alloc::Global;
 use std::process::Abort;
-use test_support::At;
+use test_support::{At, row};
 
 /// Adds this many clients, alternately at the first and the second node, which lock `r` and unlock it.
 fn adds_lockers(alloc: Global, script: &mut Script, clients: u16) -> bool {
@@ -37,8 +37,8 @@ pub fn lockers(alloc: Global, clients: u16) -> Option<Script> {
     }
 }
 
-/// What chooses for four clients, and the choices of the run, each a letter and a digit.
-struct Listed(Chooser, &'static str);
+/// What chooses for four clients, with its label, and the choices of the run, each a letter and a digit.
+struct Listed(&'static str, Chooser, &'static str);
 
 /// Returns the letter and the number of a choice.
 fn letter_and_number(choice: &Choice) -> (u8, u64) {
@@ -75,46 +75,46 @@ fn are_words(words: &str, choices: &[Choice]) -> bool {
     rest.is_empty()
 }
 
-/// Asserts that the choices of the row with this number have these words.
-fn assert_words(rt: &impl Abort, row: usize, choices: &[Choice], words: &str) {
+/// Asserts that choices have these words.
+fn assert_words(rt: &impl Abort, at: At<'_>, choices: &[Choice], words: &str) {
     if !are_words(words, choices) {
-        panic!(rt; "row {row}, counted from 0: expected {words}, and {choices:?} came");
+        panic!(rt; "{at}: expected {words}, and {choices:?} came");
     }
 }
 
 /// Asserts that a policy's run of a script has these choices.
 fn assert_chooses(
     rt: &(impl Abort + AllocGlobal),
-    row: usize,
+    at: At<'_>,
     script: &Script,
     policy: &Policy,
     words: &str,
 ) {
     match driven(rt.alloc(), script, policy, 10_000) {
-        Ok(recording) => assert_words(rt, row, recording.choices.as_slice(), words),
-        Err(fault) => assert_row(rt, row, &Some(fault), &None),
+        Ok(recording) => assert_words(rt, at, recording.choices.as_slice(), words),
+        Err(fault) => assert_same(rt, at, &Some(fault), &None),
     }
 }
 
 /// Asserts that a run is shrunk to these choices, or is not stuck if the words are `none`.
-fn assert_shrunk(rt: &impl Abort, row: usize, shrunk: &Shrunk, words: &str) {
+fn assert_shrunk(rt: &impl Abort, at: At<'_>, shrunk: &Shrunk, words: &str) {
     match &shrunk.choices {
-        Some(choices) => assert_words(rt, row, choices.as_slice(), words),
-        None => assert_row(rt, row, &"none", &words),
+        Some(choices) => assert_words(rt, at, choices.as_slice(), words),
+        None => assert_same(rt, at, &"none", &words),
     }
 }
 
 /// Asserts that a policy's run of a script is shrunk to these choices.
 fn assert_shrinks(
     rt: &(impl Abort + AllocGlobal),
-    row: usize,
+    at: At<'_>,
     script: &Script,
     policy: &Policy,
     words: &str,
 ) {
     match shrink(rt.alloc(), script, policy, 10_000) {
-        Ok(shrunk) => assert_shrunk(rt, row, &shrunk, words),
-        Err(fault) => assert_row(rt, row, &Some(fault), &None),
+        Ok(shrunk) => assert_shrunk(rt, at, &shrunk, words),
+        Err(fault) => assert_same(rt, at, &Some(fault), &None),
     }
 }
 
@@ -125,12 +125,12 @@ fn assert_listed(
     rows: &[Listed],
     is_shrunk: bool,
 ) {
-    for row in 0..rows.len() {
-        let Listed(chooser, words) = &rows[row];
+    for Listed(label, chooser, words) in rows {
+        let at = row(label);
         match policy(rt.alloc(), *chooser) {
-            Some(policy) if is_shrunk => assert_shrinks(rt, row, script, &policy, words),
-            Some(policy) => assert_chooses(rt, row, script, &policy, words),
-            None => panic!(rt; "row {row}, counted from 0: there is no such policy"),
+            Some(policy) if is_shrunk => assert_shrinks(rt, at, script, &policy, words),
+            Some(policy) => assert_chooses(rt, at, script, &policy, words),
+            None => panic!(rt; "{at}: there is no such policy"),
         }
     }
 }
@@ -148,20 +148,43 @@ fn assert_listed_of_four(rt: &(impl Abort + AllocGlobal), rows: &[Listed], is_sh
 #[test]
 fn the_choices_of_a_run_are_those_of_a_model(rt: HostRuntime) {
     const ROWS: &[Listed] = &[
-        Listed(Oldest, "c1 c2 c3 c4 m0 m0 m0 c1 m0 c2 m0 m0 m0 c3 m0 c4"),
-        Listed(Newest, "c1 c2 c3 c4 m1 m0 m0 c1 m1 m0 c2 m1 m0 c3 m0 c4"),
-        Listed(Seeded(0), "c4 m0 c2 c1 c3 m1 m0 c4 m0 m0 c1 m0 c2 m0 m0 c3"),
-        Listed(Seeded(7), "c4 c2 m0 m0 c4 c3 m0 c1 m0 m0 c3 m1 m0 c2 m0 c1"),
         Listed(
+            "the oldest choices",
+            Oldest,
+            "c1 c2 c3 c4 m0 m0 m0 c1 m0 c2 m0 m0 m0 c3 m0 c4",
+        ),
+        Listed(
+            "the newest choices",
+            Newest,
+            "c1 c2 c3 c4 m1 m0 m0 c1 m1 m0 c2 m1 m0 c3 m0 c4",
+        ),
+        Listed(
+            "seed 0",
+            Seeded(0),
+            "c4 m0 c2 c1 c3 m1 m0 c4 m0 m0 c1 m0 c2 m0 m0 c3",
+        ),
+        Listed(
+            "seed 7",
+            Seeded(7),
+            "c4 c2 m0 m0 c4 c3 m0 c1 m0 m0 c3 m1 m0 c2 m0 c1",
+        ),
+        Listed(
+            "seed 19",
             Seeded(19),
             "c4 c3 c1 m1 c2 m1 c3 m0 m0 m0 c4 m1 m0 c1 m0 c2",
         ),
-        Listed(Faulty(0, 100, 300), "c4 l0 c1 c2 m0 r0 c3 m1 c1 m1 m0"),
         Listed(
+            "seed 0 with faults",
+            Faulty(0, 100, 300),
+            "c4 l0 c1 c2 m0 r0 c3 m1 c1 m1 m0",
+        ),
+        Listed(
+            "seed 1 with faults",
             Faulty(1, 100, 300),
             "c4 m0 m0 c1 c3 m0 c2 c4 r0 r0 m2 r2 l1 c1 l3 m1 r1 m2 l1 m0",
         ),
         Listed(
+            "seed 7 with faults",
             Faulty(7, 100, 300),
             "c4 c2 m0 m0 c3 m0 c1 c4 m1 r0 r0 r1 l3 r1 m0 m0 m0 c3 m1 m1 l0 c2 m0 c1",
         ),
@@ -173,10 +196,10 @@ fn the_choices_of_a_run_are_those_of_a_model(rt: HostRuntime) {
 #[test]
 fn runs_are_shrunk_to_those_of_a_model(rt: HostRuntime) {
     const ROWS: &[Listed] = &[
-        Listed(Oldest, "none"),
-        Listed(Faulty(0, 100, 300), "c4 l0"),
-        Listed(Faulty(1, 100, 300), "c3 l0"),
-        Listed(Faulty(7, 100, 300), "none"),
+        Listed("the oldest choices", Oldest, "none"),
+        Listed("seed 0 with faults", Faulty(0, 100, 300), "c4 l0"),
+        Listed("seed 1 with faults", Faulty(1, 100, 300), "c3 l0"),
+        Listed("seed 7 with faults", Faulty(7, 100, 300), "none"),
     ];
     assert_listed_of_four(&rt, ROWS, true);
 }
@@ -193,31 +216,44 @@ pub fn found<O: Observer>(
     first_seed(alloc, script, None, ending, seeds, limit, observer)
 }
 
-/// An end, the first and the last seed of a range, how many turns there are, and the first seed of the range with which one
-/// client of two nodes comes to this end. It takes four turns.
+/// What it shows, an end, the first and the last seed of a range, how many turns there are, and the first seed of the range with
+/// which one client of two nodes comes to this end. It takes four turns.
 #[derive(Clone, Copy)]
-struct First(Ending, u64, u64, u64, Option<u64>);
+struct First(&'static str, Ending, u64, u64, u64, Option<u64>);
 
 /// The greatest seed.
 const GREATEST: u64 = 18_446_744_073_709_551_615;
 
 const FIRST: &[First] = &[
-    First(Finished, 5, 7, 4, Some(5)),
-    First(Finished, GREATEST, GREATEST, 4, Some(GREATEST)),
-    First(Stuck, 5, 7, 4, None),
-    // A run that is cut off is neither.
-    First(Finished, 5, 7, 3, None),
-    First(Stuck, 5, 7, 3, None),
-    First(Finished, 7, 5, 4, None),
+    First("the first of three seeds", Finished, 5, 7, 4, Some(5)),
+    First(
+        "the greatest seed",
+        Finished,
+        GREATEST,
+        GREATEST,
+        4,
+        Some(GREATEST),
+    ),
+    First("no seed gets stuck", Stuck, 5, 7, 4, None),
+    First(
+        "a run that is cut off is not finished",
+        Finished,
+        5,
+        7,
+        3,
+        None,
+    ),
+    First("a run that is cut off is not stuck", Stuck, 5, 7, 3, None),
+    First("no seed", Finished, 7, 5, 4, None),
 ];
 
 /// Asserts that the first seed is found for the script of a client.
 fn assert_first(rt: &(impl Abort + AllocGlobal), script: &Script) {
-    for row in 0..FIRST.len() {
-        let First(ending, first, last, limit, expected) = FIRST[row];
+    for place in 0..FIRST.len() {
+        let First(label, ending, first, last, limit, expected) = FIRST[place];
         let seeds = SeedRange { first, last };
         let seed = found(rt.alloc(), script, ending, seeds, limit, &mut ());
-        assert_row(rt, row, &seed, &Ok(expected));
+        assert_same(rt, row(label), &seed, &Ok(expected));
     }
 }
 
@@ -256,54 +292,56 @@ fn nothing_told(alloc: Global) -> Told {
     }
 }
 
-/// Returns whether just these outcomes were told.
-fn were_told(told: &Told, outcomes: &[(u64, SeedOutcome)]) -> bool {
-    told.is_whole && told.ended.as_slice() == outcomes
+/// Asserts that just these outcomes were told.
+fn assert_told(rt: &impl Abort, label: &str, told: &Told, outcomes: &[(u64, SeedOutcome)]) {
+    let came = (told.is_whole, told.ended.as_slice());
+    assert_same(rt, row(label), &came, &(true, outcomes));
 }
 
-/// Returns whether a survey of three seeds tells what came of each.
-fn tells_each(alloc: Global, script: &Script) -> bool {
-    let mut told = nothing_told(alloc);
-    let seeds = SeedRange { first: 5, last: 7 };
-    survey(alloc, script, None, seeds, 4, &mut told).is_ok()
-        && were_told(&told, &[(5, ONE_LOCK), (6, ONE_LOCK), (7, ONE_LOCK)])
-}
+/// The seeds that are surveyed and searched.
+const SEEDS: SeedRange = SeedRange { first: 5, last: 7 };
 
-/// Returns whether a search among seeds finds the first one or none, and tells these outcomes.
-fn tells_up_to(
-    alloc: Global,
+/// Asserts that a search among the seeds finds the first one or none, and tells these outcomes.
+fn assert_told_up_to(
+    rt: &(impl Abort + AllocGlobal),
     script: &Script,
+    label: &str,
     limit: u64,
     first: Option<u64>,
     outcomes: &[(u64, SeedOutcome)],
-) -> bool {
-    let mut told = nothing_told(alloc);
-    let seeds = SeedRange { first: 5, last: 7 };
-    match found(alloc, script, Finished, seeds, limit, &mut told) {
-        Ok(seed) => seed == first && were_told(&told, outcomes),
-        Err(Memory) => false,
-    }
+) {
+    let mut told = nothing_told(rt.alloc());
+    let seed = found(rt.alloc(), script, Finished, SEEDS, limit, &mut told);
+    assert_same(rt, row(label), &seed, &Ok(first));
+    assert_told(rt, label, &told, outcomes);
 }
 
-/// Returns whether surveys and searches tell what came of each seed, up to the one that is found.
-fn tell_each(alloc: Global) -> bool {
+/// Asserts that a survey and searches tell what came of each seed, up to the one that is found.
+fn assert_told_each(rt: &(impl Abort + AllocGlobal), script: &Script) {
     const CUT_OFF: &[(u64, SeedOutcome)] = &[
         (5, SeedOutcome::Limit),
         (6, SeedOutcome::Limit),
         (7, SeedOutcome::Limit),
     ];
-    match lockers(alloc, 1) {
-        Some(script) => {
-            tells_each(alloc, &script)
-                && tells_up_to(alloc, &script, 4, Some(5), &[(5, ONE_LOCK)])
-                && tells_up_to(alloc, &script, 3, None, CUT_OFF)
-        }
-        None => false,
-    }
+    let (label, mut told) = ("a survey of three seeds", nothing_told(rt.alloc()));
+    let fault = survey(rt.alloc(), script, None, SEEDS, 4, &mut told).err();
+    assert_same(rt, row(label), &fault, &None);
+    assert_told(
+        rt,
+        label,
+        &told,
+        &[(5, ONE_LOCK), (6, ONE_LOCK), (7, ONE_LOCK)],
+    );
+    let label = "a search that finds the first seed";
+    assert_told_up_to(rt, script, label, 4, Some(5), &[(5, ONE_LOCK)]);
+    let label = "a search that is cut off";
+    assert_told_up_to(rt, script, label, 3, None, CUT_OFF);
 }
 
 #[test]
 fn surveys_and_searches_tell_what_came_of_each_seed(rt: HostRuntime) {
-    let at = At("surveys and searches tell what came of each seed", "run", 0);
-    assert_same(&rt, at, &tell_each(rt.alloc()), &true);
+    match lockers(rt.alloc(), 1) {
+        Some(script) => assert_told_each(&rt, &script),
+        None => panic!(rt; "there is no memory for the script"),
+    }
 }

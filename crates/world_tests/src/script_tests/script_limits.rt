@@ -1,6 +1,6 @@
 //! Scripts: how many nodes, clients and operations they take, and how they are read.
 use crate::script_tests::script_plans::{Doing, Plan, Scene, carry_out};
-use crate::world_steps::world_asserting::assert_row;
+use crate::world_steps::world_asserting::assert_same;
 use Doing::{Locks, Unlocks};
 use Mode::Exclusive;
 use Plan::{
@@ -9,18 +9,14 @@ use Plan::{
 };
 use ra_schedule::{AddOpError, NewScriptError, Script};
 use ra_stamp::Mode;
+use test_support::At;
 
-/// A row is here the number of nodes.
 #[test]
 fn nodes_are_one_to_sixty_four(rt: HostRuntime) {
     for nodes in [0, 65] {
         let fault = Script::new(rt.alloc(), nodes).err();
-        assert_row(
-            &rt,
-            usize::from(nodes),
-            &fault,
-            &Some(NewScriptError::Nodes),
-        );
+        let at = At("a script", "with this many nodes:", usize::from(nodes));
+        assert_same(&rt, at, &fault, &Some(NewScriptError::Nodes));
     }
 }
 

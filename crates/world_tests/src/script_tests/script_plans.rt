@@ -10,7 +10,7 @@ use ra_schedule::{AddClientError, AddOpError, Op, Script};
 use ra_stamp::{Mode, Name};
 use std::alloc::Global;
 use std::process::Abort;
-use test_support::At;
+use test_support::{At, row};
 
 /// An operation on a name of one letter.
 #[derive(Clone, Copy)]
@@ -93,16 +93,6 @@ fn adds_lock(script: &mut Script, mode: Mode) -> bool {
     adds(script, Locks(b'r', mode)) && adds(script, Unlocks(b'r'))
 }
 
-/// Adds this many times that the last client locks `r` for itself alone and unlocks it. Returns whether there was room for that.
-pub fn adds_locks(script: &mut Script, times: u32) -> bool {
-    for _ in 0..times {
-        if !adds_lock(script, Mode::Exclusive) {
-            return false;
-        }
-    }
-    true
-}
-
 /// Adds a client at this node. Returns whether there was room for it.
 pub fn adds_client(alloc: Global, script: &mut Script, node: u16) -> bool {
     fault_of_client(alloc, script, node).is_none()
@@ -139,6 +129,14 @@ fn assert_adds_clients(
     }
 }
 
+/// Asserts that the last client may lock `r` in this mode and unlock it, this many times.
+pub fn adds_locks(rt: &impl Abort, at: At<'_>, script: &mut Script, mode: Mode, times: u32) {
+    for _ in 0..times {
+        assert_adds(rt, at, script, Locks(b'r', mode), None);
+        assert_adds(rt, at, script, Unlocks(b'r'), None);
+    }
+}
+
 /// Asserts that a script takes a client that locks `r` for itself alone and unlocks it at each of this many nodes.
 fn assert_adds_writers(
     rt: &(impl Abort + AllocGlobal),
@@ -147,8 +145,8 @@ fn assert_adds_writers(
     nodes: u16,
 ) {
     for node in 1..=nodes {
-        let is_added = adds_locker(rt.alloc(), script, node, Mode::Exclusive);
-        assert_same(rt, at, &is_added, &true);
+        assert_same(rt, at, &fault_of_client(rt.alloc(), script, node), &None);
+        adds_locks(rt, at, script, Mode::Exclusive, 1);
     }
 }
 
@@ -233,12 +231,8 @@ fn does(rt: &(impl Abort + AllocGlobal), at: At<'_>, script: &mut Script, plan: 
         }
         AddsClients(count) => assert_adds_clients(rt, at, script, *count),
         AddsLocker(node, mode) => {
-            assert_same(
-                rt,
-                at,
-                &adds_locker(rt.alloc(), script, *node, *mode),
-                &true,
-            )
+            assert_same(rt, at, &fault_of_client(rt.alloc(), script, *node), &None);
+            adds_locks(rt, at, script, *mode, 1);
         }
         AddsWriters(nodes) => assert_adds_writers(rt, at, script, *nodes),
         RefusesClient(node) => {
@@ -246,7 +240,7 @@ fn does(rt: &(impl Abort + AllocGlobal), at: At<'_>, script: &mut Script, plan: 
             assert_same(rt, at, &fault, &Some(AddClientError::Clients));
         }
         Adds(doing) => assert_adds(rt, at, script, *doing, None),
-        AddsLocks(times) => assert_same(rt, at, &adds_locks(script, *times), &true),
+        AddsLocks(times) => adds_locks(rt, at, script, Mode::Exclusive, *times),
         Refuses(doing, cause) => assert_adds(rt, at, script, *doing, Some(*cause)),
         NamesTheFirst => names_the_first(rt, at, script),
         _ => shows(rt, at, script, plan),
@@ -259,7 +253,7 @@ pub struct Scene(pub &'static str, pub u16, pub &'static [Plan]);
 /// Asserts that a script does and shows all of a scene.
 fn goes(rt: &(impl Abort + AllocGlobal), script: &mut Script, scene: &Scene) {
     for place in 0..scene.2.len() {
-        does(rt, At(scene.0, "step", place), script, &scene.2[place]);
+        does(rt, At(scene.0, "step", place + 1), script, &scene.2[place]);
     }
 }
 
@@ -268,7 +262,7 @@ pub fn carry_out(rt: &(impl Abort + AllocGlobal), scenes: &[Scene]) {
     for scene in scenes {
         match Script::new(rt.alloc(), scene.1) {
             Ok(mut script) => goes(rt, &mut script, scene),
-            Err(fault) => assert_same(rt, At(scene.0, "step", 0), &Some(fault), &None),
+            Err(fault) => assert_same(rt, row(scene.0), &Some(fault), &None),
         }
     }
 }

@@ -32,8 +32,3 @@ pub fn assert_prints<T: Display>(rt: &(impl Abort + AllocGlobal), rows: &[(T, &s
         assert_same(rt, row(text), &came.as_str(), &text);
     }
 }
-
-/// Asserts that what came of the row with this number, from 0 up, is what was expected.
-pub fn assert_row<T: Debug + PartialEq>(rt: &impl Abort, row: usize, came: &T, expected: &T) {
-    assert_same(rt, At("the table", "row", row), came, expected);
-}
