@@ -11,11 +11,11 @@ use crate::text::report::Figures;
 use crate::text::state_lines::state_text;
 use crate::world::kept_steps::{copy_of, keep, make_room, make_room_for, nothing, take};
 use crate::world::log::Log;
-use crate::world::node_places::{is_held_by, opening_nodes, place_of, queued_at, waiting_at};
+use crate::world::node_places::{opening_nodes, place_of, queued_at, waiting_at};
 use crate::{NewError, NodeRefusal, Report, Step, StepError};
 use ra_bag::Bag;
 use ra_node::{Node, Outcome, ReceiveError};
-use ra_stamp::{Memory, Message, Mode, Name, NodeId};
+use ra_stamp::{Memory, Message, Mode, Name, NodeCount, NodeId};
 use std::alloc::Global;
 use std::marker::Model;
 
@@ -75,10 +75,10 @@ impl<const KEEPS_MARKS: u8> WorldOf<KEEPS_MARKS> {
         ensures count { OnOk result (IsNodeNumber nodes) }
         ensures bad_count { IsErrOf result NewError.BadCount ↔ (IsNodeNumber nodes → ⊥) }
     {
-        if NodeId::new(nodes).is_none() {
+        let Some(count) = NodeCount::new(nodes) else {
             return Err(NewError::BadCount);
-        }
-        let opened = opening_nodes(alloc, nodes, start)?;
+        };
+        let opened = opening_nodes(alloc, count, start)?;
         let under_way = Bag::new(alloc)?;
         Ok(WorldOf {
             start,
@@ -305,7 +305,7 @@ impl<const KEEPS_MARKS: u8> WorldOf<KEEPS_MARKS> {
         let sends = 2 * self.nodes.len() as u64;
         let Ok(()) = make_room(&mut self.under_way, &mut self.log, sends, 3) else {
             // That the node refuses comes before that memory ran out.
-            if !is_held_by(left, client, &name) {
+            if !left.is_held_by(client, &name) {
                 return Err(StepError::Node(NodeRefusal::NotHeld));
             }
             return Err(StepError::Memory);
@@ -400,7 +400,7 @@ impl<const KEEPS_MARKS: u8> WorldOf<KEEPS_MARKS> {
         ensures count { IsNodeNumber self.now.count }
     {
         match place_of(&self.nodes, node) {
-            Some(place) => is_held_by(&self.nodes[place], client, name),
+            Some(place) => self.nodes[place].is_held_by(client, name),
             None => false,
         }
     }

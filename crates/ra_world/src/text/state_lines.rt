@@ -10,7 +10,7 @@ ghost use Rattle.ra_world.specs.StateLines as spec;
 use crate::text::lines::{push_entry_line, push_field, push_number, push_total_line};
 use ra_bag::Bag;
 use ra_node::{Node, Queued};
-use ra_stamp::{Entry, Memory, Message, Name, NodeId};
+use ra_stamp::{Entry, Memory, Message, Name, NodeCount, NodeId};
 use std::alloc::Global;
 
 /// Adds the first word of a line about a name at a node, and then the two.
@@ -88,17 +88,16 @@ fn push_awaited(
 /// Adds the lines of the nodes whose REPLY is awaited.
 fn push_awaited_lines(
     text: &mut String,
-    nodes: u16,
+    nodes: NodeCount,
     me: NodeId,
     node: &Node,
     name: &Name,
 ) -> Result<(), Memory>
-    requires { IsNodeNumber nodes }
     ensures { OnOk result (string_bytes text.new
         ≡ string_bytes text.old ++ spec.awaited_lines nodes me name.now (resource_at node.now name.now).state) }
 {
-    for place in 0..nodes {
-        let other = NodeId::new(place + 1).unwrap();
+    for place in 0..nodes.get() {
+        let other = NodeId::at(usize::from(place));
         push_awaited(text, me, node, name, other)?;
     }
     Ok(())
@@ -127,17 +126,16 @@ fn push_deferred(
 /// Adds the lines of the nodes whose REPLY is deferred.
 fn push_deferred_lines(
     text: &mut String,
-    nodes: u16,
+    nodes: NodeCount,
     me: NodeId,
     node: &Node,
     name: &Name,
 ) -> Result<(), Memory>
-    requires { IsNodeNumber nodes }
     ensures { OnOk result (string_bytes text.new
         ≡ string_bytes text.old ++ spec.deferred_lines nodes me name.now (resource_at node.now name.now).state) }
 {
-    for place in 0..nodes {
-        let other = NodeId::new(place + 1).unwrap();
+    for place in 0..nodes.get() {
+        let other = NodeId::at(usize::from(place));
         push_deferred(text, me, node, name, other)?;
     }
     Ok(())
@@ -156,12 +154,11 @@ fn has_request(node: &Node, name: &Name) -> bool
 /// is the rule, a node awaits and defers none, and no other node is looked at.
 fn push_others(
     text: &mut String,
-    nodes: u16,
+    nodes: NodeCount,
     me: NodeId,
     node: &Node,
     name: &Name,
 ) -> Result<(), Memory>
-    requires { IsNodeNumber nodes }
     ensures { OnOk result (string_bytes text.new
         ≡ string_bytes text.old ++ spec.others_lines nodes me name.now (resource_at node.now name.now).state) }
 {
@@ -199,12 +196,11 @@ fn push_queue(text: &mut String, me: NodeId, node: &Node, name: &Name) -> Result
 /// Adds the lines of a name at a node.
 fn push_resource(
     text: &mut String,
-    nodes: u16,
+    nodes: NodeCount,
     me: NodeId,
     node: &Node,
     name: &Name,
 ) -> Result<(), Memory>
-    requires { IsNodeNumber nodes }
     ensures { OnOk result (string_bytes text.new
         ≡ string_bytes text.old ++ spec.resource_lines nodes me name.now (resource_at node.now name.now)) }
 {
@@ -216,12 +212,11 @@ fn push_resource(
 /// Adds the lines of names at a node.
 fn push_names(
     text: &mut String,
-    nodes: u16,
+    nodes: NodeCount,
     me: NodeId,
     node: &Node,
     names: &[Name],
 ) -> Result<(), Memory>
-    requires { IsNodeNumber nodes }
     ensures { OnOk result (string_bytes text.new
         ≡ string_bytes text.old ++ spec.lines_at nodes names.now me node.now) }
 {
@@ -237,9 +232,11 @@ fn push_nodes(text: &mut String, nodes: &[Node], names: &[Name]) -> Result<(), M
     ensures { OnOk result (string_bytes text.new ≡ string_bytes text.old
         ++ spec.node_lines (length nodes.now) names.now (nodes_of nodes.now) (length nodes.now)) }
 {
-    let count = nodes.len() as u16;
+    let Some(count) = NodeCount::new(nodes.len() as u16) else {
+        unreachable!()
+    };
     for place in 0..nodes.len() {
-        let me = NodeId::new(place as u16 + 1).unwrap();
+        let me = NodeId::at(place);
         push_names(text, count, me, &nodes[place], names)?;
     }
     Ok(())

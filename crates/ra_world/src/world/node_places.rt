@@ -1,27 +1,20 @@
 //! The nodes of a world, by their numbers from 1.
-ghost use Rattle.std.specs.Prelude.{◌≡◌, ℕ, ◌+◌, ◌*◌, ◌^◌, ◌<◌, ◌≤◌, ◌↔◌, length, map, sum_by, IsTrue, IfOk, IfSome, IsNone};
+ghost use Rattle.std.specs.Prelude.{◌≡◌, ℕ, ◌+◌, ◌*◌, ◌^◌, ◌<◌, ◌≤◌, ◌↔◌, length, map, sum_by, IfOk, IfSome, IsNone};
 ghost use Rattle.std.specs.List.{range_with_len};
-ghost use Rattle.ra_stamp.specs.declared.entry.Entry.{Entry};
-ghost use Rattle.ra_stamp.specs.NodeId.{IsNodeNumber};
-ghost use Rattle.ra_node.specs.Resource.{Holds};
-ghost use Rattle.ra_node.specs.Node.{opening_node, resource_at, IsConsistentNode, waiting_count, queued_count};
+ghost use Rattle.ra_node.specs.Node.{opening_node, waiting_count, queued_count};
 
 use ra_node::Node;
-use ra_stamp::{Memory, Name, NodeId};
+use ra_stamp::{Member, Memory, NodeCount, NodeId};
 use std::alloc::Global;
 
 /// Makes nodes that have met nothing yet.
-pub fn opening_nodes(alloc: Global, count: u16, start: u64) -> Result<Vec<Node>, Memory>
-    requires { IsNodeNumber count }
+pub fn opening_nodes(alloc: Global, count: NodeCount, start: u64) -> Result<Vec<Node>, Memory>
     ensures { IfOk result (λ nodes. nodes.items ≡ map (λ i. opening_node i count start)
         (range_with_len 1 count)) }
 {
-    let mut nodes = Vec::with_capacity(alloc, usize::from(count))?;
-    for place in 0..count {
-        let me = NodeId::new(place + 1).unwrap();
-        let Ok(node) = Node::new(alloc, me, count, start) else {
-            return Err(Memory);
-        };
+    let mut nodes = Vec::with_capacity(alloc, usize::from(count.get()))?;
+    for place in 0..count.get() {
+        let node = Node::of(alloc, Member::at(place, count), start);
         nodes.push(node)?;
     }
     Ok(nodes)
@@ -37,17 +30,6 @@ pub fn place_of(nodes: &[Node], node: NodeId) -> Option<usize>
         Some(place)
     } else {
         None
-    }
-}
-
-/// Returns whether a client holds a name at a node.
-pub fn is_held_by(node: &Node, client: u32, name: &Name) -> bool
-    ensures held { IsTrue result ↔ ((entry : Entry) × Holds (resource_at node.now name.now) client entry) }
-    ensures consistent { IsConsistentNode node.now }
-{
-    match node.holder(name) {
-        Some(entry) => entry.client == client,
-        None => false,
     }
 }
 

@@ -1,4 +1,4 @@
-use Rattle.std.proofs.Common.{rules, arith, ◌≡◌, ℕ, ◌+◌, ◌++◌, ◌∷◌, [], List, ap, sym, ◌∙◌}
+use Rattle.std.proofs.Common.{arith, ◌≡◌, ℕ, ◌+◌, ◌++◌, ◌∷◌, [], List, ap, sym, ◌∙◌}
 use Rattle.std.proofs.lemmas.List.FromFn.{map-range_with_len_more}
 use Rattle.ra_node.specs.Node.{NodeState, opening_node}
 use Rattle.ra_world.proofs.world.node_places.opening_nodes.Goals as goal
@@ -7,8 +7,7 @@ pub loop-place-preserved : goal.loop-place-preserved
 loop-place-preserved c =
     let before = c.loop-place.nodes.items in
     let at = λ (i : ℕ). opening_node i c.args.count c.args.start in
-    let me : c.unwrap-me.result ≡ c.loop-place.place + 1 = search rules in
     c.in_ok-push.ensures.items
-    ∙ ap (λ (n : NodeState). before ++ n ∷ []) (c.in-Ok.ensures.ok ∙ ap at me)
+    ∙ ap (λ (n : NodeState). before ++ n ∷ []) (c.of-node.ensures.value ∙ λ i. opening_node (c.at.ensures i).node (c.at.ensures i).nodes c.args.start)
     ∙ ap (λ (ns : List NodeState). ns ++ at (c.loop-place.place + 1) ∷ []) c.loop-place.invariant
     ∙ sym (map-range_with_len_more at 1 c.loop-place.place (c.loop-place.place + 1) (omega arith))
