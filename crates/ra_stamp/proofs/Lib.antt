@@ -1,3 +1,4 @@
 mod Names
 pub mod Places
 mod Walks
+pub mod StampLaws

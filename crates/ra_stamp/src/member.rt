@@ -8,7 +8,7 @@ use std::marker::Model;
 use thiserror::Error;
 
 /// Why a node is no member of a cluster.
-#[derive(Clone, Copy, Debug, PartialEq, Eq, Error)]
+#[derive(Clone, Copy, Debug, Error)]
 pub enum MemberError {
     /// The number of nodes is not 1 to 64.
     BadCount,

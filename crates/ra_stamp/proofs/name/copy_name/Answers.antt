@@ -1,4 +1,4 @@
-use Rattle.std.proofs.Common.{rules, ◌≡◌, ◌<◌, Bool, true, false, ◌&&◌, length, get_or, arith, ◌∙◌}
+use Rattle.std.proofs.Common.{rules, ◌≡◌, ◌<◌, Bool, true, false, ◌&&◌, length, get_or, ◌∙◌}
 use Rattle.std.proofs.lemmas.List.Folds.{list_all_more}
 use Rattle.ra_stamp.specs.Name.{is_name_byte}
 use Rattle.ra_stamp.proofs.Names.{copied_more}
