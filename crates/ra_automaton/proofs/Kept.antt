@@ -1,5 +1,5 @@
 -- What the invariant says of an automaton's fields.
-use Rattle.std.proofs.Common.{◌≡◌, ℕ}
+use Rattle.std.proofs.Common.{◌≡◌}
 use Rattle.ra_automaton.specs.declared.automaton.Automaton.TheInside.{Inside}
 use Rattle.ra_automaton.specs.declared.phase.Phase.{Phase}
 use Rattle.ra_automaton.specs.declared.phase.Phase.TheVariants as phase

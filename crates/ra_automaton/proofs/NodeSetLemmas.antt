@@ -1,24 +1,22 @@
 -- Words as sets of nodes.
-use Rattle.std.proofs.Common.{◌≡◌, ◌≢◌, ◌⊎◌, ℕ, suc, suc-mul, ◌+◌, ◌-◌, ◌*◌, ◌/◌, ◌^◌, ◌<◌, ◌≤◌, Bool, true, false, cond, not, ◌||◌, ◌&&◌, eqb, List, length, get_or, set, map, filter, Option, Some, None, w64, refl, sym, ap, ◌∙◌, subst, arith, inl, inr, nat_eq}
+use Rattle.std.proofs.Common.{◌≡◌, ◌≢◌, ◌⊎◌, ℕ, suc, suc-mul, ◌+◌, ◌-◌, ◌*◌, ◌/◌, ◌^◌, ◌<◌, ◌≤◌, Bool, true, false, not, ◌||◌, ◌&&◌, eqb, w64, refl, sym, ap, ◌∙◌, subst, arith, inl, inr, nat_eq}
 use Rattle.std.specs.Prelude.{◌==◌}
 use Rattle.std.specs.Int.{bit_at, bit_not}
 use Rattle.std.specs.Int.RustNames.{bit_and, bit_or}
-use Rattle.std.specs.List.{list_any, range_with_len}
+use Rattle.std.specs.List.{list_any}
 use Rattle.std.specs.Ordering.{nat_cmp, eq_by_cmp}
 use Rattle.std.specs.Cmp.{nat_cmp_total}
 use Rattle.std.specs.FinSet as finset
-use Rattle.std.specs.FinMap as finmap
 use Rattle.std.specs.FinMap.{nat_cmp-IsAntisymmetric}
 use Rattle.std.proofs.lemmas.Bool.{cases_lt}
 use Rattle.std.proofs.lemmas.Bool.Decides.{nat_tests}
-use Rattle.std.proofs.lemmas.List.{get_or-set_same, get_or-set_other}
 use Rattle.std.proofs.lemmas.Nat.{one_shl, pow-add, shr_high}
 use Rattle.std.proofs.Math.Pow.{suc_ones, ones_lt}
 use Rattle.std.proofs.lemmas.Nat.Bits.{bit_at-zero, bit_at-lt, bit_at_set_same, bit_at_set_other, bit_at_clear_same, bit_at_clear_other, bit_at_ones, bit_at_ones_above, same_from_bits_below}
-use Rattle.ra_automaton.specs.NodeSet.{bits_of_a_word, has_bit, nodes_of, set_of, map_of}
+use Rattle.ra_automaton.specs.NodeSet.{bits_of_a_word, has_bit, nodes_of, set_of}
 use Rattle.ra_automaton.specs.Steps.{others_of}
 use Rattle.ra_automaton.proofs.Apart.{tied, untied, cases_same}
-use Rattle.ra_automaton.proofs.Ranges.{any_inside, any_outside, found_inside, found_outside, sorted, filter-longer}
+use Rattle.ra_automaton.proofs.Ranges.{any_inside, any_outside}
 
 -- a node of a word is 1 to 64
 width : bits_of_a_word ≡ 64

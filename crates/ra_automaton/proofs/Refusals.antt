@@ -1,15 +1,16 @@
 -- What the refusals of each call tell, and the steps that messages lead to.
-use Rattle.std.proofs.Common.{◌≡◌, ◌≢◌, ◌↔◌, ◌⊎◌, ℕ, ◌<◌, Bool, false, List, [], Result, Ok, Err, MatchResult, IsErrOf, refl, sym, ◌∙◌, subst, arith, inl, inr}
+use Rattle.std.proofs.Common.{◌≡◌, ◌↔◌, ◌⊎◌, ℕ, ◌<◌, Bool, false, List, [], Result, Ok, Err, MatchResult, IsErrOf, refl, sym, ◌∙◌, subst, arith, inl, inr}
 use Rattle.std.specs.Prelude.{IsTrue, IsOkUnless}
 use Rattle.std.proofs.lemmas.Bool.{true≢false}
 use Rattle.ra_stamp.specs.declared.mode.Mode.{Mode}
 use Rattle.ra_stamp.specs.declared.message.Message.{Message}
 use Rattle.ra_stamp.specs.declared.message.Message.TheVariants.{Request, Reply}
-use Rattle.ra_stamp.specs.Message.{from_of, to_of}
+use Rattle.ra_stamp.specs.Message.{from_of}
 use Rattle.ra_automaton.specs.declared.error.ReceiveError.{ReceiveError}
 use Rattle.ra_automaton.specs.declared.error.ReceiveError.TheVariants.{WrongNode, Stranger, Memory}
 use Rattle.ra_automaton.specs.State.{State, IsOther, IsForNode}
 use Rattle.ra_automaton.specs.Steps.{OwnGoesFirst, Defers, RepliesAtOnce, TakesReply, ReceiveStep, LetsEnter}
+use Rattle.ra_automaton.specs.Calls.{ChecksAddress}
 use Rattle.ra_automaton.specs.Memory.{IsRepliedAtOnce}
 
 same_error : {X E : Type 0} (e f : E) → IsErrOf {T = X} (Err e) f → e ≡ f
@@ -22,8 +23,7 @@ ok_apart x e h = cc
 
 -- what the end of a message tells
 pub record ReceiveTells {X : Type 0} (result : Result X ReceiveError) (me nodes : ℕ) (message : Message) : Type 0 where
-  pub wrong_node : IsErrOf result WrongNode ↔ (to_of message ≢ me)
-  pub stranger : IsErrOf result Stranger ↔ ((to_of message ≡ me) × ((from_of message ≡ me) ⊎ (nodes < from_of message)))
+  pub address : ChecksAddress me nodes message result
   pub allowed : IsOkUnless result Memory ↔ IsForNode me nodes message
 
 wrong_node_apart : WrongNode ≡ Memory → ⊥
@@ -44,14 +44,18 @@ module _ {X : Type 0} (me nodes : ℕ) (message : Message) where
   pub received_tells : (result : Result X ReceiveError) (P : X → Type 0) (Same : Type 0) → IsForNode me nodes message → MatchResult result P (λ fault. (fault ≡ Memory) × Same) → ReceiveTells result me nodes message
   received_tells (Ok x) P Same is ended =
       record {
-        wrong_node = (λ e. absurd (ok_apart x WrongNode e), λ wrong. absurd (wrong is.to));
-        stranger = (λ e. absurd (ok_apart x Stranger e), λ h. absurd (no_stranger me nodes message is h.1));
+        address = record {
+          wrong_node = (λ e. absurd (ok_apart x WrongNode e), λ wrong. absurd (wrong is.to));
+          stranger = (λ e. absurd (ok_apart x Stranger e), λ h. absurd (no_stranger me nodes message is h.1));
+        };
         allowed = (λ _. is, λ _. tt);
       }
   received_tells (Err fault) P Same is ended =
       record {
-        wrong_node = (λ e. absurd (wrong_node_apart (sym (same_error fault WrongNode e) ∙ ended.0)), λ wrong. absurd (wrong is.to));
-        stranger = (λ e. absurd (stranger_apart (sym (same_error fault Stranger e) ∙ ended.0)), λ h. absurd (no_stranger me nodes message is h.1));
+        address = record {
+          wrong_node = (λ e. absurd (wrong_node_apart (sym (same_error fault WrongNode e) ∙ ended.0)), λ wrong. absurd (wrong is.to));
+          stranger = (λ e. absurd (stranger_apart (sym (same_error fault Stranger e) ∙ ended.0)), λ h. absurd (no_stranger me nodes message is h.1));
+        };
         allowed = (λ _. is, λ _. ended.0);
       }
 

@@ -6,3 +6,4 @@ pub mod View
 pub mod Cases
 pub mod Memory
 pub mod Members
+pub mod Calls

@@ -1,7 +1,7 @@
 //! Which messages a node may take.
-ghost use Rattle.std.specs.Prelude.{◌≡◌, ◌≢◌, ◌<◌, ◌⊎◌, ◌↔◌, IsErrOf, IsOk};
-ghost use Rattle.ra_stamp.specs.Message.{from_of, to_of};
+ghost use Rattle.std.specs.Prelude.{◌↔◌, IsErrOf, IsOk};
 ghost use Rattle.ra_automaton.specs.State.{IsForNode};
+ghost use Rattle.ra_automaton.specs.Calls.{ChecksAddress};
 
 use crate::ReceiveError;
 use ra_stamp::{Member, Message};
@@ -17,10 +17,7 @@ use ra_stamp::{Member, Message};
 #[inline(always)]
 pub fn check_address(member: Member, message: &Message) -> Result<(), ReceiveError>
     ensures addressed { IsOk result ↔ IsForNode member.node member.nodes message.now }
-    ensures wrong_node { IsErrOf result ReceiveError.WrongNode ↔ (to_of message.now ≢ member.node) }
-    ensures stranger { IsErrOf result ReceiveError.Stranger
-        ↔ ((to_of message.now ≡ member.node)
-        × ((from_of message.now ≡ member.node) ⊎ (member.nodes < from_of message.now))) }
+    ensures address { ChecksAddress member.node member.nodes message.now result }
     ensures no_memory { IsErrOf result ReceiveError.Memory → ⊥ }
 {
     if message.to() != member.node() {

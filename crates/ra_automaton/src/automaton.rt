@@ -1,4 +1,4 @@
-ghost use Rattle.std.specs.Prelude.{◌≡◌, ◌≢◌, ◌+◌, ◌*◌, ◌<◌, ◌≤◌, ◌⊎◌, ◌↔◌, [], max, true, false};
+ghost use Rattle.std.specs.Prelude.{◌≡◌, ◌≢◌, ◌+◌, ◌*◌, ◌<◌, ◌≤◌, ◌⊎◌, ◌↔◌, [], max};
 ghost use Rattle.std.specs.Prelude.{IsTrue, IsErrOf, IfOk, OnOk, OnErr};
 
 use crate::address::check_address;
@@ -46,13 +46,14 @@ impl Automaton {
     ghost use Rattle.std.specs.Ordering.{nat_cmp};
     ghost use Rattle.std.specs.FinSet as set;
     ghost use Rattle.std.specs.FinMap as finmap;
-    ghost use Rattle.ra_stamp.specs.NodeId.{IsNodeNumber};
-    ghost use Rattle.ra_stamp.specs.Message.{from_of, to_of, name_of};
+    ghost use Rattle.ra_stamp.specs.Message.{name_of};
     ghost use Rattle.ra_automaton.specs.State.{opening, entered_phase};
     ghost use Rattle.ra_automaton.specs.State.{IsOther, IsAddressed, IsConsistent, IsInside, IsWaiting};
     ghost use Rattle.ra_automaton.specs.Steps.{greatest_number, later_of, OwnGoesFirst, Awaits};
     ghost use Rattle.ra_automaton.specs.Steps.{Begins, Defers, RepliesAtOnce, TakesReply, LetsEnter};
-    ghost use Rattle.ra_automaton.specs.Steps.{RequestStep, ReceiveStep, LeaveStep, LeaveAndRequestStep};
+    ghost use Rattle.ra_automaton.specs.Calls.{AnswersRequest, ChecksAddress, AnswersReceive};
+    ghost use Rattle.ra_automaton.specs.Calls.{AnswersLeave, AnswersLeaveAndRequest};
+    ghost use Rattle.ra_automaton.specs.Members.{ChecksMember};
     ghost use Rattle.ra_automaton.specs.Memory.{IsRepliedAtOnce};
     ghost use Rattle.ra_automaton.specs.NodeSet.{nobody_of};
 
@@ -74,9 +75,7 @@ impl Automaton {
     ) -> Result<Automaton, NewError>
         ensures ok { IfOk result (λ automaton. automaton ≡ opening me nodes name start) }
         ensures consistent { IfOk result IsConsistent }
-        ensures bad_count { IsErrOf result NewError.BadCount ↔ (IsNodeNumber nodes → ⊥) }
-        ensures bad_node { IsErrOf result NewError.BadNode ↔ (IsNodeNumber nodes × (nodes < me)) }
-        ensures no_memory { IsErrOf result NewError.Memory → ⊥ }
+        ensures member { ChecksMember me nodes result }
     {
         let member = Member::new(me, nodes)?;
         Ok(Automaton::of(alloc, member, name, start))
@@ -109,13 +108,11 @@ impl Automaton {
     /// 2. `Exhausted`: the highest number is 2^64-1.
     /// 3. `Memory`: memory ran out.
     pub fn request(&mut self, alloc: Global, mode: Mode) -> Result<Reaction, RequestError>
-        ensures ok { IfOk result (λ reaction.
-            RequestStep self.old mode reaction.sends.items reaction.entered self.new) }
+        ensures requested { AnswersRequest self.old mode result self.new }
         ensures consistent { IsConsistent self.new }
         ensures not_idle { IsErrOf result RequestError.NotIdle ↔ (self.old.phase ≢ Phase.Idle) }
         ensures exhausted { IsErrOf result RequestError.Exhausted
             ↔ ((self.old.phase ≡ Phase.Idle) × (self.old.highest ≡ greatest_number)) }
-        ensures err { OnErr result (self.new ≡ self.old) }
     {
         if self.phase != Phase::Idle {
             return Err(RequestError::NotIdle);
@@ -137,10 +134,8 @@ impl Automaton {
     pub fn request_when_idle(&mut self, alloc: Global, mode: Mode) -> Result<Reaction, Memory>
         requires idle { self.old.phase ≡ Phase.Idle }
         requires number_left { self.old.highest < greatest_number }
-        ensures ok { IfOk result (λ reaction.
-            RequestStep self.old mode reaction.sends.items reaction.entered self.new) }
+        ensures requested { AnswersRequest self.old mode result self.new }
         ensures consistent { IsConsistent self.new }
-        ensures err { OnErr result (self.new ≡ self.old) }
     {
         let seq = self.highest + 1;
         let mut sends = Messages::new(alloc);
@@ -163,18 +158,11 @@ impl Automaton {
     #[inline(always)]
     pub fn receive(&mut self, alloc: Global, message: &Message) -> Result<Reaction, ReceiveError>
         requires { name_of message.now ≡ self.old.name }
-        ensures ok { IfOk result (λ reaction.
-            ReceiveStep self.old message.now reaction.sends.items reaction.entered self.new) }
-        ensures enters { IfOk result (λ reaction. IsTrue reaction.entered ↔ LetsEnter self.old message.now) }
+        ensures received { AnswersReceive self.old message.now result self.new }
         ensures addressed { OnOk result (IsAddressed self.old message.now) }
+        ensures address { ChecksAddress self.old.me self.old.nodes message.now result }
         ensures consistent { IsConsistent self.new }
-
-        ensures wrong_node { IsErrOf result ReceiveError.WrongNode ↔ (to_of message.now ≢ self.old.me) }
-        ensures stranger { IsErrOf result ReceiveError.Stranger
-            ↔ ((to_of message.now ≡ self.old.me)
-            × ((from_of message.now ≡ self.old.me) ⊎ (self.old.nodes < from_of message.now))) }
         ensures memory_only_for_reply { IsErrOf result ReceiveError.Memory → IsRepliedAtOnce self.old message.now }
-        ensures err { OnErr result (self.new ≡ self.old) }
     {
         check_address(self.member, message)?;
         match self.receive_addressed(alloc, message) {
@@ -197,14 +185,12 @@ impl Automaton {
     ) -> Result<Reaction, Memory>
         requires name { name_of message.now ≡ self.old.name }
         requires addressed { IsAddressed self.old message.now }
-        ensures ok { IfOk result (λ reaction.
-            ReceiveStep self.old message.now reaction.sends.items reaction.entered self.new) }
-        ensures enters { IfOk result (λ reaction. IsTrue reaction.entered ↔ LetsEnter self.old message.now) }
+        ensures received { AnswersReceive self.old message.now result self.new }
         ensures consistent { IsConsistent self.new }
         ensures memory_only_for_reply { OnErr result (IsRepliedAtOnce self.old message.now) }
-        ensures err { OnErr result (self.new ≡ self.old) }
     {
-        prove!(message.to() == self.member.node());
+        // Before the message, the state is consistent.
+        let _ = &self.member;
         match *message {
             Message::Request {
                 from,
@@ -233,11 +219,8 @@ impl Automaton {
     /// 1. `NotHeld`: the node is not inside.
     /// 2. `Memory`: memory ran out.
     pub fn leave(&mut self, alloc: Global) -> Result<Reaction, LeaveError>
-        ensures ok { IfOk result (λ reaction.
-            LeaveStep self.old reaction.sends.items self.new × (reaction.entered ≡ false)) }
+        ensures left { AnswersLeave self.old result self.new }
         ensures consistent { IsConsistent self.new }
-        ensures not_held { IsErrOf result LeaveError.NotHeld ↔ (IsInside self.old.phase → ⊥) }
-        ensures err { OnErr result (self.new ≡ self.old) }
     {
         self.leave_into(alloc, Messages::new(alloc))
     }
@@ -250,12 +233,9 @@ impl Automaton {
     /// Those of `leave`. `Memory` comes only if the list has less room.
     pub fn leave_into(&mut self, alloc: Global, mut sends: Messages) -> Result<Reaction, LeaveError>
         requires { sends.items ≡ [] }
-        ensures ok { IfOk result (λ reaction.
-            LeaveStep self.old reaction.sends.items self.new × (reaction.entered ≡ false)) }
+        ensures left { AnswersLeave self.old result self.new }
         ensures consistent { IsConsistent self.new }
-        ensures not_held { IsErrOf result LeaveError.NotHeld ↔ (IsInside self.old.phase → ⊥) }
         ensures room { self.old.nodes ≤ sends.spare → IsErrOf result LeaveError.Memory → ⊥ }
-        ensures err { OnErr result (self.new ≡ self.old) }
     {
         if !self.is_inside() {
             return Err(LeaveError::NotHeld);
@@ -286,11 +266,8 @@ impl Automaton {
     /// 2. `Memory`: memory ran out.
     pub fn leave_and_request(&mut self, alloc: Global, mode: Mode) -> Result<Reaction, LeaveError>
         requires { self.old.highest < greatest_number }
-        ensures ok { IfOk result (λ reaction.
-            LeaveAndRequestStep self.old mode reaction.sends.items reaction.entered self.new) }
+        ensures left { AnswersLeaveAndRequest self.old mode result self.new }
         ensures consistent { IsConsistent self.new }
-        ensures not_held { IsErrOf result LeaveError.NotHeld ↔ (IsInside self.old.phase → ⊥) }
-        ensures err { OnErr result (self.new ≡ self.old) }
     {
         self.leave_and_request_into(alloc, mode, Messages::new(alloc))
     }
@@ -309,12 +286,9 @@ impl Automaton {
     ) -> Result<Reaction, LeaveError>
         requires number_left { self.old.highest < greatest_number }
         requires none { sends.items ≡ [] }
-        ensures ok { IfOk result (λ reaction.
-            LeaveAndRequestStep self.old mode reaction.sends.items reaction.entered self.new) }
+        ensures left { AnswersLeaveAndRequest self.old mode result self.new }
         ensures consistent { IsConsistent self.new }
-        ensures not_held { IsErrOf result LeaveError.NotHeld ↔ (IsInside self.old.phase → ⊥) }
         ensures room { 2 * self.old.nodes ≤ sends.spare → IsErrOf result LeaveError.Memory → ⊥ }
-        ensures err { OnErr result (self.new ≡ self.old) }
     {
         if !self.is_inside() {
             return Err(LeaveError::NotHeld);

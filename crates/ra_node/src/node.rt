@@ -1,6 +1,5 @@
-ghost use Rattle.std.specs.Prelude.{◌≡◌, ◌≢◌, ◌<◌, ◌≤◌, ◌⊎◌, ◌↔◌, None, length, slice_get, IsErrOf, IsOk, IsOkUnless, IfOk, OnErr, MatchResult, IsNone, IfSome, IsTrue};
+ghost use Rattle.std.specs.Prelude.{◌≡◌, ◌≤◌, ◌↔◌, None, length, slice_get, IsErrOf, IsOk, IsOkUnless, IfOk, OnErr, MatchResult, IsNone, IfSome, IsTrue};
 ghost use Rattle.indexmap.specs.IndexMap.{spare};
-ghost use Rattle.ra_stamp.specs.NodeId.{IsNodeNumber};
 ghost use Rattle.ra_node.specs.Resource.{unmet};
 ghost use Rattle.ra_node.specs.Room.{IsNothing, HasRoomToLeave};
 ghost use Rattle.ra_node.specs.View.{Finds};
@@ -92,7 +91,9 @@ impl Node {
     ghost use Rattle.ra_automaton.specs.Steps.{greatest_number};
     ghost use Rattle.std.specs.FinMap as map;
     ghost use Rattle.std.specs.FinSet as set;
-    ghost use Rattle.ra_stamp.specs.Message.{from_of, to_of, name_of};
+    ghost use Rattle.ra_stamp.specs.Message.{name_of};
+    ghost use Rattle.ra_automaton.specs.Calls.{ChecksAddress};
+    ghost use Rattle.ra_automaton.specs.Members.{ChecksMember};
     ghost use Rattle.ra_node.specs.Resource.{IsBusy, Holds, holder_of, waiter_of};
     ghost use Rattle.ra_node.specs.Turns.{MayAsk};
     ghost use Rattle.ra_node.specs.Node.{opening_node, resource_at, waiting_count, queued_count, IsConsistentNode};
@@ -112,9 +113,7 @@ impl Node {
     pub fn new(alloc: Global, me: NodeId, nodes: u16, start: u64) -> Result<Node, NewError>
         ensures ok { IfOk result (λ node. node ≡ opening_node me nodes start) }
         ensures consistent { IfOk result IsConsistentNode }
-        ensures bad_count { IsErrOf result NewError.BadCount ↔ (IsNodeNumber nodes → ⊥) }
-        ensures bad_node { IsErrOf result NewError.BadNode ↔ (IsNodeNumber nodes × (nodes < me)) }
-        ensures no_memory { IsErrOf result NewError.Memory → ⊥ }
+        ensures member { ChecksMember me nodes result }
     {
         let member = Member::new(me, nodes)?;
         Ok(Node::of(alloc, member, start))
@@ -261,10 +260,7 @@ impl Node {
         ensures ok { IfOk result (λ outcome.
             ReceiveEvent self.old message.now outcome.sends.items outcome.marks.items self.new) }
         ensures consistent { IsConsistentNode self.new }
-        ensures wrong_node { IsErrOf result ReceiveError.WrongNode ↔ (to_of message.now ≢ self.old.me) }
-        ensures stranger { IsErrOf result ReceiveError.Stranger
-            ↔ ((to_of message.now ≡ self.old.me)
-            × ((from_of message.now ≡ self.old.me) ⊎ (self.old.nodes < from_of message.now))) }
+        ensures address { ChecksAddress self.old.me self.old.nodes message.now result }
         // Memory is the only other error.
         ensures allowed { IsOkUnless result ReceiveError.Memory
             ↔ IsForNode self.old.me self.old.nodes message.now }
@@ -298,10 +294,7 @@ impl Node {
     /// 2. `Stranger`: its sender is this node or above the number of nodes.
     pub fn check_address(&self, message: &Message) -> Result<(), ReceiveError>
         ensures addressed { IsOk result ↔ IsForNode self.now.me self.now.nodes message.now }
-        ensures wrong_node { IsErrOf result ReceiveError.WrongNode ↔ (to_of message.now ≢ self.now.me) }
-        ensures stranger { IsErrOf result ReceiveError.Stranger
-            ↔ ((to_of message.now ≡ self.now.me)
-            × ((from_of message.now ≡ self.now.me) ⊎ (self.now.nodes < from_of message.now))) }
+        ensures address { ChecksAddress self.now.me self.now.nodes message.now result }
         ensures no_memory { IsErrOf result ReceiveError.Memory → ⊥ }
         ensures consistent { IsConsistentNode self.now }
     {

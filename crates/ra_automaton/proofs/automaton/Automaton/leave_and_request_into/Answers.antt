@@ -6,8 +6,8 @@ use Rattle.ra_automaton.specs.State.{State, IsConsistent}
 use Rattle.ra_automaton.proofs.Consistent.{consistent_end, consistent_begins, inside_is}
 use Rattle.ra_automaton.proofs.automaton.Automaton.leave_and_request_into.Goals as goal
 
-pub returns-clause-ok : goal.returns-clause-ok
-returns-clause-ok c =
+pub returns-clause-left : goal.returns-clause-left
+returns-clause-left c =
     let a = c.self.inside in
     let replies = c.push_replies.new.sends.items in
     let between = c.end-room.new.self in
@@ -24,12 +24,16 @@ returns-clause-ok c =
     let more : c.push_requests.new.sends.items ≡ replies ++ map (λ other. Request a.member.node other a.name c.args.mode (a.highest + 1)) (others_of a.member.node a.member.nodes) = search rules in
     let Adds = λ (s : State). c.push_requests.new.sends.items ≡ replies ++ map (λ other. Request s.me other s.name c.args.mode (s.highest + 1)) (others_of s.me s.nodes) in
     record {
-      between = between;
-      replies = replies;
-      requests = map (λ other. Request between.me other between.name c.args.mode (between.highest + 1)) (others_of between.me between.nodes);
-      leaves = leaves;
-      asks = record { idle = search rules; number_left = search rules; sends_are = refl; begins = c.begin-entered.ensures };
-      sends_are = subst Adds (sym c.end-room.ensures.ended) (subst Adds c.self.view_is more);
+      ok = record {
+        between = between;
+        replies = replies;
+        requests = map (λ other. Request between.me other between.name c.args.mode (between.highest + 1)) (others_of between.me between.nodes);
+        leaves = leaves;
+        asks = record { idle = search rules; number_left = search rules; sends_are = refl; begins = c.begin-entered.ensures };
+        sends_are = subst Adds (sym c.end-room.ensures.ended) (subst Adds c.self.view_is more);
+      };
+      not_held = search rules;
+      err = tt;
     }
 
 pub returns-clause-consistent : goal.returns-clause-consistent

@@ -26,11 +26,13 @@ returns-in_ok-sends-in-Request-clause-consistent c =
     let other = requested_by c.args.self.now c.args.message.now c.in-Request.from _ _ _ _ c.in-Request.is c.requires.addressed in
     consistent_taken c.args.self.now c.in-Request.from c.in-Request.seq c.in-Request.mode _ c.take_request.new.self old other c.in_ok-sends-in-Request.ensures.ok
 
-pub returns-in_ok-sends-in-Request-clause-ok : goal.returns-in_ok-sends-in-Request-clause-ok
-returns-in_ok-sends-in-Request-clause-ok c = request_step c.args.self.now c.args.message.now c.in-Request.from _ _ _ _ c.in-Request.is _ c.take_request.new.self c.in_ok-sends-in-Request.ensures.ok
-
-pub returns-in_ok-sends-in-Request-clause-enters : goal.returns-in_ok-sends-in-Request-clause-enters
-returns-in_ok-sends-in-Request-clause-enters c = request_enters c.args.self.now c.args.message.now c.in-Request.from _ c.in-Request.seq _ c.in-Request.mode c.in-Request.is
+pub returns-in_ok-sends-in-Request-clause-received : goal.returns-in_ok-sends-in-Request-clause-received
+returns-in_ok-sends-in-Request-clause-received c =
+    record {
+      ok = request_step c.args.self.now c.args.message.now c.in-Request.from _ _ _ _ c.in-Request.is _ c.take_request.new.self c.in_ok-sends-in-Request.ensures.ok;
+      enters = request_enters c.args.self.now c.args.message.now c.in-Request.from _ c.in-Request.seq _ c.in-Request.mode c.in-Request.is;
+      err = tt;
+    }
 
 -- ---- A REPLY
 
@@ -39,8 +41,10 @@ returns-in-Reply-clause-consistent c =
     let old = subst IsConsistent c.self.view_is c.self.invariant.consistent in
     consistent_reply c.args.self.now c.in-Reply.from c.in-Reply.seq _ c.take_reply-entered.new.self old c.take_reply-entered.ensures
 
-pub returns-in-Reply-clause-ok : goal.returns-in-Reply-clause-ok
-returns-in-Reply-clause-ok c = reply_step c.args.self.now c.args.message.now c.in-Reply.from _ _ _ c.new-sends.result.items _ c.take_reply-entered.new.self c.in-Reply.is (search rules) c.take_reply-entered.ensures
-
-pub returns-in-Reply-clause-enters : goal.returns-in-Reply-clause-enters
-returns-in-Reply-clause-enters c = reply_enters c.args.self.now c.args.message.now c.in-Reply.from _ c.in-Reply.seq _ _ c.take_reply-entered.new.self c.in-Reply.is c.take_reply-entered.ensures
+pub returns-in-Reply-clause-received : goal.returns-in-Reply-clause-received
+returns-in-Reply-clause-received c =
+    record {
+      ok = reply_step c.args.self.now c.args.message.now c.in-Reply.from _ _ _ c.new-sends.result.items _ c.take_reply-entered.new.self c.in-Reply.is (search rules) c.take_reply-entered.ensures;
+      enters = reply_enters c.args.self.now c.args.message.now c.in-Reply.from _ c.in-Reply.seq _ _ c.take_reply-entered.new.self c.in-Reply.is c.take_reply-entered.ensures;
+      err = tt;
+    }

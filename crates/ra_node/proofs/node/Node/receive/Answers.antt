@@ -86,11 +86,8 @@ tells c =
     let mine = subst (λ (n : NodeState). IsForNode n.me n.nodes c.args.message.now) c.self.view_is (c.in_ok-check_address.ensures.addressed.0 refl) in
     received_tells c.args.self.now.me c.args.self.now.nodes c.args.message.now c.receive-outcome.result _ _ mine c.receive-outcome.ensures.received
 
-pub returns-in-Some-clause-wrong_node : goal.returns-in-Some-clause-wrong_node
-returns-in-Some-clause-wrong_node c = (tells c).wrong_node
-
-pub returns-in-Some-clause-stranger : goal.returns-in-Some-clause-stranger
-returns-in-Some-clause-stranger c = (tells c).stranger
+pub returns-in-Some-clause-address : goal.returns-in-Some-clause-address
+returns-in-Some-clause-address c = (tells c).address
 
 pub returns-in-Some-clause-allowed : goal.returns-in-Some-clause-allowed
 returns-in-Some-clause-allowed c = (tells c).allowed
@@ -105,11 +102,8 @@ first_tells c =
     let mine = subst (λ (n : NodeState). IsForNode n.me n.nodes c.args.message.now) c.self.view_is (c.in_ok-check_address.ensures.addressed.0 refl) in
     received_tells c.args.self.now.me c.args.self.now.nodes c.args.message.now c.receive_first.result _ _ mine c.receive_first.ensures.received
 
-pub returns-in-None-clause-wrong_node : goal.returns-in-None-clause-wrong_node
-returns-in-None-clause-wrong_node c = (first_tells c).wrong_node
-
-pub returns-in-None-clause-stranger : goal.returns-in-None-clause-stranger
-returns-in-None-clause-stranger c = (first_tells c).stranger
+pub returns-in-None-clause-address : goal.returns-in-None-clause-address
+returns-in-None-clause-address c = (first_tells c).address
 
 pub returns-in-None-clause-allowed : goal.returns-in-None-clause-allowed
 returns-in-None-clause-allowed c = (first_tells c).allowed

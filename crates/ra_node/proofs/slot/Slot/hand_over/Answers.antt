@@ -11,6 +11,6 @@ pop_front-requires c =
 pub returns-clause-handed : goal.returns-clause-handed
 returns-clause-handed c =
     let s = c.self.inside in (
-      parts_handed_over s.automaton c.leave_and_request_into-left.new.self s.client s.queue c.pop_front.new.self c.args.self.now c.args.next c.pop_front.result c.in-Ok.handed.sends.items c.in-Ok.handed.entered c.self.view_is c.in-Ok.ensures.ok c.requires.first c.pop_front.ensures,
+      parts_handed_over s.automaton c.leave_and_request_into-left.new.self s.client s.queue c.pop_front.new.self c.args.self.now c.args.next c.pop_front.result c.in-Ok.handed.sends.items c.in-Ok.handed.entered c.self.view_is c.in-Ok.ensures.left.ok c.requires.first c.pop_front.ensures,
       c.leave_and_request_into-left.ensures.consistent,
     )
