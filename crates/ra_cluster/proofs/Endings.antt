@@ -15,12 +15,12 @@ use Rattle.ra_history.specs.declared.book.grant.Grant.{Grant}
 use Rattle.ra_history.specs.declared.settle_books.settled.Settled.{Settled}
 use Rattle.ra_history.specs.declared.book.stop.Stop.{Stop}
 use Rattle.ra_history.specs.Book.{BookState}
-use Rattle.ra_history.specs.Plan.{MeetsPlan, IsQuietEnd}
+use Rattle.ra_cluster.specs.Plan.{MeetsPlan, IsQuietEnd}
 use Rattle.ra_history.specs.Settled.{IsSettledOrder, IsSettledRun, Placed, IsGranted, BooksFit, HasUnsent, HasTwice, Repeats, settled_steps, start_of}
 use Rattle.ra_cluster.specs.Outcome.{first_fault, AreOf, AreSound, ChecksScript, IsOutcome, IsDone, IsOfThreads, RefusesReport, RefusesSound}
 use Rattle.ra_history.proofs.Causes.{not_all, not_apart}
 use Rattle.ra_history.proofs.SettledReport.{from_zero}
-use Rattle.ra_history.proofs.LockCounts.{waits_for_none, requests_are_locks, messages_are}
+use Rattle.ra_cluster.proofs.LockCounts.{waits_for_none, requests_are_locks, messages_are}
 
 -- ---- Refusals
 

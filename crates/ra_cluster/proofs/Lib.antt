@@ -2,3 +2,6 @@ mod Endings
 mod SiteNumbers
 mod LostFrames
 mod Records
+mod Planned
+mod LockCounts
+mod GoingOn

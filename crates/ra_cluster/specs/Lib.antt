@@ -5,3 +5,5 @@ pub mod Outcome
 pub mod Cluster
 pub mod Losses
 pub mod Handing
+pub mod Plan
+pub mod Progress

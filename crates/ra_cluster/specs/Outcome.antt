@@ -13,7 +13,7 @@ use Rattle.ra_history.specs.declared.book.grant.Grant.{Grant}
 use Rattle.ra_history.specs.declared.settle_books.settled.Settled.{Settled}
 use Rattle.ra_history.specs.declared.book.stop.Stop.{Stop}
 use Rattle.ra_history.specs.Book.{BookState, HasHistory}
-use Rattle.ra_history.specs.Plan.{MeetsPlan, IsQuietEnd, locks_of}
+use Rattle.ra_cluster.specs.Plan.{MeetsPlan, IsQuietEnd, locks_of}
 use Rattle.ra_history.specs.Settled.{IsCluster, IsSettledOrder, IsSettledRun, Placed, IsGranted, BooksFit, settled_steps}
 
 -- the first fault, or the other one if the first does not exist

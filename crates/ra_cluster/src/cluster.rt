@@ -3,6 +3,7 @@ pub mod all_sites;
 pub mod book_room;
 pub mod cluster_run;
 pub mod gate;
+pub mod script_plan;
 pub mod script_threads;
 pub mod settled_script;
 

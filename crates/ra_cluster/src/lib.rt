@@ -20,20 +20,23 @@
 #![tactic(auto)]
 
 mod cluster;
+mod laws;
 mod post;
 mod site;
 
 pub use cluster::all_sites::is_site_of;
 pub use cluster::cluster_run::{ClusterError, Recorded, record_cluster, run_cluster};
 pub use cluster::gate::{Gate, OpenGate};
+pub use cluster::script_plan::meets_plan;
 pub use cluster::script_threads::{ScriptRun, run_threads};
 pub use cluster::settled_script::settle_script;
 pub use cluster::{CallError, Cluster, Held};
+pub use laws::clients_of_settled_books_never_deadlock;
 pub use post::{Inbox, NewPostError, Post, SendError};
 pub use ra_history::{
     Book, BookError, BookEvent, BookKind, Events, Frames, Grant, MarkLostError, NewError, Posted,
-    Sent, SettleError, Settled, Stop, clients_of_settled_books_never_deadlock, clock_after,
-    histories_are_determined, histories_go_on, is_cluster, settle,
+    Sent, SettleError, Settled, Stop, clock_after, histories_are_determined, histories_go_on,
+    is_cluster, settle,
 };
 pub use site::desk::Handed;
 pub use site::take_error::TakeError;

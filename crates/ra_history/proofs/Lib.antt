@@ -17,18 +17,15 @@ mod LostSteps
 mod Taking
 pub mod Merging
 mod NextEvents
-mod Whole
+pub mod Whole
 pub mod Projections
-mod NodeMarks
+pub mod NodeMarks
 mod NodeSends
-mod SettledNodes
+pub mod SettledNodes
 mod SettledGrants
-mod GoingOn
 mod Clusters
 pub mod SettledReport
 pub mod Causes
-mod Planned
-pub mod LockCounts
 pub mod Truth
 mod Distinct
 mod Unsent

@@ -7,7 +7,5 @@ pub mod Settled
 pub mod Repeats
 pub mod SettlingParts
 pub mod EventMerge
-pub mod Progress
 mod TakenKeeping
 pub mod Keys
-pub mod Plan

@@ -25,7 +25,6 @@ pub use laws::{histories_are_determined, histories_go_on};
 pub use ra_node::NewError;
 pub use settle_books::copies::settle_with_copies;
 pub use settle_books::event_merge::step_of;
-pub use settle_books::script_plan::meets_plan;
 pub use settle_books::settled::Settled;
 pub use settle_books::{is_cluster, settle};
-pub use settled_laws::{books_settle_with_copies, clients_of_settled_books_never_deadlock};
+pub use settled_laws::books_settle_with_copies;

@@ -4,7 +4,6 @@ pub mod flagged_losses;
 pub mod grant_checks;
 pub mod order_keys;
 pub mod receipts;
-pub mod script_plan;
 pub mod settled;
 
 ghost use Rattle.std.specs.Prelude.{◌≡◌, ◌≢◌, ◌↔◌, ◌⊎◌, ℕ, ◌+◌, List, All, AllPairs, map, length, IsTrue, IsErrOf, IsOkUnless, IfOk, OnOk, MatchResult};

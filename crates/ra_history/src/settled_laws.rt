@@ -1,20 +1,8 @@
 //! What is true of the books of a cluster and of settled runs. Each function does nothing, and its contract is the law.
-ghost use Rattle.std.specs.Prelude.{◌+◌, ◌<◌, ℕ, List, All, Contains, length};
-ghost use Rattle.ra_automaton.specs.Steps.{greatest_number};
-ghost use Rattle.ra_node.specs.Node.{NodeState};
-ghost use Rattle.ra_world.specs.declared.text.report.Report.{Report};
-ghost use Rattle.ra_world.specs.MainTheorem.{IsQuietReport};
-ghost use Rattle.ra_world.specs.Traffic.{Move};
-ghost use Rattle.ra_world.specs.World.{Reports};
-ghost use Rattle.ra_schedule.specs.Orderly.{WaitsForName};
-ghost use Rattle.ra_history.specs.Book.{BookState, HasHistory, LeadsTo};
-ghost use Rattle.ra_history.specs.Progress.{TakesNamesInOrder, SomeoneCanGoOn, IsHeldInOrder};
-ghost use Rattle.ra_history.specs.Settled.{IsCluster, IsSettledRun, start_of};
 ghost use Rattle.ra_history.specs.SettlingParts.{FittingBooksSettle, BooksSettleWithCopies, GrantsAreInTheBooks};
 
 use crate::histories_are_determined;
 use ra_node::{events_keep_a_node_consistent, events_leave_other_names};
-use ra_schedule::clients_in_order_never_deadlock;
 use ra_world::{
     messages_of_runs_are_different, messages_under_way_are_between_nodes,
     prefixes_of_runs_are_runs, steps_that_fit_together_are_runs,
@@ -47,25 +35,4 @@ pub fn grants_of_settled_runs_are_in_the_books()
     events_leave_other_names();
     prefixes_of_runs_are_runs();
     messages_under_way_are_between_nodes();
-}
-
-/// Clients of threads never deadlock if each takes names in ascending order, one at a time. Suppose that the report of a
-/// settled run says that nothing was lost and nothing is under way. Then, by the books, each name that is waited for is
-/// held, and a client that holds it waits for nothing or for greater names. So a client that waits for a name waits in
-/// the end for a client that can go on: that one waits for nothing, and holds the name or one above it. Numbers end at
-/// 2^64-1, and some must be left for queued clients.
-pub fn clients_of_settled_books_never_deadlock()
-    ensures held { (books : List BookState) (moves : List Move) (report : Report) → IsCluster books → All HasHistory books
-        → IsSettledRun books moves → Reports (length books) (start_of books) moves report → IsQuietReport report
-        → All TakesNamesInOrder books → start_of books + report.requests < greatest_number
-        → (book : BookState) (node : NodeState) (client : ℕ) (name : List ℕ)
-        → Contains books book → LeadsTo book node → WaitsForName node client name → IsHeldInOrder books name }
-    ensures goes_on { (books : List BookState) (moves : List Move) (report : Report) → IsCluster books → All HasHistory books
-        → IsSettledRun books moves → Reports (length books) (start_of books) moves report → IsQuietReport report
-        → All TakesNamesInOrder books → start_of books + report.requests < greatest_number
-        → (book : BookState) (node : NodeState) (client : ℕ) (name : List ℕ)
-        → Contains books book → LeadsTo book node → WaitsForName node client name → SomeoneCanGoOn books name }
-{
-    histories_are_determined();
-    clients_in_order_never_deadlock();
 }

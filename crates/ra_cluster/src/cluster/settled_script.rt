@@ -1,11 +1,11 @@
 //! What comes of a script that threads ran.
 ghost use Rattle.std.specs.Prelude.{◌≡◌, ◌≢◌, ◌⊎◌, ◌↔◌, All, Some, None, IsTrue, IsErrOf, IfOk, IfErr, MatchResult};
-ghost use Rattle.ra_history.specs.Plan.{MeetsPlan, IsQuietEnd};
+ghost use Rattle.ra_cluster.specs.Plan.{MeetsPlan, IsQuietEnd};
 ghost use Rattle.ra_cluster.specs.Outcome as spec;
 ghost use Rattle.ra_cluster.specs.Outcome.{AreOf, IsDone, IsOfThreads, IsOutcome, RefusesReport, RefusesSound};
 
+use crate::cluster::script_plan::meets_plan;
 use crate::{Book, ClusterError, Grant, SettleError, Settled, Stop, is_cluster, settle};
-use ra_history::meets_plan;
 use ra_schedule::Script;
 use ra_world::Report;
 use std::alloc::Global;

@@ -1,9 +1,9 @@
 use Rattle.std.proofs.Common.{rules, ◌≡◌, ◌+◌, true, false, arith, below_more}
 use Rattle.std.proofs.lemmas.Bool.{iff_false}
-use Rattle.ra_history.specs.Plan.{IsFollowed}
-use Rattle.ra_history.proofs.Planned.{plan_met, met_followed, met_names}
+use Rattle.ra_cluster.specs.Plan.{IsFollowed}
+use Rattle.ra_cluster.proofs.Planned.{plan_met, met_followed, met_names}
 use Rattle.ra_history.proofs.Truth.{yes, no}
-use Rattle.ra_history.proofs.settle_books.script_plan.meets_plan.Goals as goal
+use Rattle.ra_cluster.proofs.cluster.script_plan.meets_plan.Goals as goal
 
 pub returns-then-not-name_clients : goal.returns-then-not-name_clients
 returns-then-not-name_clients c =

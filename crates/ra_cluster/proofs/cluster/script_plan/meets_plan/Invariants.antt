@@ -1,6 +1,6 @@
 use Rattle.std.proofs.Common.{ℕ, ◌+◌, ◌<◌}
-use Rattle.ra_history.specs.Plan.{IsFollowed}
-use Rattle.ra_history.proofs.settle_books.script_plan.meets_plan.Given as goal
+use Rattle.ra_cluster.specs.Plan.{IsFollowed}
+use Rattle.ra_cluster.proofs.cluster.script_plan.meets_plan.Given as goal
 
 -- the clients so far are followed
 abbrev pub invariant-loop-place : goal.invariant-loop-place

@@ -1,7 +1,7 @@
 use Rattle.std.proofs.Common.{ℕ, ◌<◌, ◌≤◌, get_or}
 use Rattle.ra_stamp.specs.declared.entry.Mark.{Mark}
-use Rattle.ra_history.specs.Plan.{client_of_mark}
-use Rattle.ra_history.proofs.settle_books.script_plan.name_clients.Given as goal
+use Rattle.ra_cluster.specs.Plan.{client_of_mark}
+use Rattle.ra_cluster.proofs.cluster.script_plan.name_clients.Given as goal
 
 -- each mark so far names one of the clients
 abbrev pub invariant-loop-mark : goal.invariant-loop-mark

@@ -10,7 +10,7 @@ use Rattle.ra_stamp.specs.declared.entry.Mark.TheVariants.{Requested, Entered, L
 use Rattle.ra_schedule.specs.declared.script.Op.{Op}
 use Rattle.ra_schedule.specs.declared.script.Op.TheVariants.{Lock, Unlock}
 use Rattle.ra_schedule.specs.Script.{ScriptState, ScriptClient, client_at}
-use Rattle.ra_history.specs.Plan.{client_of_mark, marks_of_client, IsNextMark, FollowsOps, IsFollowed, MeetsPlanOf, MeetsPlan, is_request}
+use Rattle.ra_cluster.specs.Plan.{client_of_mark, marks_of_client, IsNextMark, FollowsOps, IsFollowed, MeetsPlanOf, MeetsPlan, is_request}
 
 -- ---- One mark
 

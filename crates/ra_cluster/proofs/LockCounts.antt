@@ -18,8 +18,8 @@ use Rattle.ra_world.specs.Traffic.{Move}
 use Rattle.ra_world.specs.World.{Reports}
 use Rattle.ra_world.specs.MainTheorem.{MainTheorem}
 use Rattle.ra_world.specs.Quiet.{requests_in}
-use Rattle.ra_history.specs.Plan.{client_of_mark, marks_of_client, FollowsOps, MeetsPlanOf, MeetsPlan, IsQuietEnd, locks_in, locks_of}
-use Rattle.ra_history.proofs.Planned.{filter_none, met_names}
+use Rattle.ra_cluster.specs.Plan.{client_of_mark, marks_of_client, FollowsOps, MeetsPlanOf, MeetsPlan, IsQuietEnd, locks_in, locks_of}
+use Rattle.ra_cluster.proofs.Planned.{filter_none, met_names}
 
 -- ---- The weight of marks
 

@@ -27,7 +27,7 @@ use Rattle.ra_history.specs.declared.book.sent.Sent.{Sent}
 use Rattle.ra_history.specs.History.{IsHistory, node_event}
 use Rattle.ra_history.specs.Book.{BookState, whole_events, HasHistory, LeadsTo}
 use Rattle.ra_history.specs.Settled.{IsCluster, IsSettledRun, start_of}
-use Rattle.ra_history.specs.Progress.{TakesNamesInOrder, SomeoneCanGoOn, IsHeldInOrder}
+use Rattle.ra_cluster.specs.Progress.{TakesNamesInOrder, SomeoneCanGoOn, IsHeldInOrder}
 use Rattle.ra_history.proofs.Merging.{number_at}
 use Rattle.ra_history.proofs.NodeMarks.{Fit, history_by}
 use Rattle.ra_history.proofs.Whole.{whole_history, whole_events_are, whole_leads}

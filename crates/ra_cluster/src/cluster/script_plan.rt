@@ -1,7 +1,7 @@
 //! Whether the marks of a run are those of a script.
 ghost use Rattle.std.specs.Prelude.{◌≡◌, ◌↔◌, ◌≤◌, ℕ, All, IsTrue};
-ghost use Rattle.ra_history.specs.Plan as spec;
-ghost use Rattle.ra_history.specs.Plan.{MeetsPlan, IsFollowed, IsNextMark, IsRequestFor, client_of_mark};
+ghost use Rattle.ra_cluster.specs.Plan as spec;
+ghost use Rattle.ra_cluster.specs.Plan.{MeetsPlan, IsFollowed, IsNextMark, IsRequestFor, client_of_mark};
 
 use ra_schedule::{Op, Script};
 use ra_stamp::{Entry, Mark, Name, NodeId};

@@ -3,11 +3,11 @@ use Rattle.std.specs.Prelude.{is_some, not}
 use Rattle.std.proofs.lemmas.Bool.{iff_false, not-false}
 use Rattle.ra_stamp.specs.declared.entry.Entry.{Entry}
 use Rattle.ra_schedule.specs.Script.{client_at}
-use Rattle.ra_history.specs.Plan.{marks_of_client, client_of_mark, is_request}
-use Rattle.ra_history.proofs.Planned.{SameLeft, no_operation, wrong_mark, take_mark, all_marks, of_client}
+use Rattle.ra_cluster.specs.Plan.{marks_of_client, client_of_mark, is_request}
+use Rattle.ra_cluster.proofs.Planned.{SameLeft, no_operation, wrong_mark, take_mark, all_marks, of_client}
 use Rattle.ra_history.proofs.Truth.{no, none_of}
-use Rattle.ra_history.proofs.settle_books.script_plan.follows_ops.Goals as goal
-use Rattle.ra_history.proofs.settle_books.script_plan.follows_ops.Goals.{then-not-requested, else-not-requested}
+use Rattle.ra_cluster.proofs.cluster.script_plan.follows_ops.Goals as goal
+use Rattle.ra_cluster.proofs.cluster.script_plan.follows_ops.Goals.{then-not-requested, else-not-requested}
 
 pub returns-in_default-op : goal.returns-in_default-op
 returns-in_default-op c =

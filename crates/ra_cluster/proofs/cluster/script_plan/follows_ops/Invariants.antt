@@ -1,7 +1,7 @@
 use Rattle.std.proofs.Common.{◌≤◌}
 use Rattle.ra_schedule.specs.Script.{client_at}
-use Rattle.ra_history.proofs.Planned.{SameLeft}
-use Rattle.ra_history.proofs.settle_books.script_plan.follows_ops.Given as goal
+use Rattle.ra_cluster.proofs.Planned.{SameLeft}
+use Rattle.ra_cluster.proofs.cluster.script_plan.follows_ops.Given as goal
 
 -- the marks so far are those of the operations before a place, which are no more than the marks
 abbrev pub invariant-loop-mark : goal.invariant-loop-mark

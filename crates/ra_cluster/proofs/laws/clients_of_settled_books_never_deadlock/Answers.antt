@@ -1,5 +1,5 @@
-use Rattle.ra_history.proofs.GoingOn.{GoingOnLaws, books_go_on, books_are_held}
-use Rattle.ra_history.proofs.settled_laws.clients_of_settled_books_never_deadlock.Goals as goal
+use Rattle.ra_cluster.proofs.GoingOn.{GoingOnLaws, books_go_on, books_are_held}
+use Rattle.ra_cluster.proofs.laws.clients_of_settled_books_never_deadlock.Goals as goal
 
 pub returns : goal.returns
 returns c =
