@@ -1,20 +1,20 @@
 -- What a book answers to bytes.
-use Rattle.std.proofs.Common.{◌≡◌, ◌≢◌, ◌↔◌, ◌⊎◌, ℕ, ◌<◌, ◌≤◌, ◌^◌, Bool, true, false, not, eqb, Some, None, List, Result, Ok, Err, refl, sym, ap, ◌∙◌, subst, inl, inr, arith}
+use Rattle.std.proofs.Common.{◌≡◌, ◌≢◌, ◌↔◌, ◌⊎◌, ℕ, ◌<◌, ◌≤◌, ◌^◌, Some, None, List, Result, Ok, Err, refl, sym, ap, ◌∙◌, subst, inl, inr, arith}
 use Rattle.std.specs.Prelude.{IfOk, IfErr, IsErrAnd, IsErrOf, IsOkUnless, IsSome}
-use Rattle.std.proofs.lemmas.Bool.{false≢true, eqb-true, eqb-false, eq-eqb}
-use Rattle.ra_stamp.specs.Message.{from_of, to_of}
-use Rattle.ra_stamp.specs.NodeId.{IsNodeNumber}
-use Rattle.ra_stamp.specs.declared.message.Message.{Message}
+use Rattle.ra_stamp.specs.Message.{from_of}
 use Rattle.ra_frame.specs.declared.error.FrameError.{FrameError}
 use Rattle.ra_frame.specs.declared.frame.Frame.{Frame as OneFrame}
 use Rattle.ra_frame.specs.Faults.{first_fault}
+use Rattle.ra_frame.specs.Fits.{Fits}
 use Rattle.ra_frame.specs.FrameText.{IsFrameText}
 use Rattle.ra_automaton.specs.State.{IsForNode}
+use Rattle.ra_node.specs.Node.{NodeState, IsConsistentNode}
 use Rattle.ra_history.specs.declared.error.BookError.{BookError}
 use Rattle.ra_history.specs.declared.error.BookError.TheVariants.{Failed, Frame, Busy, Exhausted, NotHeld, WrongNode, Stranger, ClockFull, Memory}
 use Rattle.ra_history.specs.declared.book.event.BookKind.TheVariants.{Got}
 use Rattle.ra_history.specs.History.{clock_after, clock_of}
 use Rattle.ra_history.specs.Book.{BookState, whole_events, HasHistory, HasClock, Hears}
+use Rattle.ra_history.specs.EventChecks.{IsRefusedAfter}
 use Rattle.ra_history.specs.Keeping.{ComesNext, IsChecked, AnswersReceive, IsFrameFor, IsHeard, NotHeard}
 use Rattle.ra_history.proofs.Running.{ComesAt, has_fault, has_next, comes_next, passed, passed_allowed, other}
 
@@ -34,52 +34,36 @@ module _ (me nodes clock : ℕ) (bytes : List ℕ) where
       pub not_heard : (e : BookError) → NotHeard me nodes clock bytes e → IsHeard me nodes clock bytes (Err e)
       not_heard e why = record { heard = tt; refused = why; one_text = one_text; no_fault = no_fault }
 
+      -- by an error that is passed on
+      pub unheard : (e : BookError) → NotHeard me nodes clock bytes e → (r : Result (OneFrame × ℕ) BookError) → IsErrAnd r (λ x. x ≡ e)
+          → IsHeard me nodes clock bytes r
+      unheard e why (Ok v) h = absurd h
+      unheard e why (Err x) h = not_heard x (subst (NotHeard me nodes clock bytes) (sym h) why)
+
       -- a frame for the node is heard if a clock is left
-      module _ (f : OneFrame) (is : IsFrameFor me nodes bytes f) where
-        pub heard : (next : ℕ) → ComesAt clock (Got f) (Ok next) → IsHeard me nodes clock bytes (Ok (f, next))
-        heard next comes = record { heard = (is, comes.0, comes.1); refused = tt; one_text = one_text; no_fault = no_fault }
+      pub heard : (f : OneFrame) → IsFrameFor me nodes bytes f → (next : ℕ) → ComesAt clock (Got f) (Ok next) → IsHeard me nodes clock bytes (Ok (f, next))
+      heard f is next comes = record { heard = (is, comes.0, comes.1); refused = tt; one_text = one_text; no_fault = no_fault }
 
-        pub clock_full : (e : BookError) → ComesAt clock (Got f) (Err e) → (r : Result (OneFrame × ℕ) BookError) → IsErrAnd r (λ x. x ≡ e)
-            → IsHeard me nodes clock bytes r
-        clock_full e comes (Ok v) h = absurd h
-        clock_full e comes (Err x) h = not_heard x (subst (NotHeard me nodes clock bytes) (sym (h ∙ comes.0)) (f, is, comes.1))
-
--- ---- The nodes of a message
-
-pub to_another : (to me : ℕ) (message : Message) (ne : Bool) → ne ≡ not (eqb to me) → ne ≡ true → to ≡ to_of message → to_of message ≢ me
-to_another to me message ne is on at same =
-    let e : eqb to me ≡ true = eq-eqb to me (at ∙ same) in
-    false≢true (sym (ap not e) ∙ sym is ∙ on)
-
-pub to_me : (to me : ℕ) (message : Message) (ne : Bool) → ne ≡ not (eqb to me) → ne ≡ false → to ≡ to_of message → to_of message ≡ me
-to_me to me message ne is off at = sym at ∙ eqb-true to me (of_not (eqb to me) (sym is ∙ off))
-  where
-    of_not : (b : Bool) → not b ≡ false → b ≡ true
-    of_not true e = refl
-    of_not false e = sym e
-
-pub from_me : (from me : ℕ) (message : Message) (eq : Bool) → eq ≡ eqb from me → eq ≡ true → from ≡ from_of message → from_of message ≡ me
-from_me from me message eq is on at = sym at ∙ eqb-true from me (sym is ∙ on)
-
-pub is_for : (me nodes : ℕ) (message : Message) (to from number : ℕ) (ne eq : Bool) → ne ≡ not (eqb to me) → ne ≡ false → to ≡ to_of message
-    → eq ≡ eqb from me → eq ≡ false → from ≡ from_of message → number ≡ from → IsNodeNumber number → number ≤ nodes → IsForNode me nodes message
-is_for me nodes message to from number ne eq ne_is same to_is eq_is other from_is number_is valid low =
-    let sender : number ≡ from_of message = number_is ∙ from_is in
-    record {
-      to = to_me to me message ne ne_is same to_is;
-      from = record {
-        first = subst (λ (n : ℕ). 1 ≤ n) sender valid.0;
-        last = subst (λ (n : ℕ). n ≤ nodes) sender low;
-        other = λ e. eqb-false from me (sym eq_is ∙ other) (from_is ∙ e);
-      };
-    }
+-- a frame that the node does not take, or for which no clock is left
+pub not_taken : (node : NodeState) (clock : ℕ) (bytes : List ℕ) (f : OneFrame) → IsFrameText bytes f → Fits f → (why : BookError) → why ≢ Memory
+    → IsRefusedAfter node clock (Got f) why → NotHeard node.me node.nodes clock bytes why
+not_taken node clock bytes f text fits why other (inl (inl wrong)) =
+    subst (NotHeard node.me node.nodes clock bytes) (sym wrong.0) (f, text, wrong.1)
+not_taken node clock bytes f text fits why other (inl (inr stranger)) =
+    subst (NotHeard node.me node.nodes clock bytes) (sym stranger.0) (f, text, stranger.1, stranger.2)
+not_taken node clock bytes f text fits why other (inr (inl full)) =
+    subst (NotHeard node.me node.nodes clock bytes) (sym full.0) (f, record { text = text; for_it = full.1; fits = fits }, full.2)
+not_taken node clock bytes f text fits why other (inr (inr memory)) = absurd (other memory.0)
 
 -- ---- An answer
 
 -- the node that hears is the node of the book
-pub heard_by : {book now : BookState} {clock : ℕ} {bytes : List ℕ} {r : Result (OneFrame × ℕ) BookError} → book ≡ now
-    → IsHeard book.me book.nodes clock bytes r → IsHeard now.me now.nodes clock bytes r
-heard_by {clock = clock} {bytes = bytes} {r = r} is heard = subst (λ (b : BookState). IsHeard b.me b.nodes clock bytes r) is heard
+pub heard_by : (node : NodeState) (book now : BookState) (clock : ℕ) (bytes : List ℕ) (r : Result (OneFrame × ℕ) BookError)
+    → (node.me ≡ book.me) × (node.nodes ≡ book.nodes) × IsConsistentNode node → book ≡ now
+    → IsHeard node.me node.nodes clock bytes r → IsHeard now.me now.nodes clock bytes r
+heard_by node book now clock bytes r same is heard =
+    subst (λ (b : BookState). IsHeard b.me b.nodes clock bytes r) is
+    (subst (λ (n : ℕ). IsHeard book.me n clock bytes r) same.1 (subst (λ (m : ℕ). IsHeard m node.nodes clock bytes r) same.0 heard))
 
 no_stranger : (me nodes : ℕ) (f : OneFrame) → IsForNode me nodes f.message → (from_of f.message ≡ me) ⊎ (nodes < from_of f.message) → ⊥
 no_stranger me nodes f for_it why =

@@ -4,6 +4,7 @@ mod Kept
 mod Running
 mod Adding
 mod Hearing
+mod EventChecked
 mod Losing
 mod Ascending
 mod FrameSearch

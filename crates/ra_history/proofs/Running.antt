@@ -1,6 +1,6 @@
 -- What a book answers to an event, in words of the node that is kept, and how the answer is passed on.
-use Rattle.std.proofs.Common.{◌≡◌, ◌≢◌, ◌↔◌, ℕ, ◌^◌, ◌<◌, ◌≤◌, Bool, false, true, Option, Some, None, List, [], Result, Ok, Err, refl, sym, ap, ◌∙◌, subst, arith}
-use Rattle.std.specs.Prelude.{IfOk, IfSome, OnErr, IsErrAnd, IsErrOf, IsOkUnless, IsSome, IsTrue, is_some, MatchResult}
+use Rattle.std.proofs.Common.{◌≡◌, ◌≢◌, ◌↔◌, ℕ, ◌^◌, ◌<◌, ◌≤◌, false, true, Option, Some, None, List, [], Result, Ok, Err, refl, sym, ap, ◌∙◌, subst, inl, inr, arith}
+use Rattle.std.specs.Prelude.{IfErr, IfOk, IfSome, OnErr, IsErrAnd, IsErrOf, IsOkUnless, IsSome, is_some, MatchResult}
 use Rattle.std.specs.Result.{result_ok}
 use Rattle.ra_stamp.specs.declared.entry.Entry.{Entry}
 use Rattle.ra_stamp.specs.declared.mode.Mode.{Mode}
@@ -16,6 +16,7 @@ use Rattle.ra_history.specs.declared.book.event.BookKind.{BookKind}
 use Rattle.ra_history.specs.declared.book.event.BookKind.TheVariants.{Asked, Gave}
 use Rattle.ra_history.specs.declared.book.stop.Stop.{Stop}
 use Rattle.ra_history.specs.Refused.{refusal_of_ask}
+use Rattle.ra_history.specs.EventChecks.{CanHappen, IsRefusedAfter}
 use Rattle.ra_history.specs.History.{clock_after, clock_of}
 use Rattle.ra_history.specs.Book.{BookState, whole_events, LeadsTo, HasHistory, HasClock, Runs}
 use Rattle.ra_history.specs.Keeping.{Keeps, IsForThisBook, ComesNext, HasNextClock, IsChecked, AnswersAsk, RefusesAsk, AnswersLeave}
@@ -96,26 +97,13 @@ module _ {T : Type 0} (book : BookState) (Next : T → Type 0) (history : HasHis
   pub checked_failed : IsChecked book Next (Err Failed)
   checked_failed = record { history = history; next = tt; memory = λ m. absurd (cc) }
 
-  pub checked_not_held : IsChecked book Next (Err NotHeld)
-  checked_not_held = record { history = history; next = tt; memory = λ m. absurd (cc) }
-
-  pub checked_ok : (v : T) → Next v → IsChecked book Next (Ok v)
-  checked_ok v next = record { history = history; next = next; memory = tt }
-
-  pub checked_err : (r : Result T BookError) (e : BookError) → e ≢ Memory → IsErrAnd r (λ x. x ≡ e) → IsChecked book Next r
-  checked_err (Ok v) e other is = absurd is
-  checked_err (Err x) e other is = record { history = history; next = tt; memory = λ m. other (sym is ∙ m) }
-
--- the clock is full
-pub full_is : {P : Type 0} (e : BookError) → (e ≡ ClockFull) × P → e ≢ Memory
-full_is e full m = let wrong = sym full.0 ∙ m in absurd (cc)
-
-pub checked_next : (book : BookState) (clock : ℕ) (kind : BookKind) → HasHistory book → IsForThisBook book kind → clock ≡ clock_of (whole_events book)
-    → (r : Result ℕ BookError) → ComesAt clock kind r → IsChecked book (λ next. ComesNext book next kind) r
-checked_next book clock kind history for_it is (Ok next) comes =
-    checked_ok book (λ next. ComesNext book next kind) history next (comes_next book clock kind for_it is next comes)
-checked_next book clock kind history for_it is (Err e) comes =
-    checked_err book (λ next. ComesNext book next kind) history (Err e) e (full_is e comes) refl
+-- the check of an event at the node that is kept
+pub event_checked : (book : BookState) (node : NodeState) (clock : ℕ) (kind : BookKind) → HasHistory book → IsForThisBook book kind
+    → clock ≡ clock_of (whole_events book) → (r : Result ℕ BookError) → IfErr r (λ e. e ≢ Memory)
+    → MatchResult r (CanHappen node clock kind) (IsRefusedAfter node clock kind) → IsChecked book (λ next. ComesNext book next kind) r
+event_checked book node clock kind history for_it is (Ok next) other can =
+    record { history = history; next = comes_next book clock kind for_it is next (can.next_is, can.has_clock); memory = tt }
+event_checked book node clock kind history for_it is (Err e) other refused = record { history = history; next = tt; memory = other }
 
 -- ---- An answer that is passed on
 
@@ -145,12 +133,6 @@ other v (Err x) cause h apart is = (λ e. absurd (apart (let same : x ≡ cause 
 
 -- ---- An ask
 
--- a node that refuses an ask for another cause than memory
-pub ask_not_memory : (e : AskError) → (IsErrOf {T = Unit {0}} (Err e) ask.Memory → ⊥) → refusal_of_ask e ≢ Memory
-ask_not_memory ask.Busy memory is = absurd (cc)
-ask_not_memory ask.Exhausted memory is = absurd (cc)
-ask_not_memory ask.Memory memory is = absurd (memory refl)
-
 module _ (book : BookState) (client : ℕ) (name : List ℕ) (mode : Mode) where
   pub ask_failed : {T : Type 0} → IsSome book.fault → AnswersAsk {T = T} book client name mode (Err Failed)
   ask_failed some = record {
@@ -172,31 +154,37 @@ module _ (book : BookState) (client : ℕ) (name : List ℕ) (mode : Mode) where
   }
 
   module _ (node : NodeState) (none : book.fault ≡ None) (at : (P : NodeState → Type 0) → Runs book P ↔ ((book.fault ≡ None) × P node)) where
-    -- the node refuses it
-    pub ask_refused : {S T : Type 0} (e : AskError) → IsErrOf {T = S} (Err e) ask.Busy ↔ IsBusy (resource_at node name) client
-        → IsErrOf {T = S} (Err e) ask.Exhausted ↔ ((IsBusy (resource_at node name) client → ⊥) × ((resource_at node name).state.highest ≡ greatest_number))
-        → (IsErrOf {T = S} (Err e) ask.Memory → ⊥)
-        → (r : Result T BookError) → IsErrAnd r (λ x. x ≡ refusal_of_ask e) → AnswersAsk book client name mode r
-    ask_refused e busy exhausted memory (Ok v) h = absurd h
-    ask_refused ask.Busy busy exhausted memory (Err x) h =
-        let is_busy = busy.0 refl in
-        record {
-          failed = (λ is. absurd (cc), λ some. absurd (has_fault book.fault some none));
-          busy = (λ _. (at _).1 (none, is_busy), λ _. ap Err h);
-          exhausted = (λ is. absurd (cc), λ runs. absurd (((at _).0 runs).1.0 is_busy));
-          clock_full = (λ is. absurd (cc), λ runs. absurd (((at _).0 runs).1.0.not_busy is_busy));
-          allowed = (λ is. absurd (cc), λ runs. absurd (((at _).0 runs).1.0.not_busy is_busy));
-        }
-    ask_refused ask.Exhausted busy exhausted memory (Err x) h =
-        let is_exhausted = exhausted.0 refl in
-        record {
-          failed = (λ is. absurd (cc), λ some. absurd (has_fault book.fault some none));
-          busy = (λ is. absurd (cc), λ runs. absurd (is_exhausted.0 ((at _).0 runs).1));
-          exhausted = (λ _. (at _).1 (none, is_exhausted), λ _. ap Err h);
-          clock_full = (λ is. absurd (cc), λ runs. absurd (omega (arith, is_exhausted.1, ((at _).0 runs).1.0.number_left)));
-          allowed = (λ is. absurd (cc), λ runs. absurd (omega (arith, is_exhausted.1, ((at _).0 runs).1.0.number_left)));
-        }
-    ask_refused ask.Memory busy exhausted memory (Err x) h = absurd (memory refl)
+    -- the client is busy
+    ask_busy : {T : Type 0} → IsBusy (resource_at node name) client → (x : BookError) → x ≡ Busy → AnswersAsk {T = T} book client name mode (Err x)
+    ask_busy is_busy x h = record {
+      failed = (λ is. absurd (cc), λ some. absurd (has_fault book.fault some none));
+      busy = (λ _. (at _).1 (none, is_busy), λ _. ap Err h);
+      exhausted = (λ is. absurd (cc), λ runs. absurd (((at _).0 runs).1.0 is_busy));
+      clock_full = (λ is. absurd (cc), λ runs. absurd (((at _).0 runs).1.0.not_busy is_busy));
+      allowed = (λ is. absurd (cc), λ runs. absurd (((at _).0 runs).1.0.not_busy is_busy));
+    }
+
+    -- no number is left
+    ask_exhausted : {T : Type 0} → (IsBusy (resource_at node name) client → ⊥) → (resource_at node name).state.highest ≡ greatest_number
+        → (x : BookError) → x ≡ Exhausted → AnswersAsk {T = T} book client name mode (Err x)
+    ask_exhausted not_busy highest x h = record {
+      failed = (λ is. absurd (cc), λ some. absurd (has_fault book.fault some none));
+      busy = (λ is. absurd (cc), λ runs. absurd (not_busy ((at _).0 runs).1));
+      exhausted = (λ _. (at _).1 (none, (not_busy, highest)), λ _. ap Err h);
+      clock_full = (λ is. absurd (cc), λ runs. absurd (omega (arith, highest, ((at _).0 runs).1.0.number_left)));
+      allowed = (λ is. absurd (cc), λ runs. absurd (omega (arith, highest, ((at _).0 runs).1.0.number_left)));
+    }
+
+    -- the node allows it, and no clock is left
+    ask_full : {T : Type 0} → MayAsk (resource_at node name) client → (HasClock book (Asked client name mode) → ⊥)
+        → (x : BookError) → x ≡ ClockFull → AnswersAsk {T = T} book client name mode (Err x)
+    ask_full may full x h = record {
+      failed = (λ is. absurd (cc), λ some. absurd (has_fault book.fault some none));
+      busy = (λ is. absurd (cc), λ runs. absurd (may.not_busy ((at _).0 runs).1));
+      exhausted = (λ is. absurd (cc), λ runs. absurd (omega (arith, may.number_left, ((at _).0 runs).1.1)));
+      clock_full = (λ _. (at _).1 (none, (may, full)), λ _. ap Err h);
+      allowed = (λ is. absurd (cc), λ runs. absurd (full ((at _).0 runs).1.1));
+    }
 
     -- the node allows it, and a clock is left
     pub ask_allowed : {T : Type 0} (v : T) → MayAsk (resource_at node name) client → HasClock book (Asked client name mode) → AnswersAsk book client name mode (Ok v)
@@ -208,54 +196,32 @@ module _ (book : BookState) (client : ℕ) (name : List ℕ) (mode : Mode) where
       allowed = (λ _. (at _).1 (none, (may, has)), λ _. tt);
     }
 
+    -- and memory runs out
+    ask_memory : {T : Type 0} → MayAsk (resource_at node name) client → HasClock book (Asked client name mode) → (x : BookError) → x ≡ Memory
+        → AnswersAsk {T = T} book client name mode (Err x)
+    ask_memory may has x h = ask_added {T = List ℕ} [] (ask_allowed {T = List ℕ} [] may has) (Err x) h
+
     -- the node answers it, and a clock is left
     pub ask_answered : {S T : Type 0} (e : AskError) → IsErrOf {T = S} (Err e) ask.Busy ↔ IsBusy (resource_at node name) client
         → IsErrOf {T = S} (Err e) ask.Exhausted ↔ ((IsBusy (resource_at node name) client → ⊥) × ((resource_at node name).state.highest ≡ greatest_number))
         → IsOkUnless {T = S} (Err e) ask.Memory ↔ MayAsk (resource_at node name) client → HasClock book (Asked client name mode)
         → (r : Result T BookError) → IsErrAnd r (λ x. x ≡ refusal_of_ask e) → AnswersAsk book client name mode r
-    ask_answered {S} {T} ask.Busy busy exhausted allowed has r h = ask_refused {S = S} ask.Busy busy exhausted (λ is. absurd (cc)) r h
-    ask_answered {S} {T} ask.Exhausted busy exhausted allowed has r h = ask_refused {S = S} ask.Exhausted busy exhausted (λ is. absurd (cc)) r h
-    ask_answered {S} {T} ask.Memory busy exhausted allowed has (Ok v) h = absurd h
-    ask_answered {S} {T} ask.Memory busy exhausted allowed has (Err x) h = ask_added {T = List ℕ} [] (ask_allowed {T = List ℕ} [] (allowed.0 refl) has) (Err x) h
+    ask_answered e busy exhausted allowed has (Ok v) h = absurd h
+    ask_answered ask.Busy busy exhausted allowed has (Err x) h = ask_busy (busy.0 refl) x h
+    ask_answered ask.Exhausted busy exhausted allowed has (Err x) h = let is = exhausted.0 refl in ask_exhausted is.0 is.1 x h
+    ask_answered ask.Memory busy exhausted allowed has (Err x) h = ask_memory (allowed.0 refl) has x h
 
-    -- the node allows it
-    pub ask_next : (clock : ℕ) → MayAsk (resource_at node name) client → clock ≡ clock_of (whole_events book)
-        → (r : Result ℕ BookError) → ComesAt clock (Asked client name mode) r → AnswersAsk book client name mode r
-    ask_next clock may clock_is r comes = by_clock r (has_next book clock (Asked client name mode) clock_is r comes)
-      where
-        by_clock : (r : Result ℕ BookError) → HasNext book (Asked client name mode) r → AnswersAsk book client name mode r
-        by_clock (Ok next) has = ask_allowed next may has
-        by_clock (Err e) full = record {
-          failed = (λ is. let wrong = sym full.0 in absurd (cc), λ some. absurd (has_fault book.fault some none));
-          busy = (λ is. let wrong = sym full.0 in absurd (cc), λ runs. absurd (may.not_busy ((at _).0 runs).1));
-          exhausted = (λ is. let wrong = sym full.0 in absurd (cc), λ runs. absurd (omega (arith, may.number_left, ((at _).0 runs).1.1)));
-          clock_full = (λ _. (at _).1 (none, (may, full.1)), λ _. ap Err full.0);
-          allowed = (λ is. let wrong = sym full.0 ∙ is in absurd (cc), λ runs. absurd (full.1 ((at _).0 runs).1.1));
-        }
-
-  pub ask_passed : {T S : Type 0} (e : BookError) → AnswersAsk {T = T} book client name mode (Err e)
-      → (r : Result S BookError) → IsErrAnd r (λ x. x ≡ e) → AnswersAsk book client name mode r
-  ask_passed {T} {S} e answers (Ok v) h = absurd h
-  ask_passed {T} {S} e answers (Err x) h = record {
-    failed = passed x e Failed h answers.failed;
-    busy = passed x e Busy h answers.busy;
-    exhausted = passed x e Exhausted h answers.exhausted;
-    clock_full = passed x e ClockFull h answers.clock_full;
-    allowed = passed_allowed T S x e Memory h answers.allowed;
-  }
-
--- it is refused, unless memory runs out
-pub ask_refusal_of : {T : Type 0} (book : BookState) (client : ℕ) (name : List ℕ) (mode : Mode) (e : BookError) → AnswersAsk {T = T} book client name mode (Err e) → RefusesAsk book client name mode e
-ask_refusal_of {T} book client name mode e answers = ask_passed book client name mode {T = T} e answers (Err e) refl
-
-pub ask_refusal_if : {T : Type 0} (book : BookState) (client : ℕ) (name : List ℕ) (mode : Mode) (v : T) → AnswersAsk book client name mode (Ok v) → RefusesAsk book client name mode Memory
-ask_refusal_if book client name mode v answers = ask_added book client name mode v answers (Err Memory) refl
+    -- it is refused, unless memory is there
+    pub ask_refused : (clock : ℕ) → clock ≡ clock_of (whole_events book) → (why : BookError) → IsRefusedAfter node clock (Asked client name mode) why
+        → RefusesAsk book client name mode why
+    ask_refused clock is why (inl (inl busy)) = ask_busy busy.1 why busy.0
+    ask_refused clock is why (inl (inr exhausted)) = ask_exhausted exhausted.1 exhausted.2 why exhausted.0
+    ask_refused clock is why (inr (inl full)) =
+        ask_full full.1 (has_next book clock (Asked client name mode) is (Err ClockFull) (refl, full.2)).1 why full.0
+    ask_refused clock is why (inr (inr memory)) =
+        ask_memory memory.1 (has_next book clock (Asked client name mode) is (Ok (clock_after clock (Asked client name mode))) (refl, memory.2)) why memory.0
 
 -- ---- A leave
-
--- what a test that came out false says
-pub tested_not : {P : Type 0} {b : Bool} → IsTrue b ↔ P → b ≡ false → P → ⊥
-tested_not is is_false p = let yes = is.1 p in absurd (cc)
 
 -- the client holds the name, by some request
 abbrev IsHeld : NodeState → ℕ → List ℕ → Type 0
@@ -272,32 +238,44 @@ module _ (book : BookState) (client : ℕ) (name : List ℕ) where
 
   module _ (node : NodeState) (none : book.fault ≡ None) (at : (P : NodeState → Type 0) → Runs book P ↔ ((book.fault ≡ None) × P node)) where
     -- the client does not hold it
-    pub leave_refused : {T : Type 0} → (IsHeld node client name → ⊥) → AnswersLeave {T = T} book client name (Err NotHeld)
-    leave_refused not_held = record {
+    leave_not_held : {T : Type 0} → (IsHeld node client name → ⊥) → (x : BookError) → x ≡ NotHeld → AnswersLeave {T = T} book client name (Err x)
+    leave_not_held not_held x h = record {
       failed = (λ is. absurd (cc), λ some. absurd (has_fault book.fault some none));
-      not_held = (λ _. (at _).1 (none, λ entry holds. not_held (entry, holds)), λ _. refl);
+      not_held = (λ _. (at _).1 (none, λ entry holds. not_held (entry, holds)), λ _. ap Err h);
       clock_full = (λ is. absurd (cc), λ runs. absurd (not_held ((at _).0 runs).1.0));
       allowed = (λ is. absurd (cc), λ runs. absurd (not_held ((at _).0 runs).1.0));
     }
 
-    -- it holds it
-    pub leave_next : (clock : ℕ) → IsHeld node client name → clock ≡ clock_of (whole_events book)
-        → (r : Result ℕ BookError) → ComesAt clock (Gave client name) r → AnswersLeave book client name r
-    leave_next clock held clock_is r comes = by_clock r (has_next book clock (Gave client name) clock_is r comes)
+    -- it holds it, and no clock is left
+    leave_full : {T : Type 0} → IsHeld node client name → (HasClock book (Gave client name) → ⊥) → (x : BookError) → x ≡ ClockFull
+        → AnswersLeave {T = T} book client name (Err x)
+    leave_full held full x h = record {
+      failed = (λ is. absurd (cc), λ some. absurd (has_fault book.fault some none));
+      not_held = (λ is. absurd (cc), λ runs. absurd (((at _).0 runs).1 held.0 held.1));
+      clock_full = (λ _. (at _).1 (none, (held, full)), λ _. ap Err h);
+      allowed = (λ is. absurd (cc), λ runs. absurd (full ((at _).0 runs).1.1));
+    }
+
+    -- it holds it, and a clock is left
+    leave_allowed : {T : Type 0} (v : T) → IsHeld node client name → HasClock book (Gave client name) → AnswersLeave book client name (Ok v)
+    leave_allowed v held has = record {
+      failed = (λ is. absurd (cc), λ some. absurd (has_fault book.fault some none));
+      not_held = (λ is. absurd (cc), λ runs. absurd (((at _).0 runs).1 held.0 held.1));
+      clock_full = (λ is. absurd (cc), λ runs. absurd (((at _).0 runs).1.1 has));
+      allowed = (λ _. (at _).1 (none, (held, has)), λ _. tt);
+    }
+
+    -- the check of it
+    pub leave_checked : (clock : ℕ) → clock ≡ clock_of (whole_events book) → (r : Result ℕ BookError) → IfErr r (λ e. e ≢ Memory)
+        → MatchResult r (CanHappen node clock (Gave client name)) (IsRefusedAfter node clock (Gave client name)) → AnswersLeave book client name r
+    leave_checked clock is (Ok next) other can =
+        leave_allowed next can.may (has_next book clock (Gave client name) is (Ok next) (can.next_is, can.has_clock))
+    leave_checked clock is (Err e) other refused = by_cause e other refused
       where
-        by_clock : (r : Result ℕ BookError) → HasNext book (Gave client name) r → AnswersLeave book client name r
-        by_clock (Ok next) has = record {
-          failed = (λ is. absurd (cc), λ some. absurd (has_fault book.fault some none));
-          not_held = (λ is. absurd (cc), λ runs. absurd (((at _).0 runs).1 held.0 held.1));
-          clock_full = (λ is. absurd (cc), λ runs. absurd (((at _).0 runs).1.1 has));
-          allowed = (λ _. (at _).1 (none, (held, has)), λ _. tt);
-        }
-        by_clock (Err e) full = record {
-          failed = (λ is. let wrong = sym full.0 in absurd (cc), λ some. absurd (has_fault book.fault some none));
-          not_held = (λ is. let wrong = sym full.0 in absurd (cc), λ runs. absurd (((at _).0 runs).1 held.0 held.1));
-          clock_full = (λ _. (at _).1 (none, (held, full.1)), λ _. ap Err full.0);
-          allowed = (λ is. let wrong = sym full.0 ∙ is in absurd (cc), λ runs. absurd (full.1 ((at _).0 runs).1.1));
-        }
+        by_cause : (x : BookError) → x ≢ Memory → IsRefusedAfter node clock (Gave client name) x → AnswersLeave {T = ℕ} book client name (Err x)
+        by_cause x other (inl not_held) = leave_not_held (λ held. not_held.1 held.0 held.1) x not_held.0
+        by_cause x other (inr (inl full)) = leave_full full.1 (has_next book clock (Gave client name) is (Err ClockFull) (refl, full.2)).1 x full.0
+        by_cause x other (inr (inr memory)) = absurd (other memory.0)
 
   pub leave_passed : {T S : Type 0} (e : BookError) → AnswersLeave {T = T} book client name (Err e)
       → (r : Result S BookError) → IsErrAnd r (λ x. x ≡ e) → AnswersLeave book client name r

@@ -3,6 +3,7 @@ pub mod Book
 pub mod Departures
 pub mod Keeping
 pub mod Refused
+pub mod EventChecks
 pub mod Settled
 pub mod Repeats
 pub mod SettlingParts

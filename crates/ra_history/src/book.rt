@@ -1,6 +1,7 @@
 pub mod accepted_frame;
 pub mod departure;
 pub mod event;
+pub mod event_check;
 pub mod event_effect;
 pub mod event_room;
 pub mod frame_search;
@@ -18,6 +19,7 @@ ghost use Rattle.ra_node.specs.Node.{resource_at};
 
 use crate::book::accepted_frame::accept_frame;
 use crate::book::departure::Departure;
+use crate::book::event_check::{check_event, event_refusal};
 use crate::book::event_room::{answers_to, events_for, make_room, room_to_ask, sent_for};
 use crate::book::frame_search::is_kept;
 use crate::book::kept_events::{clock_after, flag_lost, keep};
@@ -78,7 +80,7 @@ impl Book {
     ghost use Rattle.ra_node.specs.Node.{NodeState};
     ghost use Rattle.ra_history.specs.History.{clock_of};
     ghost use Rattle.ra_history.specs.Book.{opening_book, whole_events, with_all_taken, IsWhole, LeadsTo, HasHistory, HasClock, Adds, Runs, Hears, IsFirst, Loses};
-    ghost use Rattle.ra_history.specs.Keeping.{ComesNext, HasNextClock, IsChecked, AnswersAsk, RefusesAsk, AnswersLeave, AnswersReceive};
+    ghost use Rattle.ra_history.specs.Keeping.{ComesNext, HasNextClock, IsChecked, RefusesAsk, AnswersLeave, AnswersReceive};
 
     /// Makes the book of node `me` of `nodes`, in which nothing has happened yet. The highest number of each resource begins
     /// at `start`, 0 to 2^64-1, which is to be the same at all nodes. It does not allocate until the first event comes.
@@ -454,27 +456,11 @@ impl Book {
         ensures refused { RefusesAsk self.now client name mode result }
         ensures history { HasHistory self.now }
     {
-        match self.check_ask(client, name, mode) {
-            Ok(_) => BookError::Memory,
-            Err(refused) => refused,
-        }
-    }
-
-    /// Returns the clock that the ask of a client has.
-    ///
-    /// # Errors
-    ///
-    /// Those of `ask`, except for `Memory`.
-    pub fn check_ask(&self, client: u32, name: Name, mode: Mode) -> Result<u64, BookError>
-        ensures checked { IsChecked self.now
-            (λ clock. ComesNext self.now clock (BookKind.Asked client name mode)) result }
-        ensures answers { AnswersAsk self.now client name mode result }
-    {
         if self.fault.is_some() {
-            return Err(BookError::Failed);
+            return BookError::Failed;
         }
-        self.node.may_ask(client, &name)?;
-        clock_after(self.clock(), &BookKind::Asked { client, name, mode })
+        let kind = BookKind::Asked { client, name, mode };
+        event_refusal(&self.node, self.clock(), &kind)
     }
 
     /// Returns the clock that the leave of a client has.
@@ -489,10 +475,8 @@ impl Book {
         if self.fault.is_some() {
             return Err(BookError::Failed);
         }
-        if !is_held_by(&self.node, client, &name) {
-            return Err(BookError::NotHeld);
-        }
-        clock_after(self.clock(), &BookKind::Gave { client, name })
+        let kind = BookKind::Gave { client, name };
+        check_event(&self.node, self.clock(), &kind)
     }
 
     /// Returns the frame that the bytes are the text of, and the clock that its coming has.
@@ -508,16 +492,6 @@ impl Book {
         if self.fault.is_some() {
             return Err(BookError::Failed);
         }
-        accept_frame(self.me, self.nodes, self.clock(), bytes)
-    }
-}
-
-/// Returns whether a client holds a name at a node.
-fn is_held_by(node: &Node, client: u32, name: &Name) -> bool
-    ensures { IsTrue result ↔ ((entry : Entry) × Holds (resource_at node.now name.now) client entry) }
-{
-    match node.holder(name) {
-        Some(entry) => entry.client == client,
-        None => false,
+        accept_frame(&self.node, self.clock(), bytes)
     }
 }

@@ -15,6 +15,7 @@ mod settled_laws;
 
 pub use book::Book;
 pub use book::event::{BookEvent, BookKind, Events};
+pub use book::event_check::event_refusal;
 pub use book::event_effect::Posted;
 pub use book::grant::Grant;
 pub use book::kept_events::clock_after;

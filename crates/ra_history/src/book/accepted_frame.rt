@@ -1,13 +1,13 @@
 //! Bytes as a node hears them.
 ghost use Rattle.ra_history.specs.Keeping.{IsHeard};
 
-use crate::book::kept_events::clock_after;
+use crate::book::event_check::check_event;
 use crate::{BookError, BookKind};
 use ra_frame::{Frame, decode};
-use ra_stamp::NodeId;
+use ra_node::Node;
 
-/// Returns the frame whose text the bytes are, and the clock that its coming has after this clock. The frame is for this one of
-/// this many nodes, and from another one.
+/// Returns the frame whose text the bytes are, and the clock that its coming has at a node after this clock. The frame is for the
+/// node, and from another one of its cluster.
 ///
 /// # Errors
 ///
@@ -17,26 +17,14 @@ use ra_stamp::NodeId;
 /// 2. `WrongNode`: the frame is for another node.
 /// 3. `Stranger`: its sender is this node or above the number of nodes.
 /// 4. `ClockFull`: the clock would pass 2^62.
-pub fn accept_frame(
-    me: NodeId,
-    nodes: u16,
-    clock: u64,
-    bytes: &[u8],
-) -> Result<(Frame, u64), BookError>
-    ensures { IsHeard me nodes clock bytes.now result }
+pub fn accept_frame(node: &Node, clock: u64, bytes: &[u8]) -> Result<(Frame, u64), BookError>
+    ensures { IsHeard node.now.me node.now.nodes clock bytes.now result }
 {
     let frame = match decode(bytes) {
         Ok(frame) => frame,
         Err(fault) => return Err(BookError::Frame(fault)),
     };
-    if frame.message.to() != me {
-        return Err(BookError::WrongNode);
-    }
-    let sender = frame.message.from();
-    if sender == me || sender.get() > nodes {
-        return Err(BookError::Stranger);
-    }
-    let kind = BookKind::Got(frame);
-    let clock = clock_after(clock, &kind)?;
+    let heard = &frame;
+    let clock = check_event(node, clock, &BookKind::Got(*heard))?;
     Ok((frame, clock))
 }

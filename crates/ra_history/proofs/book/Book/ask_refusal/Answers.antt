@@ -1,14 +1,20 @@
-use Rattle.ra_history.proofs.Running.{ask_refusal_of, ask_refusal_if}
+use Rattle.ra_history.specs.Keeping.{book_of}
+use Rattle.ra_history.proofs.Kept.{history_of}
+use Rattle.ra_history.proofs.Running.{runs_is, some_fault, no_fault, ask_failed, ask_refused}
+use Rattle.ra_history.proofs.KeptLaws.{kept_histories_go_on}
 use Rattle.ra_history.proofs.book.Book.ask_refusal.Goals as goal
 
-pub returns-in-Ok-clause-refused : goal.returns-in-Ok-clause-refused
-returns-in-Ok-clause-refused c = ask_refusal_if c.args.self.now c.args.client c.args.name c.args.mode _ c.in-Ok.ensures.answers
+pub returns-then-is_some-clause-refused : goal.returns-then-is_some-clause-refused
+returns-then-is_some-clause-refused c = ask_failed c.args.self.now c.args.client c.args.name c.args.mode (some_fault c.self.view_is c.if-is_some.ensures)
 
-pub returns-in-Ok-clause-history : goal.returns-in-Ok-clause-history
-returns-in-Ok-clause-history c = c.in-Ok.ensures.checked.history
+pub returns-then-is_some-clause-history : goal.returns-then-is_some-clause-history
+returns-then-is_some-clause-history c = history_of c.args.self.now _ _ c.self.invariant.keeps c.self.view_is
 
-pub returns-in-Err-clause-refused : goal.returns-in-Err-clause-refused
-returns-in-Err-clause-refused c = ask_refusal_of c.args.self.now c.args.client c.args.name c.args.mode c.in-Err.refused c.in-Err.ensures.answers
+pub returns-clause-refused : goal.returns-clause-refused
+returns-clause-refused c =
+    ask_refused c.args.self.now c.args.client c.args.name c.args.mode c.self.inside.node (no_fault c.self.view_is c.if-is_some.ensures)
+    (runs_is kept_histories_go_on.determined c.args.self.now (book_of c.self.inside) c.self.inside.node c.self.invariant.keeps c.self.view_is)
+    c.clock.result c.clock.ensures.value c.event_refusal.result c.event_refusal.ensures
 
-pub returns-in-Err-clause-history : goal.returns-in-Err-clause-history
-returns-in-Err-clause-history c = c.in-Err.ensures.checked.history
+pub returns-clause-history : goal.returns-clause-history
+returns-clause-history c = history_of c.args.self.now _ _ c.self.invariant.keeps c.self.view_is
