@@ -10,11 +10,11 @@ use Rattle.ra_stamp.specs.declared.entry.Mark.TheVariants.{Requested, Entered, L
 use Rattle.ra_history.specs.declared.error.SettleError.{SettleError}
 use Rattle.ra_history.specs.declared.error.SettleError.TheVariants.{NotSent, Twice, GrantMissing, GrantTwice, Memory}
 use Rattle.ra_history.specs.declared.book.grant.Grant.{Grant}
-use Rattle.ra_history.specs.declared.settle_books.order_keys.EntryKey.{EntryKey}
+use Rattle.ra_history.specs.declared.settle_books.order_keys.OrderKey.{OrderKey}
 use Rattle.ra_history.specs.Keys.{HasKeys, entered_in, entry_key}
 use Rattle.ra_history.specs.Settled.{Repeats}
 use Rattle.ra_history.specs.SettlingParts.{RefusesGrants, RefusesRepeats}
-use Rattle.ra_history.proofs.KeyOrders.{entry_cmp, entry_total, entry_exact, one_entry}
+use Rattle.ra_history.proofs.KeyOrders.{key_cmp, key_total, key_exact, one_entry}
 use Rattle.ra_history.proofs.KeySets.{HasAll, keys_more, said, denied, of_keys, to_keys, one_more, again, repeats_more}
 use Rattle.ra_history.proofs.Parts.{split, more, first, later, first_or_later}
 
@@ -57,24 +57,24 @@ mark_is_entered (Left f ∷ marks) e is =
 
 -- ---- The set of the requests that are granted
 
-abbrev Keys : BTreeSet EntryKey → List Mark → Type 0
+abbrev Keys : BTreeSet OrderKey → List Mark → Type 0
 Keys set marks = HasKeys set (map (λ e. entry_key e) (entered_in marks))
 
 entered_more : (marks : List Mark) (i : ℕ) (m : Mark) → i < length marks → m ≡ get_or marks i m → entered_in (take (i + 1) marks) ≡ entered_in (take i marks) ++ entered_in (m ∷ [])
 entered_more marks i m within at =
     ap entered_in (take_more marks i m within ∙ ap (λ (x : Mark). take i marks ++ x ∷ []) (sym at)) ∙ entered_in-append (take i marks) (m ∷ [])
 
-pub key_put : (old new : BTreeSet EntryKey) (marks : List Mark) (i : ℕ) (m : Mark) (e : Entry) → i < length marks → m ≡ get_or marks i m → m ≡ Entered e
-    → Keys old (take i marks) → sorted.Updates entry_cmp old new (entry_key e) true → Keys new (take (i + 1) marks)
+pub key_put : (old new : BTreeSet OrderKey) (marks : List Mark) (i : ℕ) (m : Mark) (e : Entry) → i < length marks → m ≡ get_or marks i m → m ≡ Entered e
+    → Keys old (take i marks) → sorted.Updates key_cmp old new (entry_key e) true → Keys new (take (i + 1) marks)
 key_put old new marks i m e within at is has updated =
     let key = λ (e : Entry). entry_key e in
     let lists : map key (entered_in (take (i + 1) marks)) ≡ map key (entered_in (take i marks)) ++ entry_key e ∷ [] =
     ap (map key) (entered_more marks i m within at ∙ ap (λ (x : Mark). entered_in (take i marks) ++ entered_in (x ∷ [])) is)
     ∙ map-append key (entered_in (take i marks)) (e ∷ [])
     in
-    subst (HasKeys new) (sym lists) (keys_more entry_total entry_exact old new (entry_key e) (map key (entered_in (take i marks))) has updated)
+    subst (HasKeys new) (sym lists) (keys_more key_total key_exact old new (entry_key e) (map key (entered_in (take i marks))) has updated)
 
-pub key_left_out : (set : BTreeSet EntryKey) (marks : List Mark) (i : ℕ) (m : Mark) → i < length marks → m ≡ get_or marks i m → ((e : Entry) → m ≡ Entered e → ⊥)
+pub key_left_out : (set : BTreeSet OrderKey) (marks : List Mark) (i : ℕ) (m : Mark) → i < length marks → m ≡ get_or marks i m → ((e : Entry) → m ≡ Entered e → ⊥)
     → Keys set (take i marks) → Keys set (take (i + 1) marks)
 key_left_out set marks i m within at not has =
     subst (λ (es : List Entry). HasKeys set (map (λ e. entry_key e) es)) (sym (entered_more marks i m within at ∙ ap (λ (es : List Entry). entered_in (take i marks) ++ es) (none m not) ∙ append-nil (entered_in (take i marks)))) has
@@ -86,35 +86,35 @@ key_left_out set marks i m within at not has =
 
 -- ---- What it says of a request
 
-pub is_granted : (set : BTreeSet EntryKey) (marks : List Mark) (e : Entry) → Keys set marks → sorted.contains entry_cmp set (entry_key e) ≡ true → Contains (entered_in marks) e
-is_granted set marks e has is = of_keys entry_total entry_exact (λ e. entry_key e) one_entry (entered_in marks) e (said entry_total entry_exact set (map (λ e. entry_key e) (entered_in marks)) (entry_key e) has is)
+pub is_granted : (set : BTreeSet OrderKey) (marks : List Mark) (e : Entry) → Keys set marks → sorted.contains key_cmp set (entry_key e) ≡ true → Contains (entered_in marks) e
+is_granted set marks e has is = of_keys key_total key_exact (λ e. entry_key e) one_entry (entered_in marks) e (said key_total key_exact set (map (λ e. entry_key e) (entered_in marks)) (entry_key e) has is)
 
-pub is_not_granted : (set : BTreeSet EntryKey) (marks : List Mark) (e : Entry) → Keys set marks → sorted.contains entry_cmp set (entry_key e) ≡ false → Contains marks (Entered e) → ⊥
+pub is_not_granted : (set : BTreeSet OrderKey) (marks : List Mark) (e : Entry) → Keys set marks → sorted.contains key_cmp set (entry_key e) ≡ false → Contains marks (Entered e) → ⊥
 is_not_granted set marks e has is_not is =
-    denied entry_total entry_exact set (map (λ e. entry_key e) (entered_in marks)) (entry_key e) has is_not (to_keys entry_total entry_exact (λ e. entry_key e) one_entry (entered_in marks) e (mark_is_entered marks e is))
+    denied key_total key_exact set (map (λ e. entry_key e) (entered_in marks)) (entry_key e) has is_not (to_keys key_total key_exact (λ e. entry_key e) one_entry (entered_in marks) e (mark_is_entered marks e is))
 
 -- ---- The grants so far
 
-abbrev key_of : Grant → EntryKey
+abbrev key_of : Grant → OrderKey
 key_of g = entry_key g.entry
 
 one_grant : (a b : Grant) → key_of a ≡ key_of b → a ≡ b
 one_grant a b e = let same = one_entry a.entry b.entry e in λ i. record { entry = same i }
 
-abbrev pub Seen : BTreeSet EntryKey → List Grant → Type 0
+abbrev pub Seen : BTreeSet OrderKey → List Grant → Type 0
 Seen set grants = HasAll (λ g. entry_key g.entry) set grants
 
-pub next_grant : (old new : BTreeSet EntryKey) (grants : List Grant) (i : ℕ) (g : Grant) → i < length grants → g ≡ get_or grants i g
-    → Seen old (take i grants) → sorted.contains entry_cmp old (entry_key g.entry) ≡ false → sorted.Updates entry_cmp old new (entry_key g.entry) true → Seen new (take (i + 1) grants)
+pub next_grant : (old new : BTreeSet OrderKey) (grants : List Grant) (i : ℕ) (g : Grant) → i < length grants → g ≡ get_or grants i g
+    → Seen old (take i grants) → sorted.contains key_cmp old (entry_key g.entry) ≡ false → sorted.Updates key_cmp old new (entry_key g.entry) true → Seen new (take (i + 1) grants)
 next_grant old new grants i g within at seen is_new updated =
-    subst (Seen new) (sym (more grants i g within at)) (one_more entry_total entry_exact key_of one_grant old new (take i grants) g seen is_new updated)
+    subst (Seen new) (sym (more grants i g within at)) (one_more key_total key_exact key_of one_grant old new (take i grants) g seen is_new updated)
 
-pub grant_again : (set : BTreeSet EntryKey) (grants : List Grant) (i : ℕ) (g : Grant) → i < length grants → g ≡ get_or grants i g
-    → Seen set (take i grants) → sorted.contains entry_cmp set (entry_key g.entry) ≡ true → Repeats grants
+pub grant_again : (set : BTreeSet OrderKey) (grants : List Grant) (i : ℕ) (g : Grant) → i < length grants → g ≡ get_or grants i g
+    → Seen set (take i grants) → sorted.contains key_cmp set (entry_key g.entry) ≡ true → Repeats grants
 grant_again set grants i g within at seen is =
     subst Repeats (sym (split grants i g within at))
     (subst Repeats (append_assoc (take i grants) (g ∷ []) (drop (i + 1) grants))
-    (repeats_more (take i grants ++ g ∷ []) (drop (i + 1) grants) (again entry_total entry_exact key_of one_grant set (take i grants) g seen is)))
+    (repeats_more (take i grants ++ g ∷ []) (drop (i + 1) grants) (again key_total key_exact key_of one_grant set (take i grants) g seen is)))
 
 pub all_granted : (grants : List Grant) (marks : List Mark) (i : ℕ) → length grants ≤ i → All (λ g. Contains (entered_in marks) g.entry) (take i grants) → All (λ g. Contains marks (Entered g.entry)) grants
 all_granted grants marks i all granted =

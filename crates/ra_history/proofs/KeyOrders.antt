@@ -10,9 +10,8 @@ use Rattle.ra_stamp.specs.declared.entry.Entry.{Entry}
 use Rattle.ra_stamp.specs.declared.message.Message.{Message}
 use Rattle.ra_stamp.specs.declared.message.Message.TheVariants.{Request, Reply}
 use Rattle.ra_frame.specs.declared.frame.Frame.{Frame}
-use Rattle.ra_history.specs.declared.settle_books.order_keys.EntryKey.{EntryKey}
+use Rattle.ra_history.specs.declared.settle_books.order_keys.OrderKey.{OrderKey}
 use Rattle.ra_history.specs.declared.settle_books.order_keys.FrameKey.{FrameKey}
-use Rattle.ra_history.specs.declared.settle_books.order_keys.MessageKey.{MessageKey}
 use Rattle.ra_history.specs.Keys.{mode_number, entry_key, message_key, frame_key}
 
 -- a pair of orders, one after the other
@@ -29,26 +28,26 @@ exact_five =
     (exact_pairs nat_cmp (then nat_cmp (slice_cmp nat_cmp)) exact_unsigned
     (exact_pairs nat_cmp (slice_cmp nat_cmp) exact_unsigned exact_bytes)))
 
--- ---- Requests
+-- ---- Requests and messages
 
-abbrev pub entry_cmp : EntryKey → EntryKey → Ordering
-entry_cmp a b =
+abbrev pub key_cmp : OrderKey → OrderKey → Ordering
+key_cmp a b =
     ordering_then (nat_cmp a.seq b.seq)
     (ordering_then (nat_cmp a.node b.node)
-    (ordering_then (nat_cmp a.client b.client)
+    (ordering_then (nat_cmp a.other b.other)
     (ordering_then (nat_cmp a.mode b.mode) (slice_cmp nat_cmp a.name b.name))))
 
-pub entry_total : IsTotalOrder entry_cmp
-entry_total =
+pub key_total : IsTotalOrder key_cmp
+key_total =
     then_total (on_total (λ k. k.seq) nat_cmp_total)
     (then_total (on_total (λ k. k.node) nat_cmp_total)
-    (then_total (on_total (λ k. k.client) nat_cmp_total)
+    (then_total (on_total (λ k. k.other) nat_cmp_total)
     (then_total (on_total (λ k. k.mode) nat_cmp_total) (on_total (λ k. k.name) nat_list_cmp_total))))
 
-pub entry_exact : CmpEqualImpliesEq entry_cmp
-entry_exact a b h =
-    ap (λ (p : Five). record { seq = p.0; node = p.1.0; client = p.1.1.0; mode = p.1.1.1.0; name = p.1.1.1.1 })
-    (exact_five (a.seq, (a.node, (a.client, (a.mode, a.name)))) (b.seq, (b.node, (b.client, (b.mode, b.name)))) h)
+pub key_exact : CmpEqualImpliesEq key_cmp
+key_exact a b h =
+    ap (λ (p : Five). record { seq = p.0; node = p.1.0; other = p.1.1.0; mode = p.1.1.1.0; name = p.1.1.1.1 })
+    (exact_five (a.seq, (a.node, (a.other, (a.mode, a.name)))) (b.seq, (b.node, (b.other, (b.mode, b.name)))) h)
 
 -- the mode of a number
 abbrev mode_at : ℕ → Mode
@@ -71,34 +70,13 @@ one_mode a b e = sym (mode_back a) ∙ (ap mode_at e ∙ mode_back b)
 
 pub one_entry : (a b : Entry) → entry_key a ≡ entry_key b → a ≡ b
 one_entry a b e =
-    let mode = one_mode a.mode b.mode (ap (λ (k : EntryKey). k.mode) e) in
+    let mode = one_mode a.mode b.mode (ap (λ (k : OrderKey). k.mode) e) in
     λ i. record {
       name = (e i).name;
       stamp = record { seq = (e i).seq; node = (e i).node };
-      client = (e i).client;
+      client = (e i).other;
       mode = mode i;
     }
-
--- ---- Messages
-
-abbrev pub message_cmp : MessageKey → MessageKey → Ordering
-message_cmp a b =
-    ordering_then (nat_cmp a.seq b.seq)
-    (ordering_then (nat_cmp a.from b.from)
-    (ordering_then (nat_cmp a.to b.to)
-    (ordering_then (nat_cmp a.mode b.mode) (slice_cmp nat_cmp a.name b.name))))
-
-pub message_total : IsTotalOrder message_cmp
-message_total =
-    then_total (on_total (λ k. k.seq) nat_cmp_total)
-    (then_total (on_total (λ k. k.from) nat_cmp_total)
-    (then_total (on_total (λ k. k.to) nat_cmp_total)
-    (then_total (on_total (λ k. k.mode) nat_cmp_total) (on_total (λ k. k.name) nat_list_cmp_total))))
-
-pub message_exact : CmpEqualImpliesEq message_cmp
-message_exact a b h =
-    ap (λ (p : Five). record { seq = p.0; from = p.1.0; to = p.1.1.0; mode = p.1.1.1.0; name = p.1.1.1.1 })
-    (exact_five (a.seq, (a.from, (a.to, (a.mode, a.name)))) (b.seq, (b.from, (b.to, (b.mode, b.name)))) h)
 
 no_reply : (mode : Mode) → mode_number mode ≡ 0 → ⊥
 no_reply Shared e = cc
@@ -109,26 +87,26 @@ no_reply SharedIntentExclusive e = cc
 
 pub one_message : (a b : Message) → message_key a ≡ message_key b → a ≡ b
 one_message (Request from to name mode seq) (Request from' to' name' mode' seq') e =
-    let same = one_mode mode mode' (ap (λ (k : MessageKey). k.mode) e) in
-    λ i. Request (e i).from (e i).to (e i).name (same i) (e i).seq
+    let same = one_mode mode mode' (ap (λ (k : OrderKey). k.mode) e) in
+    λ i. Request (e i).node (e i).other (e i).name (same i) (e i).seq
 one_message (Request from to name mode seq) (Reply from' to' name' seq') e =
-    absurd (no_reply mode (ap (λ (k : MessageKey). k.mode) e))
+    absurd (no_reply mode (ap (λ (k : OrderKey). k.mode) e))
 one_message (Reply from to name seq) (Request from' to' name' mode' seq') e =
-    absurd (no_reply mode' (sym (ap (λ (k : MessageKey). k.mode) e)))
-one_message (Reply from to name seq) (Reply from' to' name' seq') e = λ i. Reply (e i).from (e i).to (e i).name (e i).seq
+    absurd (no_reply mode' (sym (ap (λ (k : OrderKey). k.mode) e)))
+one_message (Reply from to name seq) (Reply from' to' name' seq') e = λ i. Reply (e i).node (e i).other (e i).name (e i).seq
 
 -- ---- Frames
 
 abbrev pub frame_cmp : FrameKey → FrameKey → Ordering
-frame_cmp a b = ordering_then (nat_cmp a.clock b.clock) (message_cmp a.message b.message)
+frame_cmp a b = ordering_then (nat_cmp a.clock b.clock) (key_cmp a.message b.message)
 
 pub frame_total : IsTotalOrder frame_cmp
-frame_total = then_total (on_total (λ k. k.clock) nat_cmp_total) (on_total (λ k. k.message) message_total)
+frame_total = then_total (on_total (λ k. k.clock) nat_cmp_total) (on_total (λ k. k.message) key_total)
 
 pub frame_exact : CmpEqualImpliesEq frame_cmp
 frame_exact a b h =
-    ap (λ (p : ℕ × MessageKey). record { clock = p.0; message = p.1 })
-    (exact_pairs nat_cmp message_cmp exact_unsigned message_exact (a.clock, a.message) (b.clock, b.message) h)
+    ap (λ (p : ℕ × OrderKey). record { clock = p.0; message = p.1 })
+    (exact_pairs nat_cmp key_cmp exact_unsigned key_exact (a.clock, a.message) (b.clock, b.message) h)
 
 pub one_frame : (a b : Frame) → frame_key a ≡ frame_key b → a ≡ b
 one_frame a b e =

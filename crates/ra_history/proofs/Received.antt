@@ -11,11 +11,11 @@ use Rattle.ra_frame.specs.declared.frame.Frame.{Frame}
 use Rattle.ra_history.specs.declared.book.event.BookKind.{BookKind}
 use Rattle.ra_history.specs.declared.book.event.BookKind.TheVariants.{Asked, Gave, Got}
 use Rattle.ra_history.specs.declared.book.event.BookEvent.{BookEvent}
-use Rattle.ra_history.specs.declared.settle_books.order_keys.MessageKey.{MessageKey}
+use Rattle.ra_history.specs.declared.settle_books.order_keys.OrderKey.{OrderKey}
 use Rattle.ra_history.specs.Keys.{HasEach, message_key, messages_among}
 use Rattle.ra_history.specs.Book.{BookState}
 use Rattle.ra_history.specs.Settled.{frames_in, received_among, all_received, Repeats}
-use Rattle.ra_history.proofs.KeyOrders.{message_cmp, message_total, message_exact, one_message}
+use Rattle.ra_history.proofs.KeyOrders.{key_cmp, key_total, key_exact, one_message}
 use Rattle.ra_history.proofs.KeySets.{one_more, again, repeats_more}
 use Rattle.ra_history.proofs.Parts.{split, more, any_left, any_right, any_first}
 
@@ -69,24 +69,24 @@ some_at P books i b within at is =
 
 -- ---- Messages
 
-pub message_put : (old new : BTreeSet MessageKey) (list : List Message) (m : Message) → HasEach old list → sorted.contains message_cmp old (message_key m) ≡ false
-    → sorted.Updates message_cmp old new (message_key m) true → HasEach new (list ++ m ∷ [])
-message_put = one_more message_total message_exact (λ m. message_key m) one_message
+pub message_put : (old new : BTreeSet OrderKey) (list : List Message) (m : Message) → HasEach old list → sorted.contains key_cmp old (message_key m) ≡ false
+    → sorted.Updates key_cmp old new (message_key m) true → HasEach new (list ++ m ∷ [])
+message_put = one_more key_total key_exact (λ m. message_key m) one_message
 
-pub message_again : (set : BTreeSet MessageKey) (list : List Message) (m : Message) → HasEach set list → sorted.contains message_cmp set (message_key m) ≡ true → Repeats (list ++ m ∷ [])
-message_again = again message_total message_exact (λ m. message_key m) one_message
+pub message_again : (set : BTreeSet OrderKey) (list : List Message) (m : Message) → HasEach set list → sorted.contains key_cmp set (message_key m) ≡ true → Repeats (list ++ m ∷ [])
+message_again = again key_total key_exact (λ m. message_key m) one_message
 
 module _ (list : List Message) (events : List BookEvent) (i : ℕ) (e : BookEvent) (within : i < length events) (at : e ≡ get_or events i e) where
   messages_more : messages_among (take (i + 1) events) ≡ messages_among (take i events) ++ map (λ f. f.message) (frames_in e.kind)
   messages_more = ap (map (λ f. f.message)) (received_more events i e within at) ∙ map-append (λ f. f.message) (received_among (take i events)) (frames_in e.kind)
 
-  pub each_more : (set : BTreeSet MessageKey) (frame : Frame) → e.kind ≡ Got frame → HasEach set ((list ++ messages_among (take i events)) ++ frame.message ∷ []) → HasEach set (list ++ messages_among (take (i + 1) events))
+  pub each_more : (set : BTreeSet OrderKey) (frame : Frame) → e.kind ≡ Got frame → HasEach set ((list ++ messages_among (take i events)) ++ frame.message ∷ []) → HasEach set (list ++ messages_among (take (i + 1) events))
   each_more set frame is has =
       subst (HasEach set)
       (append_assoc list (messages_among (take i events)) (frame.message ∷ [])
       ∙ ap (λ (ms : List Message). list ++ ms) (sym (messages_more ∙ ap (λ (k : BookKind). messages_among (take i events) ++ map (λ f. f.message) (frames_in k)) is))) has
 
-  pub each_same : (set : BTreeSet MessageKey) → ((frame : Frame) → e.kind ≡ Got frame → ⊥) → HasEach set (list ++ messages_among (take i events)) → HasEach set (list ++ messages_among (take (i + 1) events))
+  pub each_same : (set : BTreeSet OrderKey) → ((frame : Frame) → e.kind ≡ Got frame → ⊥) → HasEach set (list ++ messages_among (take i events)) → HasEach set (list ++ messages_among (take (i + 1) events))
   each_same set none has =
       subst (λ (ms : List Message). HasEach set (list ++ ms))
       (sym (messages_more ∙ ap (λ (fs : List Frame). messages_among (take i events) ++ map (λ f. f.message) fs) (nothing_in e.kind none) ∙ append-nil (messages_among (take i events)))) has

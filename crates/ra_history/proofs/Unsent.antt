@@ -12,7 +12,7 @@ use Rattle.ra_history.specs.declared.book.sent.Sent.{Sent}
 use Rattle.ra_history.specs.Keys.{message_key}
 use Rattle.ra_history.specs.Book.{BookState}
 use Rattle.ra_history.specs.Settled.{WasSent, HasUnsent, all_received}
-use Rattle.ra_history.proofs.KeyOrders.{message_cmp, message_total, message_exact, one_message}
+use Rattle.ra_history.proofs.KeyOrders.{key_cmp, key_total, key_exact, one_message}
 use Rattle.ra_history.proofs.Parts.{first, later, first_or_later, any_first, any_right}
 
 abbrev OrNot : Type 0 → Type 0
@@ -21,15 +21,15 @@ OrNot P = P ⊎ (P → ⊥)
 same_or_not : (a b : Frame) → OrNot (a ≡ b)
 same_or_not a b = by_clock (cases_eq a.clock b.clock)
   where
-    by_test : a.clock ≡ b.clock → (t : Bool) → eq_by_cmp message_cmp (message_key a.message) (message_key b.message) ≡ t → OrNot (a ≡ b)
+    by_test : a.clock ≡ b.clock → (t : Bool) → eq_by_cmp key_cmp (message_key a.message) (message_key b.message) ≡ t → OrNot (a ≡ b)
     by_test clock true e =
-        let message = one_message a.message b.message (tells_apart message_exact (message_key a.message) (message_key b.message) e) in
+        let message = one_message a.message b.message (tells_apart key_exact (message_key a.message) (message_key b.message) e) in
         inl (λ i. record { clock = clock i; message = message i })
     by_test clock false e =
-        inr (λ same. false≢true (sym e ∙ ap (λ (x : Frame). eq_by_cmp message_cmp (message_key a.message) (message_key x.message)) (sym same) ∙ ap is_eq (tied_itself message_total (message_key a.message))))
+        inr (λ same. false≢true (sym e ∙ ap (λ (x : Frame). eq_by_cmp key_cmp (message_key a.message) (message_key x.message)) (sym same) ∙ ap is_eq (tied_itself key_total (message_key a.message))))
 
     by_clock : OrNot (a.clock ≡ b.clock) → OrNot (a ≡ b)
-    by_clock (inl clock) = by_test clock (eq_by_cmp message_cmp (message_key a.message) (message_key b.message)) refl
+    by_clock (inl clock) = by_test clock (eq_by_cmp key_cmp (message_key a.message) (message_key b.message)) refl
     by_clock (inr apart) = inr (λ same. apart (ap (λ (f : Frame). f.clock) same))
 
 -- the frame is in this element, and it is kept

@@ -10,9 +10,8 @@ use Rattle.ra_stamp.specs.declared.entry.Mark.TheVariants.{Requested, Entered, L
 use Rattle.ra_stamp.specs.declared.message.Message.{Message}
 use Rattle.ra_stamp.specs.declared.message.Message.TheVariants.{Request, Reply}
 use Rattle.ra_frame.specs.declared.frame.Frame.{Frame}
-use Rattle.ra_history.specs.declared.settle_books.order_keys.EntryKey.{EntryKey}
+use Rattle.ra_history.specs.declared.settle_books.order_keys.OrderKey.{OrderKey}
 use Rattle.ra_history.specs.declared.settle_books.order_keys.FrameKey.{FrameKey}
-use Rattle.ra_history.specs.declared.settle_books.order_keys.MessageKey.{MessageKey}
 use Rattle.ra_history.specs.declared.book.event.BookEvent.{BookEvent}
 use Rattle.ra_history.specs.Settled.{received_among}
 
@@ -25,19 +24,19 @@ mode_number IntentExclusive = 4
 mode_number SharedIntentExclusive = 5
 
 -- the key of a request
-abbrev pub entry_key : Entry → EntryKey
+abbrev pub entry_key : Entry → OrderKey
 entry_key entry = record {
   seq = entry.stamp.seq;
   node = entry.stamp.node;
-  client = entry.client;
+  other = entry.client;
   mode = mode_number entry.mode;
   name = entry.name;
 }
 
 -- the key of a message, in which the mode of a REPLY is 0
-abbrev pub message_key : Message → MessageKey
-message_key (Request from to name mode seq) = record { seq = seq; from = from; to = to; mode = mode_number mode; name = name }
-message_key (Reply from to name seq) = record { seq = seq; from = from; to = to; mode = 0; name = name }
+abbrev pub message_key : Message → OrderKey
+message_key (Request from to name mode seq) = record { seq = seq; node = from; other = to; mode = mode_number mode; name = name }
+message_key (Reply from to name seq) = record { seq = seq; node = from; other = to; mode = 0; name = name }
 
 -- the key of a frame
 abbrev pub frame_key : Frame → FrameKey
@@ -59,5 +58,5 @@ abbrev pub messages_among : List BookEvent → List Message
 messages_among events = map (λ f. f.message) (received_among events)
 
 -- the set has the keys of these messages and no others, and no two of the messages are equal
-abbrev pub HasEach : BTreeSet MessageKey → List Message → Type 0
+abbrev pub HasEach : BTreeSet OrderKey → List Message → Type 0
 HasEach set messages = HasKeys set (map (λ m. message_key m) messages) × AllPairs (λ a b. a ≢ b) messages

@@ -5,7 +5,7 @@ ghost use Rattle.ra_history.specs.SettlingParts.{RefusesGrants, RefusesRepeats};
 ghost use Rattle.ra_history.specs.Keys.{HasKeys, entered_in};
 ghost use Rattle.ra_history.specs.Keys as spec;
 
-use crate::settle_books::order_keys::{EntryKey, entry_key};
+use crate::settle_books::order_keys::{OrderKey, entry_key};
 use crate::{Grant, SettleError};
 use ra_stamp::{Mark, Memory};
 use std::alloc::Global;
@@ -36,7 +36,7 @@ pub fn check_grants(alloc: Global, grants: &[Grant], marks: &[Mark]) -> Result<(
 }
 
 /// Returns the requests that have an Entered mark.
-fn entered_by(alloc: Global, marks: &[Mark]) -> Result<BTreeSet<EntryKey>, Memory>
+fn entered_by(alloc: Global, marks: &[Mark]) -> Result<BTreeSet<OrderKey>, Memory>
     ensures { IfOk result (λ entered. HasKeys entered (map (λ e. spec.entry_key e) (entered_in marks.now))) }
 {
     let mut entered = BTreeSet::new(alloc);

@@ -6,22 +6,15 @@ ghost use Rattle.ra_history.specs.Keys as spec;
 use ra_frame::Frame;
 use ra_stamp::{Entry, Message, Mode, Name, NodeId};
 
-/// All of a request.
+/// All of a request or of a message.
 #[derive(Clone, Copy, PartialEq, Eq, PartialOrd, Ord)]
-pub struct EntryKey {
+pub struct OrderKey {
     seq: u64,
+    /// The node that asks, or that the message is from.
     node: NodeId,
-    client: u32,
-    mode: u8,
-    name: Name,
-}
-
-/// All of a message. A REPLY has mode 0.
-#[derive(Clone, Copy, PartialEq, Eq, PartialOrd, Ord)]
-pub struct MessageKey {
-    seq: u64,
-    from: NodeId,
-    to: NodeId,
+    /// The client that asks, or the node that the message is for.
+    other: u32,
+    /// The number of the mode. A REPLY has mode 0.
     mode: u8,
     name: Name,
 }
@@ -30,34 +23,34 @@ pub struct MessageKey {
 #[derive(Clone, Copy, PartialEq, Eq, PartialOrd, Ord)]
 pub struct FrameKey {
     clock: u64,
-    message: MessageKey,
+    message: OrderKey,
 }
 
 /// Returns the key of a request.
-pub fn entry_key(entry: &Entry) -> EntryKey
+pub fn entry_key(entry: &Entry) -> OrderKey
     ensures { result ≡ spec.entry_key entry.now }
 {
-    EntryKey {
+    OrderKey {
         seq: entry.stamp.seq,
         node: entry.stamp.node,
-        client: entry.client,
+        other: entry.client,
         mode: mode_number(entry.mode),
         name: entry.name,
     }
 }
 
 /// Returns the key of a message.
-pub fn message_key(message: &Message) -> MessageKey
+pub fn message_key(message: &Message) -> OrderKey
     ensures { result ≡ spec.message_key message.now }
 {
     let mode = match *message {
         Message::Request { mode, .. } => mode_number(mode),
         Message::Reply { .. } => 0,
     };
-    MessageKey {
+    OrderKey {
         seq: message.seq(),
-        from: message.from(),
-        to: message.to(),
+        node: message.from(),
+        other: u32::from(message.to().get()),
         mode,
         name: message.name(),
     }

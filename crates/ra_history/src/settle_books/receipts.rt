@@ -6,7 +6,7 @@ ghost use Rattle.ra_history.specs.Keys.{HasEach, messages_among};
 ghost use Rattle.ra_history.specs.Settled.{IsCluster, BooksFit, HasTwice, HasUnsent, Repeats, WasSent, received_among, all_received};
 ghost use Rattle.ra_history.specs.SettlingParts.{RefusesReceived};
 
-use crate::settle_books::order_keys::{MessageKey, message_key};
+use crate::settle_books::order_keys::{OrderKey, message_key};
 use crate::{Book, BookEvent, BookKind, SettleError};
 use ra_frame::Frame;
 use ra_stamp::Memory;
@@ -95,7 +95,7 @@ fn has_no_duplicates(alloc: Global, books: &[Book]) -> Result<bool, Memory>
 
 /// Puts the messages that came by these events into the set, up to the first that is there already. Returns whether there is
 /// no such message.
-fn put_messages(came: &mut BTreeSet<MessageKey>, events: &[BookEvent]) -> Result<bool, Memory>
+fn put_messages(came: &mut BTreeSet<OrderKey>, events: &[BookEvent]) -> Result<bool, Memory>
     ensures { (list : List Message) → HasEach came.old list → IfOk result (λ once. MatchBool once
         (HasEach came.new (list ++ messages_among events.now)) (Repeats (list ++ messages_among events.now))) }
 {

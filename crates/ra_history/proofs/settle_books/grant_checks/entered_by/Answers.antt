@@ -2,9 +2,9 @@ use Rattle.std.proofs.Common.{◌+◌, true, List, map, take, sym, subst, BTreeS
 use Rattle.std.proofs.lemmas.List.{take_all}
 use Rattle.std.specs.BTreeSet as sorted
 use Rattle.ra_stamp.specs.declared.entry.Mark.{Mark}
-use Rattle.ra_history.specs.declared.settle_books.order_keys.EntryKey.{EntryKey}
+use Rattle.ra_history.specs.declared.settle_books.order_keys.OrderKey.{OrderKey}
 use Rattle.ra_history.specs.Keys.{HasKeys, entered_in, entry_key}
-use Rattle.ra_history.proofs.KeyOrders.{entry_cmp}
+use Rattle.ra_history.proofs.KeyOrders.{key_cmp}
 use Rattle.ra_history.proofs.GrantMarks.{key_put, key_left_out}
 use Rattle.ra_history.proofs.settle_books.grant_checks.entered_by.Goals as goal
 use Rattle.ra_history.proofs.settle_books.grant_checks.entered_by.Goals.{in-Entered+in_ok-insert, in_default}
@@ -16,13 +16,13 @@ loop-mark-preserved c =
     elim c.match-mark.branch [
       | in-Entered+in_ok-insert w ↦
           let entry = w.in-Entered.entry in
-          let put : sorted.Updates entry_cmp c.loop-mark.entered w.insert.new.self (entry_key entry) true =
-          subst (λ (k : EntryKey). sorted.Updates entry_cmp c.loop-mark.entered w.insert.new.self k true) w.entry_key.ensures w.in_ok-insert.ensures.updates
+          let put : sorted.Updates key_cmp c.loop-mark.entered w.insert.new.self (entry_key entry) true =
+          subst (λ (k : OrderKey). sorted.Updates key_cmp c.loop-mark.entered w.insert.new.self k true) w.entry_key.ensures w.in_ok-insert.ensures.updates
           in
-          subst (λ (set : BTreeSet EntryKey). HasKeys set (map (λ e. entry_key e) (entered_in (take (i + 1) marks)))) (sym w.entered-is)
+          subst (λ (set : BTreeSet OrderKey). HasKeys set (map (λ e. entry_key e) (entered_in (take (i + 1) marks)))) (sym w.entered-is)
           (key_put c.loop-mark.entered w.insert.new.self marks i c.mark-item.result entry c.loop-mark-test.true c.mark-item.is w.in-Entered.is c.loop-mark.invariant put)
       | in_default w ↦
-          subst (λ (set : BTreeSet EntryKey). HasKeys set (map (λ e. entry_key e) (entered_in (take (i + 1) marks)))) (sym w.entered-is)
+          subst (λ (set : BTreeSet OrderKey). HasKeys set (map (λ e. entry_key e) (entered_in (take (i + 1) marks)))) (sym w.entered-is)
           (key_left_out c.loop-mark.entered marks i c.mark-item.result c.loop-mark-test.true c.mark-item.is w.in_default.not-Entered c.loop-mark.invariant)
     ]
 
