@@ -1,5 +1,5 @@
 //! What the user is told while many seeds take long.
-use ra_schedule::{Figures, Observer, SeedOutcome};
+use ra_schedule::{Observer, RunCost, SeedOutcome};
 use ra_task::write_line;
 use std::alloc::Global;
 use std::io::Write;
@@ -56,8 +56,8 @@ impl<'a, N: Write> SeedProgress<'a, N> {
 impl<'a, N: Write> Observer for SeedProgress<'a, N> {
     fn ended(&mut self, seed: u64, outcome: SeedOutcome) {
         let turns = match outcome {
-            SeedOutcome::Finished(Figures { turns, .. })
-            | SeedOutcome::Stuck(Figures { turns, .. }) => turns,
+            SeedOutcome::Finished(RunCost { turns, .. })
+            | SeedOutcome::Stuck(RunCost { turns, .. }) => turns,
             SeedOutcome::Limit => WORK_OF_A_LINE,
         };
         self.last = Some(seed);

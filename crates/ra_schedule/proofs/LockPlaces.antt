@@ -16,12 +16,12 @@ at_seam : {X : Type 0} (xs ys : List X) (x : X) → slice_get (xs ++ x ∷ ys) (
 at_seam [] ys x = refl
 at_seam (y ∷ xs) ys x = at_seam xs ys x
 
--- what is behind a seam
-behind_seam : {X : Type 0} (xs ys : List X) (x : X) (n k : ℕ) → n ≡ suc (length xs + k) → slice_get (xs ++ x ∷ ys) n ≡ slice_get ys k
-behind_seam [] ys x zero k e = absurd (omega arith)
-behind_seam [] ys x (suc n) k e = ap (slice_get ys) (omega arith)
-behind_seam (y ∷ xs) ys x zero k e = absurd (omega arith)
-behind_seam (y ∷ xs) ys x (suc n) k e = behind_seam xs ys x n k (omega arith)
+-- what is after a seam
+after_seam : {X : Type 0} (xs ys : List X) (x : X) (n k : ℕ) → n ≡ suc (length xs + k) → slice_get (xs ++ x ∷ ys) n ≡ slice_get ys k
+after_seam [] ys x zero k e = absurd (omega arith)
+after_seam [] ys x (suc n) k e = ap (slice_get ys) (omega arith)
+after_seam (y ∷ xs) ys x zero k e = absurd (omega arith)
+after_seam (y ∷ xs) ys x (suc n) k e = after_seam xs ys x n k (omega arith)
 
 -- a list is split at each of its elements
 split_at : {X : Type 0} (xs : List X) (i : ℕ) (x : X) → slice_get xs i ≡ Some x → xs ≡ take i xs ++ x ∷ drop (suc i) xs
@@ -72,8 +72,8 @@ held_place ops held h =
       (mode, ap (λ xs. slice_get xs (length before)) h.3 ∙ at_seam before after (Lock held mode)),
       λ k from is.
           let j : ℕ = k - (length before + 1) in
-          let behind : slice_get (before ++ Lock held mode ∷ after) k ≡ slice_get after j = behind_seam before after (Lock held mode) k j (omega arith) in
-          not_unlocked after held j h.4 (sym behind ∙ (sym (ap (λ xs. slice_get xs k) h.3) ∙ is)),
+          let later : slice_get (before ++ Lock held mode ∷ after) k ≡ slice_get after j = after_seam before after (Lock held mode) k j (omega arith) in
+          not_unlocked after held j h.4 (sym later ∙ (sym (ap (λ xs. slice_get xs k) h.3) ∙ is)),
     )
 
 place_held : (ops : List Op) (held : List ℕ) (i : ℕ) → LocksAt ops i held → IsKept ops i held → IsHeldAfter ops held

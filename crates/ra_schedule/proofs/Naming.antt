@@ -57,7 +57,7 @@ pub names_message : (script : ScriptState) (moves : List Move) (clients : List �
     → AreEnabled script moves clients → LeavesUnderWay moves left → number ≡ word % (length clients + length left)
     → length clients ≤ number → number < length clients + length left
     → (all : List Choice) × AreChoices script moves all × (slice_get all (word % length all) ≡ Some (Message (number - length clients)))
-names_message script moves clients left word number are leaves is behind within =
+names_message script moves clients left word number are leaves is later within =
     let place = number - length clients in
     let here : number ≡ length clients + place = omega arith in (
       choices clients (length left),

@@ -63,9 +63,9 @@ words_of_step script moves (Message place) step (message, at, is) = ap words_in 
 words_of_step script moves (Lost place) step (message, at, is) = ap words_in is
 words_of_step script moves (Repeated place) step (message, at, is) = ap words_in is
 
-words_behind : (moves : List Move) (move : Move) → words_by (steps_of (moves ++ move ∷ [])) ≡ words_by (steps_of moves) + words_in move.step
-words_behind [] move = let e : words_in move.step + 0 ≡ 0 + words_in move.step = omega arith in e
-words_behind (m ∷ moves) move = let rest = words_behind moves move in omega arith
+words_after : (moves : List Move) (move : Move) → words_by (steps_of (moves ++ move ∷ [])) ≡ words_by (steps_of moves) + words_in move.step
+words_after [] move = let e : words_in move.step + 0 ≡ 0 + words_in move.step = omega arith in e
+words_after (m ∷ moves) move = let rest = words_after moves move in omega arith
 
 -- after one more move there are the words of its choice more
 pub more_drawn : (script : ScriptState) (policy : Policy) (moves : List Move) (move : Move) (choice : Choice) → StandsFor script moves choice move.step
@@ -74,7 +74,7 @@ more_drawn script Oldest moves move choice means = refl
 more_drawn script Newest moves move choice means = refl
 more_drawn script (Seeded seed) moves move choice means = lists.length-append moves (move ∷ [])
 more_drawn script (Faulty seed faults) moves move choice means =
-    words_behind moves move ∙ ap (λ (n : ℕ). words_by (steps_of moves) + n) (words_of_step script moves choice move.step means)
+    words_after moves move ∙ ap (λ (n : ℕ). words_by (steps_of moves) + n) (words_of_step script moves choice move.step means)
 more_drawn script (Listed choices) moves move choice means = refl
 
 -- ---- What is picked

@@ -43,8 +43,8 @@ in_rest : (x : ℕ) (xs : List ℕ) (y : ℕ) → Contains (x ∷ xs) y → (x �
 in_rest x xs y (zero, within, is) = inl is
 in_rest x xs y (suc k, within, is) = inr (k, omega arith, is)
 
-behind : (x : ℕ) (xs : List ℕ) (y : ℕ) → Contains xs y → Contains (x ∷ xs) y
-behind x xs y (k, within, is) = (suc k, omega arith, is)
+in_tail : (x : ℕ) (xs : List ℕ) (y : ℕ) → Contains xs y → Contains (x ∷ xs) y
+in_tail x xs y (k, within, is) = (suc k, omega arith, is)
 
 same_first : (x y : ℕ) (xs ys : List ℕ) → IsStrictlyIncreasing (x ∷ xs) → IsStrictlyIncreasing (y ∷ ys)
     → Contains (y ∷ ys) x → Contains (x ∷ xs) y → x ≡ y
@@ -64,7 +64,7 @@ same_first x y xs ys a b here there =
 rest_has : (x y : ℕ) (xs ys : List ℕ) → x ≡ y → IsStrictlyIncreasing (x ∷ xs) → ((n : ℕ) → Contains (x ∷ xs) n → Contains (y ∷ ys) n)
     → (n : ℕ) → Contains xs n → Contains ys n
 rest_has x y xs ys same rises all n has =
-    elim (in_rest y ys n (all n (behind x xs n has))) [
+    elim (in_rest y ys n (all n (in_tail x xs n has))) [
       | inl first ↦ let above = first_is_below x xs n rises has in absurd (omega arith)
       | inr later ↦ later
     ]

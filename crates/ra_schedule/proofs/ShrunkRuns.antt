@@ -16,14 +16,14 @@ use Rattle.ra_schedule.specs.declared.choice.Policy.TheVariants as policies
 use Rattle.ra_schedule.specs.declared.driver.Driver.{Driver}
 use Rattle.ra_schedule.specs.declared.driver.drive_script.Driven.{Driven}
 use Rattle.ra_schedule.specs.declared.driver.shrinking.Listed.{Listed}
-use Rattle.ra_schedule.specs.declared.driver.shrinking.Found.{Found}
+use Rattle.ra_schedule.specs.declared.driver.shrinking.ShorterRun.{ShorterRun}
 use Rattle.ra_schedule.specs.Script.{ScriptState}
 use Rattle.ra_schedule.specs.Schedule.{steps_of}
 use Rattle.ra_schedule.specs.Listing.{AreChoicesBy}
 use Rattle.ra_schedule.specs.Progress.{recorded}
 use Rattle.ra_schedule.specs.Driving.{IsReady, Records}
 use Rattle.ra_schedule.specs.Shrinking.{are_of_one_client, others, without_first, cut, IsFor, Redone, Replays, IsOldest, GoesOnOldest, ComesOf, IsInVain, IsLeast, IsLeastOf, IsStuckRun}
-use Rattle.ra_schedule.specs.Replaying.{AreChoicesFor, IsReplay, IsStuckList, IsShorter, IsFoundIn}
+use Rattle.ra_schedule.specs.Replaying.{AreChoicesFor, IsReplay, IsStuckList, IsShorter, IsShorterRunOf}
 use Rattle.ra_schedule.proofs.ChoicesMade.{made_again}
 use Rattle.ra_schedule.proofs.Unrepeated.{IsNoRepeat, no_choice, of_each}
 use Rattle.ra_schedule.proofs.Replayed.{made_by_these}
@@ -292,13 +292,13 @@ abbrev pub step_there : List Step → ℕ → Step
 step_there steps place = get_or steps place (Leave 0 0 [])
 
 -- a shorter one, as it was found among the steps of the one before
-pub next_told : (script : ScriptState) (given : List Move) (list : Listed) (next : Found) (steps : List Step) (found : Option Found) → steps ≡ list.steps.items
-    → found ≡ Some next → MatchOption found (IsLeast script steps) (IsFoundIn script steps)
+pub next_told : (script : ScriptState) (given : List Move) (list : Listed) (next : ShorterRun) (steps : List Step) (found : Option ShorterRun) → steps ≡ list.steps.items
+    → found ≡ Some next → MatchOption found (IsLeast script steps) (IsShorterRunOf script steps)
     → SoFar script given list → SoFar script given next.list
 next_told script given list next steps found same is told so_far =
-    let some : IsFoundIn script steps next =
-    subst (λ (o : Option Found). MatchOption o (IsLeast script steps) (IsFoundIn script steps)) is told in
-    next_one script given list next.list next.place so_far (subst (λ (xs : List Step). IsFoundIn script xs next) same some)
+    let some : IsShorterRunOf script steps next =
+    subst (λ (o : Option ShorterRun). MatchOption o (IsLeast script steps) (IsShorterRunOf script steps)) is told in
+    next_one script given list next.list next.place so_far (subst (λ (xs : List Step). IsShorterRunOf script xs next) same some)
 
 -- the last one, as it was found that there is no shorter one
 pub last_told : (script : ScriptState) (given : List Move) (list : Listed) (steps : List Step) → steps ≡ list.steps.items → IsLeast script steps

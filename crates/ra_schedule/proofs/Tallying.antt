@@ -6,7 +6,7 @@ use Rattle.std.proofs.lemmas.Bool.{cases_Bool, cases_lt, cond-true, cond-false}
 use Rattle.std.proofs.lemmas.List.{append-nil, length-append, map-append}
 use Rattle.std.proofs.lemmas.List.Concat.{flat_map-append}
 use Rattle.std.proofs.lemmas.List.Elements.{filter-append, All-push, Contains-append_left, Contains-push}
-use Rattle.ra_schedule.specs.declared.surveys.seed_outcomes.Figures.{Figures}
+use Rattle.ra_schedule.specs.declared.surveys.seed_outcomes.RunCost.{RunCost}
 use Rattle.ra_schedule.specs.declared.surveys.seed_outcomes.SeedOutcome.{SeedOutcome}
 use Rattle.ra_schedule.specs.declared.surveys.seed_outcomes.Tally.{Tally}
 use Rattle.ra_schedule.specs.declared.surveys.seed_outcomes.Spread.{Spread}
@@ -151,7 +151,7 @@ pub number_is : (numbers : List ℕ) (a b : ℕ) (spread : Option Spread) → a 
 number_is numbers a b spread same kept = subst (λ (n : ℕ). IsLeastAndMost (numbers ++ n ∷ []) spread) same kept
 
 -- a figure of the runs that came to an end, with one more such run and with none
-pub one_number_more : (figure : Figures → ℕ) (outcomes : List SeedOutcome) (outcome : SeedOutcome) (figures : Figures) (spread : Option Spread) → figures_of outcome ≡ figures ∷ []
+pub one_number_more : (figure : RunCost → ℕ) (outcomes : List SeedOutcome) (outcome : SeedOutcome) (figures : RunCost) (spread : Option Spread) → figures_of outcome ≡ figures ∷ []
     → IsLeastAndMost (map figure (flat_map figures_of outcomes) ++ figure figures ∷ []) spread
     → IsLeastAndMost (map figure (flat_map figures_of (outcomes ++ outcome ∷ []))) spread
 one_number_more figure outcomes outcome figures spread is kept =
@@ -160,7 +160,7 @@ one_number_more figure outcomes outcome figures spread is kept =
     flat_map-append figures_of outcomes (outcome ∷ []) ∙ ap (λ fs. ended ++ fs) (append-nil (figures_of outcome) ∙ is) in
     subst (λ ns. IsLeastAndMost ns spread) (sym (ap (map figure) all ∙ map-append figure ended (figures ∷ []))) kept
 
-pub no_number_more : (figure : Figures → ℕ) (outcomes : List SeedOutcome) (outcome : SeedOutcome) (spread : Option Spread) → figures_of outcome ≡ []
+pub no_number_more : (figure : RunCost → ℕ) (outcomes : List SeedOutcome) (outcome : SeedOutcome) (spread : Option Spread) → figures_of outcome ≡ []
     → IsLeastAndMost (map figure (flat_map figures_of outcomes)) spread → IsLeastAndMost (map figure (flat_map figures_of (outcomes ++ outcome ∷ []))) spread
 no_number_more figure outcomes outcome spread is kept =
     let ended = flat_map figures_of outcomes in

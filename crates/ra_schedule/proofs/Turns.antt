@@ -203,7 +203,7 @@ module _ (script : ScriptState) (world next : WorldState) (driver : Driver) (mov
       → IfSome driver.draws (AreDrawsElsewhere move.step move.marks script next.moves)
   draws_before laws choice means =
       IfSome_then driver.draws driven.draws (λ draws are. record {
-        rosters = are.rosters;
+        node_clients = are.node_clients;
         alike = are.flags.length_is;
         flags = flags_elsewhere laws script world.moves next.moves move choice draws.enabled.flags.items driven.nodes
             (ap (λ (w : WorldState). w.moves) is) run_more means are.flags;

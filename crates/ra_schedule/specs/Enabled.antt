@@ -35,10 +35,10 @@ node_at (Deliver message) = Some (to_of message)
 node_at (Lose message) = None
 node_at (Repeat message) = None
 
--- each client is in the roster of its node; the rosters are in the order of the nodes' numbers
-abbrev pub AreRosters : ScriptState → List (List ℕ) → Type 0
-AreRosters script rosters = (client node : ℕ) (d : List ℕ) → node_of script client ≡ Some node
-    → Contains (slice_index_or rosters (node - 1) d) client
+-- each client is in the list of its node; the lists are in the order of the nodes' numbers
+abbrev pub AreNodeClients : ScriptState → List (List ℕ) → Type 0
+AreNodeClients script node_clients = (client node : ℕ) (d : List ℕ) → node_of script client ≡ Some node
+    → Contains (slice_index_or node_clients (node - 1) d) client
 
 -- the flags are right for all clients but those at the node of a step and those that entered by its marks
 abbrev pub AreFlagsElsewhere : Step → List Mark → ScriptState → List Move → List Bool → Type 0

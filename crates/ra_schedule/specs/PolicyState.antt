@@ -12,7 +12,7 @@ use Rattle.ra_schedule.specs.declared.choice.random_state.RandomState.{RandomSta
 use Rattle.ra_schedule.specs.Script.{ScriptState}
 use Rattle.ra_schedule.specs.Schedule.{steps_of, words_by}
 use Rattle.ra_schedule.specs.Seeds.{generator_after}
-use Rattle.ra_schedule.specs.Enabled.{AreFlags, AreFlagsElsewhere, AreRosters, numbers_from}
+use Rattle.ra_schedule.specs.Enabled.{AreFlags, AreFlagsElsewhere, AreNodeClients, numbers_from}
 
 -- the generator of a policy after it has given this many words, if the policy has one
 abbrev pub generator_at : Policy → ℕ → Option Lcg
@@ -58,14 +58,14 @@ generator_in draws = option_map (λ d. d.generator) draws
 
 -- chance knows the clients of each node, and which are enabled after these moves
 pub record AreDraws (script : ScriptState) (moves : List Move) (draws : RandomState) : Type 0 where
-  pub rosters : AreRosters script draws.rosters.items
+  pub node_clients : AreNodeClients script draws.node_clients.items
   pub flags : AreFlags script moves draws.enabled.flags.items
   pub count : draws.enabled.count ≡ length (numbers_from 1 draws.enabled.flags.items)
 
 -- the same, except that chance has not looked yet at the clients at the node of a step and at those that entered by its
 -- marks
 pub record AreDrawsElsewhere (step : Step) (marks : List Mark) (script : ScriptState) (moves : List Move) (draws : RandomState) : Type 0 where
-  pub rosters : AreRosters script draws.rosters.items
+  pub node_clients : AreNodeClients script draws.node_clients.items
   pub alike : length draws.enabled.flags.items ≡ length script.clients
   pub flags : AreFlagsElsewhere step marks script moves draws.enabled.flags.items
   pub count : draws.enabled.count ≡ length (numbers_from 1 draws.enabled.flags.items)

@@ -8,7 +8,7 @@ use Rattle.ra_schedule.specs.declared.choice.Policy.TheVariants as policy
 use Rattle.ra_schedule.specs.declared.driver.Driver.{Driver}
 use Rattle.ra_schedule.specs.declared.driver.client_progress.Progress.{Progress}
 use Rattle.ra_schedule.specs.declared.driver.shrinking.Listed.{Listed}
-use Rattle.ra_schedule.specs.declared.driver.shrinking.Found.{Found}
+use Rattle.ra_schedule.specs.declared.driver.shrinking.ShorterRun.{ShorterRun}
 use Rattle.ra_schedule.specs.Script.{ScriptState}
 use Rattle.ra_schedule.specs.Schedule.{steps_of, StandsFor}
 use Rattle.ra_schedule.specs.Listing.{AreChoicesBy, AreChoicesOf}
@@ -56,5 +56,5 @@ abbrev pub AreInVain : ScriptState → List Step → (from to : ℕ) → Type 0
 AreInVain script steps from to = (place : ℕ) → from ≤ place → place < to → IsInVain script (cut steps place) (length steps)
 
 -- this was found without the step at its place
-abbrev pub IsFoundIn : ScriptState → List Step → Found → Type 0
-IsFoundIn script steps found = IsShorter script (cut steps found.place) (length steps) found.list
+abbrev pub IsShorterRunOf : ScriptState → List Step → ShorterRun → Type 0
+IsShorterRunOf script steps found = IsShorter script (cut steps found.place) (length steps) found.list

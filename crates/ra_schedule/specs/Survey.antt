@@ -6,7 +6,7 @@ use Rattle.ra_world.specs.Traffic.{Move}
 use Rattle.ra_schedule.specs.declared.choice.Policy.{Policy}
 use Rattle.ra_schedule.specs.declared.choice.Policy.TheVariants.{Seeded, Faulty}
 use Rattle.ra_schedule.specs.declared.error.DriveError.TheVariants.{TurnLimit}
-use Rattle.ra_schedule.specs.declared.surveys.seed_outcomes.Figures.{Figures}
+use Rattle.ra_schedule.specs.declared.surveys.seed_outcomes.RunCost.{RunCost}
 use Rattle.ra_schedule.specs.declared.surveys.seed_outcomes.SeedOutcome.{SeedOutcome}
 use Rattle.ra_schedule.specs.declared.surveys.seed_outcomes.SeedOutcome.TheVariants.{Finished, Stuck, Limit}
 use Rattle.ra_schedule.specs.declared.surveys.seed_outcomes.Tally.{Tally}
@@ -26,7 +26,7 @@ chance (Some faults) seed = Faulty seed faults
 
 -- the policy was followed to its end within the limit; these are the turns made and messages sent, and whether the run
 -- is finished
-pub record HasEnded (script : ScriptState) (policy : Policy) (limit : ℕ) (figures : Figures) (finished : Bool) : Type 0 where
+pub record HasEnded (script : ScriptState) (policy : Policy) (limit : ℕ) (figures : RunCost) (finished : Bool) : Type 0 where
   pub moves : List Move
   pub report : Report
   pub run : IsWholeRun script policy limit moves report finished
@@ -65,7 +65,7 @@ is_limit (Stuck figures) = false
 is_limit Limit = true
 
 -- the figures of a run, if it came to an end
-abbrev pub figures_of : SeedOutcome → List Figures
+abbrev pub figures_of : SeedOutcome → List RunCost
 figures_of (Finished figures) = figures ∷ []
 figures_of (Stuck figures) = figures ∷ []
 figures_of Limit = []

@@ -24,7 +24,7 @@ pub enum Choice {
 pub type Choices = Sequence<Choice>;
 
 /// How the next choice is made.
-#[derive(Debug, Drop)]
+#[derive(Drop)]
 pub enum Policy {
     /// The first client in the order of the script that is enabled. If none is, the message that was sent first of those under
     /// way. If nothing is under way either, the end.

@@ -26,6 +26,6 @@ pub use script::lock_order::{
 pub use script::{Op, Script};
 pub use surveys::first_seed::{Ending, first_seed};
 pub use surveys::observer::Observer;
-pub use surveys::seed_outcomes::{Figures, SeedOutcome, Spread, Survey, Tally};
+pub use surveys::seed_outcomes::{RunCost, SeedOutcome, Spread, Survey, Tally};
 pub use surveys::seed_range::SeedRange;
 pub use surveys::{chance, survey};

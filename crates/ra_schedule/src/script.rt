@@ -8,7 +8,7 @@ ghost use Rattle.ra_schedule.specs.declared.script.Op.{Op};
 ghost use Rattle.ra_schedule.specs.Script.{IsHeldAfter, Fits, IsScriptClient};
 
 use crate::{AddClientError, AddOpError, NewScriptError};
-use ra_stamp::{Mode, Name, NodeId};
+use ra_stamp::{Mode, Name, NodeCount, NodeId};
 use std::alloc::Global;
 use std::marker::Model;
 
@@ -67,7 +67,7 @@ impl Client {
 /// that it has, or unlocks one that it has not. A client may have names at the end.
 #[derive(Drop)]
 pub struct Script {
-    nodes: u16,
+    nodes: NodeCount,
     clients: Vec<Client>,
 }
 
@@ -105,9 +105,9 @@ impl Script {
         ensures allowed { IsOkUnless result NewScriptError.Memory ↔ IsNodeNumber nodes }
         ensures script { IfOk result IsScript }
     {
-        if NodeId::new(nodes).is_none() {
+        let Some(nodes) = NodeCount::new(nodes) else {
             return Err(NewScriptError::Nodes);
-        }
+        };
         Ok(Script {
             nodes,
             clients: Vec::new(alloc),
@@ -188,7 +188,7 @@ impl Script {
         ensures value { result ≡ self.now.nodes }
         ensures script { IsScript self.now }
     {
-        self.nodes
+        self.nodes.get()
     }
 
     /// Returns how many clients there are, at most 64. It does not allocate.
@@ -256,10 +256,10 @@ impl Script {
             ↔ ((length self.now.clients < 64) × (1 ≤ node) × (node ≤ self.now.nodes)) }
         ensures script { IsScript self.now }
     {
-        if self.clients.len() >= Script::MAX_CLIENTS || node > self.nodes {
+        if self.clients.len() >= Script::MAX_CLIENTS {
             return None;
         }
-        NodeId::new(node)
+        self.nodes.node(node)
     }
 }
 

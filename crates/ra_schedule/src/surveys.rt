@@ -10,7 +10,7 @@ ghost use Rattle.ra_schedule.specs.Telling.{Tells, TellsSeeds, TellsSomeSeeds};
 ghost use Rattle.ra_schedule.specs.Survey as spec;
 
 use crate::surveys::observer::Observer;
-use crate::surveys::seed_outcomes::{Figures, SeedOutcome, Survey, no_survey, with_outcome};
+use crate::surveys::seed_outcomes::{RunCost, SeedOutcome, Survey, no_survey, with_outcome};
 use crate::{DriveError, Faults, Policy, Script, SeedRange, summarize};
 use ra_stamp::Memory;
 use std::alloc::Global;
@@ -40,7 +40,7 @@ pub fn outcome_of(
 {
     match summarize(alloc, script, policy, limit) {
         Ok(summary) => {
-            let figures = Figures {
+            let figures = RunCost {
                 turns: summary.turns,
                 messages: summary.report.sent,
             };

@@ -9,7 +9,7 @@ use std::marker::Model;
 /// How many of each thousand messages that chance takes are lost, and how many are repeated, on average. Together they
 /// are at most 1,000. At most 400 are repeated, so that on average copies do not multiply without end. Contracts see
 /// the two numbers.
-#[derive(Clone, Copy, Debug)]
+#[derive(Clone, Copy)]
 pub struct Faults {
     lose: u16,
     repeat: u16,

@@ -61,13 +61,18 @@ pub struct Picked {
 
 /// The first client that is enabled, and its step.
 #[derive(Clone, Copy)]
-struct First {
+struct FirstEnabled {
     client: u32,
     step: Step,
 }
 
 /// Returns the first enabled client in the order of the script, or `None`. None is before the place `first`.
-fn first_enabled(script: &Script, world: &World, clients: &[Progress], first: u32) -> Option<First>
+fn first_enabled(
+    script: &Script,
+    world: &World,
+    clients: &[Progress],
+    first: u32,
+) -> Option<FirstEnabled>
     requires tracked { Tracks script.now world.now clients.now }
     requires stuck { AreStuck script.now clients.now first }
     ensures first { IfSome result (λ found. IsFirstEnabled script.now world.now.moves found.client) }
@@ -78,7 +83,7 @@ fn first_enabled(script: &Script, world: &World, clients: &[Progress], first: u3
         let client = place + 1;
         let progress = clients[place as usize];
         if let Some(step) = enabled_step(script, world, client, progress) {
-            return Some(First { client, step });
+            return Some(FirstEnabled { client, step });
         }
     }
     None

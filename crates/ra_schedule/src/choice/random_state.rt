@@ -20,7 +20,7 @@ pub struct RandomState {
     /// The one generator of a run.
     pub generator: Lcg128Xsl64,
     /// The clients of each node.
-    pub rosters: Vec<NodeClients>,
+    pub node_clients: Vec<NodeClients>,
     /// Which clients are enabled.
     pub enabled: Enabled,
 }
@@ -45,11 +45,11 @@ impl RandomState {
         let Some(generator) = generator_of(policy) else {
             return Ok(None);
         };
-        let rosters = node_clients_of(alloc, script)?;
+        let node_clients = node_clients_of(alloc, script)?;
         let enabled = Enabled::of(alloc, script, world, clients)?;
         Ok(Some(RandomState {
             generator,
-            rosters,
+            node_clients,
             enabled,
         }))
     }
@@ -69,7 +69,7 @@ impl RandomState {
         ensures generator { self.new.generator ≡ self.old.generator }
         ensures draws { AreDraws script.now world.now.moves self.new }
     {
-        let members = members_at(&self.rosters, node_at(step));
+        let members = members_at(&self.node_clients, node_at(step));
         self.enabled.look_at_all(script, world, clients, members);
         self.enabled.look_at_entered(script, world, clients, marks);
     }

@@ -13,7 +13,7 @@ use ra_world::{Report, Steps, World};
 use std::alloc::Global;
 
 /// What a policy made of a script.
-#[derive(Debug, Drop)]
+#[derive(Drop)]
 pub struct Recording {
     /// All steps, in order.
     pub steps: Steps,
@@ -26,7 +26,7 @@ pub struct Recording {
 }
 
 /// What a policy made of a script, except for its steps and choices.
-#[derive(Debug, Drop)]
+#[derive(Drop)]
 pub struct Summary {
     /// How many steps there were, one at each turn.
     pub turns: u64,

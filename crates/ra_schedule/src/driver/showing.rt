@@ -15,7 +15,7 @@ use ra_stamp::Memory;
 use std::alloc::Global;
 
 /// The state at the end of what a policy made of a script.
-#[derive(Debug, Drop)]
+#[derive(Drop)]
 pub struct Shown {
     /// The lines of the state.
     pub text: String,

@@ -5,7 +5,7 @@ ghost use Rattle.ra_world.specs.Traffic.{Move};
 ghost use Rattle.ra_schedule.specs.Drive.{Drives};
 ghost use Rattle.ra_schedule.specs.Shrinking.{IsShrunk, IsInVain, IsLeast, IsLeastOf, cut};
 ghost use Rattle.ra_schedule.specs.Shrinking as spec;
-ghost use Rattle.ra_schedule.specs.Replaying.{IsStuckList, IsShorter, AreInVain, IsFoundIn};
+ghost use Rattle.ra_schedule.specs.Replaying.{IsStuckList, IsShorter, AreInVain, IsShorterRunOf};
 
 use crate::driver::Driver;
 use crate::driver::drive_script::{Driven, ended, opened};
@@ -16,7 +16,7 @@ use ra_world::{Step, Steps, World};
 use std::alloc::Global;
 
 /// What a run is shrunk to.
-#[derive(Debug, Drop)]
+#[derive(Drop)]
 pub struct Shrunk {
     /// The least list of choices that was found, or `None` if the run is not stuck.
     pub choices: Option<Choices>,
@@ -33,7 +33,7 @@ struct Listed {
 
 /// A shorter run that is stuck, and the place of the step that was left out.
 #[derive(Drop)]
-struct Found {
+struct ShorterRun {
     list: Listed,
     place: usize,
 }
@@ -189,13 +189,13 @@ fn shorter_between(
     steps: &[Step],
     from: usize,
     to: usize,
-) -> Result<Option<Found>, Memory>
+) -> Result<Option<ShorterRun>, Memory>
     requires { to ≤ length steps.now }
-    ensures { IfOk result (λ found. MatchOption found (AreInVain script.now steps.now from to) (IsFoundIn script.now steps.now)) }
+    ensures { IfOk result (λ found. MatchOption found (AreInVain script.now steps.now from to) (IsShorterRunOf script.now steps.now)) }
 {
     for place in from..to {
         if let Some(list) = try_without(alloc, script, steps, place)? {
-            return Ok(Some(Found { list, place }));
+            return Ok(Some(ShorterRun { list, place }));
         }
     }
     Ok(None)
@@ -212,8 +212,8 @@ fn shorter(
     script: &Script,
     steps: &[Step],
     first: usize,
-) -> Result<Option<Found>, Memory>
-    ensures { IfOk result (λ found. MatchOption found (IsLeast script.now steps.now) (IsFoundIn script.now steps.now)) }
+) -> Result<Option<ShorterRun>, Memory>
+    ensures { IfOk result (λ found. MatchOption found (IsLeast script.now steps.now) (IsShorterRunOf script.now steps.now)) }
 {
     let start = first.min(steps.len());
     match shorter_between(alloc, script, steps, start, steps.len())? {

@@ -1,6 +1,6 @@
 //! The clients of each node.
 ghost use Rattle.std.specs.Prelude.{◌≡◌, ◌-◌, ℕ, [], Some, Contains, slice_index_or, IfOk, IsTrue};
-ghost use Rattle.ra_schedule.specs.Enabled.{AreRosters, node_at, node_of};
+ghost use Rattle.ra_schedule.specs.Enabled.{AreNodeClients, node_at, node_of};
 
 use crate::Script;
 use ra_stamp::{Memory, NodeId};
@@ -22,13 +22,13 @@ impl Model for NodeClients {
     ghost view = { λ r. r.members.items };
 }
 
-/// Makes the roster of the node with this number.
+/// Returns the clients of the node with this number.
 ///
 /// # Errors
 ///
 /// `Memory`: memory ran out.
-fn roster_of(alloc: Global, script: &Script, node: u16) -> Result<NodeClients, Memory>
-    ensures { IfOk result (λ roster. (client : ℕ) → node_of script.now client ≡ Some node → Contains roster client) }
+fn clients_of_node(alloc: Global, script: &Script, node: u16) -> Result<NodeClients, Memory>
+    ensures { IfOk result (λ clients. (client : ℕ) → node_of script.now client ≡ Some node → Contains clients client) }
 {
     let mut members = Vec::new(alloc);
     for place in 0..script.clients() {
@@ -50,31 +50,31 @@ fn is_at(script: &Script, client: u32, node: u16) -> bool
     }
 }
 
-/// Makes the rosters of all nodes, in the order of their numbers.
+/// Returns the clients of each node, in the order of their numbers.
 ///
 /// # Errors
 ///
 /// `Memory`: memory ran out.
 pub fn node_clients_of(alloc: Global, script: &Script) -> Result<Vec<NodeClients>, Memory>
-    ensures { IfOk result (λ rosters. AreRosters script.now rosters.items) }
+    ensures { IfOk result (λ node_clients. AreNodeClients script.now node_clients.items) }
 {
-    let mut rosters = Vec::with_capacity(alloc, usize::from(script.nodes()))?;
+    let mut node_clients = Vec::with_capacity(alloc, usize::from(script.nodes()))?;
     for place in 0..script.nodes() {
-        let roster = roster_of(alloc, script, place + 1)?;
-        rosters.push(roster)?;
+        let clients = clients_of_node(alloc, script, place + 1)?;
+        node_clients.push(clients)?;
     }
-    Ok(rosters)
+    Ok(node_clients)
 }
 
 /// Returns the clients of a node, or none if there is no such node.
-pub fn members_at(rosters: &[NodeClients], node: Option<NodeId>) -> &[u32]
-    ensures { (client number : ℕ) → node ≡ Some number → Contains (slice_index_or rosters.now (number - 1) []) client
+pub fn members_at(node_clients: &[NodeClients], node: Option<NodeId>) -> &[u32]
+    ensures { (client number : ℕ) → node ≡ Some number → Contains (slice_index_or node_clients.now (number - 1) []) client
         → Contains result.now client }
 {
     match node {
-        Some(node) if usize::from(node.get()) <= rosters.len() => {
-            let roster = &rosters[node.place()];
-            &roster.members
+        Some(node) if usize::from(node.get()) <= node_clients.len() => {
+            let clients = &node_clients[node.place()];
+            &clients.members
         }
         _ => &[],
     }

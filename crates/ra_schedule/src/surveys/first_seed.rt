@@ -12,7 +12,7 @@ use ra_stamp::Memory;
 use std::alloc::Global;
 
 /// An end of a run that may be looked for.
-#[derive(Clone, Copy, Debug, PartialEq, Eq)]
+#[derive(Clone, Copy)]
 pub enum Ending {
     /// Every operation is done, and nothing waits, is queued or under way.
     Finished,

@@ -4,7 +4,7 @@ ghost use Rattle.ra_schedule.specs.Survey.{IsLeastAndMost, Tallies, tally_with};
 
 /// What a run took.
 #[derive(Clone, Copy, Debug, PartialEq, Eq)]
-pub struct Figures {
+pub struct RunCost {
     /// How many turns were made.
     pub turns: u64,
     /// How many messages were sent.
@@ -15,29 +15,29 @@ pub struct Figures {
 #[derive(Clone, Copy, Debug, PartialEq, Eq)]
 pub enum SeedOutcome {
     /// Every operation is done, and nothing waits, is queued or under way.
-    Finished(Figures),
+    Finished(RunCost),
     /// No choice was left before that.
-    Stuck(Figures),
+    Stuck(RunCost),
     /// A choice was left after the last turn.
     Limit,
 }
 
 /// How many seeds came to an end, and the first of them.
-#[derive(Clone, Copy, Debug, PartialEq, Eq)]
+#[derive(Clone, Copy, PartialEq, Eq)]
 pub struct Tally {
     pub seeds: u128,
     pub first: u64,
 }
 
 /// The least and the most of some numbers.
-#[derive(Clone, Copy, Debug, PartialEq, Eq)]
+#[derive(Clone, Copy)]
 pub struct Spread {
     pub least: u128,
     pub most: u128,
 }
 
 /// What came of a script under many seeds.
-#[derive(Clone, Copy, Debug, PartialEq, Eq)]
+#[derive(Clone, Copy)]
 pub struct Survey {
     /// Those whose run is finished.
     pub finished: Option<Tally>,
@@ -104,13 +104,13 @@ pub fn with_outcome(survey: Survey, seed: u64, outcome: SeedOutcome) -> Survey
         → Tallies first (outcomes ++ outcome ∷ []) result }
 {
     match outcome {
-        SeedOutcome::Finished(Figures { turns, messages }) => Survey {
+        SeedOutcome::Finished(RunCost { turns, messages }) => Survey {
             finished: counted(survey.finished, seed),
             turns: widened(survey.turns, u128::from(turns)),
             messages: widened(survey.messages, messages),
             ..survey
         },
-        SeedOutcome::Stuck(Figures { turns, messages }) => Survey {
+        SeedOutcome::Stuck(RunCost { turns, messages }) => Survey {
             stuck: counted(survey.stuck, seed),
             turns: widened(survey.turns, u128::from(turns)),
             messages: widened(survey.messages, messages),

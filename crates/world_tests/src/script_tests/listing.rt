@@ -5,7 +5,7 @@ use crate::world_steps::world_asserting::assert_same;
 use Chooser::{Faulty, Newest, Oldest, Seeded};
 use Ending::{Finished, Stuck};
 use ra_schedule::{
-    Choice, Ending, Figures, Observer, Policy, Script, SeedOutcome, SeedRange, Shrunk, first_seed,
+    Choice, Ending, Observer, Policy, RunCost, Script, SeedOutcome, SeedRange, Shrunk, first_seed,
     shrink, survey,
 };
 use ra_stamp::{Memory, Mode};
@@ -279,7 +279,7 @@ impl Observer for Told {
 }
 
 /// The outcome for one client of two nodes: it asks, its REQUEST and the REPLY are delivered, and it leaves.
-const ONE_LOCK: SeedOutcome = SeedOutcome::Finished(Figures {
+const ONE_LOCK: SeedOutcome = SeedOutcome::Finished(RunCost {
     turns: 4,
     messages: 2,
 });

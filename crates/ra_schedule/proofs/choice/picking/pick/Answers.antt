@@ -26,7 +26,7 @@ returns-in_err-choice-2 c =
       meaning = tt;
       none = λ e. c.in_err-choice-2.ensures.none refl;
       drawn = tt;
-      draws = record { rosters = draws.rosters; flags = draws.flags; count = draws.count };
+      draws = record { node_clients = draws.node_clients; flags = draws.flags; count = draws.count };
     })
 
 pub returns-in-Some : goal.returns-in-Some
@@ -42,7 +42,7 @@ returns-in-Some c =
       none = λ e. absurd cc;
       drawn = subst (λ (x : Choice). Some c.choose.new.generator ≡ generator_at policy (words_drawn policy moves + words_for policy x))
           (sym picked.ensures.choice) c.in_ok-choice-2.ensures.drawn;
-      draws = record { rosters = draws.rosters; flags = draws.flags; count = draws.count };
+      draws = record { node_clients = draws.node_clients; flags = draws.flags; count = draws.count };
     }
 
 pub returns-then-messages-eq0 : goal.returns-then-messages-eq0

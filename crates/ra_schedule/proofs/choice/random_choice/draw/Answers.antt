@@ -74,7 +74,7 @@ returns-else-number-count-clause-some c =
     let clients : c.from-count.result ≡ length list = c.from-count.ensures ∙ is in
     let messages : c.from.result ≡ length left = c.from.ensures ∙ len in
     let some = c.if-choices-eq0.false in
-    let behind = c.if-number-count.false in
+    let later = c.if-number-count.false in
     subst (λ (n : ℕ). (all : List Choice) × AreChoices c.args.script.now c.args.world.now.moves all × (slice_get all (word % length all) ≡ Some (Message (number - n)))) (sym clients)
     (names_message c.args.script.now c.args.world.now.moves list left word number are leaves
     (same_number c.from-2.result word (length list) (length left) c.from-count.result c.from.result drawn clients messages)

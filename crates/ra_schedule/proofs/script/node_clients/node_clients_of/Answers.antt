@@ -9,24 +9,24 @@ use Rattle.ra_schedule.proofs.script.node_clients.node_clients_of.Goals as goal
 pub loop-place-preserved : goal.loop-place-preserved
 loop-place-preserved c =
     let script = c.args.script.now in
-    let rosters = c.loop-place.rosters.items in
+    let node_clients = c.loop-place.node_clients.items in
     let place = c.loop-place.place in
-    let roster = c.in_ok-roster.roster in
+    let clients = c.in_ok-clients.clients in
     let so_far = c.loop-place.invariant in
-    let items : c.push.new.self.items ≡ rosters ++ roster ∷ [] = c.in_ok-push.ensures.items in
+    let items : c.push.new.self.items ≡ node_clients ++ clients ∷ [] = c.in_ok-push.ensures.items in
     record {
-      length_is = ap length items ∙ length-append rosters (roster ∷ []) ∙ ap (λ (n : ℕ). n + 1) so_far.length_is;
+      length_is = ap length items ∙ length-append node_clients (clients ∷ []) ∙ ap (λ (n : ℕ). n + 1) so_far.length_is;
       each = λ client k d less is.
           subst (λ (rs : List (List ℕ)). Contains (slice_index_or rs k d) client) (sym items)
           (elim (cases_eq k place) [
             | inl last ↦
-                let this : slice_index_or (rosters ++ roster ∷ []) k d ≡ roster =
-                ap (λ (i : ℕ). slice_index_or (rosters ++ roster ∷ []) i d) (last ∙ sym so_far.length_is) ∙ get_or-append_seam rosters roster [] d in
+                let this : slice_index_or (node_clients ++ clients ∷ []) k d ≡ clients =
+                ap (λ (i : ℕ). slice_index_or (node_clients ++ clients ∷ []) i d) (last ∙ sym so_far.length_is) ∙ get_or-append_seam node_clients clients [] d in
                 subst (λ (r : List ℕ). Contains r client) (sym this)
-                (c.in_ok-roster.ensures client (is ∙ ap (λ (n : ℕ). Some (n + 1)) last))
+                (c.in_ok-clients.ensures client (is ∙ ap (λ (n : ℕ). Some (n + 1)) last))
             | inr before ↦
-                let within : k < length rosters = omega (arith, less, before, so_far.length_is) in
-                subst (λ (r : List ℕ). Contains r client) (sym (get_or_append_left rosters (roster ∷ []) d k within))
+                let within : k < length node_clients = omega (arith, less, before, so_far.length_is) in
+                subst (λ (r : List ℕ). Contains r client) (sym (get_or_append_left node_clients (clients ∷ []) d k within))
                 (so_far.each client k d (omega (arith, less, before)) is)
           ]);
     }

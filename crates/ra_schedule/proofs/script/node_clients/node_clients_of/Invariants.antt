@@ -4,10 +4,10 @@ use Rattle.ra_schedule.specs.Script.{ScriptState}
 use Rattle.ra_schedule.specs.Enabled.{node_of}
 use Rattle.ra_schedule.proofs.script.node_clients.node_clients_of.Given as goal
 
--- the rosters of the nodes so far
-pub record SoFar (script : ScriptState) (place : ℕ) (rosters : List (List ℕ)) : Type 0 where
-  pub length_is : length rosters ≡ place
-  pub each : (client k : ℕ) (d : List ℕ) → k < place → node_of script client ≡ Some (k + 1) → Contains (slice_index_or rosters k d) client
+-- the clients of the nodes so far
+pub record SoFar (script : ScriptState) (place : ℕ) (node_clients : List (List ℕ)) : Type 0 where
+  pub length_is : length node_clients ≡ place
+  pub each : (client k : ℕ) (d : List ℕ) → k < place → node_of script client ≡ Some (k + 1) → Contains (slice_index_or node_clients k d) client
 
 abbrev pub invariant-loop-place : goal.invariant-loop-place
-invariant-loop-place l = SoFar l.script l.place l.rosters.items
+invariant-loop-place l = SoFar l.script l.place l.node_clients.items

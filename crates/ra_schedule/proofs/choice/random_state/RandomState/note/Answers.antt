@@ -1,5 +1,5 @@
 use Rattle.std.proofs.Common.{◌≡◌, ◌+◌, ◌<◌, [], length, sym, ◌∙◌, subst, arith, inl, inr}
-use Rattle.ra_schedule.specs.Enabled.{IsFlag, AreRosters}
+use Rattle.ra_schedule.specs.Enabled.{IsFlag, AreNodeClients}
 use Rattle.ra_schedule.proofs.NodesOfClients.{has_node}
 use Rattle.ra_schedule.proofs.choice.random_state.RandomState.note.Goals as goal
 
@@ -12,10 +12,10 @@ returns-clause-draws c =
     let middle = c.look_at_all.new.self.flags.items in
     let new = c.look_at_entered.new.self.flags.items in
     let members = c.members_at-members.result.now in
-    let rosters : AreRosters script c.deref.result.now = subst (AreRosters script) (sym c.deref.ensures.value) before.rosters in
+    let node_clients : AreNodeClients script c.deref.result.now = subst (AreNodeClients script) (sym c.deref.ensures.value) before.node_clients in
     let len : length new ≡ length old = c.look_at_entered.ensures.alike ∙ c.look_at_all.ensures.alike in
     record {
-      rosters = before.rosters;
+      node_clients = before.node_clients;
       flags = record {
         length_is = len ∙ before.alike;
         each = λ k d within.
@@ -31,7 +31,7 @@ returns-clause-draws c =
                         (before.flags k d had
                         (λ here.
                         let (node, is) = has_node script k (omega (arith, had, before.alike)) in
-                        absent.1 (c.members_at-members.ensures (k + 1) node (c.node_at.ensures ∙ sym here ∙ is) (rosters (k + 1) node [] is)))
+                        absent.1 (c.members_at-members.ensures (k + 1) node (c.node_at.ensures ∙ sym here ∙ is) (node_clients (k + 1) node [] is)))
                         silent.1)
                   ])
             ];

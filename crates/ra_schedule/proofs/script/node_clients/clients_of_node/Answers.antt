@@ -2,7 +2,7 @@ use Rattle.std.proofs.Common.{◌≡◌, ℕ, Some, sym, subst, arith}
 use Rattle.std.specs.Prelude.{Contains}
 use Rattle.ra_schedule.specs.Enabled.{node_of}
 use Rattle.ra_schedule.proofs.NodesOfClients.{is_client}
-use Rattle.ra_schedule.proofs.script.node_clients.roster_of.Goals as goal
+use Rattle.ra_schedule.proofs.script.node_clients.clients_of_node.Goals as goal
 
 pub returns : goal.returns
 returns c client is =
