@@ -8,7 +8,7 @@ ghost use Rattle.ra_bag.specs.Places.{IsFirstSlot, IsTold, Tells, Learns, Unlear
 
 use crate::slots::{MAX_LINEAR_SCAN, is_same};
 use indexmap::IndexMap;
-use ra_stamp::{Memory, Message, equal_is_same};
+use ra_stamp::{Memory, Message};
 use std::alloc::Global;
 use std::collections::VecDeque;
 use std::mem::replace;
@@ -63,7 +63,6 @@ impl Places {
         ensures first { (slots : List (Option Message)) → IsTold ⟦<Message as PartialEq>⟧.eq self.now slots
             → IfSome result (λ told. IsFirstSlot slots message.now told.0) }
     {
-        equal_is_same();
         let (entry, _, number) = self.numbers.get_full(message)?;
         let slot = number.checked_sub(self.first)?;
         Some((slot as usize, entry))
@@ -129,7 +128,6 @@ impl Places {
         requires first { self.old.first ≡ 0 }
         ensures { OnOk result (Tells ⟦<Message as PartialEq>⟧.eq self.new slots.now.items) }
     {
-        equal_is_same();
         for slot in 0..slots.len() {
             if let Some(message) = slots[slot] {
                 self.add(slot as u64, &message)?;
@@ -160,7 +158,6 @@ impl Places {
             → Tells ⟦<Message as PartialEq>⟧.eq self.old slots
             → Tells ⟦<Message as PartialEq>⟧.eq self.new (slots ++ map Some messages.now)) }
     {
-        equal_is_same();
         let mut number = self.first.checked_add(slot as u64).ok_or(Memory)?;
         for message in messages {
             self.add(number, message)?;
@@ -202,7 +199,6 @@ impl Places {
             → Tells ⟦<Message as PartialEq>⟧.eq self.old slots
             → Tells ⟦<Message as PartialEq>⟧.eq self.new (slice_set slots slot None) }
     {
-        equal_is_same();
         match self.remove(message) {
             Some(number) => number.checked_sub(self.first) == Some(slot as u64),
             None => false,
@@ -245,8 +241,8 @@ impl Places {
     }
 }
 
-/// Takes the number of a message, or returns `None` if it has none. Only if the message is not in this entry, it is looked
-/// up. It does not allocate.
+/// Takes the number of a message, or returns `None` if it has none. The message is looked up only if it is not in this
+/// entry. It does not allocate.
 fn take_number(numbers: &mut IndexMap<Message, u64>, entry: usize, message: &Message) -> Option<u64>
     ensures taken { result ≡ lookup (⟦<Message as PartialEq>⟧.eq message.now) numbers.old.entries }
     ensures gone { lookup (⟦<Message as PartialEq>⟧.eq message.now) numbers.new.entries ≡ None }

@@ -7,24 +7,19 @@ ghost use Rattle.ra_stamp.specs.Stamp.{IsEarlier};
 ghost use Rattle.ra_table.specs.Table.{LockTable, empty_table, Excludes, MayRequest, MayEnter, TableStep, TableSteps, TableRun};
 ghost use Rattle.ra_table.specs.Laws.{IsConflictFree, AllowsMark, IsAt, WaitsSince, HoldsSince, SameEntries};
 
-use ra_stamp::{Entry, Mark, conflict_is_symmetric, stamps_are_totally_ordered};
+use ra_stamp::{Entry, Mark};
 
 /// No two conflicting entries on one name hold at once.
 pub fn conflicting_entries_never_hold_at_once()
     ensures { (marks : List Mark) (table : LockTable) → TableRun marks table → IsConflictFree table.holding }
-{
-    conflict_is_symmetric();
-}
+{}
 
 /// Conflicting entries on one name are granted in the order of their stamps.
 pub fn grants_come_in_stamp_order()
     ensures { (marks : List Mark) (table : LockTable) (e f : Entry) (i j : ℕ) → TableRun marks table → i < j
         → IsAt marks i (Mark.Entered e) → IsAt marks j (Mark.Entered f) → Excludes e f
         → IsEarlier e.stamp f.stamp }
-{
-    conflict_is_symmetric();
-    stamps_are_totally_ordered();
-}
+{}
 
 /// An entry waits from its request until it enters.
 pub fn waiting_entries_were_requested_and_have_not_entered()

@@ -56,8 +56,8 @@ fn is_at(name_tables: &IndexMap<Name, NameTable>, place: usize, name: &Name) -> 
     }
 }
 
-/// Returns at which place the table of a name is, or `None` if it has none. Only if it is neither at the place that was looked at
-/// last nor at the next one, the name is hashed: most callers ask of one name several times, and of names in one order.
+/// Returns at which place the table of a name is, or `None` if it has none. It looks at the place that was found last, then at the next
+/// one, and only then by a hash of the name: most callers ask of one name several times, and of names in one order.
 #[inline(always)]
 fn place_of_name(
     name_tables: &IndexMap<Name, NameTable>,

@@ -1,5 +1,5 @@
 -- A request, and a leave, keep the protocol.
-use Rattle.std.proofs.Common.{◌≡◌, ◌≢◌, ℕ, ◌+◌, ◌≤◌, Bool, List, [], ◌∷◌, ◌++◌, map, Option, Some, None, sym, ap, ◌∙◌, subst, arith, inl, inr}
+use Rattle.std.proofs.Common.{◌≡◌, ◌≢◌, ℕ, ◌+◌, ◌≤◌, Bool, List, [], ◌∷◌, ◌++◌, map, Option, Some, None, sym, ap, ◌∙◌, subst, inl, inr}
 use Rattle.std.specs.Prelude.{IsTrue}
 use Rattle.std.specs.Ordering.{nat_cmp}
 use Rattle.std.specs.FinSet as set
@@ -9,11 +9,10 @@ use Rattle.std.proofs.lemmas.List.Elements.{filter-append}
 use Rattle.ra_stamp.specs.declared.mode.Mode.{Mode}
 use Rattle.ra_stamp.specs.declared.message.Message.{Message}
 use Rattle.ra_stamp.specs.declared.message.Message.TheVariants.{Request, Reply}
-use Rattle.ra_stamp.specs.Stamp.{IsEarlier}
 use Rattle.ra_automaton.specs.declared.phase.Phase.{Phase}
 use Rattle.ra_automaton.specs.declared.phase.Phase.TheVariants.{Idle, Waiting, Inside}
 use Rattle.ra_automaton.specs.State.{State}
-use Rattle.ra_automaton.specs.Steps.{others_of, Awaits, OwnGoesFirst, RequestStep, LeaveStep}
+use Rattle.ra_automaton.specs.Steps.{others_of, Awaits, RequestStep, LeaveStep}
 use Rattle.ra_world.proofs.Dialogs.{belongs, between, reply_for, requests_to_one, requests_of_others, replies_to_one, replies_of_others}
 use Rattle.ra_world.proofs.Protocol.{IsNode, LetsPass, IsSilent, Dialog, IsPlaced, Protocol, Changes, changed}
 use Rattle.ra_world.proofs.AutomatonSteps.{idle_has_none, requests_are, all_asked, passes_after_request, replies_are, idle_after_leave, none_deferred, passes_after_leave}

@@ -1,5 +1,5 @@
 -- What the steps of one automaton leave and change, whatever is under way.
-use Rattle.std.proofs.Common.{◌≡◌, ◌≢◌, ◌⊎◌, ℕ, ◌+◌, ◌≤◌, max, Bool, cond, List, map, Option, Some, None, refl, sym, ap, ◌∙◌, subst, arith, inl, inr}
+use Rattle.std.proofs.Common.{◌≡◌, ◌≢◌, ◌⊎◌, ℕ, ◌+◌, ◌≤◌, max, Bool, cond, List, map, Some, None, refl, sym, ap, ◌∙◌, subst, arith, inl, inr}
 use Rattle.std.specs.Prelude.{IsTrue}
 use Rattle.std.specs.Ordering.{nat_cmp}
 use Rattle.std.specs.Cmp.{nat_cmp_total}
@@ -10,13 +10,13 @@ use Rattle.ra_stamp.specs.declared.message.Message.{Message}
 use Rattle.ra_stamp.specs.declared.message.Message.TheVariants.{Request, Reply}
 use Rattle.ra_stamp.specs.Stamp.{IsEarlier}
 use Rattle.ra_automaton.specs.declared.phase.Phase.{Phase}
-use Rattle.ra_automaton.specs.declared.phase.Phase.TheVariants.{Idle, Waiting, Inside}
+use Rattle.ra_automaton.specs.declared.phase.Phase.TheVariants.{Idle, Waiting}
 use Rattle.ra_automaton.specs.State.{State}
 use Rattle.ra_automaton.specs.Steps.{others_of, later_of, Awaits, OwnGoesFirst, RequestStep, LeaveStep, Defers, RepliesAtOnce, Enters, WaitsOn}
 use Rattle.ra_automaton.proofs.Apart.{tied, untied}
 use Rattle.ra_automaton.proofs.Consistent.{other_is_asked}
 use Rattle.ra_world.proofs.Members.{remains, removed, nobody}
-use Rattle.ra_world.proofs.Protocol.{mode_in, IsNode, HasOwn, LetsPass, IsPlaced}
+use Rattle.ra_world.proofs.Protocol.{IsNode, HasOwn, LetsPass, IsPlaced}
 
 pub idle_has_none : (phase : Phase) (seq : ℕ) (mode : Mode) → phase ≡ Idle → HasOwn phase seq mode → ⊥
 idle_has_none phase seq mode idle own = subst (λ (q : Phase). HasOwn q seq mode) idle own

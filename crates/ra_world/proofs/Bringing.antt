@@ -7,7 +7,7 @@ use Rattle.ra_node.specs.Events.{Event, NodeEvent, ReceiveEvent}
 use Rattle.ra_node.specs.Events.Event.{Receive as Received}
 use Rattle.ra_node.specs.Carried.{replies_at_most, entries_at_most}
 use Rattle.ra_node.specs.Memory.{BringsNothing}
-use Rattle.ra_world.specs.Log.{LogState, HasRoom}
+use Rattle.ra_world.specs.StepLog.{LogState, HasRoom}
 
 -- for the most that comes of it
 pub fits : ((old new : NodeState) (message : Message) (sends : List Message) (marks : List Mark) → NodeEvent old (Received message) sends marks new

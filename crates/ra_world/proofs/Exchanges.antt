@@ -2,7 +2,7 @@
 -- asks and the other answers, any copy of a REQUEST or a REPLY may be under way, an old one too. No number in them is above that of the
 -- asker's own request, a REPLY to that one is from a node that lets it pass, and a node that is awaited has a REQUEST under way to it, defers
 -- its REPLY, or has a REPLY under way, unless a message was lost.
-use Rattle.std.proofs.Common.{◌≡◌, ◌≢◌, ◌⊎◌, ℕ, ◌<◌, ◌≤◌, List, [], ◌∷◌, ◌++◌, Contains, Some, zero, suc, refl, sym, ap, ◌∙◌, subst, arith, inl, inr}
+use Rattle.std.proofs.Common.{◌≡◌, ◌≢◌, ◌⊎◌, ℕ, ◌<◌, ◌≤◌, List, [], ◌∷◌, Contains, Some, zero, suc, refl, sym, ap, ◌∙◌, subst, arith, inl, inr}
 use Rattle.std.specs.Prelude.{IsTrue}
 use Rattle.std.specs.FinSet as set
 use Rattle.std.specs.FinMap as finmap

@@ -1,5 +1,5 @@
 -- A request, and a leave, keep what holds of all dialogs, also if messages were repeated.
-use Rattle.std.proofs.Common.{◌≡◌, ◌≢◌, ◌⊎◌, ℕ, zero, suc, ◌+◌, ◌<◌, ◌≤◌, Bool, List, [], ◌∷◌, ◌++◌, Contains, map, Option, Some, None, refl, sym, ap, ◌∙◌, subst, arith, inl, inr}
+use Rattle.std.proofs.Common.{◌≡◌, ◌≢◌, ℕ, zero, suc, ◌+◌, ◌<◌, ◌≤◌, Bool, List, [], ◌∷◌, ◌++◌, Contains, map, Option, Some, None, refl, sym, ap, ◌∙◌, subst, arith, inl, inr}
 use Rattle.std.specs.FinMap as finmap
 use Rattle.std.proofs.lemmas.List.Elements.{Contains-append_left, Contains-append_right, Contains-append_cases, Contains-push, Contains-push_cases}
 use Rattle.ra_stamp.specs.declared.mode.Mode.{Mode}
@@ -11,7 +11,7 @@ use Rattle.ra_automaton.specs.Steps.{others_of, Awaits, RequestStep, LeaveStep}
 use Rattle.ra_world.proofs.Dialogs.{between, reply_for, requests_to_one, requests_of_others, replies_to_one, replies_of_others}
 use Rattle.ra_world.proofs.Protocol.{IsNode, HasOwn, LetsPass, IsPlaced, Changes}
 use Rattle.ra_world.proofs.AutomatonSteps.{idle_has_none, idle_goes_last, awaits_has, requests_are, all_asked, passes_after_request, own_after_request, higher_after_request, replies_are, idle_after_leave, none_deferred, passes_after_leave}
-use Rattle.ra_world.proofs.Exchanges.{IsUsed, WasMade, Grants, Holds, Pending, Exchange, Exchanges, exchanges_changed, exchange_kept, grants_still, pending_still}
+use Rattle.ra_world.proofs.Exchanges.{IsUsed, Exchange, Exchanges, exchanges_changed, exchange_kept, grants_still, pending_still}
 use Rattle.ra_world.proofs.Asking.{more_between, none_between}
 
 -- ---- Messages

@@ -1,11 +1,10 @@
 -- A message that comes, one that is lost and a copy keep what holds of all dialogs, also if messages were repeated.
-use Rattle.std.proofs.Common.{◌≡◌, ◌≢◌, ◌⊎◌, ℕ, zero, suc, max, ◌≤◌, Bool, true, false, cond, List, [], ◌∷◌, ◌++◌, Contains, filter, Option, Some, None, refl, sym, ap, ◌∙◌, subst, arith, inl, inr}
+use Rattle.std.proofs.Common.{◌≡◌, ◌≢◌, ◌⊎◌, ℕ, zero, suc, ◌≤◌, Bool, true, false, cond, List, [], ◌∷◌, ◌++◌, Contains, filter, Option, Some, None, refl, sym, ap, ◌∙◌, subst, arith, inl, inr}
 use Rattle.std.specs.Prelude.{IsTrue}
 use Rattle.std.specs.Ordering.{nat_cmp}
 use Rattle.std.specs.FinSet as set
 use Rattle.std.specs.FinMap as finmap
-use Rattle.std.proofs.lemmas.List.{append-nil}
-use Rattle.std.proofs.lemmas.List.Elements.{All-nil, All-cons, Contains-append_left, Contains-append_right, Contains-push, Contains-push_cases, filter-append}
+use Rattle.std.proofs.lemmas.List.Elements.{All-nil, All-cons, Contains-append_left, Contains-append_right, Contains-push, Contains-push_cases}
 use Rattle.ra_stamp.specs.declared.mode.Mode.{Mode}
 use Rattle.ra_stamp.specs.declared.message.Message.{Message}
 use Rattle.ra_stamp.specs.declared.message.Message.TheVariants.{Request, Reply}
@@ -19,7 +18,7 @@ use Rattle.ra_world.proofs.Lists.{filter_hit, filter_miss, filter_taken, filter_
 use Rattle.ra_world.proofs.Dialogs.{belongs, between, IsOf, belongs_at, belongs_not, between_none}
 use Rattle.ra_world.proofs.Protocol.{IsNode, HasOwn, LetsPass, IsPlaced, Changes}
 use Rattle.ra_world.proofs.AutomatonSteps.{awaits_has, phase_same, awaited_same, highest_is, deferred_other, first_same, first_back, passes_after_receive, deferred_here, still_awaited, not_awaited, own_is, own_was, waited_so, first_as, same_rest, passes_after_reply}
-use Rattle.ra_world.proofs.Exchanges.{IsUsed, WasMade, Grants, Holds, Pending, Exchange, Exchanges, KeepsAsker, exchanges_changed, exchange_kept, grants_still, pending_still, taken_or_left, was_there, was_first}
+use Rattle.ra_world.proofs.Exchanges.{IsUsed, WasMade, Grants, Holds, Exchange, Exchanges, KeepsAsker, exchanges_changed, exchange_kept, grants_still, pending_still, taken_or_left, was_there, was_first}
 use Rattle.ra_world.proofs.Asking.{more_between, none_between}
 use Rattle.ra_world.proofs.ExchangesAsking.{same_request, not_a_reply}
 

@@ -55,7 +55,7 @@ module _ (laws : LawsBelow) (n start : ℕ) (ms : List Move) (nodes : ℕ → No
   same_at : (i : ℕ) → IsNode n i → before.nodes i ≡ nodes i
   same_at i at = same_ends laws.one_end n start ms before.nodes nodes before.ends ends i at
 
-  consistent_at : (i : ℕ) → IsNode n i → IsConsistentNode (nodes i)
+  pub consistent_at : (i : ℕ) → IsNode n i → IsConsistentNode (nodes i)
   consistent_at i at = subst IsConsistentNode (same_at i at) (before.invariant.each i at).consistent
 
   fit_of : (step : Step) (on : GoesOn n start ms step) → IsFit n ms step on.0 on.1

@@ -11,12 +11,11 @@ use Rattle.ra_automaton.specs.State.{IsForNode, IsOtherNode}
 use Rattle.ra_node.specs.Node.{NodeState, opening_node}
 use Rattle.ra_node.specs.Events.{Event, Happening, NodeEvent, NodeEvents}
 use Rattle.ra_world.specs.declared.step.Step.TheVariants.{Lose, Repeat}
-use Rattle.ra_world.specs.Traffic.{Move, TakesEach, LeavesUnderWay, IsUnderWay, put_in, put_by, taken_in, taken_by, sent_by, repeated_in, repeated_by}
+use Rattle.ra_world.specs.Traffic.{Move, TakesEach, LeavesUnderWay, IsUnderWay, put_in, put_by, taken_in, taken_by, sent_by, repeated_by}
 use Rattle.ra_world.specs.Run.{IsRun, IsFit, EndsWith, events_at, happened_at, with_node}
 use Rattle.ra_world.specs.Keeping.{nodes_of, Keeps}
 use Rattle.std.proofs.lemmas.Bool.{ne_eqb}
 use Rattle.ra_automaton.proofs.Apart.{cases_same}
-use Rattle.std.specs.List.{remove}
 use Rattle.std.specs.Prelude.{AllPairs}
 use Rattle.ra_world.proofs.Moves.{put_is_sent, event_copies_nothing}
 use Rattle.ra_world.proofs.DifferentLists.{left_different, first_at}

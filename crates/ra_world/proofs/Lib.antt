@@ -35,7 +35,7 @@ mod DifferentLists
 mod DifferentDialogs
 mod DifferentTurns
 mod DifferentEvents
-mod DifferentRuns
+pub mod DifferentRuns
 mod LogCounts
 mod KeptRuns
 mod Bringing

@@ -9,7 +9,7 @@ use Rattle.ra_world.specs.declared.step.Step.TheVariants.{Ask, Leave, Deliver, L
 use Rattle.ra_world.specs.Traffic.{Move, sent_by, lost_by, lost_in, repeated_by, repeated_in}
 use Rattle.ra_world.specs.Run.{marks_of}
 use Rattle.ra_world.specs.Quiet.{requests_in}
-use Rattle.ra_world.specs.Log.{AreCounted, move_of, moves_of}
+use Rattle.ra_world.specs.StepLog.{AreCounted, move_of, moves_of}
 use Rattle.ra_world.proofs.Moves.{marks_more, sent_more}
 
 pub requests_in-append : (a b : List Mark) → requests_in (a ++ b) ≡ requests_in a + requests_in b

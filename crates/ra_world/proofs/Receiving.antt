@@ -1,8 +1,7 @@
 -- A message that comes, and one that is lost, keep the protocol.
-use Rattle.std.proofs.Common.{◌≡◌, ◌≢◌, ◌⊎◌, ℕ, max, Bool, true, false, cond, List, [], ◌∷◌, ◌++◌, Some, None, refl, sym, ap, ◌∙◌, subst, arith, inl, inr}
+use Rattle.std.proofs.Common.{◌≡◌, ◌≢◌, ◌⊎◌, ℕ, Bool, true, false, cond, List, [], ◌∷◌, ◌++◌, Some, None, refl, sym, ap, ◌∙◌, subst, arith, inl, inr}
 use Rattle.std.specs.Prelude.{IsTrue}
 use Rattle.std.specs.Ordering.{nat_cmp}
-use Rattle.std.specs.Cmp.{nat_cmp_total}
 use Rattle.std.specs.FinSet as set
 use Rattle.std.specs.FinMap as finmap
 use Rattle.std.proofs.lemmas.List.Elements.{All-nil, All-cons}
@@ -17,7 +16,7 @@ use Rattle.ra_automaton.specs.Steps.{later_of, Awaits, OwnGoesFirst, Defers, Rep
 use Rattle.ra_bag.specs.Bag.{TakesFirst}
 use Rattle.ra_world.proofs.Lists.{filter_taken, filter_left, takes_none, takes_one}
 use Rattle.ra_world.proofs.Dialogs.{belongs, between, IsOf, belongs_at, belongs_not, between_none}
-use Rattle.ra_automaton.proofs.Apart.{cases_same, tied, untied}
+use Rattle.ra_automaton.proofs.Apart.{cases_same}
 use Rattle.ra_world.proofs.AutomatonSteps.{phase_same, awaited_same, highest_is, deferred_other, first_same, first_back, passes_after_receive, deferred_here, waited, still_awaited, was_awaited, not_awaited, still_waits, own_is, own_was, first_as, same_rest, passes_after_reply}
 use Rattle.ra_world.proofs.Protocol.{mode_in, IsNode, HasOwn, LetsPass, Dialog, IsPlaced, Protocol, Changes, changed}
 use Rattle.ra_world.proofs.Asking.{more_between, none_between}

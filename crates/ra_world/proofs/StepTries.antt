@@ -28,7 +28,7 @@ use Rattle.ra_world.specs.Traffic.{Move, TakesEach, taken_in, repeated_by}
 use Rattle.ra_world.specs.Run.{IsRun, IsFit, GoesOn, EndsWith, events_at}
 use Rattle.ra_world.specs.World.{WorldState, HasCause, MayNeedMemory, IsFull, AtNode}
 use Rattle.ra_world.specs.Keeping.{nodes_of, Keeps, IsShort, Tries}
-use Rattle.ra_world.specs.Log.{LogState, HasRoom}
+use Rattle.ra_world.specs.StepLog.{LogState, HasRoom}
 use Rattle.ra_world.specs.Refused.{refusal_of_ask, refusal_of_leave}
 
 -- the world of these fields
@@ -262,18 +262,19 @@ pub reads_same : (nodes : List NodeState) (place : ℕ) (old next : NodeState) �
     → next ≡ get_or nodes place next → next ≡ old
 reads_same nodes place old next within at at' = at' ∙ get_or_default nodes place next old within ∙ sym at
 
--- what an event sends and marks at most, at the node that was read before too
+-- what an event sends and marks at most
 pub few_carried :
     ((old new : NodeState) (event : Event) (sends : List Message) (marks : List Mark)
     → IsConsistentNode old → NodeEvent old event sends marks new → (length sends ≤ sends_at_most old.nodes event) × (length marks ≤ marks_at_most event))
-    → (nodes : List NodeState) (place : ℕ) (first old new : NodeState) (event : Event) (sends : List Message) (marks : List Mark)
-    → (nodes_of nodes (place + 1)).nodes ≡ length nodes
-    → place < length nodes → first ≡ get_or nodes place first → old ≡ get_or nodes place old → IsConsistentNode first
+    → (nodes : List NodeState) (place : ℕ) (old new : NodeState) (event : Event) (sends : List Message) (marks : List Mark)
+    → (nodes_of nodes (place + 1)).nodes ≡ length nodes → IsConsistentNode (nodes_of nodes (place + 1))
+    → place < length nodes → old ≡ get_or nodes place old
     → NodeEvent old event sends marks new → (length sends ≤ sends_at_most (length nodes) event) × (length marks ≤ marks_at_most event)
-few_carried law nodes place first old new event sends marks many within at_first at consistent happened =
-    let same = subst IsConsistentNode (sym (reads_same nodes place first old within at_first at)) consistent in
-    let count : old.nodes ≡ length nodes = ap (λ (s : NodeState). s.nodes) (sym (node_here nodes place (place + 1) old refl within at)) ∙ many in
-    subst (λ (n : ℕ). (length sends ≤ sends_at_most n event) × (length marks ≤ marks_at_most event)) count (law old new event sends marks same happened)
+few_carried law nodes place old new event sends marks many consistent within at happened =
+    let here = node_here nodes place (place + 1) old refl within at in
+    let count : old.nodes ≡ length nodes = ap (λ (s : NodeState). s.nodes) (sym here) ∙ many in
+    subst (λ (n : ℕ). (length sends ≤ sends_at_most n event) × (length marks ≤ marks_at_most event)) count
+    (law old new event sends marks (subst IsConsistentNode here consistent) happened)
 
 -- room for the most is room for fewer
 pub room_for : (log : LogState) (marks most : ℕ) → HasRoom log most → marks ≤ most → HasRoom log marks

@@ -1,19 +1,15 @@
 -- The laws on which a world's steps and reports depend. A proof names them, and no code calls them.
-use Rattle.std.proofs.Common.{◌≡◌, ◌⊎◌, ℕ, ◌+◌, ◌<◌, ◌≤◌, List, [], ◌∷◌, ◌++◌, Contains, length, map, arith, rules}
-use Rattle.std.specs.Prelude.{◌↔◌, All, IsTrue, sum_by, slice_set}
+use Rattle.std.proofs.Common.{◌≡◌, ℕ, ◌+◌, ◌<◌, ◌≤◌, List, [], ◌∷◌, ◌++◌, Contains, length, map, arith}
+use Rattle.std.specs.Prelude.{◌↔◌, All, sum_by, slice_set}
 use Rattle.std.specs.List.{range_with_len}
-use Rattle.std.proofs.lemmas.Grind.{common_steps}
 use Rattle.ra_stamp.specs.declared.entry.Entry.{Entry}
 use Rattle.ra_stamp.specs.declared.entry.Mark.{Mark}
 use Rattle.ra_stamp.specs.declared.message.Message.{Message}
 use Rattle.ra_stamp.specs.declared.mode.Mode.{Mode}
-use Rattle.ra_stamp.specs.declared.stamp.Stamp.{Stamp}
-use Rattle.ra_stamp.specs.contracts.message.MessagePartialEq.TheImpl as messages
 use Rattle.ra_stamp.specs.contracts.message.MessagePartialEq.TheImpl.{eq-value}
 use Rattle.ra_stamp.specs.Message.{from_of, to_of}
-use Rattle.ra_stamp.specs.Mode.{compatible, Conflict}
 use Rattle.ra_stamp.specs.NodeId.{IsNodeNumber}
-use Rattle.ra_stamp.specs.Stamp.{IsEarlier}
+use Rattle.ra_stamp.proofs.StampLaws.{conflict_flips, one_is_earlier, same_messages}
 use Rattle.ra_bag.specs.Bag.{TakesFirst, TakesOne}
 use Rattle.ra_automaton.specs.State.{IsForNode, IsOtherNode}
 use Rattle.ra_automaton.proofs.Consistent.{consistent_request, consistent_receive, consistent_leave}
@@ -46,7 +42,7 @@ use Rattle.ra_world.proofs.Deciding.{decided}
 use Rattle.ra_world.proofs.DifferentRuns.{messages_differ}
 use Rattle.ra_world.proofs.Elsewhere.{stays}
 use Rattle.ra_world.proofs.FittingRuns.{fit_is_run}
-use Rattle.ra_world.proofs.GoingOn.{event_goes_on, loss_goes_on, copy_goes_on, ask_goes_on, leave_goes_on, deliver_goes_on, lose_goes_on, repeat_goes_on}
+use Rattle.ra_world.proofs.GoingOn.{consistent_at, event_goes_on, loss_goes_on, copy_goes_on, ask_goes_on, leave_goes_on, deliver_goes_on, lose_goes_on, repeat_goes_on}
 use Rattle.ra_world.proofs.KeptRuns as kept
 use Rattle.ra_world.proofs.Outcomes.{has_table, as_many_wait, something_under_way, is_traffic, among_them}
 use Rattle.ra_world.proofs.Queues as queues
@@ -56,19 +52,6 @@ use Rattle.ra_world.proofs.Reporting.{meets}
 use Rattle.ra_world.proofs.Runs.{prefixes}
 
 -- ---- What the crates below say
-
--- whether two modes conflict does not depend on their order
-conflict_flips : (a b : Mode) → Conflict a b → Conflict b a
-unfolding compatible
-conflict_flips a b conflict = grind (arith, conflict)
-
--- of two different stamps one is earlier
-one_is_earlier : (a b : Stamp) → IsEarlier a b ⊎ ((a ≡ b) ⊎ IsEarlier b a)
-one_is_earlier a b = grind (arith, common_steps)
-
--- messages that compare as equal are the same
-pub same_messages : (a b : Message) → IsTrue (messages.ghosts.eq a b) ↔ (a ≡ b)
-same_messages a b = search rules
 
 -- each event of a node leads from a consistent node to a consistent one
 pub stays_consistent : (old new : NodeState) (event : Event) (sends : List Message) (marks : List Mark)
@@ -176,6 +159,8 @@ pub record KeptRunsGoOn : Type 0 where
       × IsForNode (nodes_of nodes (to_of message)).me (nodes_of nodes (to_of message)).nodes message
   pub counts : (start : ℕ) (nodes : List NodeState) (left : List Message) (moves : List Move) (place : ℕ)
       → Keeps start nodes left moves → place < length nodes → (nodes_of nodes (place + 1)).nodes ≡ length nodes
+  pub consistent : (start : ℕ) (nodes : List NodeState) (left : List Message) (moves : List Move) (place : ℕ)
+      → Keeps start nodes left moves → place < length nodes → IsConsistentNode (nodes_of nodes (place + 1))
   -- If nothing was repeated, all messages under way are different, so each is the first of its kind.
   pub taken : (start : ℕ) (nodes : List NodeState) (left next : List Message) (moves : List Move) (message : Message)
       → Keeps start nodes left moves → repeated_by moves ≡ [] → TakesOne left message next → TakesFirst left message next
@@ -195,6 +180,8 @@ kept_runs_go_on =
       under_way = λ start nodes left moves message keeps. among_them moves left message keeps.under_way;
       is_taken = kept.is_taken same_node between_nodes;
       counts = kept.counts same_node;
+      consistent = λ start nodes left moves place keeps within.
+          consistent_at laws_below (length nodes) start moves (nodes_of nodes) keeps.count keeps.run keeps.ends (place + 1) (omega arith, omega (arith, within));
       taken = kept.taken_first (λ n start moves count run. messages_differ laws_below n start count moves run);
       queued = queues.few_queued;
       at_all = queues.at_all;

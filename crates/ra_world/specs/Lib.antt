@@ -8,7 +8,7 @@ pub mod Below
 pub mod AtNodes
 pub mod World
 pub mod MainTheorem
-pub mod Log
+pub mod StepLog
 pub mod Keeping
 pub mod Refused
 pub mod Lines

@@ -1,8 +1,8 @@
 pub mod fitting;
 pub mod kept_steps;
-pub mod log;
 pub mod node_places;
 pub mod run_steps;
+pub mod step_log;
 
 ghost use Rattle.std.specs.Prelude.{◌≡◌, ◌↔◌, [], List, length, slice_get, string_bytes, IsTrue, IsErrOf, IfOk, OnOk};
 ghost use Rattle.ra_stamp.specs.declared.message.Message.{Message};
@@ -10,8 +10,8 @@ ghost use Rattle.ra_stamp.specs.declared.message.Message.{Message};
 use crate::text::report::Figures;
 use crate::text::state_lines::state_text;
 use crate::world::kept_steps::{copy_of, keep, make_room, make_room_for, nothing, take};
-use crate::world::log::Log;
 use crate::world::node_places::{opening_nodes, place_of, queued_at, waiting_at};
+use crate::world::step_log::StepLog;
 use crate::{NewError, NodeRefusal, Report, Step, StepError};
 use ra_bag::Bag;
 use ra_node::{Node, Outcome, ReceiveError};
@@ -37,7 +37,7 @@ pub struct WorldOf<const KEEPS_MARKS: u8> {
     /// The nodes by their numbers, from 1.
     nodes: Vec<Node>,
     under_way: Bag,
-    log: Log<KEEPS_MARKS>,
+    log: StepLog<KEEPS_MARKS>,
 }
 
 impl<const KEEPS_MARKS: u8> Model for WorldOf<KEEPS_MARKS> {
@@ -84,7 +84,7 @@ impl<const KEEPS_MARKS: u8> WorldOf<KEEPS_MARKS> {
             start,
             nodes: opened,
             under_way,
-            log: Log::new(alloc),
+            log: StepLog::new(alloc),
         })
     }
 
@@ -262,8 +262,6 @@ impl<const KEEPS_MARKS: u8> WorldOf<KEEPS_MARKS> {
             return Err(StepError::NoNode);
         };
         let asked = &self.nodes[place];
-        // It says that the node is consistent, and so sends and marks no more than there is room for.
-        let _waiting = asked.waiting();
         // A REQUEST is sent to each other node, and the request may enter at once.
         let sends = self.nodes.len() as u64;
         let Ok(()) = make_room(&mut self.under_way, &mut self.log, sends, 2) else {
@@ -299,8 +297,6 @@ impl<const KEEPS_MARKS: u8> WorldOf<KEEPS_MARKS> {
             return Err(StepError::NoNode);
         };
         let left = &self.nodes[place];
-        // It says that the node is consistent, and so sends and marks no more than there is room for.
-        let _waiting = left.waiting();
         // The deferred REPLYs and the next request are sent, and the marks are Left, Requested and Entered.
         let sends = 2 * self.nodes.len() as u64;
         let Ok(()) = make_room(&mut self.under_way, &mut self.log, sends, 3) else {

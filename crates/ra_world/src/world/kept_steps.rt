@@ -10,10 +10,10 @@ ghost use Rattle.ra_node.specs.Memory.{BringsNothing};
 ghost use Rattle.ra_world.specs.declared.step.Step.{Step};
 ghost use Rattle.ra_world.specs.Traffic.{repeated_by};
 ghost use Rattle.ra_world.specs.World.{IsFull};
-ghost use Rattle.ra_world.specs.Log.{HasRoom};
+ghost use Rattle.ra_world.specs.StepLog.{HasRoom};
 
 use crate::Step;
-use crate::world::log::Log;
+use crate::world::step_log::StepLog;
 use ra_bag::{Bag, Found};
 use ra_node::{Node, Outcome};
 use ra_stamp::{Marks, Memory, Message, Messages};
@@ -26,7 +26,7 @@ use std::alloc::Global;
 /// `Memory`. Room for no message and no mark is refused only if 2^64-1 steps were made.
 pub fn make_room<const KEEPS_MARKS: u8>(
     under_way: &mut Bag,
-    log: &mut Log<KEEPS_MARKS>,
+    log: &mut StepLog<KEEPS_MARKS>,
     sends: u64,
     marks: u64,
 ) -> Result<(), Memory>
@@ -51,7 +51,7 @@ pub fn make_room<const KEEPS_MARKS: u8>(
 /// `Memory`. It is returned only if the message brings something or 2^64-1 steps were made.
 pub fn make_room_for<const KEEPS_MARKS: u8>(
     under_way: &mut Bag,
-    log: &mut Log<KEEPS_MARKS>,
+    log: &mut StepLog<KEEPS_MARKS>,
     receiver: &Node,
     message: &Message,
 ) -> Result<(), Memory>
@@ -96,7 +96,7 @@ fn most_entries(message: &Message) -> u64
 #[inline(always)]
 pub fn keep<const KEEPS_MARKS: u8>(
     under_way: &mut Bag,
-    log: &mut Log<KEEPS_MARKS>,
+    log: &mut StepLog<KEEPS_MARKS>,
     step: &Step,
     outcome: &Outcome,
 )
@@ -115,7 +115,7 @@ pub fn keep<const KEEPS_MARKS: u8>(
 #[inline(always)]
 pub fn take<const KEEPS_MARKS: u8>(
     under_way: &mut Bag,
-    log: &Log<KEEPS_MARKS>,
+    log: &StepLog<KEEPS_MARKS>,
     found: Found,
     message: &Message,
 )

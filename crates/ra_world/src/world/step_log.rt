@@ -3,7 +3,7 @@ ghost use Rattle.std.specs.Prelude.{◌≡◌, ◌+◌, ◌≤◌, ◌⊎◌, []
 ghost use Rattle.ra_stamp.specs.declared.entry.Mark.{Mark};
 ghost use Rattle.ra_world.specs.Traffic.{lost_in, repeated_in};
 ghost use Rattle.ra_world.specs.Quiet.{requests_in};
-ghost use Rattle.ra_world.specs.Log.{room_of};
+ghost use Rattle.ra_world.specs.StepLog.{room_of};
 
 use crate::Step;
 use ra_node::Outcome;
@@ -14,7 +14,7 @@ use std::marker::Model;
 /// What came of the steps so far. The steps themselves are counted and not kept, and their marks are kept if `KEEPS_MARKS` is 1.
 /// Contracts see the moves, and the room for more marks.
 #[derive(Drop)]
-pub struct Log<const KEEPS_MARKS: u8> {
+pub struct StepLog<const KEEPS_MARKS: u8> {
     /// How many steps there were.
     steps: u64,
     /// All marks of the steps, in order, if they are kept, and otherwise none.
@@ -31,8 +31,8 @@ pub struct Log<const KEEPS_MARKS: u8> {
     made: GhostList<(Step, Outcome)>,
 }
 
-impl<const KEEPS_MARKS: u8> Model for Log<KEEPS_MARKS> {
-    ghost use Rattle.ra_world.specs.Log.{LogState, moves_of, room_of, AreCounted};
+impl<const KEEPS_MARKS: u8> Model for StepLog<KEEPS_MARKS> {
+    ghost use Rattle.ra_world.specs.StepLog.{LogState, moves_of, room_of, AreCounted};
 
     ghost Value = { LogState };
 
@@ -45,17 +45,17 @@ impl<const KEEPS_MARKS: u8> Model for Log<KEEPS_MARKS> {
         AreCounted KEEPS_MARKS (moves_of l.made.items) l.steps l.marks.items l.sent l.requests l.lost l.repeated };
 }
 
-impl<const KEEPS_MARKS: u8> Log<KEEPS_MARKS> {
-    ghost use Rattle.ra_world.specs.Log.{HasRoom};
+impl<const KEEPS_MARKS: u8> StepLog<KEEPS_MARKS> {
+    ghost use Rattle.ra_world.specs.StepLog.{HasRoom};
     ghost use Rattle.ra_world.specs.Traffic.{sent_by, lost_by, repeated_by};
     ghost use Rattle.ra_world.specs.Run.{marks_of};
     ghost use Rattle.ra_world.specs.World.{IsFull};
 
     /// Makes the log of no step.
-    pub fn new(alloc: Global) -> Log<KEEPS_MARKS>
+    pub fn new(alloc: Global) -> StepLog<KEEPS_MARKS>
         ensures { result.moves ≡ [] }
     {
-        Log {
+        StepLog {
             steps: 0,
             marks: Marks::new(alloc),
             sent: 0,

@@ -1,5 +1,6 @@
 use Rattle.std.proofs.Common.{rules, ◌≡◌, ◌<◌, ◌+◌, length, sym, ◌∙◌, arith}
 use Rattle.ra_stamp.specs.contracts.message.MessagePartialEq.TheImpl.{eq-value}
+use Rattle.ra_stamp.proofs.StampLaws.{same_messages}
 use Rattle.ra_bag.proofs.Told.{next_message}
 use Rattle.ra_bag.proofs.places.Places.add_all.Goals as goal
 
@@ -15,6 +16,6 @@ loop-message-preserved c =
       first = learns.0 ∙ held.first;
       number = omega (arith, held.number, next);
       told = λ slots len tells.
-          next_message eq-value.it c.equal_is_same.ensures.messages c.loop-message.self c.add.new.self i c.message-item.result c.loop-message.number learns ms slots
+          next_message eq-value.it same_messages c.loop-message.self c.add.new.self i c.message-item.result c.loop-message.number learns ms slots
           (omega (arith, held.number, held.first, len)) lt (sym c.message-item.is) (held.told slots len tells);
     }

@@ -1,5 +1,6 @@
 use Rattle.std.proofs.Common.{rules, ◌≡◌, ◌<◌, ◌+◌, length, get_or, take, Some, None, refl, sym, ap, ◌∙◌, subst}
 use Rattle.ra_stamp.specs.contracts.message.MessagePartialEq.TheImpl.{eq-value}
+use Rattle.ra_stamp.proofs.StampLaws.{same_messages}
 use Rattle.ra_bag.specs.Places.{Tells}
 use Rattle.ra_bag.proofs.Told.{next_slot, next_none}
 use Rattle.ra_bag.proofs.places.Places.learn_all.Goals.{in-Some+in_ok-add, in_default}
@@ -19,7 +20,7 @@ loop-slot-preserved c =
           record {
             first = ap (λ p. p.first) w.self-is ∙ learns.0 ∙ held.first;
             told = subst (λ p. Tells eq-value.it p (take (i + 1) slots)) (sym w.self-is)
-                (next_slot eq-value.it c.equal_is_same.ensures.messages c.loop-slot.self w.add.new.self i m i learns slots held.first refl lt at held.told);
+                (next_slot eq-value.it same_messages c.loop-slot.self w.add.new.self i m i learns slots held.first refl lt at held.told);
           }
       | in_default w ↦
           let at : get_or slots i None ≡ None = search rules in

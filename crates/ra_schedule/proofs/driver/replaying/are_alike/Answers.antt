@@ -1,5 +1,5 @@
 use Rattle.std.proofs.Common.{sym, ◌∙◌}
-use Rattle.ra_world.proofs.WorldLaws.{same_messages}
+use Rattle.ra_stamp.proofs.StampLaws.{same_messages}
 use Rattle.ra_schedule.proofs.driver.replaying.are_alike.Goals as goal
 
 pub returns : goal.returns

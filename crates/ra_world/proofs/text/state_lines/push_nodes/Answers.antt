@@ -1,4 +1,4 @@
-use Rattle.std.proofs.Common.{rules, ◌≡◌, ◌+◌, ◌++◌, ℕ, List, length, string_bytes, ap, sym, refl, ◌∙◌}
+use Rattle.std.proofs.Common.{rules, ◌≡◌, ◌+◌, ◌++◌, ℕ, length, string_bytes, ap, sym, refl, ◌∙◌}
 use Rattle.ra_node.specs.Node.{NodeState}
 use Rattle.ra_world.specs.Keeping.{nodes_of}
 use Rattle.ra_world.specs.StateLines.{lines_at}

@@ -1,4 +1,4 @@
-use Rattle.std.proofs.Common.{◌≡◌, ◌+◌, ◌++◌, ℕ, List, string_bytes, ap, sym, refl, ◌∙◌}
+use Rattle.std.proofs.Common.{◌≡◌, ◌+◌, ◌++◌, string_bytes, ap, sym, refl, ◌∙◌}
 use Rattle.ra_node.specs.Node.{NodeState}
 use Rattle.ra_world.specs.Keeping.{nodes_of}
 use Rattle.ra_world.specs.StateLines.{table_lines_at}

@@ -1,14 +1,8 @@
-use Rattle.std.proofs.Common.{lit<, ℕ, ◌≡◌, ◌+◌, ◌<◌, ◌++◌, List, length, Err, refl, sym, ap, ◌∙◌, subst, inl}
+use Rattle.std.proofs.Common.{lit<, ℕ, ◌≡◌, ◌+◌, ◌<◌, ◌++◌, List, length, Err, refl, ap, ◌∙◌, subst, inl}
 use Rattle.ra_stamp.specs.declared.message.Message.{Message}
 use Rattle.ra_node.specs.Events.Event.{Ask as AskedFor}
-use Rattle.ra_node.specs.Turns.{MayAsk}
-use Rattle.ra_node.specs.Node.{NodeState, resource_at}
-use Rattle.ra_node.specs.declared.error.AskError.TheVariants as refused
 use Rattle.ra_world.specs.declared.step.Step.TheVariants.{Ask}
 use Rattle.ra_world.specs.declared.error.StepError.TheVariants.{Memory}
-use Rattle.ra_world.specs.World.{HasCause}
-use Rattle.ra_world.specs.Keeping.{Tries}
-use Rattle.ra_world.specs.Refused.{refusal_of_ask}
 use Rattle.ra_world.proofs.StepTries.{shown, short, same_nodes, ask_on, ask_fails, few_carried, room_for, kept_by, here, run_of}
 use Rattle.ra_world.proofs.StepAnswers.{kept_run}
 use Rattle.ra_world.proofs.AtPlace.{place_in, number_above, number_of, count_with, kept_as, kept_back, moved, sends_fit}
@@ -88,16 +82,15 @@ returns-clause-run g c = (invariant_of-self-2 g c).run
 pub keep-requires : goal.keep-requires
 keep-requires g c =
     let w = c.self.inside in
-    let first = c.index-asked.result.now in
     let old = c.index_mut-asked.result.now in
     let place = c.in-Some.place in
     let outcome = c.in_ok-outcome.outcome in
     let within = place_in w.nodes.items c.deref.result.now place c.deref.ensures.value c.in-Some.ensures.some.1 in
-    let at_first = c.index-asked.ensures in
     let at = c.index_mut-asked.ensures.value in
-    let few = few_carried event_room w.nodes.items place first old c.ask.new.self (AskedFor c.args.client c.args.name c.args.mode)
+    let few = few_carried event_room w.nodes.items place old c.ask.new.self (AskedFor c.args.client c.args.name c.args.mode)
     outcome.sends.items outcome.marks.items
-    (kept_runs_go_on.counts w.start w.nodes.items w.under_way.items w.log.moves place c.self.invariant within) within at_first at c.waiting-waiting.ensures.consistent c.in_ok-outcome.ensures.ok in (
+    (kept_runs_go_on.counts w.start w.nodes.items w.under_way.items w.log.moves place c.self.invariant within)
+    (kept_runs_go_on.consistent w.start w.nodes.items w.under_way.items w.log.moves place c.self.invariant within) within at c.in_ok-outcome.ensures.ok in (
       lit< tt,
       (
         sends_fit w.nodes.items c.deref.result.now _ _ _ _ c.deref.ensures.value c.deref.ensures.len c.len-sends.ensures few.0 c.in-Ok.ensures.bag_room,

@@ -4,8 +4,7 @@ use Rattle.ra_stamp.specs.declared.message.Message.{Message}
 use Rattle.ra_node.specs.Events.Event.{Leave as GivenBack}
 use Rattle.ra_stamp.specs.declared.entry.Entry.{Entry}
 use Rattle.ra_node.specs.Resource.{Holds}
-use Rattle.ra_node.specs.Node.{NodeState, resource_at}
-use Rattle.ra_node.specs.declared.error.LeaveError.TheVariants as refused
+use Rattle.ra_node.specs.Node.{resource_at}
 use Rattle.ra_world.specs.declared.step.Step.TheVariants.{Leave}
 use Rattle.ra_world.specs.declared.error.StepError.TheVariants.{Node, Memory}
 use Rattle.ra_world.specs.declared.error.NodeRefusal.TheVariants.{NotHeld}
@@ -91,16 +90,15 @@ returns-clause-run g c = (invariant_of-self-2 g c).run
 pub keep-requires : goal.keep-requires
 keep-requires g c =
     let w = c.self.inside in
-    let first = c.index-left.result.now in
     let old = c.index_mut-left.result.now in
     let place = c.in-Some.place in
     let outcome = c.in_ok-outcome.outcome in
     let within = place_in w.nodes.items c.deref.result.now place c.deref.ensures.value c.in-Some.ensures.some.1 in
-    let at_first = c.index-left.ensures in
     let at = c.index_mut-left.ensures.value in
-    let few = few_carried event_room w.nodes.items place first old c.leave.new.self (GivenBack c.args.client c.args.name)
+    let few = few_carried event_room w.nodes.items place old c.leave.new.self (GivenBack c.args.client c.args.name)
     outcome.sends.items outcome.marks.items
-    (kept_runs_go_on.counts w.start w.nodes.items w.under_way.items w.log.moves place c.self.invariant within) within at_first at c.waiting-waiting.ensures.consistent c.in_ok-outcome.ensures.ok in (
+    (kept_runs_go_on.counts w.start w.nodes.items w.under_way.items w.log.moves place c.self.invariant within)
+    (kept_runs_go_on.consistent w.start w.nodes.items w.under_way.items w.log.moves place c.self.invariant within) within at c.in_ok-outcome.ensures.ok in (
       lit< tt,
       (
         sends_fit_twice w.nodes.items c.deref.result.now _ _ _ _ c.deref.ensures.value c.deref.ensures.len c.len.ensures few.0 c.in-Ok.ensures.bag_room,

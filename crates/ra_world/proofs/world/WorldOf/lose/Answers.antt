@@ -7,7 +7,7 @@ use Rattle.ra_world.specs.declared.step.Step.TheVariants.{Lose}
 use Rattle.ra_world.specs.declared.error.StepError.TheVariants.{NotUnderWay}
 use Rattle.ra_world.specs.Traffic.{Move}
 use Rattle.ra_stamp.specs.declared.entry.Mark.{Mark}
-use Rattle.ra_world.specs.Log.{HasRoom}
+use Rattle.ra_world.specs.StepLog.{HasRoom}
 use Rattle.ra_world.specs.Keeping.{Keeps}
 use Rattle.ra_world.proofs.StepTries.{shown, with_cause, short, took_first, one_more}
 use Rattle.ra_world.proofs.AtPlace.{kept_as, moved_elsewhere}

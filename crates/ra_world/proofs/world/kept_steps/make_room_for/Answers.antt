@@ -3,7 +3,7 @@ use Rattle.ra_stamp.specs.declared.message.Message.{Message}
 use Rattle.ra_stamp.specs.declared.entry.Mark.{Mark}
 use Rattle.ra_node.specs.Events.Event.{Receive}
 use Rattle.ra_node.specs.Memory.{BringsNothing}
-use Rattle.ra_world.specs.Log.{HasRoom}
+use Rattle.ra_world.specs.StepLog.{HasRoom}
 use Rattle.ra_node.proofs.Determined.{event_one}
 use Rattle.ra_node.proofs.EventLemmas.{receive_event_room_of}
 use Rattle.ra_world.proofs.world.kept_steps.make_room_for.Goals as goal

@@ -1,4 +1,4 @@
-use Rattle.std.proofs.Common.{◌≡◌, ◌+◌, ℕ, List, Err, map, IsOkUnless, ap, subst}
+use Rattle.std.proofs.Common.{◌≡◌, List, Err, IsOkUnless, ap, subst}
 use Rattle.std.proofs.lemmas.Result.{err_from_is_err_and}
 use Rattle.ra_world.specs.declared.step.Step.{Step}
 use Rattle.ra_world.specs.declared.error.RunError.TheVariants.{Refused, Memory}

@@ -1,5 +1,5 @@
 use Rattle.std.proofs.Common.{◌≡◌, ◌+◌, ◌++◌, take}
-use Rattle.ra_world.proofs.world.log.append.Given as goal
+use Rattle.ra_world.proofs.world.step_log.append.Given as goal
 
 -- the items so far are at the end, and each has taken its room
 abbrev pub invariant-loop-item : goal.invariant-loop-item

@@ -1,6 +1,6 @@
 use Rattle.std.proofs.Common.{arith, ◌+◌}
 use Rattle.ra_world.proofs.LogCounts.{requests_in-take, requests_in-take-le}
-use Rattle.ra_world.proofs.world.log.requests_of.Goals as goal
+use Rattle.ra_world.proofs.world.step_log.requests_of.Goals as goal
 
 pub overflow_add-requests : goal.overflow_add-requests
 overflow_add-requests c =

@@ -1,9 +1,9 @@
 use Rattle.std.proofs.Common.{arith, ◌≡◌, ◌<◌, ◌≤◌, ◌++◌, List, length, ap, ◌∙◌, subst, sym, refl}
 use Rattle.ra_stamp.specs.declared.entry.Mark.{Mark}
 use Rattle.ra_world.specs.Quiet.{requests_in}
-use Rattle.ra_world.specs.Log.{LogState, moves_of}
+use Rattle.ra_world.specs.StepLog.{LogState, moves_of}
 use Rattle.ra_world.proofs.LogCounts.{lost-le, repeated-le, lost_in_le, repeated_in_le, pushed}
-use Rattle.ra_world.proofs.world.log.Log.push.Goals as goal
+use Rattle.ra_world.proofs.world.step_log.StepLog.push.Goals as goal
 
 pub overflow_add-self : goal.overflow_add-self
 overflow_add-self g c =
