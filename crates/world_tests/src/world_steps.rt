@@ -1,5 +1,5 @@
 //! How worlds go on, step by step, and what they show.
-pub mod alike;
+pub mod alike_worlds;
 pub mod greatest_numbers;
 pub mod messages_under_way;
 pub mod modes_of_two_nodes;

@@ -4,7 +4,7 @@ use crate::run_tests::reported_runs::{adds, run_of};
 use crate::script_tests::drives::{driven, summed};
 use crate::script_tests::listing::{found, lockers};
 use crate::script_tests::script_plans::{adds_client, fault_of_client, fault_of_op};
-use crate::world_steps::alike::are_alike;
+use crate::world_steps::alike_worlds::are_alike;
 use crate::world_steps::world_acts::{ASKS, LEAVES, fault_of, new_world, report_of, step_of};
 use crate::world_steps::world_asserting::assert_grown;
 use Choice::{Client, Message};

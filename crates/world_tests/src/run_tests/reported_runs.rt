@@ -1,7 +1,7 @@
 //! Runs of a list of steps: what is reported about them, and at which step they are refused.
 use crate::world_steps::world_acts::step_of;
 use crate::world_steps::world_asserting::{assert_same, assert_text};
-use Answer::{Refused, Reported};
+use Answer::{BadCount, Refused, Reported};
 use ra_world::{
     NewError, NodeRefusal, Report, RunError, Step, StepError, Steps, World, report_text, run,
 };
@@ -14,8 +14,10 @@ use test_support::{At, row};
 enum Answer {
     /// The steps are made, and their report has this text.
     Reported(&'static str),
-    /// They are refused with this error.
-    Refused(RunError),
+    /// The step at this place is refused for this cause.
+    Refused(u64, StepError),
+    /// There are not 1 to 64 nodes.
+    BadCount,
 }
 
 /// What it shows, the number of nodes, the steps of a run from 0 as lines of a trace, and the answer.
@@ -49,7 +51,8 @@ pub fn run_of(alloc: Global, nodes: u16, start: u64, steps: &Steps) -> Result<Re
 fn fault_in(answer: Answer) -> Option<RunError> {
     match answer {
         Reported(_) => None,
-        Refused(fault) => Some(fault),
+        Refused(place, cause) => Some(RunError::Refused { place, cause }),
+        BadCount => Some(RunError::BadCount),
     }
 }
 
@@ -68,9 +71,15 @@ fn assert_cases(rt: &(impl Abort + AllocGlobal), cases: &[Case]) {
 fn assert_reported(rt: &(impl Abort + AllocGlobal), at: At<'_>, report: &Report, expected: Answer) {
     match expected {
         Reported(text) => assert_text(rt, at, report_text(rt.alloc(), report), text),
-        Refused(fault) => assert_same(rt, at, &None, &Some(fault)),
+        _ => assert_same(rt, at, &None, &fault_in(expected)),
     }
 }
+
+/// A client asks while it waits, or holds the name.
+const BUSY: StepError = StepError::Node(NodeRefusal::Busy);
+
+/// A client leaves what it does not hold.
+const NOT_HELD: StepError = StepError::Node(NodeRefusal::NotHeld);
 
 #[test]
 fn a_run_ends_at_the_first_step_that_is_refused(rt: HostRuntime) {
@@ -79,46 +88,31 @@ fn a_run_ends_at_the_first_step_that_is_refused(rt: HostRuntime) {
             "a client asks twice",
             2,
             &["ask 1 1 r X", "ask 1 1 r X"],
-            Refused(RunError::Refused {
-                place: 2,
-                cause: StepError::Node(NodeRefusal::Busy),
-            }),
+            Refused(2, BUSY),
         ),
         Case(
             "a client leaves what it does not hold",
             2,
             &["release 1 1 r"],
-            Refused(RunError::Refused {
-                place: 1,
-                cause: StepError::Node(NodeRefusal::NotHeld),
-            }),
+            Refused(1, NOT_HELD),
         ),
         Case(
             "there is no such node",
             2,
             &["ask 3 1 r X"],
-            Refused(RunError::Refused {
-                place: 1,
-                cause: StepError::NoNode,
-            }),
+            Refused(1, StepError::NoNode),
         ),
         Case(
             "it leaves twice what it does not hold",
             2,
             &["release 1 1 r", "release 1 1 r"],
-            Refused(RunError::Refused {
-                place: 1,
-                cause: StepError::Node(NodeRefusal::NotHeld),
-            }),
+            Refused(1, NOT_HELD),
         ),
         Case(
             "twice there is no such node",
             2,
             &["ask 3 1 r X", "ask 3 1 r X"],
-            Refused(RunError::Refused {
-                place: 1,
-                cause: StepError::NoNode,
-            }),
+            Refused(1, StepError::NoNode),
         ),
     ];
     assert_cases(&rt, CASES);
@@ -136,8 +130,8 @@ queued 0
 #[test]
 fn a_cluster_has_one_to_sixty_four_nodes(rt: HostRuntime) {
     const CASES: &[Case] = &[
-        Case("no node", 0, &[], Refused(RunError::BadCount)),
-        Case("65 nodes", 65, &[], Refused(RunError::BadCount)),
+        Case("no node", 0, &[], BadCount),
+        Case("65 nodes", 65, &[], BadCount),
         Case("one node", 1, &[], Reported(NOTHING)),
         Case("64 nodes", 64, &[], Reported(NOTHING)),
     ];

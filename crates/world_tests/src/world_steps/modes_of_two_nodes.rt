@@ -24,7 +24,7 @@ const SCENES: &[Scene] = &[
         ],
     ),
     Scene(
-        "a reader of the whole waits for who changes a part",
+        "a reader of the whole waits for a client that changes a part",
         2,
         0,
         &[
