@@ -1,5 +1,5 @@
 -- Lists, and their last item.
-use Rattle.std.proofs.Common.{◌≡◌, ℕ, ◌+◌, ◌<◌, ◌≤◌, Bool, Option, true, false, Result, Ok, Err, List, [], ◌∷◌, ◌++◌, length, get_or, refl, sym, ap, subst, ◌∙◌, arith}
+use Rattle.std.proofs.Common.{◌≡◌, ℕ, ◌+◌, ◌<◌, ◌≤◌, Bool, Option, true, false, Result, Ok, Err, List, [], ◌∷◌, ◌++◌, length, get_or, refl, sym, subst, ◌∙◌, arith}
 use Rattle.std.specs.Prelude.{All, AllPairs, IfOk, IfSome, MatchBool, OnOk, is_err}
 use Rattle.std.specs.Result.{result_ok}
 use Rattle.std.specs.List.{Any}
@@ -47,13 +47,13 @@ room_for_all (Ok done) len count capacity fine room = omega (arith, room)
 room_for_all (Err failed) len count capacity fine room = absurd cc
 
 -- a book that is made
-pub opened_book : {E : Type 0} (node nodes start count : ℕ) (r : Result BookState E) (found : Option BookState) → found ≡ result_ok r → count ≡ nodes
-    → IfOk r (λ book. book ≡ opening_book node count start) → IfOk r HasHistory
+pub opened_book : {E : Type 0} (number node nodes start count : ℕ) (r : Result BookState E) (found : Option BookState) → found ≡ result_ok r
+    → number ≡ node → count ≡ nodes → IfOk r (λ book. book ≡ opening_book number count start) → IfOk r HasHistory
     → IfSome found (λ book. (book ≡ opening_book node nodes start) × HasHistory book)
-opened_book node nodes start count r found found_is same ok history =
+opened_book number node nodes start count r found found_is is same ok history =
     subst (λ (f : Option BookState). IfSome f (λ book. (book ≡ opening_book node nodes start) × HasHistory book)) (sym found_is) (by_result r ok history)
   where
-    by_result : {E : Type 0} (r : Result BookState E) → IfOk r (λ book. book ≡ opening_book node count start) → IfOk r HasHistory
+    by_result : {E : Type 0} (r : Result BookState E) → IfOk r (λ book. book ≡ opening_book number count start) → IfOk r HasHistory
         → IfSome (result_ok r) (λ book. (book ≡ opening_book node nodes start) × HasHistory book)
-    by_result (Ok book) ok history = (ok ∙ ap (λ (n : ℕ). opening_book node n start) same, history)
+    by_result (Ok book) ok history = (ok ∙ (λ i. opening_book (is i) (same i) start), history)
     by_result (Err e) ok history = tt

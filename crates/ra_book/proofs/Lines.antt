@@ -10,7 +10,7 @@ use Rattle.ra_history.specs.declared.book.event.BookEvent.{BookEvent}
 use Rattle.ra_history.specs.declared.book.event.BookKind.{BookKind}
 use Rattle.ra_history.specs.Book.{BookState, HasHistory, as_sent, opening_book, with_event}
 use Rattle.ra_book.specs.BookText.{IsEvent, IsFirst}
-use Rattle.ra_book.specs.declared.text_settling.came.Came.{Came}
+use Rattle.ra_book.specs.declared.text_settling.came_frames.Came.{Came}
 use Rattle.ra_book.specs.declared.text_settling.gathering.Gathered.{Gathered}
 use Rattle.ra_book.specs.Texts.{Said, Says, said_by, AreRight, IsBeside, IsRead, came_by, came_from, came_in}
 use Rattle.ra_book.specs.Texts.Said.{Opens, Happens}

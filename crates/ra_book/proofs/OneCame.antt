@@ -16,7 +16,7 @@ use Rattle.ra_history.specs.declared.book.event.BookKind.{BookKind}
 use Rattle.ra_history.specs.declared.book.event.BookKind.TheVariants.{Asked, Gave, Got}
 use Rattle.ra_history.specs.Book.{BookState}
 use Rattle.ra_history.specs.Settled.{HasTwice, HasUnsent, all_received, frames_in, received_among}
-use Rattle.ra_book.specs.declared.text_settling.came.Came.{Came}
+use Rattle.ra_book.specs.declared.text_settling.came_frames.Came.{Came}
 use Rattle.ra_book.specs.Texts.{Said, came_by, came_from, came_in, said_by}
 use Rattle.ra_book.specs.Texts.Said.{Opens, Happens}
 use Rattle.ra_book.specs.Verdicts.{IsFirstAgain, IsFirstUnsent, messages_of}

@@ -10,7 +10,7 @@ use Rattle.ra_history.specs.Settled.{HasTwice, HasUnsent, IsCluster, WasSent}
 use Rattle.ra_history.proofs.Merging.{number_at}
 use Rattle.ra_book.specs.Book.{lines_text}
 use Rattle.ra_book.specs.Input.{HasNoFeed}
-use Rattle.ra_book.specs.declared.text_settling.came.Came.{Came}
+use Rattle.ra_book.specs.declared.text_settling.came_frames.Came.{Came}
 use Rattle.ra_book.specs.declared.text_settling.settle_error.TextCause.{TextCause}
 use Rattle.ra_book.specs.declared.text_settling.settle_error.TextCause.TheVariants as cause
 use Rattle.ra_book.specs.Texts.{AreRight, IsText, came_in}

@@ -3,7 +3,7 @@ use Rattle.std.proofs.Common.{ℕ, Bool, true, List, [], ◌∷◌, length, leng
 use Rattle.std.proofs.lemmas.Bool.{false≢true}
 use Rattle.std.specs.Prelude.{All, MatchResult}
 use Rattle.ra_history.specs.Book.{BookState}
-use Rattle.ra_book.specs.declared.text_settling.came.Came.{Came}
+use Rattle.ra_book.specs.declared.text_settling.came_frames.Came.{Came}
 use Rattle.ra_book.specs.declared.text_settling.settle_error.SettleTextError.{SettleTextError}
 use Rattle.ra_book.specs.declared.text_settling.settle_error.SettleTextError.TheVariants as fault
 use Rattle.ra_book.specs.declared.text_settling.settle_error.TextCause.TheVariants as cause

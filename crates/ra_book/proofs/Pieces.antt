@@ -5,11 +5,11 @@ use Rattle.std.proofs.lemmas.List.{append-nil}
 use Rattle.std.proofs.lemmas.List.Elements.{All-nil, All-append}
 use Rattle.std.specs.Io.KnownBytes.{Consumes}
 use Rattle.std.proofs.KnownBytes.{Consumes-nil, Consumes-trans}
-use Rattle.ra_book.specs.declared.next_line.kept_line.Line.{Line}
-use Rattle.ra_book.specs.declared.next_line.piece.Piece.{Piece}
-use Rattle.ra_book.specs.declared.next_line.piece.Piece.TheVariants.{Part, Over, End}
-use Rattle.ra_book.specs.declared.next_line.piece.ReadFailed.{ReadFailed}
-use Rattle.ra_book.specs.declared.next_line.piece.Taken.{Taken}
+use Rattle.ra_book.specs.declared.next_line.kept_line.KeptLine.{KeptLine}
+use Rattle.ra_book.specs.declared.next_line.input_piece.Piece.{Piece}
+use Rattle.ra_book.specs.declared.next_line.input_piece.Piece.TheVariants.{Part, Over, End}
+use Rattle.ra_book.specs.declared.next_line.input_piece.ReadFailed.{ReadFailed}
+use Rattle.ra_book.specs.declared.next_line.input_piece.TakenBytes.{TakenBytes}
 use Rattle.ra_book.specs.Input.{HasNoFeed, IsKeptLine, IsPiece, Keeps, TakesShown, TakesPiece, TakesLine, TakesOpen, TakesMost}
 
 -- more bytes than there is room for
@@ -30,7 +30,7 @@ pub over_within : (shown part rest : List ℕ) → shown ≡ part ++ 10 ∷ rest
 over_within shown part rest is = omega (arith, ap length is, length-append part (10 ∷ rest))
 
 -- nothing is kept
-pub keeps_nothing : (line : Line) → Keeps line line []
+pub keeps_nothing : (line : KeptLine) → Keeps line line []
 keeps_nothing line text kept = subst (λ (t : List ℕ). IsKeptLine t line.bytes.items line.is_long) (sym (append-nil text)) kept
 
 empty : (bytes : List ℕ) → length bytes ≡ 0 → bytes ≡ []
@@ -38,20 +38,20 @@ empty [] h = refl
 empty (b ∷ bytes) h = absurd (omega (arith, h))
 
 -- nothing is kept, and then this
-after : (line kept line' : Line) (part : List ℕ) → Keeps line kept [] → Keeps kept line' part → Keeps line line' part
+after : (line kept line' : KeptLine) (part : List ℕ) → Keeps line kept [] → Keeps kept line' part → Keeps line line' part
 after line kept line' part none more text h = more text (subst (λ (t : List ℕ). IsKeptLine t kept.bytes.items kept.is_long) (append-nil text) (none text h))
 
 -- ---- Pieces of a line
 
 -- these bytes of a line came so far, and this is kept of them
-abbrev pub HasSome : Option (List ℕ) → Option (List ℕ) → Line → ℕ → Type 0
+abbrev pub HasSome : Option (List ℕ) → Option (List ℕ) → KeptLine → ℕ → Type 0
 HasSome old now line turns =
     (text : List ℕ) × Consumes old now text × HasNoFeed text × IsKeptLine text line.bytes.items line.is_long × (turns ≤ length text)
 
-pub no_bytes : (old : Option (List ℕ)) (line : Line) → IsKeptLine [] line.bytes.items line.is_long → HasSome old old line 0
+pub no_bytes : (old : Option (List ℕ)) (line : KeptLine) → IsKeptLine [] line.bytes.items line.is_long → HasSome old old line 0
 no_bytes old line kept = ([], Consumes-nil old, All-nil (λ byte. byte ≢ 10), kept, omega arith)
 
-pub part_more : (old mid new : Option (List ℕ)) (line line' : Line) (turns : ℕ) → HasSome old mid line turns
+pub part_more : (old mid new : Option (List ℕ)) (line line' : KeptLine) (turns : ℕ) → HasSome old mid line turns
     → TakesPiece mid new line line' (Ok Part) → HasSome old new line' (turns + 1)
 part_more old mid new line line' turns (text, took, free, kept, many) (part, took', free', some, keeps) = (
   text ++ part,
@@ -62,10 +62,10 @@ part_more old mid new line line' turns (text, took, free, kept, many) (part, too
 )
 
 -- all turns were taken
-pub most_taken : (old now : Option (List ℕ)) (line : Line) (turns : ℕ) → HasSome old now line turns → 2 ^ 64 ≤ turns + 1 → TakesMost old now
+pub most_taken : (old now : Option (List ℕ)) (line : KeptLine) (turns : ℕ) → HasSome old now line turns → 2 ^ 64 ≤ turns + 1 → TakesMost old now
 most_taken old now line turns (text, took, free, kept, many) all = (text, took, omega (arith, many, all))
 
-pub over_more : (old mid new : Option (List ℕ)) (line line' : Line) (turns : ℕ) → HasSome old mid line turns
+pub over_more : (old mid new : Option (List ℕ)) (line line' : KeptLine) (turns : ℕ) → HasSome old mid line turns
     → TakesPiece mid new line line' (Ok Over) → TakesLine old new line'
 over_more old mid new line line' turns h p = (
   h.0 ++ p.0,
@@ -74,29 +74,29 @@ over_more old mid new line line' turns h p = (
   p.3 h.0 h.3,
 )
 
-pub open_of : (old now : Option (List ℕ)) (line : Line) (turns : ℕ) → HasSome old now line turns → TakesOpen old now
+pub open_of : (old now : Option (List ℕ)) (line : KeptLine) (turns : ℕ) → HasSome old now line turns → TakesOpen old now
 open_of old now line turns h = (h.0, h.1, h.2)
 
-pub open_more : (old mid new : Option (List ℕ)) (line : Line) (turns : ℕ) → HasSome old mid line turns → Consumes mid new [] → TakesOpen old new
+pub open_more : (old mid new : Option (List ℕ)) (line : KeptLine) (turns : ℕ) → HasSome old mid line turns → Consumes mid new [] → TakesOpen old new
 open_more old mid new line turns h none =
     (h.0, subst (Consumes old new) (append-nil h.0) (Consumes-trans old mid new h.0 [] h.1 none), h.2)
 
 -- ---- A piece of what is shown
 
-pub is_over : (old new : Option (List ℕ)) (line line' : Line) (taken : Taken) → taken.is_over ≡ true → TakesShown old new line line' (Ok taken)
+pub is_over : (old new : Option (List ℕ)) (line line' : KeptLine) (taken : TakenBytes) → taken.is_over ≡ true → TakesShown old new line line' (Ok taken)
     → TakesPiece old new line line' (Ok Over)
 is_over old new line line' taken over h =
     let piece : IsPiece h.0 true h.1 = subst (λ (b : Bool). IsPiece h.0 b h.1) over h.4 in
     (h.1, subst (Consumes old new) piece.0 h.2, piece.1, h.5)
 
-pub is_part : (old new : Option (List ℕ)) (line line' : Line) (taken : Taken) → taken.is_over ≡ false → 1 ≤ taken.count
+pub is_part : (old new : Option (List ℕ)) (line line' : KeptLine) (taken : TakenBytes) → taken.is_over ≡ false → 1 ≤ taken.count
     → TakesShown old new line line' (Ok taken) → TakesPiece old new line line' (Ok Part)
 is_part old new line line' taken goes_on some h =
     let piece : IsPiece h.0 false h.1 = subst (λ (b : Bool). IsPiece h.0 b h.1) goes_on h.4 in
     (h.1, subst (Consumes old new) piece.0 h.2, piece.1, omega (arith, some, h.3, ap length piece.0), h.5)
 
 -- nothing, and then a piece
-none_first : (old mid new : Option (List ℕ)) (line kept line' : Line) (r : Result Piece ReadFailed) → Consumes old mid [] → Keeps line kept []
+none_first : (old mid new : Option (List ℕ)) (line kept line' : KeptLine) (r : Result Piece ReadFailed) → Consumes old mid [] → Keeps line kept []
     → TakesPiece mid new kept line' r → TakesPiece old new line line' r
 none_first old mid new line kept line' (Ok Part) none keeps (part, took, free, some, more) =
     (part, Consumes-trans old mid new [] part none took, free, some, after line kept line' part keeps more)
@@ -104,7 +104,7 @@ none_first old mid new line kept line' (Ok Over) none keeps p = (p.0, Consumes-t
 none_first old mid new line kept line' (Ok End) none keeps p = (Consumes-trans old mid new [] [] none p.0, p.1, after line kept line' [] keeps p.2)
 none_first old mid new line kept line' (Err failed) none keeps p = Consumes-trans old mid new [] [] none p
 
-pub is_more : (old mid new : Option (List ℕ)) (line kept line' : Line) (taken : Taken) (r : Result Piece ReadFailed) → taken.is_over ≡ false → taken.count ≡ 0
+pub is_more : (old mid new : Option (List ℕ)) (line kept line' : KeptLine) (taken : TakenBytes) (r : Result Piece ReadFailed) → taken.is_over ≡ false → taken.count ≡ 0
     → TakesShown old mid line kept (Ok taken) → TakesPiece mid new kept line' r → TakesPiece old new line line' r
 is_more old mid new line kept line' taken r goes_on zero h p =
     let piece : IsPiece h.0 false h.1 = subst (λ (b : Bool). IsPiece h.0 b h.1) goes_on h.4 in

@@ -13,7 +13,7 @@ use Rattle.ra_frame.specs.declared.frame.Frame.{Frame}
 use Rattle.ra_history.specs.declared.book.sent.Sent.{Sent}
 use Rattle.ra_history.specs.Book.{BookState, IsFirst, Loses}
 use Rattle.ra_history.specs.Settled.{IsCluster, WasSent, start_of}
-use Rattle.ra_book.specs.declared.text_settling.came.Came.{Came}
+use Rattle.ra_book.specs.declared.text_settling.came_frames.Came.{Came}
 use Rattle.ra_book.specs.Texts.{IsRead}
 use Rattle.ra_book.specs.Gathering.{AreNumbered, IsSentBy, IsUnsentAmong, Sender, sender_of, senders_of}
 use Rattle.ra_book.specs.Verdicts.{IsFirstAgain, IsFirstUnsent, messages_of}

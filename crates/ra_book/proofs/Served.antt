@@ -11,7 +11,7 @@ use Rattle.ra_book.specs.declared.error.BookFault.TheVariants.{Line, Read, Write
 use Rattle.ra_book.specs.declared.answering.line_refusal.Refusal.TheVariants as refusal
 use Rattle.ra_book.specs.Timed.{Timed}
 use Rattle.ra_book.specs.Answers.{Answers, AnswersAll, refused_line}
-use Rattle.ra_book.specs.declared.next_line.kept_line.Line.{Line as KeptLine}
+use Rattle.ra_book.specs.declared.next_line.kept_line.KeptLine.{KeptLine}
 use Rattle.ra_book.specs.Input.{HasNoFeed, TakesOpen, TakesMost, HasEnded}
 use Rattle.ra_book.specs.NextLine.{ReadsLine}
 use Rattle.ra_book.specs.Book.{HasRead, IsAnswered, IsOwed, IsWritten, lines_text}

@@ -12,7 +12,7 @@ use Rattle.ra_history.specs.declared.book.event.BookKind.{BookKind}
 use Rattle.ra_history.specs.Book.{BookState, HasHistory, opening_book, with_event}
 use Rattle.ra_history.specs.Settled.{HasUnsent}
 use Rattle.ra_book.specs.BookText.{IsEvent, IsFirst}
-use Rattle.ra_book.specs.declared.text_settling.came.Came.{Came}
+use Rattle.ra_book.specs.declared.text_settling.came_frames.Came.{Came}
 use Rattle.ra_book.specs.declared.text_settling.settle_error.SettleTextError.{SettleTextError}
 use Rattle.ra_book.specs.declared.text_settling.settle_error.SettleTextError.TheVariants as fault
 use Rattle.ra_book.specs.declared.text_settling.settle_error.TextCause.TheVariants as cause

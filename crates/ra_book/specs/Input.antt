@@ -1,11 +1,11 @@
 -- What is read of the next line.
 use Rattle.std.specs.Prelude.{◌≡◌, ◌≢◌, ◌⊎◌, ℕ, ◌+◌, ◌<◌, ◌≤◌, ◌^◌, Bool, true, false, List, [], ◌∷◌, ◌++◌, All, Option, Result, Ok, Err, length, take}
 use Rattle.std.specs.Io.KnownBytes.{Consumes, IsAtEnd}
-use Rattle.ra_book.specs.declared.next_line.kept_line.Line.{Line}
-use Rattle.ra_book.specs.declared.next_line.piece.Piece.{Piece}
-use Rattle.ra_book.specs.declared.next_line.piece.Piece.TheVariants.{Part, Over, End}
-use Rattle.ra_book.specs.declared.next_line.piece.ReadFailed.{ReadFailed}
-use Rattle.ra_book.specs.declared.next_line.piece.Taken.{Taken}
+use Rattle.ra_book.specs.declared.next_line.kept_line.KeptLine.{KeptLine}
+use Rattle.ra_book.specs.declared.next_line.input_piece.Piece.{Piece}
+use Rattle.ra_book.specs.declared.next_line.input_piece.Piece.TheVariants.{Part, Over, End}
+use Rattle.ra_book.specs.declared.next_line.input_piece.ReadFailed.{ReadFailed}
+use Rattle.ra_book.specs.declared.next_line.input_piece.TakenBytes.{TakenBytes}
 
 -- no line feed is among these bytes
 abbrev pub HasNoFeed : List ℕ → Type 0
@@ -17,7 +17,7 @@ IsKeptLine line bytes false = bytes ≡ line
 IsKeptLine line bytes true = 256 < length line
 
 -- these bytes are kept after those that are kept of a line
-abbrev pub Keeps : Line → Line → List ℕ → Type 0
+abbrev pub Keeps : KeptLine → KeptLine → List ℕ → Type 0
 Keeps old new part =
     (text : List ℕ) → IsKeptLine text old.bytes.items old.is_long → IsKeptLine (text ++ part) new.bytes.items new.is_long
 
@@ -27,21 +27,21 @@ IsPiece bytes true part = (bytes ≡ part ++ 10 ∷ []) × HasNoFeed part
 IsPiece bytes false part = (bytes ≡ part) × HasNoFeed part
 
 -- this many of the bytes that are shown are kept, and they are all unless the line is over
-pub record KeepsShown (shown : List ℕ) (old new : Line) (taken : Taken) : Type 0 where
+pub record KeepsShown (shown : List ℕ) (old new : KeptLine) (taken : TakenBytes) : Type 0 where
   pub part : List ℕ
   pub within : taken.count ≤ length shown
   pub is_piece : IsPiece (take taken.count shown) taken.is_over part
   pub keeps : Keeps old new part
 
 -- so much was taken of what was shown
-abbrev pub TakesShown : Option (List ℕ) → Option (List ℕ) → Line → Line → Result Taken ReadFailed → Type 0
+abbrev pub TakesShown : Option (List ℕ) → Option (List ℕ) → KeptLine → KeptLine → Result TakenBytes ReadFailed → Type 0
 TakesShown old new line line' (Ok taken) =
     (bytes : List ℕ) × (part : List ℕ) × Consumes old new bytes × (length bytes ≡ taken.count) × IsPiece bytes taken.is_over part
     × Keeps line line' part
 TakesShown old new line line' (Err failed) = Consumes old new [] × (line' ≡ line)
 
 -- these bytes of a line were taken
-abbrev pub TakesPiece : Option (List ℕ) → Option (List ℕ) → Line → Line → Result Piece ReadFailed → Type 0
+abbrev pub TakesPiece : Option (List ℕ) → Option (List ℕ) → KeptLine → KeptLine → Result Piece ReadFailed → Type 0
 TakesPiece old new line line' (Ok Part) =
     (part : List ℕ) × Consumes old new part × HasNoFeed part × (1 ≤ length part) × Keeps line line' part
 TakesPiece old new line line' (Ok Over) = (part : List ℕ) × Consumes old new (part ++ 10 ∷ []) × HasNoFeed part × Keeps line line' part
@@ -49,7 +49,7 @@ TakesPiece old new line line' (Ok End) = Consumes old new [] × IsAtEnd new × K
 TakesPiece old new line line' (Err failed) = Consumes old new []
 
 -- the next line was taken with its line feed, and this is kept of it; or bytes without one
-abbrev pub TakesLine : Option (List ℕ) → Option (List ℕ) → Line → Type 0
+abbrev pub TakesLine : Option (List ℕ) → Option (List ℕ) → KeptLine → Type 0
 TakesLine old new line =
     (text : List ℕ) × Consumes old new (text ++ 10 ∷ []) × HasNoFeed text × IsKeptLine text line.bytes.items line.is_long
 

@@ -14,7 +14,7 @@ use Rattle.ra_history.specs.Settled.{IsCluster, frames_in}
 use Rattle.ra_book.specs.Book.{lines_text}
 use Rattle.ra_book.specs.BookText.{IsEvent, IsFirst}
 use Rattle.ra_book.specs.Input.{HasNoFeed}
-use Rattle.ra_book.specs.declared.text_settling.came.Came.{Came}
+use Rattle.ra_book.specs.declared.text_settling.came_frames.Came.{Came}
 
 -- ---- Lines
 

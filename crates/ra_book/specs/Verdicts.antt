@@ -14,7 +14,7 @@ use Rattle.ra_book.specs.BookText.{Form, HasForm, IsEvent, IsFirst, IsUnread}
 use Rattle.ra_book.specs.Input.{HasNoFeed}
 use Rattle.ra_book.specs.declared.answering.line_refusal.Refusal.{Refusal}
 use Rattle.ra_book.specs.declared.answering.line_refusal.Refusal.TheVariants as refusal
-use Rattle.ra_book.specs.declared.text_settling.came.Came.{Came}
+use Rattle.ra_book.specs.declared.text_settling.came_frames.Came.{Came}
 use Rattle.ra_book.specs.declared.text_settling.settle_error.SettleTextError.{SettleTextError}
 use Rattle.ra_book.specs.declared.text_settling.settle_error.SettleTextError.TheVariants.{Invalid, Memory}
 use Rattle.ra_book.specs.declared.text_settling.settle_error.TextCause.{TextCause}

@@ -20,14 +20,14 @@ use crate::answering::answer_line::answer_line;
 use crate::answering::line_refusal::refused_line;
 use crate::answering::waiting_output::{Output, flush, put};
 use crate::next_line::first_line::opened;
-use crate::next_line::kept_line::Line;
+use crate::next_line::kept_line::KeptLine;
 use crate::next_line::{Input, next_line};
 use crate::{BookFault, Refusal, TimedNode};
 use std::alloc::Global;
 use std::io::{BufRead, Write};
 
 /// Makes the node of a book that begins with this line, or returns `None` if it is no first line.
-fn opened_by(alloc: Global, line: &Line) -> Option<TimedNode>
+fn opened_by(alloc: Global, line: &KeptLine) -> Option<TimedNode>
     ensures { (text : List ℕ) → IsKeptLine text line.now.bytes.items line.now.is_long
         → MatchOption result ((node nodes start : ℕ) → IsFirst text node nodes start → ⊥) (IsOpenedBy text) }
 {
@@ -51,7 +51,7 @@ fn put_no_book<W: Write>(writer: &mut W, out: &mut Output)
 /// `Line`: it is no first line. This was put out.
 fn open_by<W: Write>(
     alloc: Global,
-    line: &Line,
+    line: &KeptLine,
     writer: &mut W,
     out: &mut Output,
 ) -> Result<TimedNode, BookFault>

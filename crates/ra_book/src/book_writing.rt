@@ -54,19 +54,15 @@ impl From<AllocError> for WriteBookError {
     }
 }
 
-/// A client has 32 bits, and a name is one. The function does nothing, and its contract says it.
-fn client_fits(client: u32, name: &Name)
-    ensures { IsClientNumber client × IsName name.now }
-{
-    let _ = client;
-    let _ = name.bytes();
-}
-
 /// Adds a word, a client and a name.
 fn push_client(text: &mut String, word: &str, client: u32, name: &Name) -> Result<(), Memory>
-    ensures { OnOk result (string_bytes text.new
+    ensures text { OnOk result (string_bytes text.new
         ≡ string_bytes text.old ++ (word.now ++ field (decimal client) ++ field name.now)) }
+    // A client has 32 bits, and a name is one.
+    ensures fits { IsClientNumber client × IsName name.now }
 {
+    // Each reader tells that it is a name.
+    let _name = name.bytes();
     text.push_str(word)?;
     push_number(text, client)?;
     push_field(text, name.as_str())
@@ -107,7 +103,6 @@ fn push_frame(text: &mut String, frame: &Frame) -> Result<(), WriteBookError>
 fn push_ask(text: &mut String, client: u32, name: &Name, mode: Mode) -> Result<(), Memory>
     ensures { OnOk result (AddsEvent (string_bytes text.old) (string_bytes text.new) (BookKind.Asked client name.now mode)) }
 {
-    client_fits(client, name);
     push_client(text, "ask", client, name)?;
     push_field(text, mode.word())?;
     text.push_str("\n")?;
@@ -118,7 +113,6 @@ fn push_ask(text: &mut String, client: u32, name: &Name, mode: Mode) -> Result<(
 fn push_release(text: &mut String, client: u32, name: &Name) -> Result<(), Memory>
     ensures { OnOk result (AddsEvent (string_bytes text.old) (string_bytes text.new) (BookKind.Gave client name.now)) }
 {
-    client_fits(client, name);
     push_client(text, "release", client, name)?;
     text.push_str("\n")?;
     Ok(())

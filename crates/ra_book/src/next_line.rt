@@ -2,8 +2,8 @@
 pub mod book_fields;
 pub mod event_line;
 pub mod first_line;
+pub mod input_piece;
 pub mod kept_line;
-pub mod piece;
 
 ghost use Rattle.std.specs.Prelude.{◌≡◌, true, false, [], IsErrOf, OnOk};
 ghost use Rattle.ra_book.specs.Output.{Puts};
@@ -13,14 +13,14 @@ ghost use Rattle.ra_book.specs.NextLine.{ReadsLine};
 
 use crate::BookFault;
 use crate::answering::waiting_output::{Output, flush};
-use crate::next_line::kept_line::Line;
-use crate::next_line::piece::{Piece, Reading, take_piece};
+use crate::next_line::input_piece::{Piece, Reading, take_piece};
+use crate::next_line::kept_line::KeptLine;
 use std::io::{BufRead, Write};
 
 /// The line that is read, and what is known of the reader.
 #[derive(Drop)]
 pub struct Input {
-    pub line: Line,
+    pub line: KeptLine,
     pub reading: Reading,
 }
 
@@ -30,7 +30,7 @@ impl Input {
         ensures { result.reading.failed ≡ false }
     {
         Input {
-            line: Line::new(),
+            line: KeptLine::new(),
             reading: Reading::new(),
         }
     }

@@ -1,5 +1,5 @@
 pub mod arranging;
-pub mod came;
+pub mod came_frames;
 pub mod gathering;
 pub mod happening;
 pub mod read_books;
@@ -16,7 +16,7 @@ ghost use Rattle.ra_book.specs.declared.text_settling.settle_error.TextCause.{Te
 
 use crate::settle_laws::each_text_of_books_has_one_verdict;
 use crate::text_settling::arranging::{Unarranged, all_arranged};
-use crate::text_settling::came::Came;
+use crate::text_settling::came_frames::Came;
 use crate::text_settling::gathering::Gathered;
 use crate::text_settling::read_books::read_books;
 use crate::text_settling::searching::{first_again, first_unsent};

@@ -1,5 +1,5 @@
 //! The first lines of the books of a text.
-use ra_book::{First, MAX_LINE};
+use ra_book::FirstLine;
 use ra_world::cut;
 
 /// How many numbers there are from 0 to the highest node.
@@ -8,7 +8,7 @@ const NODE_NUMBERS: usize = 65;
 /// The first line of a book, its number, counted from 1, and the text after it.
 #[derive(Drop)]
 pub struct Opening<'a> {
-    pub first: First,
+    pub first: FirstLine,
     pub line: u64,
     pub after: &'a [u8],
 }
@@ -24,20 +24,12 @@ pub struct Openings<'a> {
     lines: [u64; NODE_NUMBERS],
 }
 
-/// Returns what a line says as the first one of a book, or `None` if it is not one.
-pub fn first_in(line: &[u8]) -> Option<First> {
-    if line.len() > MAX_LINE {
-        return None;
-    }
-    First::parse(line)
-}
-
 impl<'a> Opening<'a> {
     /// Makes that of a first line of this number, after which comes this text.
-    fn new(first: &First, line: u64, after: &'a [u8]) -> Opening<'a> {
-        let (node, nodes, start) = (first.node, first.nodes, first.start);
+    fn new(first: &FirstLine, line: u64, after: &'a [u8]) -> Opening<'a> {
+        let (member, start) = (first.member, first.start);
         Opening {
-            first: First { node, nodes, start },
+            first: FirstLine { member, start },
             line,
             after,
         }
@@ -58,7 +50,7 @@ impl<'a> Openings<'a> {
             let (shown, Some(after)) = cut(rest, b'\n') else {
                 break;
             };
-            if let Some(first) = first_in(shown) {
+            if let Some(first) = FirstLine::parse(shown) {
                 openings.note(&first, line, after);
             }
             rest = after;
@@ -67,12 +59,12 @@ impl<'a> Openings<'a> {
     }
 
     /// Notes that a book begins with this line of this number, and goes on with this text.
-    fn note(&mut self, first: &First, line: u64, after: &'a [u8]) {
+    fn note(&mut self, first: &FirstLine, line: u64, after: &'a [u8]) {
         if self.first.is_none() {
             self.first = Some(Opening::new(first, line, after));
         }
         self.last = Some(Opening::new(first, line, after));
-        self.lines[usize::from(first.node.get())] = line;
+        self.lines[usize::from(first.member.node().get())] = line;
     }
 
     /// Returns the line at which the book of a node begins, or 0 if it has none.

@@ -134,7 +134,7 @@ pub fn refused_event(
     number: u64,
 ) -> Option<(Refusal, Option<Standing>)> {
     let first = &opening.first;
-    let mut node = TimedNode::new(alloc, first.node, first.nodes, first.start)?;
+    let mut node = TimedNode::new(alloc, first.member, first.start);
     let mut standing = Standing::of_line(line);
     let mut rest = opening.after;
     for place in opening.line.saturating_add(1)..number.saturating_add(1) {

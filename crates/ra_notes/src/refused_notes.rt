@@ -1,6 +1,6 @@
 //! What is said of the line that the node of a book does not take.
 use crate::refused_event::Standing;
-use ra_book::{First, Refusal};
+use ra_book::{FirstLine, Refusal};
 use ra_explain::{
     Stage, push_digits_fault, push_exhausted, push_frame_fault, push_not_held, push_stage,
 };
@@ -17,14 +17,14 @@ const NO_CLOCK: &str =
 
 /// Adds for which node a frame is, and for which it should be, if that is why the node of a book with this first line does not take it.
 /// Otherwise it adds from which node the frame is, and which nodes there are.
-fn push_frame_node(note: &mut Note, first: &First, frame: &Frame, is_for_another: bool) {
+fn push_frame_node(note: &mut Note, first: &FirstLine, frame: &Frame, is_for_another: bool) {
     let (text, node, expected, number) = if is_for_another {
         let to = frame.message.to();
         (
             "for node ",
             to,
             ": expected one for node ",
-            first.node.get(),
+            first.member.node().get(),
         )
     } else {
         let from = frame.message.from();
@@ -32,7 +32,7 @@ fn push_frame_node(note: &mut Note, first: &First, frame: &Frame, is_for_another
             "from node ",
             from,
             ": the nodes are 1 to ",
-            first.nodes.get(),
+            first.member.nodes(),
         )
     };
     note.push("the frame is ");
@@ -71,7 +71,7 @@ pub fn push_refused(
     note: &mut Note,
     line: &[u8],
     frame: &Option<Frame>,
-    first: &First,
+    first: &FirstLine,
     why: Refusal,
     standing: &Option<Standing>,
 ) {

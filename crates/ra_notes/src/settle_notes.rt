@@ -1,10 +1,10 @@
 //! What is said of the line at which a text of books is wrong.
-use crate::book_openings::{Openings, first_in};
+use crate::book_openings::Openings;
 use crate::input_places::PlaceNote;
 use crate::note_texts::text_cause_text;
 use crate::refused_event::{event_in, refused_event};
 use crate::refused_notes::push_refused;
-use ra_book::{First, TextCause};
+use ra_book::{FirstLine, TextCause};
 use ra_frame::Frame;
 use ra_history::BookKind;
 use ra_world::{Note, cut};
@@ -14,7 +14,7 @@ use std::alloc::Global;
 fn push_end(note: &mut Note, openings: &Openings<'_>, cause: TextCause) {
     note.push(": ");
     if let (TextCause::Books, Some(opening)) = (cause, &openings.first) {
-        let nodes = opening.first.nodes.get();
+        let nodes = opening.first.member.nodes();
         for node in 1..=nodes {
             if openings.line_of(node) == 0 {
                 note.push("the book of node ");
@@ -31,9 +31,9 @@ fn push_end(note: &mut Note, openings: &Openings<'_>, cause: TextCause) {
 
 /// Adds why a line cannot be the first one of a book after these: its node has a book already, or it has another number of nodes or
 /// another start.
-fn push_first(note: &mut Note, openings: &Openings<'_>, first: &First, cause: TextCause) {
+fn push_first(note: &mut Note, openings: &Openings<'_>, first: &FirstLine, cause: TextCause) {
     note.push(": ");
-    let again = openings.line_of(first.node.get());
+    let again = openings.line_of(first.member.node().get());
     match (cause, &openings.first) {
         (TextCause::Books, _) if again > 0 => {
             note.push("this node has a book already, which begins at line ");
@@ -42,7 +42,7 @@ fn push_first(note: &mut Note, openings: &Openings<'_>, first: &First, cause: Te
         }
         (TextCause::Books, Some(opening)) => {
             note.push("expected NODES ");
-            note.number(opening.first.nodes.get());
+            note.number(opening.first.member.nodes());
             note.push(" and START ");
             note.number(opening.first.start);
             note.push(", as at line ");
@@ -71,7 +71,7 @@ fn push_event(
 ) {
     if let Some(opening) = &openings.last {
         note.push(", in the book of node ");
-        note.number(opening.first.node.get());
+        note.number(opening.first.member.node().get());
     }
     let frame = frame_in(line);
     if let Some(frame) = &frame {
@@ -108,7 +108,7 @@ pub fn unsettled_note(alloc: Global, text: &[u8], number: u64, cause: TextCause)
     };
     note.push(", ");
     note.quoted(line);
-    match first_in(line) {
+    match FirstLine::parse(line) {
         Some(first) => push_first(&mut note, &openings, &first, cause),
         None => push_event(alloc, &mut note, &openings, line, number, cause),
     }

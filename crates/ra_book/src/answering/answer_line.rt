@@ -10,7 +10,7 @@ use crate::answering::answer_texts::put_outcome;
 use crate::answering::line_refusal::refused_line;
 use crate::answering::waiting_output::{Output, put};
 use crate::next_line::event_line::event_of;
-use crate::next_line::kept_line::Line;
+use crate::next_line::kept_line::KeptLine;
 use crate::{Refusal, TimedNode};
 use ra_history::BookKind;
 use ra_node::Outcome;
@@ -22,7 +22,7 @@ use std::io::Write;
 /// # Errors
 ///
 /// Those of `event_of`, and `Line` for a line that is too long.
-fn event_in(line: &Line) -> Result<BookKind, Refusal>
+fn event_in(line: &KeptLine) -> Result<BookKind, Refusal>
     ensures read { (text : List ℕ) → IsKeptLine text line.now.bytes.items line.now.is_long
         → MatchResult result (IsEvent text) (IsUnread text) }
     ensures can_come { IfOk result CanCome }
@@ -38,7 +38,7 @@ fn event_in(line: &Line) -> Result<BookKind, Refusal>
 /// # Errors
 ///
 /// Those of `event_of` and of [`TimedNode::take`]. The node is as before.
-fn react(alloc: Global, node: &mut TimedNode, line: &Line) -> Result<Outcome, Refusal>
+fn react(alloc: Global, node: &mut TimedNode, line: &KeptLine) -> Result<Outcome, Refusal>
     ensures reacts { (text : List ℕ) → IsKeptLine text line.now.bytes.items line.now.is_long
         → MatchResult result (λ outcome. Reacts node.old text outcome.sends.items outcome.marks.items node.new)
         (Stays node.old text node.new) }
@@ -57,7 +57,7 @@ fn react(alloc: Global, node: &mut TimedNode, line: &Line) -> Result<Outcome, Re
 pub fn answer_line<W: Write>(
     alloc: Global,
     node: &mut TimedNode,
-    line: &Line,
+    line: &KeptLine,
     writer: &mut W,
     out: &mut Output,
 )

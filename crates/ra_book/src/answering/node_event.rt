@@ -1,15 +1,12 @@
 //! An event of a book at a node.
-ghost use Rattle.std.specs.Prelude.{◌≡◌, ◌⊎◌, MatchResult, MatchOption};
-ghost use Rattle.ra_node.specs.Events.{NodeEvent, IsForThisNode};
+ghost use Rattle.std.specs.Prelude.{MatchResult};
 ghost use Rattle.ra_history.specs.declared.book.event.BookKind.{BookKind};
-ghost use Rattle.ra_history.specs.History.{node_event};
-ghost use Rattle.ra_book.specs.Timed.{MayTake, NodeRefuses, NodeTakes, NodeStays};
+ghost use Rattle.ra_book.specs.Timed.{NodeTakes, NodeStays};
 
-use ra_automaton::check_address;
 use ra_frame::Frame;
 use ra_history::{BookError, BookKind};
 use ra_node::{AskError, LeaveError, Node, Outcome, ReceiveError};
-use ra_stamp::{Member, Mode, Name};
+use ra_stamp::{Mode, Name};
 use std::alloc::Global;
 
 /// A client asks.
@@ -85,28 +82,5 @@ pub fn happen(alloc: Global, node: &mut Node, kind: &BookKind) -> Result<Outcome
         BookKind::Asked { client, name, mode } => ask(alloc, node, *client, *name, *mode),
         BookKind::Gave { client, name } => leave(alloc, node, *client, *name),
         BookKind::Got(frame) => receive(alloc, node, frame),
-    }
-}
-
-/// Returns why a node does not take an event, whatever its clock, or `None` if it may. It does not allocate.
-pub fn refusal_of(member: Member, node: &Node, kind: &BookKind) -> Option<BookError>
-    requires { (node.now.me ≡ member.node) × (node.now.nodes ≡ member.nodes) }
-    ensures { MatchOption result (MayTake node.now kind.now) (NodeRefuses node.now kind.now) }
-{
-    match kind {
-        BookKind::Asked { client, name, .. } => match node.may_ask(*client, name) {
-            Err(AskError::Busy) => Some(BookError::Busy),
-            Err(AskError::Exhausted) => Some(BookError::Exhausted),
-            _ => None,
-        },
-        BookKind::Gave { client, name } => match node.holder(name) {
-            Some(entry) if entry.client == *client => None,
-            _ => Some(BookError::NotHeld),
-        },
-        BookKind::Got(frame) => match check_address(member, &frame.message) {
-            Err(ReceiveError::WrongNode) => Some(BookError::WrongNode),
-            Err(ReceiveError::Stranger) => Some(BookError::Stranger),
-            _ => None,
-        },
     }
 }

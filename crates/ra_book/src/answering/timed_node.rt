@@ -1,17 +1,16 @@
-ghost use Rattle.std.specs.Prelude.{◌≡◌, ◌≤◌, MatchResult, MatchOption, IfOk};
+ghost use Rattle.std.specs.Prelude.{◌≡◌, MatchResult, IfOk};
 ghost use Rattle.ra_book.specs.Timed.{Takes, Refuses};
 
-use crate::answering::node_event::{happen, refusal_of};
-use ra_history::{BookError, BookKind, clock_after};
-use ra_node::{Node, Outcome, events_keep_a_node_consistent, events_leave_other_names};
-use ra_stamp::{Member, NodeId};
+use crate::answering::node_event::happen;
+use ra_history::{BookError, BookKind, clock_after, event_refusal};
+use ra_node::{Node, Outcome};
+use ra_stamp::Member;
 use std::alloc::Global;
 use std::marker::Model;
 
 /// A node and its clock, and no history: what it takes does not grow with the number of events, but with the names that it meets.
 #[derive(Drop)]
 pub struct TimedNode {
-    member: Member,
     node: Node,
     clock: u64,
 }
@@ -32,17 +31,15 @@ impl Model for TimedNode {
 impl TimedNode {
     ghost use Rattle.ra_book.specs.Timed.{CanCome, FitAt, opening};
 
-    /// Makes a node that has met nothing, `node` of `nodes`. The highest number of each resource begins at `start`. Returns
-    /// `None` if `node` is above `nodes`. It does not allocate.
-    pub fn new(alloc: Global, node: NodeId, nodes: NodeId, start: u64) -> Option<TimedNode>
-        ensures { MatchOption result (node ≤ nodes → ⊥) (λ made. made ≡ opening node nodes start) }
+    /// Makes the node of a member, which has met nothing. The highest number of each resource begins at `start`. It does not
+    /// allocate.
+    pub fn new(alloc: Global, member: Member, start: u64) -> TimedNode
+        ensures { result ≡ opening member.node member.nodes start }
     {
-        let member = Member::new(node, nodes.get()).ok()?;
-        Some(TimedNode {
-            member,
+        TimedNode {
             node: Node::of(alloc, member, start),
             clock: 0,
-        })
+        }
     }
 
     /// Returns the clock of the last event, or 0 if there was none. It does not allocate.
@@ -69,25 +66,21 @@ impl TimedNode {
             (λ why. (self.new ≡ self.old) × Refuses self.old kind.now why) }
         ensures fits { IfOk result (λ outcome. FitAt self.new.clock outcome.sends.items) }
     {
-        events_keep_a_node_consistent();
-        events_leave_other_names();
-        take_event(alloc, self.member, &mut self.node, &mut self.clock, kind)
+        take_event(alloc, &mut self.node, &mut self.clock, kind)
     }
 }
 
-/// Makes an event happen at the node of a member, whose clock is this.
+/// Makes an event happen at a node, whose clock is this.
 ///
 /// # Errors
 ///
 /// Those of [`TimedNode::take`].
 fn take_event(
     alloc: Global,
-    member: Member,
     node: &mut Node,
     clock: &mut u64,
     kind: &BookKind,
 ) -> Result<Outcome, BookError>
-    requires { (node.old.me ≡ member.node) × (node.old.nodes ≡ member.nodes) }
     ensures { MatchResult result
         (λ outcome. Takes (record { node = node.old; clock = clock.old }) kind.now
         outcome.sends.items outcome.marks.items (record { node = node.new; clock = clock.new }))
@@ -102,9 +95,6 @@ fn take_event(
             }
             Err(why) => Err(why),
         },
-        Err(_) => match refusal_of(member, node, kind) {
-            Some(why) => Err(why),
-            None => Err(BookError::ClockFull),
-        },
+        Err(_) => Err(event_refusal(node, *clock, kind)),
     }
 }

@@ -5,39 +5,37 @@ ghost use Rattle.ra_book.specs.Timed.{opening};
 
 use crate::TimedNode;
 use crate::next_line::book_fields::first_of;
-use ra_stamp::NodeId;
+use crate::next_line::event_line::MAX_LINE;
+use ra_stamp::{Member, NodeId};
 use ra_trace::rest_after;
 use std::alloc::Global;
 
 /// What the first line of a book says.
 #[derive(Clone, Copy)]
-pub struct First {
-    /// The node whose book it is, 1 to `nodes`.
-    pub node: NodeId,
-    /// How many nodes there are.
-    pub nodes: NodeId,
+pub struct FirstLine {
+    /// The node whose book it is, and how many nodes there are.
+    pub member: Member,
     /// The number with which each resource begins.
     pub start: u64,
 }
 
 /// Returns these fields of a first line, or `None` if there is no such node. It does not allocate.
-fn first_within(fields: (NodeId, (NodeId, u64))) -> Option<First>
+fn first_within(fields: (NodeId, (NodeId, u64))) -> Option<FirstLine>
     ensures { MatchOption result (fields.1.0 < fields.0)
-        (λ first. (first.node ≡ fields.0) × (first.nodes ≡ fields.1.0) × (first.start ≡ fields.1.1) × (fields.0 ≤ fields.1.0)) }
+        (λ first. (first.member.node ≡ fields.0) × (first.member.nodes ≡ fields.1.0) × (first.start ≡ fields.1.1) × (fields.0 ≤ fields.1.0)) }
 {
     let (node, (nodes, start)) = fields;
-    if node.get() <= nodes.get() {
-        Some(First { node, nodes, start })
-    } else {
-        None
+    match Member::new(node, nodes.get()) {
+        Ok(member) => Some(FirstLine { member, start }),
+        Err(_) => None,
     }
 }
 
 /// Returns what the fields after the first words say, or `None` if they say nothing. It does not allocate.
-fn first_in(rest: &[u8]) -> Option<First>
+fn first_in(rest: &[u8]) -> Option<FirstLine>
     ensures { (line : List ℕ) → line ≡ codes "book 1 " ++ rest.now → length line ≤ 256
         → MatchOption result ((node nodes start : ℕ) → IsFirst line node nodes start → ⊥)
-        (λ first. IsFirst line first.node first.nodes first.start) }
+        (λ first. IsFirst line first.member.node first.member.nodes first.start) }
 {
     match first_of(rest) {
         Some(fields) => first_within(fields),
@@ -45,14 +43,16 @@ fn first_in(rest: &[u8]) -> Option<First>
     }
 }
 
-impl First {
-    /// Returns what a line of at most 256 bytes says as the first one of a book, without its line feed, or `None` if it is not
-    /// one. It does not allocate, and the cost is linear in the line.
-    pub fn parse(line: &[u8]) -> Option<First>
-        requires { length line.now ≤ 256 }
+impl FirstLine {
+    /// Returns what a line says as the first one of a book, without its line feed, or `None` if it is not one. One of more than
+    /// 256 bytes never is. It does not allocate, and the cost is linear in the line.
+    pub fn parse(line: &[u8]) -> Option<FirstLine>
         ensures { MatchOption result ((node nodes start : ℕ) → IsFirst line.now node nodes start → ⊥)
-            (λ first. IsFirst line.now first.node first.nodes first.start) }
+            (λ first. IsFirst line.now first.member.node first.member.nodes first.start) }
     {
+        if line.len() > MAX_LINE {
+            return None;
+        }
         match rest_after(b"book 1 ", line) {
             Some(rest) => first_in(rest),
             None => None,
@@ -60,12 +60,11 @@ impl First {
     }
 }
 
-/// Makes the node of a book that begins with this line of at most 256 bytes, or returns `None` if it is no first line. It does not allocate.
+/// Makes the node of a book that begins with this line, or returns `None` if it is no first line. It does not allocate.
 pub fn opened(alloc: Global, line: &[u8]) -> Option<TimedNode>
-    requires { length line.now ≤ 256 }
     ensures { MatchOption result ((node nodes start : ℕ) → IsFirst line.now node nodes start → ⊥)
         (λ made. (node nodes start : ℕ) × IsFirst line.now node nodes start × (made ≡ opening node nodes start)) }
 {
-    let first = First::parse(line)?;
-    TimedNode::new(alloc, first.node, first.nodes, first.start)
+    let first = FirstLine::parse(line)?;
+    Some(TimedNode::new(alloc, first.member, first.start))
 }

@@ -7,18 +7,18 @@ use arrayvec::ArrayVec;
 
 /// The bytes of a line, of which no more than 256 are kept.
 #[derive(Drop)]
-pub struct Line {
+pub struct KeptLine {
     pub bytes: ArrayVec<u8, MAX_LINE>,
     /// Whether it has more than 256 bytes. The kept ones are not asked then.
     pub is_long: bool,
 }
 
-impl Line {
+impl KeptLine {
     /// Makes one without bytes.
-    pub fn new() -> Line
+    pub fn new() -> KeptLine
         ensures { IsKeptLine [] result.bytes.items result.is_long }
     {
-        Line {
+        KeptLine {
             bytes: ArrayVec::new(),
             is_long: false,
         }

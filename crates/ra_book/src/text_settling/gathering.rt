@@ -6,9 +6,9 @@ ghost use Rattle.ra_history.specs.Book.{HasHistory, opening_book};
 ghost use Rattle.ra_book.specs.Texts.{IsBeside};
 ghost use Rattle.ra_book.specs.Gathering.{TakesEvent, TakesFirst, TakesLine, books_of};
 
-use crate::text_settling::came::{CameList, note};
+use crate::text_settling::came_frames::{CameList, note};
 use crate::text_settling::happening::happen;
-use crate::{First, MAX_LINE, Refusal, TextCause, event_of};
+use crate::{FirstLine, MAX_LINE, Refusal, TextCause, event_of};
 use ra_history::{Book, BookError};
 use std::alloc::Global;
 use std::mem::replace;
@@ -33,25 +33,33 @@ pub enum LineFault {
 }
 
 /// Makes the book that this first line begins, or returns `None` if memory runs out.
-pub fn opened(alloc: Global, first: &First) -> Option<Book>
-    ensures { IfSome result (λ book. (book ≡ opening_book first.now.node first.now.nodes first.now.start) × HasHistory book) }
+pub fn opened(alloc: Global, first: &FirstLine) -> Option<Book>
+    ensures { IfSome result (λ book. (book ≡ opening_book first.now.member.node first.now.member.nodes first.now.start) × HasHistory book) }
 {
     // It is one of the nodes, so that only memory can be lacking.
-    Book::new(alloc, first.node, first.nodes.get(), first.start).ok()
+    Book::new(
+        alloc,
+        first.member.node(),
+        first.member.nodes(),
+        first.start,
+    )
+    .ok()
 }
 
 /// Returns whether a book is of another node than this first line, of as many nodes and from the same start. It does not
 /// allocate.
-fn is_beside(book: &Book, first: &First) -> bool
-    ensures { IsTrue result ↔ IsBeside first.now.node first.now.nodes first.now.start book.now }
+fn is_beside(book: &Book, first: &FirstLine) -> bool
+    ensures { IsTrue result ↔ IsBeside first.now.member.node first.now.member.nodes first.now.start book.now }
 {
-    book.me() != first.node && book.nodes() == first.nodes.get() && book.start() == first.start
+    book.me() != first.member.node()
+        && book.nodes() == first.member.nodes()
+        && book.start() == first.start
 }
 
 /// Returns whether each of the books is beside this first line. It does not allocate.
-fn are_beside(books: &[Book], first: &First) -> bool
-    ensures { MatchBool result (All (IsBeside first.now.node first.now.nodes first.now.start) books.now)
-        (Any (λ book. IsBeside first.now.node first.now.nodes first.now.start book → ⊥) books.now) }
+fn are_beside(books: &[Book], first: &FirstLine) -> bool
+    ensures { MatchBool result (All (IsBeside first.now.member.node first.now.member.nodes first.now.start) books.now)
+        (Any (λ book. IsBeside first.now.member.node first.now.member.nodes first.now.start book → ⊥) books.now) }
 {
     for book in books {
         if !is_beside(book, first) {
@@ -63,9 +71,9 @@ fn are_beside(books: &[Book], first: &First) -> bool
 
 impl Gathered {
     /// Returns whether each of the books is beside this first line. It does not allocate.
-    fn is_beside(&self, first: &First) -> bool
-        ensures { MatchBool result (All (IsBeside first.now.node first.now.nodes first.now.start) (books_of self.now))
-            (Any (λ book. IsBeside first.now.node first.now.nodes first.now.start book → ⊥) (books_of self.now)) }
+    fn is_beside(&self, first: &FirstLine) -> bool
+        ensures { MatchBool result (All (IsBeside first.now.member.node first.now.member.nodes first.now.start) (books_of self.now))
+            (Any (λ book. IsBeside first.now.member.node first.now.member.nodes first.now.start book → ⊥) (books_of self.now)) }
     {
         if is_beside(&self.last, first) {
             are_beside(&self.earlier, first)
@@ -79,8 +87,8 @@ impl Gathered {
     /// # Errors
     ///
     /// `Wrong` with `Books`: its node has a book already, or the number of nodes or the start is another one. `Memory`.
-    fn open(&mut self, alloc: Global, first: &First) -> Result<(), LineFault>
-        ensures { (line : List ℕ) → IsFirst line first.now.node first.now.nodes first.now.start
+    fn open(&mut self, alloc: Global, first: &FirstLine) -> Result<(), LineFault>
+        ensures { (line : List ℕ) → IsFirst line first.now.member.node first.now.member.nodes first.now.start
             → TakesFirst self.old line self.new result }
     {
         if !self.is_beside(first) {
@@ -135,7 +143,7 @@ impl Gathered {
         if line.len() > MAX_LINE {
             return Err(LineFault::Wrong(TextCause::Line));
         }
-        match First::parse(line) {
+        match FirstLine::parse(line) {
             Some(first) => self.open(alloc, &first),
             None => self.take_event(alloc, number, line),
         }

@@ -1,28 +1,16 @@
 //! A text of books that is read line by line.
-ghost use Rattle.std.specs.Prelude.{◌≡◌, ◌∷◌, [], ℕ, true, List, MatchOption, MatchResult};
-ghost use Rattle.ra_book.specs.BookText.{IsFirst};
+ghost use Rattle.std.specs.Prelude.{◌≡◌, ◌∷◌, [], ℕ, true, List, MatchResult};
 ghost use Rattle.ra_book.specs.Texts.{Begins};
 ghost use Rattle.ra_book.specs.Gathering.{HasBegun, HasGathered, IsGathered, IsNoBeginning};
 ghost use Rattle.ra_book.specs.Verdicts.{IsUnsettled, IsWrong};
 ghost use Rattle.ra_book.specs.declared.text_settling.settle_error.TextCause.{TextCause};
 ghost use Rattle.ra_book.specs.declared.text_settling.gathering.LineFault.{LineFault};
 
-use crate::text_settling::came::CameList;
+use crate::text_settling::came_frames::CameList;
 use crate::text_settling::gathering::{Gathered, LineFault, opened};
-use crate::{First, MAX_LINE, SettleTextError, TextCause};
+use crate::{FirstLine, SettleTextError, TextCause};
 use ra_world::cut;
 use std::alloc::Global;
-
-/// Returns what the first line of a text says, or `None` if it is not that of a book.
-fn first_in(line: &[u8]) -> Option<First>
-    ensures { MatchOption result ((node nodes start : ℕ) → IsFirst line.now node nodes start → ⊥)
-        (λ first. IsFirst line.now first.node first.nodes first.start) }
-{
-    if line.len() > MAX_LINE {
-        return None;
-    }
-    First::parse(line)
-}
 
 /// Begins with the first line of a text.
 ///
@@ -32,7 +20,7 @@ fn first_in(line: &[u8]) -> Option<First>
 fn begin(alloc: Global, line: &[u8]) -> Result<Gathered, SettleTextError>
     ensures { MatchResult result (HasBegun line.now) (IsNoBeginning line.now) }
 {
-    let Some(first) = first_in(line) else {
+    let Some(first) = FirstLine::parse(line) else {
         return Err(SettleTextError::Invalid {
             line: 1,
             cause: TextCause::Line,

@@ -3,7 +3,7 @@ ghost use Rattle.std.specs.Prelude.{◌≡◌, ◌≢◌, ◌↔◌, ◌∷◌, 
 ghost use Rattle.ra_book.specs.Gathering.{AreNumbered, IsSentBy, IsUnsentAmong, sender_of, senders_of};
 ghost use Rattle.ra_book.specs.Verdicts.{IsFirstAgain, messages_of};
 
-use crate::text_settling::came::Came;
+use crate::text_settling::came_frames::Came;
 use ra_bag::Bag;
 use ra_frame::Frame;
 use ra_history::{Book, MarkLostError};

@@ -4,7 +4,7 @@ ghost use Rattle.ra_book.specs.Timed.{CanCome};
 use crate::text_asserting::{assert_grown, assert_same};
 use ra_book::{TimedNode, answer_book, event_of};
 use ra_history::{BookError, BookKind};
-use ra_stamp::NodeId;
+use ra_stamp::{Member, NodeId};
 use std::alloc::Global;
 use std::io;
 use std::io::Write;
@@ -150,11 +150,14 @@ fn try_line(alloc: Global, node: &mut TimedNode, line: &Line) -> Tried {
     again(first, second)
 }
 
-/// Hands all lines to node 1 of 2.
-fn try_lines(alloc: Global, one: NodeId, two: NodeId) -> Tried {
-    let Some(mut node) = TimedNode::new(alloc, one, two, 0) else {
-        return Tried::Broken;
-    };
+/// Returns node 1 of 2.
+fn first_of_two() -> Option<Member> {
+    Member::new(NodeId::new(1)?, 2).ok()
+}
+
+/// Hands all lines to a node.
+fn try_lines(alloc: Global, member: Member) -> Tried {
+    let mut node = TimedNode::new(alloc, member, 0);
     let mut all = Tried::NoFailure;
     for line in &LINES {
         all = both(all, try_line(alloc, &mut node, line));
@@ -164,9 +167,9 @@ fn try_lines(alloc: Global, one: NodeId, two: NodeId) -> Tried {
 
 #[test]
 fn events_that_are_refused_for_memory_come_again(rt: HostRuntime) {
-    let tried = match (NodeId::new(1), NodeId::new(2)) {
-        (Some(one), Some(two)) => try_lines(rt.alloc(), one, two),
-        _ => Tried::Broken,
+    let tried = match first_of_two() {
+        Some(member) => try_lines(rt.alloc(), member),
+        None => Tried::Broken,
     };
     assert_grown(&rt, tried);
 }

@@ -9,12 +9,12 @@ use Rattle.ra_book.proofs.text_settling.gathering.are_beside.Goals as goal
 pub loop-book-init : goal.loop-book-init
 loop-book-init c =
     let first = c.args.first.now in
-    All-nil (IsBeside first.node first.nodes first.start)
+    All-nil (IsBeside first.member.node first.member.nodes first.start)
 
 pub loop-book-preserved : goal.loop-book-preserved
 loop-book-preserved c =
     let first = c.args.first.now in
-    let P = IsBeside first.node first.nodes first.start in
+    let P = IsBeside first.member.node first.member.nodes first.start in
     All-more P c.args.books.now c.loop-book.book-index c.book-item.result c.loop-book-test.true c.loop-book.invariant
     (subst P c.book-item.is (c.is_beside.ensures.0 c.if-not-is_beside.false))
 
@@ -30,4 +30,4 @@ returns-then-not-is_beside c = (
 pub returns : goal.returns
 returns c =
     let first = c.args.first.now in
-    subst (All (IsBeside first.node first.nodes first.start)) (take_all c.loop-book.book-index c.args.books.now c.loop-book-test.false) c.loop-book.invariant
+    subst (All (IsBeside first.member.node first.member.nodes first.start)) (take_all c.loop-book.book-index c.args.books.now c.loop-book-test.false) c.loop-book.invariant

@@ -5,4 +5,4 @@ use Rattle.ra_book.proofs.text_settling.gathering.are_beside.Given as goal
 
 -- the books so far are beside it
 abbrev pub invariant-loop-book : goal.invariant-loop-book
-invariant-loop-book l = All (IsBeside l.first.node l.first.nodes l.first.start) (take l.book-index l.books)
+invariant-loop-book l = All (IsBeside l.first.member.node l.first.member.nodes l.first.start) (take l.book-index l.books)

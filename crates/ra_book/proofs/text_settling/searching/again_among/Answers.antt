@@ -3,7 +3,7 @@ use Rattle.std.specs.Prelude.{AllPairs, Contains}
 use Rattle.std.proofs.lemmas.Bool.{false≢true}
 use Rattle.std.proofs.lemmas.List.{map_more, take_all}
 use Rattle.ra_stamp.specs.declared.message.Message.{Message}
-use Rattle.ra_book.specs.declared.text_settling.came.Came.{Came}
+use Rattle.ra_book.specs.declared.text_settling.came_frames.Came.{Came}
 use Rattle.ra_book.specs.Verdicts.{messages_of}
 use Rattle.ra_book.proofs.Sent.{again_at, apart_more}
 use Rattle.ra_book.proofs.text_settling.searching.again_among.Goals as goal

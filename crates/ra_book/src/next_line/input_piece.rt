@@ -3,7 +3,7 @@ ghost use Rattle.std.specs.Prelude.{◌≡◌, ◌∷◌, [], true, false, IfOk,
 ghost use Rattle.std.specs.Io.KnownBytes.{Consumes, IsAtEnd};
 ghost use Rattle.ra_book.specs.Input.{KeepsShown, TakesShown, TakesPiece};
 
-use crate::next_line::kept_line::Line;
+use crate::next_line::kept_line::KeptLine;
 use ra_world::cut;
 use std::io::{BufRead, Read};
 
@@ -51,7 +51,7 @@ impl Reading {
 
 /// What is taken of the bytes that a reader shows.
 #[derive(Clone, Copy)]
-pub struct Taken {
+pub struct TakenBytes {
     /// How many they are.
     pub count: usize,
     /// Whether the last of them is a line feed.
@@ -61,18 +61,18 @@ pub struct Taken {
 }
 
 /// Adds to a line what is shown of it, and returns how many bytes that takes.
-fn keep_shown(shown: &[u8], line: &mut Line) -> Taken
+fn keep_shown(shown: &[u8], line: &mut KeptLine) -> TakenBytes
     ensures { KeepsShown shown.now line.old line.new result }
 {
     let (part, after) = cut(shown, b'\n');
     line.push(part);
     match after {
-        Some(rest) => Taken {
+        Some(rest) => TakenBytes {
             count: part.len() + 1,
             is_over: true,
             is_all: rest.is_empty(),
         },
-        None => Taken {
+        None => TakenBytes {
             count: part.len(),
             is_over: false,
             is_all: true,
@@ -105,7 +105,7 @@ fn next_byte<R: Read>(reader: &mut R) -> Result<Option<u8>, ReadFailed>
 /// # Errors
 ///
 /// `ReadFailed`: the reader failed. It is not tried again.
-fn take_byte<R: Read>(reader: &mut R, line: &mut Line) -> Result<Piece, ReadFailed>
+fn take_byte<R: Read>(reader: &mut R, line: &mut KeptLine) -> Result<Piece, ReadFailed>
     ensures { TakesPiece (R.remaining reader.old) (R.remaining reader.new) line.old line.new result }
 {
     let Some(byte) = next_byte(reader)? else {
@@ -123,7 +123,7 @@ fn take_byte<R: Read>(reader: &mut R, line: &mut Line) -> Result<Piece, ReadFail
 /// # Errors
 ///
 /// `ReadFailed`: the reader failed. It is not tried again.
-fn take_shown<B: BufRead>(reader: &mut B, line: &mut Line) -> Result<Taken, ReadFailed>
+fn take_shown<B: BufRead>(reader: &mut B, line: &mut KeptLine) -> Result<TakenBytes, ReadFailed>
     ensures { TakesShown (B.remaining reader.old) (B.remaining reader.new) line.old line.new result }
 {
     let shown = match reader.fill_buf() {
@@ -143,7 +143,7 @@ fn take_shown<B: BufRead>(reader: &mut B, line: &mut Line) -> Result<Taken, Read
 /// `ReadFailed`: the reader failed. It is not tried again.
 fn take_some<B: BufRead>(
     reader: &mut B,
-    line: &mut Line,
+    line: &mut KeptLine,
     is_drained: &mut bool,
 ) -> Result<Piece, ReadFailed>
     ensures { TakesPiece (B.remaining reader.old) (B.remaining reader.new) line.old line.new result }
@@ -166,7 +166,7 @@ fn take_some<B: BufRead>(
 /// `ReadFailed`: the reader failed. It is not tried again.
 pub fn take_piece<B: BufRead>(
     reader: &mut B,
-    line: &mut Line,
+    line: &mut KeptLine,
     reading: &mut Reading,
 ) -> Result<Piece, ReadFailed>
     requires { reading.old.failed ≡ false }

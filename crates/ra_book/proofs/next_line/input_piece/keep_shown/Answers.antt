@@ -1,7 +1,7 @@
 use Rattle.std.proofs.Common.{◌≡◌, ◌∷◌, ◌++◌, arith, length, ap, ◌∙◌}
 use Rattle.std.proofs.lemmas.List.{take_all}
 use Rattle.ra_book.proofs.Pieces.{over_shown, over_within}
-use Rattle.ra_book.proofs.next_line.piece.keep_shown.Goals as goal
+use Rattle.ra_book.proofs.next_line.input_piece.keep_shown.Goals as goal
 
 pub returns-in-Some : goal.returns-in-Some
 returns-in-Some c =

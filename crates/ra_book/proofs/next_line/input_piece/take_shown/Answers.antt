@@ -1,7 +1,7 @@
 use Rattle.std.proofs.Common.{subst, take, length-take-le}
 use Rattle.std.specs.Io.BufRead.{FillKeeps}
 use Rattle.std.proofs.BufReadLemmas.{Consumes_shown}
-use Rattle.ra_book.proofs.next_line.piece.take_shown.Goals as goal
+use Rattle.ra_book.proofs.next_line.input_piece.take_shown.Goals as goal
 
 pub returns : goal.returns
 returns g c =
