@@ -45,53 +45,53 @@ consumed_both (Some xs) (Some ys) (Some zs) first second a b =
 
 has_read : (limit left : ℕ) (old now new : Option (List ℕ)) (prefix : List Line) (bytes : List ℕ) → HasTaken limit left old now prefix
     → Consumes now new bytes → length bytes ≤ left → HasRead limit old new prefix bytes
-has_read limit left old now new prefix bytes behind taken most = record {
-  taken = consumed_both old now new (flat_map line_text prefix) bytes behind.taken taken;
-  at_most = omega (arith, length-append (flat_map line_text prefix) bytes, behind.room, most);
-  right = behind.right;
+has_read limit left old now new prefix bytes so_far taken most = record {
+  taken = consumed_both old now new (flat_map line_text prefix) bytes so_far.taken taken;
+  at_most = omega (arith, length-append (flat_map line_text prefix) bytes, so_far.room, most);
+  right = so_far.right;
 }
 
 -- an error of what comes next
-pub fails_behind : (limit left : ℕ) (old now new : Option (List ℕ)) (prefix : List Line) (bytes : List ℕ) (fault : TraceError)
+pub fails_after : (limit left : ℕ) (old now new : Option (List ℕ)) (prefix : List Line) (bytes : List ℕ) (fault : TraceError)
     → HasTaken limit left old now prefix → (IsWhole prefix → bytes ≡ []) → FailsWithin left now new bytes fault
     → Answers limit old new (Err fault)
-fails_behind limit left old now new prefix bytes Read behind last (taken, opened) =
-    (prefix, bytes, has_read limit left old now new prefix bytes behind taken.0 taken.1, (opened, last))
-fails_behind limit left old now new prefix bytes Limit behind last (byte, taken, full, opened) = (
+fails_after limit left old now new prefix bytes Read so_far last (taken, opened) =
+    (prefix, bytes, has_read limit left old now new prefix bytes so_far taken.0 taken.1, (opened, last))
+fails_after limit left old now new prefix bytes Limit so_far last (byte, taken, full, opened) = (
   prefix,
   bytes,
   byte,
   record {
-    taken = consumed_both old now new (flat_map line_text prefix) (bytes ++ byte ∷ []) behind.taken taken;
-    at_most = omega (arith, length-append (flat_map line_text prefix) (bytes ++ byte ∷ []), length-append bytes (byte ∷ []), behind.room, full);
-    right = behind.right;
+    taken = consumed_both old now new (flat_map line_text prefix) (bytes ++ byte ∷ []) so_far.taken taken;
+    at_most = omega (arith, length-append (flat_map line_text prefix) (bytes ++ byte ∷ []), length-append bytes (byte ∷ []), so_far.room, full);
+    right = so_far.right;
   },
-  omega (arith, length-append (flat_map line_text prefix) bytes, behind.room, full),
+  omega (arith, length-append (flat_map line_text prefix) bytes, so_far.room, full),
   (opened, last),
 )
-fails_behind limit left old now new prefix bytes Memory behind last none = absurd none
+fails_after limit left old now new prefix bytes Memory so_far last none = absurd none
 
-over_behind : (prefix : List Line) (bytes : List ℕ) → (IsWhole prefix → ⊥) → IsOverLine bytes → IsOver prefix bytes
-over_behind prefix bytes more (before, byte, opened, is, how) =
+over_after : (prefix : List Line) (bytes : List ℕ) → (IsWhole prefix → ⊥) → IsOverLine bytes → IsOver prefix bytes
+over_after prefix bytes more (before, byte, opened, is, how) =
     (before, byte, (opened, λ whole. absurd (more whole)), is, elim how [ inl feed ↦ inl feed | inr long ↦ inr (inl long) ])
 
 -- a verdict on bytes that no line begins
-none_behind : (limit left : ℕ) (old now new : Option (List ℕ)) (prefix : List Line) (bytes : List ℕ) (number : ℕ) (why : Cause)
+none_after : (limit left : ℕ) (old now new : Option (List ℕ)) (prefix : List Line) (bytes : List ℕ) (number : ℕ) (why : Cause)
     → HasTaken limit left old now prefix → (IsWhole prefix → ⊥) → TakesBytes left now new bytes
     → IsOverLine bytes ⊎ (IsOpenLine bytes × IsAtEnd new) → number ≡ length prefix + 1 → IsWrong prefix bytes why
     → Judges limit old new (Invalid number why)
-none_behind limit left old now new prefix bytes number why behind more taken how is wrong = (
+none_after limit left old now new prefix bytes number why so_far more taken how is wrong = (
   prefix,
   bytes,
-  has_read limit left old now new prefix bytes behind taken.0 taken.1,
-  elim how [ inl over ↦ inl (over_behind prefix bytes more over) | inr (opened, ended) ↦ inr ((opened, λ whole. absurd (more whole)), ended) ],
+  has_read limit left old now new prefix bytes so_far taken.0 taken.1,
+  elim how [ inl over ↦ inl (over_after prefix bytes more over) | inr (opened, ended) ↦ inr ((opened, λ whole. absurd (more whole)), ended) ],
   (is, wrong),
 )
 
 -- memory ran out after right lines
-stops_behind : (limit left : ℕ) (old now : Option (List ℕ)) (prefix : List Line) → HasTaken limit left old now prefix → HasBegun prefix
+stops_after : (limit left : ℕ) (old now : Option (List ℕ)) (prefix : List Line) → HasTaken limit left old now prefix → HasBegun prefix
     → StopsAfter limit old now
-stops_behind limit left old now prefix behind begun = (prefix, begun, behind.taken, omega (arith, behind.room))
+stops_after limit left old now prefix so_far begun = (prefix, begun, so_far.taken, omega (arith, so_far.room))
 
 -- ---- The first line
 
@@ -107,20 +107,20 @@ no_line_is_whole (version, n, start, moves, trace, is) = let none : [] ≡ trace
 
 pub fails_first : (limit : ℕ) (old new : Option (List ℕ)) (bytes : List ℕ) (fault : TraceError) → FailsWithin limit old new bytes fault → Answers limit old new (Err fault)
 fails_first limit old new bytes fault failed =
-    fails_behind limit limit old old new [] bytes fault (nothing_read limit old) (λ whole. absurd (no_line_is_whole whole)) failed
+    fails_after limit limit old old new [] bytes fault (nothing_read limit old) (λ whole. absurd (no_line_is_whole whole)) failed
 
 -- no line begins the text
 pub none_first : (limit : ℕ) (old new : Option (List ℕ)) (bytes : List ℕ) → TakesBytes limit old new bytes
     → HasNone bytes new → Judges limit old new (Invalid 1 cause.Line)
 none_first limit old new bytes taken none =
-    none_behind limit limit old old new [] bytes 1 cause.Line (nothing_read limit old) no_line_is_whole taken none.1 refl
+    none_after limit limit old old new [] bytes 1 cause.Line (nothing_read limit old) no_line_is_whole taken none.1 refl
     (inl (refl, λ version line rest begins first. none.0 line rest (begins_readable version bytes line rest begins)))
 
 -- another line than the first of a version begins it
 pub other_first : (limit : ℕ) (old new : Option (List ℕ)) (bytes : List ℕ) (line : Line) → TakesBytes limit old new bytes
     → BeginsReadable bytes line [] → EndsSo Feed bytes new → ((version : Version) → IsLine version line → IsFirst line → ⊥) → Judges limit old new (Invalid 1 cause.Line)
 other_first limit old new bytes line taken begins ended other =
-    none_behind limit limit old old new [] bytes 1 cause.Line (nothing_read limit old) no_line_is_whole taken (inl (feed_is_over bytes new ended)) refl
+    none_after limit limit old old new [] bytes 1 cause.Line (nothing_read limit old) no_line_is_whole taken (inl (feed_is_over bytes new ended)) refl
     (inl (
       refl,
       λ version l r b first.
@@ -134,45 +134,45 @@ not_whole : LawsBelow → (limit left : ℕ) (old now : Option (List ℕ)) (chec
     → (along : IsAlong limit left old now checker number) → IsWhole along.prefix → ⊥
 not_whole laws limit left old now checker number along (version, n, start, moves, trace, is) =
     no_trace laws checker.version checker.world.count checker.world.start checker.world.moves (due_of checker) version n start moves along.prefix
-    along.stands.prefix is
+    along.checker_is.prefix is
 
 -- one line more
 one_more : (prefix : List Line) (line : Line) (bytes : List ℕ) → bytes ≡ line_text line ++ []
     → flat_map line_text prefix ++ bytes ≡ flat_map line_text (prefix ++ line ∷ [])
 one_more prefix line bytes is = ap (λ (xs : List ℕ). flat_map line_text prefix ++ xs) is ∙ sym (flat_map-append line_text prefix (line ∷ []))
 
-behind_one_more : (limit left : ℕ) (old now new : Option (List ℕ)) (prefix : List Line) (line : Line) (bytes : List ℕ)
+after_one_more : (limit left : ℕ) (old now new : Option (List ℕ)) (prefix : List Line) (line : Line) (bytes : List ℕ)
     → HasTaken limit left old now prefix → TakesBytes left now new bytes → BeginsReadable bytes line [] → AreRight (prefix ++ line ∷ [])
     → HasTaken limit (left - length bytes) old new (prefix ++ line ∷ [])
-behind_one_more limit left old now new prefix line bytes behind taken begins right =
+after_one_more limit left old now new prefix line bytes so_far taken begins right =
     let is = one_more prefix line bytes begins.1 in
     record {
-      taken = subst (Consumes old new) is (consumed_both old now new (flat_map line_text prefix) bytes behind.taken taken.0);
-      room = omega (arith, ap length (sym is), length-append (flat_map line_text prefix) bytes, behind.room, taken.1);
+      taken = subst (Consumes old new) is (consumed_both old now new (flat_map line_text prefix) bytes so_far.taken taken.0);
+      room = omega (arith, ap length (sym is), length-append (flat_map line_text prefix) bytes, so_far.room, taken.1);
       right = right;
     }
 
-stands_right : (checker : Checker) (prefix : List Line) → IsCheckerOf checker prefix → AreRight prefix
-stands_right checker prefix stands =
-    inr (inl (checker.version, checker.world.count, checker.world.start, checker.world.moves, due_of checker, stands.prefix))
+right_so_far : (checker : Checker) (prefix : List Line) → IsCheckerOf checker prefix → AreRight prefix
+right_so_far checker prefix checker_is =
+    inr (inl (checker.version, checker.world.count, checker.world.start, checker.world.moves, due_of checker, checker_is.prefix))
 
 -- after the first line
 pub along_first : (limit : ℕ) (old new : Option (List ℕ)) (bytes : List ℕ) (line : Line) (checker : Checker) → TakesBytes limit old new bytes → BeginsReadable bytes line [] → (IsReadable line → IsCheckerOf checker (line ∷ []))
     → IsAlong limit (limit - length bytes) old new checker 2
-along_first limit old new bytes line checker taken begins stands = record {
+along_first limit old new bytes line checker taken begins checker_is = record {
   prefix = line ∷ [];
-  behind =
-      behind_one_more limit limit old old new [] line bytes (nothing_read limit old) taken begins
-      (stands_right checker (line ∷ []) (stands begins.0));
+  so_far =
+      after_one_more limit limit old old new [] line bytes (nothing_read limit old) taken begins
+      (right_so_far checker (line ∷ []) (checker_is begins.0));
   number_is = refl;
-  stands = stands begins.0;
+  checker_is = checker_is begins.0;
 }
 
 no_memory_first : (limit : ℕ) (old new : Option (List ℕ)) (bytes : List ℕ) (line : Line) → TakesBytes limit old new bytes
     → BeginsReadable bytes line [] → HasBegun (line ∷ []) → StopsAfter limit old new
 no_memory_first limit old new bytes line taken begins begun =
-    stops_behind limit (limit - length bytes) old new (line ∷ [])
-    (behind_one_more limit limit old old new [] line bytes (nothing_read limit old) taken begins (inr (inl begun))) begun
+    stops_after limit (limit - length bytes) old new (line ∷ [])
+    (after_one_more limit limit old old new [] line bytes (nothing_read limit old) taken begins (inr (inl begun))) begun
 
 -- what the first line comes to
 pub opens_by : (limit : ℕ) (old new : Option (List ℕ)) (bytes : List ℕ) (line : Line) (result : Result (Option Checker) TraceError)
@@ -190,13 +190,13 @@ opens_by limit old new bytes line (Err fault) taken begins ended some none err =
 along_by : (limit left : ℕ) (old now new : Option (List ℕ)) (checker after : Checker) (number : ℕ) (line : Line) (bytes : List ℕ)
     → (along : IsAlong limit left old now checker number) → TakesBytes left now new bytes → BeginsReadable bytes line []
     → IsCheckerOf after (along.prefix ++ line ∷ []) → IsAlong limit (left - length bytes) old new after (number + 1)
-along_by limit left old now new checker after number line bytes along taken begins stands = record {
+along_by limit left old now new checker after number line bytes along taken begins checker_is = record {
   prefix = along.prefix ++ line ∷ [];
-  behind =
-      behind_one_more limit left old now new along.prefix line bytes along.behind taken begins
-      (stands_right after (along.prefix ++ line ∷ []) stands);
+  so_far =
+      after_one_more limit left old now new along.prefix line bytes along.so_far taken begins
+      (right_so_far after (along.prefix ++ line ∷ []) checker_is);
   number_is = omega (arith, along.number_is, length-append along.prefix (line ∷ []));
-  stands = stands;
+  checker_is = checker_is;
 }
 
 -- after one more line, which was right and is not the last one
@@ -205,15 +205,15 @@ pub along_more : (limit left : ℕ) (old now new : Option (List ℕ)) (checker a
     → Takes checker line after → IsAlong limit (left - length bytes) old new after (number + 1)
 along_more limit left old now new checker after number (First version nodes start) bytes along taken begins more takes = absurd takes
 along_more limit left old now new checker after number (Stepped step) bytes along taken begins more takes =
-    along_by limit left old now new checker after number (Stepped step) bytes along taken begins (takes.on along.prefix begins.0 along.stands)
+    along_by limit left old now new checker after number (Stepped step) bytes along taken begins (takes.on along.prefix begins.0 along.checker_is)
 along_more limit left old now new checker after number (Marked mark) bytes along taken begins more takes =
-    along_by limit left old now new checker after number (Marked mark) bytes along taken begins (takes.on along.prefix begins.0 along.stands)
+    along_by limit left old now new checker after number (Marked mark) bytes along taken begins (takes.on along.prefix begins.0 along.checker_is)
 along_more limit left old now new checker after number Last bytes along taken begins more takes = absurd (more refl)
 
 pub fails_next : LawsBelow → (limit left : ℕ) (old now new : Option (List ℕ)) (checker : Checker) (number : ℕ) (bytes : List ℕ) (fault : TraceError)
     → IsAlong limit left old now checker number → FailsWithin left now new bytes fault → Answers limit old new (Err fault)
 fails_next laws limit left old now new checker number bytes fault along failed =
-    fails_behind limit left old now new along.prefix bytes fault along.behind
+    fails_after limit left old now new along.prefix bytes fault along.so_far
     (λ whole. absurd (not_whole laws limit left old now checker number along whole)) failed
 
 -- no line comes next, and the last one has not come
@@ -221,7 +221,7 @@ pub none_next : LawsBelow → (limit left : ℕ) (old now new : Option (List ℕ
     → IsAlong limit left old now checker number → TakesBytes left now new bytes → HasNone bytes new
     → Judges limit old new (Invalid number cause.Line)
 none_next laws limit left old now new checker number bytes along taken none =
-    none_behind limit left old now new along.prefix bytes number cause.Line along.behind (not_whole laws limit left old now checker number along) taken
+    none_after limit left old now new along.prefix bytes number cause.Line along.so_far (not_whole laws limit left old now checker number along) taken
     none.1 along.number_is
     (inr (inl (
       checker.version,
@@ -229,7 +229,7 @@ none_next laws limit left old now new checker number bytes along taken none =
       checker.world.start,
       checker.world.moves,
       due_of checker,
-      along.stands.prefix,
+      along.checker_is.prefix,
       λ line rest begins. absurd (none.0 line rest (begins_readable checker.version bytes line rest begins)),
     )))
 
@@ -238,34 +238,34 @@ pub wrong_next : LawsBelow → (limit left : ℕ) (old now new : Option (List �
     (why : Cause) → IsAlong limit left old now checker number → TakesBytes left now new bytes → BeginsReadable bytes line []
     → EndsSo Feed bytes new → Refuses checker line why → Judges limit old new (Invalid number why)
 wrong_next laws limit left old now new checker number line bytes why along taken begins ended refused =
-    none_behind limit left old now new along.prefix bytes number why along.behind (not_whole laws limit left old now checker number along) taken
-    (inl (feed_is_over bytes new ended)) along.number_is (refused.wrong along.prefix bytes [] along.stands begins)
+    none_after limit left old now new along.prefix bytes number why along.so_far (not_whole laws limit left old now checker number along) taken
+    (inl (feed_is_over bytes new ended)) along.number_is (refused.wrong along.prefix bytes [] along.checker_is begins)
 
 no_memory_next : (limit left : ℕ) (old now new : Option (List ℕ)) (checker : Checker) (number : ℕ) (line : Line) (bytes : List ℕ)
     → IsAlong limit left old now checker number → TakesBytes left now new bytes → BeginsReadable bytes line [] → Allows checker line
     → StopsAfter limit old new
 no_memory_next limit left old now new checker number line bytes along taken begins allows =
-    let begun = allows.right along.prefix begins.0 along.stands in
-    stops_behind limit (left - length bytes) old new (along.prefix ++ line ∷ [])
-    (behind_one_more limit left old now new along.prefix line bytes along.behind taken begins (inr (inl begun))) begun
+    let begun = allows.right along.prefix begins.0 along.checker_is in
+    stops_after limit (left - length bytes) old new (along.prefix ++ line ∷ [])
+    (after_one_more limit left old now new along.prefix line bytes along.so_far taken begins (inr (inl begun))) begun
 
 -- ---- After the last line
 
 prefix_at_end : (checker : Checker) (prefix : List Line) → IsCheckerOf checker prefix → due_of checker ≡ []
     → IsTracePrefix checker.version checker.world.count checker.world.start checker.world.moves [] prefix
-prefix_at_end checker prefix stands none =
-    subst (λ ms. IsTracePrefix checker.version checker.world.count checker.world.start checker.world.moves ms prefix) none stands.prefix
+prefix_at_end checker prefix checker_is none =
+    subst (λ ms. IsTracePrefix checker.version checker.world.count checker.world.start checker.world.moves ms prefix) none checker_is.prefix
 
 done_by : (limit left : ℕ) (old now new : Option (List ℕ)) (checker : Checker) (number : ℕ) (bytes : List ℕ)
     → IsAlong limit left old now checker number → TakesBytes left now new bytes → BeginsReadable bytes Last [] → due_of checker ≡ []
     → IsDone limit (left - length bytes) old new checker (number + 1)
 done_by limit left old now new checker number bytes along taken begins none =
     let w = checker.world in
-    let (lines, trace) = prefix_and_last checker.version w.count w.start w.moves along.prefix (prefix_at_end checker along.prefix along.stands none) in
+    let (lines, trace) = prefix_and_last checker.version w.count w.start w.moves along.prefix (prefix_at_end checker along.prefix along.checker_is none) in
     record {
       prefix = along.prefix ++ Last ∷ [];
-      behind =
-          behind_one_more limit left old now new along.prefix Last bytes along.behind taken begins
+      so_far =
+          after_one_more limit left old now new along.prefix Last bytes along.so_far taken begins
           (inr (inr (checker.version, w.count, w.start, w.moves, trace, lines)));
       number_is = omega (arith, along.number_is, length-append along.prefix (Last ∷ []));
       trace = trace;
@@ -313,21 +313,21 @@ valid_at_end limit left old now new checker number done taken ended =
     let w = checker.world in (
       done.prefix,
       [],
-      has_read limit left old now new done.prefix [] done.behind taken (omega arith),
+      has_read limit left old now new done.prefix [] done.so_far taken (omega arith),
       inr (nothing_is_open done.prefix, ended),
       (refl, (checker.version, w.count, w.start, w.moves, done.trace, refl, refl)),
     )
 
 -- something does
-wrong_behind_end : (limit left : ℕ) (old now new : Option (List ℕ)) (checker : Checker) (number byte : ℕ)
+wrong_after_end : (limit left : ℕ) (old now new : Option (List ℕ)) (checker : Checker) (number byte : ℕ)
     → IsDone limit left old now checker number → 1 ≤ left → Consumes now new (byte ∷ []) → Judges limit old new (Invalid number cause.Line)
-wrong_behind_end limit left old now new checker number byte done some taken =
+wrong_after_end limit left old now new checker number byte done some taken =
     let w = checker.world in
     let whole : IsWhole done.prefix = (checker.version, w.count, w.start, w.moves, done.trace, done.lines) in
     let more : byte ∷ [] ≢ [] = λ e. cc in (
       done.prefix,
       byte ∷ [],
-      has_read limit left old now new done.prefix (byte ∷ []) done.behind taken some,
+      has_read limit left old now new done.prefix (byte ∷ []) done.so_far taken some,
       inl ([], byte, nothing_is_open done.prefix, refl, inr (inr whole)),
       (done.number_is, inr (inr (checker.version, w.count, w.start, w.moves, done.trace, done.lines, more))),
     )
@@ -335,7 +335,7 @@ wrong_behind_end limit left old now new checker number byte done some taken =
 fails_at_end : (limit left : ℕ) (old now new : Option (List ℕ)) (checker : Checker) (number : ℕ) (fault : TraceError)
     → IsDone limit left old now checker number → FailsWithin left now new [] fault → Answers limit old new (Err fault)
 fails_at_end limit left old now new checker number fault done failed =
-    fails_behind limit left old now new done.prefix [] fault done.behind (λ whole. refl) failed
+    fails_after limit left old now new done.prefix [] fault done.so_far (λ whole. refl) failed
 
 -- what comes after the last line decides
 pub answers_at_end : (limit left : ℕ) (old now new : Option (List ℕ)) (checker : Checker) (number : ℕ) (result : Result Verdict TraceError)
@@ -347,7 +347,7 @@ answers_at_end limit left old now new checker number (Ok (Valid requests message
 answers_at_end limit left old now new checker number (Ok (Invalid line why)) done (byte, some, taken, is, because) =
     subst (λ (n : ℕ). Judges limit old new (Invalid n why)) (sym is)
     (subst (λ (w : Cause). Judges limit old new (Invalid number w)) (sym because)
-    (wrong_behind_end limit left old now new checker number byte done some taken))
+    (wrong_after_end limit left old now new checker number byte done some taken))
 answers_at_end limit left old now new checker number (Err Read) done failed = fails_at_end limit left old now new checker number Read done failed
 answers_at_end limit left old now new checker number (Err Limit) done failed = fails_at_end limit left old now new checker number Limit done failed
 answers_at_end limit left old now new checker number (Err Memory) done none = absurd none

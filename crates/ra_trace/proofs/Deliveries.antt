@@ -6,12 +6,12 @@ use Rattle.ra_trace.specs.Forms.{rest_after, forms, line_by}
 use Rattle.ra_trace.proofs.Cuts.{rest_after-only, if_true, if_false}
 
 -- a text that doesn't begin with some words doesn't begin with more
-behind_more : (words more text : List ℕ) → rest_after words text ≡ None → rest_after (words ++ more) text ≡ None
-behind_more [] more text none = absurd cc
-behind_more (w ∷ words) more [] none = refl
-behind_more (w ∷ words) more (b ∷ text) none =
+after_more : (words more text : List ℕ) → rest_after words text ≡ None → rest_after (words ++ more) text ≡ None
+after_more [] more text none = absurd cc
+after_more (w ∷ words) more [] none = refl
+after_more (w ∷ words) more (b ∷ text) none =
     elim (cases_Bool (w == b)) [
-      | inl same ↦ if_true (w == b) (rest_after (words ++ more) text) None same ∙ behind_more words more text (sym (if_true (w == b) (rest_after words text) None same) ∙ none)
+      | inl same ↦ if_true (w == b) (rest_after (words ++ more) text) None same ∙ after_more words more text (sym (if_true (w == b) (rest_after words text) None same) ∙ none)
       | inr other ↦ if_false (w == b) (rest_after (words ++ more) text) None other
     ]
 
@@ -19,4 +19,4 @@ pub delivered : (text rest : List ℕ) → rest_after (codes "deliver ") text �
 delivered text rest is = ap (line_by (drop 3 forms)) (rest_after-only (codes "deliver ") text rest is)
 
 pub not_delivered : (text : List ℕ) → rest_after (codes "deliver ") text ≡ None → (rest_after (codes "deliver request ") text ≡ None) × (rest_after (codes "deliver reply ") text ≡ None)
-not_delivered text none = (behind_more (codes "deliver ") (codes "request ") text none, behind_more (codes "deliver ") (codes "reply ") text none)
+not_delivered text none = (after_more (codes "deliver ") (codes "request ") text none, after_more (codes "deliver ") (codes "reply ") text none)

@@ -42,10 +42,10 @@ over_line prefix rest (before, byte, opened, is, how) more = (
 )
 
 -- a line that begins what is over, and more, begins it alone
-begins_over : (version : Version) (rest more : List ℕ) (line : Line) (behind : List ℕ) → IsOverLine rest → BeginsWith version (rest ++ more) line behind
+begins_over : (version : Version) (rest more : List ℕ) (line : Line) (later : List ℕ) → IsOverLine rest → BeginsWith version (rest ++ more) line later
     → (others : List ℕ) × BeginsWith version rest line others
-begins_over version rest more line behind over begins =
-    let b = begins_before rest more line behind over (begins_readable version (rest ++ more) line behind begins) in (b.0, (begins.0, b.1.1))
+begins_over version rest more line later over begins =
+    let b = begins_before rest more line later over (begins_readable version (rest ++ more) line later begins) in (b.0, (begins.0, b.1.1))
 
 some_bytes : (before : List ℕ) (byte : ℕ) (more : List ℕ) → (before ++ byte ∷ []) ++ more ≢ []
 some_bytes [] byte more e = absurd cc
@@ -56,21 +56,21 @@ no_line_goes_on laws prefix rest more over (inl (none, other)) =
     let part : IsWhole prefix → ⊥ = λ whole. let clash : [] ≡ trace_lines whole.0 whole.1 whole.2 whole.3 = sym none ∙ whole.5 in cc in
     inl (
       none,
-      λ version line behind begins first.
-          let b = begins_over version rest more line behind (over_line prefix rest over part) begins in other version line b.0 b.1 first,
+      λ version line later begins first.
+          let b = begins_over version rest more line later (over_line prefix rest over part) begins in other version line b.0 b.1 first,
     )
-no_line_goes_on laws prefix rest more over (inr (inl (version, n, start, moves, due, stands, any))) =
+no_line_goes_on laws prefix rest more over (inr (inl (version, n, start, moves, due, so_far, any))) =
     let part : IsWhole prefix → ⊥ = λ whole.
-    no_trace laws version n start moves due whole.0 whole.1 whole.2 whole.3 prefix stands whole.5 in
+    no_trace laws version n start moves due whole.0 whole.1 whole.2 whole.3 prefix so_far whole.5 in
     inr (inl (
       version,
       n,
       start,
       moves,
       due,
-      stands,
-      λ line behind begins.
-          let b = begins_over version rest more line behind (over_line prefix rest over part) begins in any line b.0 b.1,
+      so_far,
+      λ line later begins.
+          let b = begins_over version rest more line later (over_line prefix rest over part) begins in any line b.0 b.1,
     ))
 no_line_goes_on laws prefix rest more (before, byte, opened, is, how) (inr (inr (version, n, start, moves, trace, whole, some))) =
     let more_left = λ (none : rest ++ more ≡ []). some_bytes before byte more (ap (λ (bytes : List ℕ). bytes ++ more) (sym is) ∙ none) in
@@ -79,14 +79,14 @@ no_line_goes_on laws prefix rest more (before, byte, opened, is, how) (inr (inr 
 pub wrong_goes_on : LawsBelow → (prefix : List Line) (rest more : List ℕ) (why : Cause) → IsOver prefix rest → IsWrong prefix rest why
     → IsWrong prefix (rest ++ more) why
 wrong_goes_on laws prefix rest more cause.Line over w = no_line_goes_on laws prefix rest more over w
-wrong_goes_on laws prefix rest more cause.Table over (version, n, start, moves, due, behind, mark, others, begins, refused) =
-    (version, n, start, moves, due, behind, mark, others ++ more, begins_more version rest more (Marked mark) others begins, refused)
-wrong_goes_on laws prefix rest more cause.Marks over (version, n, start, moves, due, behind, line, others, begins, undue) =
-    (version, n, start, moves, due, behind, line, others ++ more, begins_more version rest more line others begins, undue)
-wrong_goes_on laws prefix rest more cause.Refused over (version, n, start, moves, behind, step, others, begins, whose, stops) =
-    (version, n, start, moves, behind, step, others ++ more, begins_more version rest more (Stepped step) others begins, whose, stops)
-wrong_goes_on laws prefix rest more cause.NotUnderWay over (version, n, start, moves, behind, step, others, begins, takes, stops) =
-    (version, n, start, moves, behind, step, others ++ more, begins_more version rest more (Stepped step) others begins, takes, stops)
+wrong_goes_on laws prefix rest more cause.Table over (version, n, start, moves, due, so_far, mark, others, begins, refused) =
+    (version, n, start, moves, due, so_far, mark, others ++ more, begins_more version rest more (Marked mark) others begins, refused)
+wrong_goes_on laws prefix rest more cause.Marks over (version, n, start, moves, due, so_far, line, others, begins, undue) =
+    (version, n, start, moves, due, so_far, line, others ++ more, begins_more version rest more line others begins, undue)
+wrong_goes_on laws prefix rest more cause.Refused over (version, n, start, moves, so_far, step, others, begins, whose, stops) =
+    (version, n, start, moves, so_far, step, others ++ more, begins_more version rest more (Stepped step) others begins, whose, stops)
+wrong_goes_on laws prefix rest more cause.NotUnderWay over (version, n, start, moves, so_far, step, others, begins, takes, stops) =
+    (version, n, start, moves, so_far, step, others ++ more, begins_more version rest more (Stepped step) others begins, takes, stops)
 
 -- ---- The whole input
 

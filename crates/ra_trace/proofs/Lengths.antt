@@ -57,42 +57,42 @@ entry_length entry h =
     full_length entry.stamp.node entry.client entry.stamp.seq entry.name entry.mode (node_length entry.stamp.node h.0)
     (client_length entry.client h.1) h.2 h.4
 
-behind_words : (words tail : List ℕ) (n : ℕ) → length tail ≤ n → length words + n < 127 → length (words ++ tail) < 127
-behind_words words tail n short fits = omega (arith, length-append words tail)
+after_words : (words tail : List ℕ) (n : ℕ) → length tail ≤ n → length words + n < 127 → length (words ++ tail) < 127
+after_words words tail n short fits = omega (arith, length-append words tail)
 
 -- and one byte more, its line feed, is still not too much
 pub body_is_short : (line : Line) → IsReadable line → length (body line) < 127
 body_is_short (First One nodes start) h =
-    behind_words (codes "trace 1 ") (first_tail (nodes, start)) 41 (two (decimal nodes) (decimal start) 20 20 (node_length nodes h.0) (number_length start h.1))
+    after_words (codes "trace 1 ") (first_tail (nodes, start)) 41 (two (decimal nodes) (decimal start) 20 20 (node_length nodes h.0) (number_length start h.1))
     (omega arith)
 body_is_short (First Two nodes start) h =
-    behind_words (codes "trace 2 ") (first_tail (nodes, start)) 41 (two (decimal nodes) (decimal start) 20 20 (node_length nodes h.0) (number_length start h.1))
+    after_words (codes "trace 2 ") (first_tail (nodes, start)) 41 (two (decimal nodes) (decimal start) 20 20 (node_length nodes h.0) (number_length start h.1))
     (omega arith)
 body_is_short (Stepped (Ask node client name mode)) h =
-    behind_words (codes "ask ") (ask_tail (node, (client, (name, mode)))) 78
+    after_words (codes "ask ") (ask_tail (node, (client, (name, mode)))) 78
     (two (decimal node) _ 20 57 (node_length node h.0)
     (two (decimal client) _ 20 36 (client_length client h.1) (two name (mode_word mode) 32 3 h.2.not_long (mode_length mode))))
     (omega arith)
 body_is_short (Stepped (Leave node client name)) h =
-    behind_words (codes "release ") (leave_tail (node, (client, name))) 74
+    after_words (codes "release ") (leave_tail (node, (client, name))) 74
     (two (decimal node) _ 20 53 (node_length node h.0) (two (decimal client) name 20 32 (client_length client h.1) h.2.not_long))
     (omega arith)
 body_is_short (Stepped (Deliver (Request from to name mode seq))) h =
-    behind_words (codes "deliver request ") (full_tail (from, (to, (name, (mode, seq))))) 99
+    after_words (codes "deliver request ") (full_tail (from, (to, (name, (mode, seq))))) 99
     (full_length from to seq name mode (node_length from h.0) (node_length to h.1) h.2 h.4) (omega arith)
 body_is_short (Stepped (Deliver (Reply from to name seq))) h =
-    behind_words (codes "deliver reply ") (reply_tail (from, (to, (name, seq)))) 95 (reply_length from to seq name h.0 h.1 h.2 h.3) (omega arith)
+    after_words (codes "deliver reply ") (reply_tail (from, (to, (name, seq)))) 95 (reply_length from to seq name h.0 h.1 h.2 h.3) (omega arith)
 body_is_short (Stepped (Lose (Request from to name mode seq))) h =
-    behind_words (codes "lose request ") (full_tail (from, (to, (name, (mode, seq))))) 99
+    after_words (codes "lose request ") (full_tail (from, (to, (name, (mode, seq))))) 99
     (full_length from to seq name mode (node_length from h.0) (node_length to h.1) h.2 h.4) (omega arith)
 body_is_short (Stepped (Lose (Reply from to name seq))) h =
-    behind_words (codes "lose reply ") (reply_tail (from, (to, (name, seq)))) 95 (reply_length from to seq name h.0 h.1 h.2 h.3) (omega arith)
+    after_words (codes "lose reply ") (reply_tail (from, (to, (name, seq)))) 95 (reply_length from to seq name h.0 h.1 h.2 h.3) (omega arith)
 body_is_short (Stepped (Repeat (Request from to name mode seq))) (may, h) =
-    behind_words (codes "repeat request ") (full_tail (from, (to, (name, (mode, seq))))) 99
+    after_words (codes "repeat request ") (full_tail (from, (to, (name, (mode, seq))))) 99
     (full_length from to seq name mode (node_length from h.0) (node_length to h.1) h.2 h.4) (omega arith)
 body_is_short (Stepped (Repeat (Reply from to name seq))) (may, h) =
-    behind_words (codes "repeat reply ") (reply_tail (from, (to, (name, seq)))) 95 (reply_length from to seq name h.0 h.1 h.2 h.3) (omega arith)
-body_is_short (Marked (Requested entry)) h = behind_words (codes "request ") _ 99 (entry_length entry h) (omega arith)
-body_is_short (Marked (Entered entry)) h = behind_words (codes "enter ") _ 99 (entry_length entry h) (omega arith)
-body_is_short (Marked (Left entry)) h = behind_words (codes "leave ") _ 99 (entry_length entry h) (omega arith)
+    after_words (codes "repeat reply ") (reply_tail (from, (to, (name, seq)))) 95 (reply_length from to seq name h.0 h.1 h.2 h.3) (omega arith)
+body_is_short (Marked (Requested entry)) h = after_words (codes "request ") _ 99 (entry_length entry h) (omega arith)
+body_is_short (Marked (Entered entry)) h = after_words (codes "enter ") _ 99 (entry_length entry h) (omega arith)
+body_is_short (Marked (Left entry)) h = after_words (codes "leave ") _ 99 (entry_length entry h) (omega arith)
 body_is_short Last h = omega arith

@@ -1,4 +1,5 @@
 pub mod Versions
+pub mod TraceLaws
 pub mod Cuts
 pub mod Decimals
 pub mod Befores

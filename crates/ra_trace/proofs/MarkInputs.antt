@@ -31,7 +31,7 @@ wrong_goes_on marks rest more why over (inl (is, some, none)) =
     inl (
       is,
       λ nothing. some_bytes before byte more (ap (λ (bytes : List ℕ). bytes ++ more) (sym whole) ∙ nothing),
-      λ mark behind begins. let b = begins_before rest more (Marked mark) behind over begins in none mark b.0 b.1,
+      λ mark later begins. let b = begins_before rest more (Marked mark) later over begins in none mark b.0 b.1,
     )
 wrong_goes_on marks rest more why over (inr (table, run, mark, others, begins, refused)) =
     inr (

@@ -35,17 +35,17 @@ use Rattle.ra_trace.proofs.Lines.{begins_once}
 
 -- ---- Counts
 
-requests_behind : (marks : List Mark) (mark : Mark) → requests_in (marks ++ mark ∷ []) ≡ requests_in marks + requests_in (mark ∷ [])
-requests_behind [] mark = omega arith
-requests_behind (Requested e ∷ marks) mark = omega (arith, requests_behind marks mark)
-requests_behind (Entered e ∷ marks) mark = requests_behind marks mark
-requests_behind (Left e ∷ marks) mark = requests_behind marks mark
+requests_after : (marks : List Mark) (mark : Mark) → requests_in (marks ++ mark ∷ []) ≡ requests_in marks + requests_in (mark ∷ [])
+requests_after [] mark = omega arith
+requests_after (Requested e ∷ marks) mark = omega (arith, requests_after marks mark)
+requests_after (Entered e ∷ marks) mark = requests_after marks mark
+requests_after (Left e ∷ marks) mark = requests_after marks mark
 
-grants_behind : (marks : List Mark) (mark : Mark) → grants_in (marks ++ mark ∷ []) ≡ grants_in marks + grants_in (mark ∷ [])
-grants_behind [] mark = omega arith
-grants_behind (Requested e ∷ marks) mark = grants_behind marks mark
-grants_behind (Entered e ∷ marks) mark = omega (arith, grants_behind marks mark)
-grants_behind (Left e ∷ marks) mark = grants_behind marks mark
+grants_after : (marks : List Mark) (mark : Mark) → grants_in (marks ++ mark ∷ []) ≡ grants_in marks + grants_in (mark ∷ [])
+grants_after [] mark = omega arith
+grants_after (Requested e ∷ marks) mark = grants_after marks mark
+grants_after (Entered e ∷ marks) mark = omega (arith, grants_after marks mark)
+grants_after (Left e ∷ marks) mark = grants_after marks mark
 
 few_requests : (marks : List Mark) → requests_in marks ≤ length marks
 few_requests [] = omega arith
@@ -78,11 +78,11 @@ pub record IsFew (limit : ℕ) (log : MarkLog) (number : ℕ) : Type 0 where
 
 pub few : (limit left : ℕ) (old now : Option (List ℕ)) (log : MarkLog) (number : ℕ) → IsAlongMarks limit left old now log number → IsFew limit log number
 few limit left old now log number along =
-    let behind = along.behind in
+    let so_far = along.so_far in
     let some = marks_have_length along.marks in
     record {
-      requests = omega (arith, behind.requests_is, few_requests along.marks, some, along.room);
-      grants = omega (arith, behind.grants_is, few_grants along.marks, some, along.room);
+      requests = omega (arith, so_far.requests_is, few_requests along.marks, some, along.room);
+      grants = omega (arith, so_far.grants_is, few_grants along.marks, some, along.room);
       number_is = omega (arith, along.number_is, some, along.room);
     }
 
@@ -94,7 +94,7 @@ along_none laws limit old log new = record {
   taken = nothing_taken old;
   room = omega arith;
   number_is = refl;
-  behind = record {
+  so_far = record {
     lines = All-nil (IsMarkLine Two);
     run = subst (TableRun []) (sym new.table_is) laws.empty;
     requests_is = new.requests_is;
@@ -103,7 +103,7 @@ along_none laws limit old log new = record {
 }
 
 run_of : (log : MarkLog) (marks : List Mark) → IsLogOf log marks → IsMarkRun marks
-run_of log marks behind = record { lines = behind.lines; table = log.table; run = behind.run }
+run_of log marks so_far = record { lines = so_far.lines; table = log.table; run = so_far.run }
 
 has_read : (limit left : ℕ) (old now new : Option (List ℕ)) (log : MarkLog) (number : ℕ) (bytes : List ℕ)
     → (along : IsAlongMarks limit left old now log number) → Consumes now new bytes → length bytes ≤ left
@@ -111,7 +111,7 @@ has_read : (limit left : ℕ) (old now new : Option (List ℕ)) (log : MarkLog) 
 has_read limit left old now new log number bytes along taken most = record {
   taken = consumed_both old now new (marks_text along.marks) bytes along.taken taken;
   at_most = omega (arith, length-append (marks_text along.marks) bytes, along.room, most);
-  run = run_of log along.marks along.behind;
+  run = run_of log along.marks along.so_far;
 }
 
 -- an error of what comes next
@@ -127,7 +127,7 @@ fails_there limit left old now new log number bytes Limit along (byte, taken, fu
     taken = consumed_both old now new (marks_text along.marks) (bytes ++ byte ∷ []) along.taken taken;
     at_most =
         omega (arith, length-append (marks_text along.marks) (bytes ++ byte ∷ []), length-append bytes (byte ∷ []), along.room, full);
-    run = run_of log along.marks along.behind;
+    run = run_of log along.marks along.so_far;
   },
   omega (arith, length-append (marks_text along.marks) bytes, along.room, full),
   opened,
@@ -151,12 +151,12 @@ pub end_there : (limit left : ℕ) (old now new : Option (List ℕ)) (log : Mark
     → IsAlongMarks limit left old now log number → TakesBytes left now new bytes → HasNone bytes new → bytes ≡ []
     → JudgesMarks limit old new (Valid log.requests log.grants)
 end_there limit left old now new log number bytes along taken none nothing =
-    let behind = along.behind in (
+    let so_far = along.so_far in (
       along.marks,
       bytes,
       has_read limit left old now new log number bytes along taken.0 taken.1,
       none.1,
-      (nothing, behind.requests_is, behind.grants_is),
+      (nothing, so_far.requests_is, so_far.grants_is),
     )
 
 some_at_feed : (bytes : List ℕ) (new : Option (List ℕ)) → EndsSo Feed bytes new → bytes ≢ []
@@ -186,12 +186,12 @@ refused_there : (limit left : ℕ) (old now new : Option (List ℕ)) (log : Mark
     → IsAlongMarks limit left old now log number → TakesBytes left now new bytes → BeginsReadable bytes (line.Marked mark) []
     → EndsSo Feed bytes new → TableRefuses log.table mark why → JudgesMarks limit old new (Invalid number why)
 refused_there limit left old now new log number mark bytes why along taken begins ended refused =
-    let behind = along.behind in (
+    let so_far = along.so_far in (
       along.marks,
       bytes,
       has_read limit left old now new log number bytes along taken.0 taken.1,
       inl (feed_is_over bytes new ended),
-      (along.number_is, inr (log.table, behind.run, mark, [], begins, refused)),
+      (along.number_is, inr (log.table, so_far.run, mark, [], begins, refused)),
     )
 
 -- ---- One mark more
@@ -218,18 +218,18 @@ more_there : TableLaws → (limit left : ℕ) (old now new : Option (List ℕ)) 
     → IsAlongMarks limit left old now log number → TakesBytes left now new bytes → BeginsReadable bytes (line.Marked mark) []
     → TakesMark log mark after → IsAlongMarks limit (left - length bytes) old new after (number + 1)
 more_there laws limit left old now new log after number mark bytes along taken begins takes =
-    let behind = along.behind in
+    let so_far = along.so_far in
     let more = taken_more limit left old now new log number mark bytes along taken begins in
     record {
       marks = along.marks ++ mark ∷ [];
       taken = more.0;
       room = more.1;
       number_is = omega (arith, along.number_is, length-append along.marks (mark ∷ []));
-      behind = record {
-        lines = All-push (IsMarkLine Two) along.marks mark behind.lines begins.0;
-        run = laws.steps_on along.marks mark log.table after.table behind.run takes.step;
-        requests_is = omega (arith, takes.requests_is, behind.requests_is, requests_behind along.marks mark);
-        grants_is = omega (arith, takes.grants_is, behind.grants_is, grants_behind along.marks mark);
+      so_far = record {
+        lines = All-push (IsMarkLine Two) along.marks mark so_far.lines begins.0;
+        run = laws.steps_on along.marks mark log.table after.table so_far.run takes.step;
+        requests_is = omega (arith, takes.requests_is, so_far.requests_is, requests_after along.marks mark);
+        grants_is = omega (arith, takes.grants_is, so_far.grants_is, grants_after along.marks mark);
       };
     }
 
@@ -238,11 +238,11 @@ memory_there : TableLaws → (limit left : ℕ) (old now new : Option (List ℕ)
     → IsAlongMarks limit left old now log number → TakesBytes left now new bytes → BeginsReadable bytes (line.Marked mark) []
     → AllowsMark log.table mark → StopsAfterMarks limit old new
 memory_there laws limit left old now new log number mark bytes along taken begins allowed =
-    let behind = along.behind in
+    let so_far = along.so_far in
     let more = taken_more limit left old now new log number mark bytes along taken begins in
-    let next = (laws.goes_on along.marks mark log.table behind.run).0 allowed in (
+    let next = (laws.goes_on along.marks mark log.table so_far.run).0 allowed in (
       along.marks ++ mark ∷ [],
-      record { lines = All-push (IsMarkLine Two) along.marks mark behind.lines begins.0; table = next.0; run = next.1 },
+      record { lines = All-push (IsMarkLine Two) along.marks mark so_far.lines begins.0; table = next.0; run = next.1 },
       more.0,
       omega (arith, more.1),
     )

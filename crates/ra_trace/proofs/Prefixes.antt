@@ -39,16 +39,16 @@ steps_in-marked (mark ∷ marks) = steps_in-marked marks
 pub marks_in-moves : (moves : List Move) → marks_in (flat_map move_lines moves) ≡ marks_of moves
 marks_in-moves [] = refl
 marks_in-moves (move ∷ moves) =
-    let behind = flat_map move_lines moves in
-    flat_map-append marks_in_line (map Marked move.marks) behind ∙ ap (λ (ms : List Mark). ms ++ marks_in behind) (marks_in-marked move.marks)
+    let so_far = flat_map move_lines moves in
+    flat_map-append marks_in_line (map Marked move.marks) so_far ∙ ap (λ (ms : List Mark). ms ++ marks_in so_far) (marks_in-marked move.marks)
     ∙ ap (λ (ms : List Mark). move.marks ++ ms) (marks_in-moves moves)
 
 steps_in-moves : (moves : List Move) → steps_in (flat_map move_lines moves) ≡ map (λ move. move.step) moves
 steps_in-moves [] = refl
 steps_in-moves (move ∷ moves) =
-    let behind = flat_map move_lines moves in
+    let so_far = flat_map move_lines moves in
     ap (λ (ss : List Step). move.step ∷ ss)
-    (flat_map-append steps_in_line (map Marked move.marks) behind ∙ ap (λ (ss : List Step). ss ++ steps_in behind) (steps_in-marked move.marks)
+    (flat_map-append steps_in_line (map Marked move.marks) so_far ∙ ap (λ (ss : List Step). ss ++ steps_in so_far) (steps_in-marked move.marks)
     ∙ steps_in-moves moves)
 
 -- the marks in a prefix, and then those that are due, are the marks of its run
@@ -141,19 +141,19 @@ record AmongMarks (marks : List Mark) (prefix : List Line) (line : Line) : Type 
   prefix_is : prefix ≡ map Marked come
   line_is : line ≡ Marked mark
 
-record BehindMarks (marks : List Mark) (behind prefix : List Line) (line : Line) (rest : List Line) : Type 0 where
+record BehindMarks (marks : List Mark) (so_far prefix : List Line) (line : Line) (rest : List Line) : Type 0 where
   more : List Line
   prefix_is : prefix ≡ map Marked marks ++ more
-  behind_is : behind ≡ more ++ line ∷ rest
+  after_is : so_far ≡ more ++ line ∷ rest
 
-among_marks : (marks : List Mark) (behind prefix : List Line) (line : Line) (rest : List Line)
-    → map Marked marks ++ behind ≡ prefix ++ line ∷ rest → AmongMarks marks prefix line ⊎ BehindMarks marks behind prefix line rest
-among_marks [] behind prefix line rest e = inr (record { more = prefix; prefix_is = refl; behind_is = e })
-among_marks (mark ∷ marks) behind [] line rest e =
+among_marks : (marks : List Mark) (so_far prefix : List Line) (line : Line) (rest : List Line)
+    → map Marked marks ++ so_far ≡ prefix ++ line ∷ rest → AmongMarks marks prefix line ⊎ BehindMarks marks so_far prefix line rest
+among_marks [] so_far prefix line rest e = inr (record { more = prefix; prefix_is = refl; after_is = e })
+among_marks (mark ∷ marks) so_far [] line rest e =
     inl (record { come = []; mark = mark; others = marks; marks_are = refl; prefix_is = refl; line_is = cc })
-among_marks (mark ∷ marks) behind (x ∷ prefix) line rest e =
+among_marks (mark ∷ marks) so_far (x ∷ prefix) line rest e =
     let first : x ≡ Marked mark = cc in
-    elim (among_marks marks behind prefix line rest cc) [
+    elim (among_marks marks so_far prefix line rest cc) [
       | inl h ↦ inl (record {
         come = mark ∷ h.come;
         mark = h.mark;
@@ -162,7 +162,7 @@ among_marks (mark ∷ marks) behind (x ∷ prefix) line rest e =
         prefix_is = let rest = h.prefix_is in cc;
         line_is = h.line_is;
       })
-      | inr h ↦ inr (record { more = h.more; prefix_is = let rest = h.prefix_is in cc; behind_is = h.behind_is })
+      | inr h ↦ inr (record { more = h.more; prefix_is = let rest = h.prefix_is in cc; after_is = h.after_is })
     ]
 
 nothing_in : {X : Type 0} (prefix : List X) (x : X) (rest : List X) → [] ≡ prefix ++ x ∷ rest → ⊥
@@ -219,7 +219,7 @@ place_in (move ∷ moves) (x ∷ prefix) line rest e =
         prefix_is = let rest = h.prefix_is in cc;
         line_is = h.line_is;
       })
-      | inr h ↦ elim (place_in moves h.more line rest h.behind_is) [
+      | inr h ↦ elim (place_in moves h.more line rest h.after_is) [
         | inl s ↦ inl (step_further move moves x prefix h.more line first h.prefix_is s)
         | inr m ↦ inr (mark_further move moves x prefix h.more line first h.prefix_is m)
       ]
@@ -319,10 +319,10 @@ in_prefix laws version n start moves due [] line rest whole =
 in_prefix laws version n start moves due (x ∷ prefix) line rest whole =
     let are = whole.lines_are in
     let first : x ≡ First version n start = cc in
-    let behind : flat_map move_lines moves ≡ (prefix ++ line ∷ rest) ++ map Marked due = cc in
+    let so_far : flat_map move_lines moves ≡ (prefix ++ line ∷ rest) ++ map Marked due = cc in
     let each : All (IsLine version) (First version n start ∷ prefix) =
     subst (λ (l : Line). All (IsLine version) (l ∷ prefix)) first (All-prefix (IsLine version) (x ∷ prefix) (line ∷ rest) whole.each) in
-    elim (place_in moves prefix line (rest ++ map Marked due) (behind ∙ append_assoc prefix (line ∷ rest) (map Marked due))) [
+    elim (place_in moves prefix line (rest ++ map Marked due) (so_far ∙ append_assoc prefix (line ∷ rest) (map Marked due))) [
       | inl s ↦ record {
         next = subst (λ (l : Line). MayFollow version (l ∷ prefix) line) (sym first) (next_step laws version n start moves prefix line whole.count whole.run each s);
         not_last = λ last. let both : Stepped s.move.step ≡ Last = sym s.line_is ∙ last in cc;

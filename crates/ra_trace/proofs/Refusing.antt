@@ -10,7 +10,7 @@ use Rattle.ra_world.specs.Refused.{IsRefusedAt}
 use Rattle.ra_world.specs.Run.{WorldRun}
 use Rattle.ra_trace.specs.declared.error.WriteTraceError.{WriteTraceError}
 use Rattle.ra_trace.specs.declared.error.WriteTraceError.TheVariants.{Run, Memory, Write}
-use Rattle.ra_trace.specs.Writing.{Opens, StopsIn}
+use Rattle.ra_trace.specs.Writing.{OpensWorld, StopsIn}
 
 -- a number of nodes is one or it is not
 is_number : (n : ℕ) → ((IsNodeNumber n → ⊥) → ⊥) → IsNodeNumber n
@@ -34,7 +34,7 @@ module _ {T : Type 0} (n start : ℕ) (steps : List Step) where
     pub allowed : IsNodeNumber n → WorldRun n start steps → IsOkUnless result Memory
     pub early : IfErr result (λ fault. fault ≢ Write)
 
-  tells_unopened : (fault : WriteTraceError) → Opens n start (Err fault) → Tells (Err fault)
+  tells_unopened : (fault : WriteTraceError) → OpensWorld n start (Err fault) → Tells (Err fault)
   tells_unopened (Run run.BadCount) bad = record {
     bad_count = (λ _. bad, λ _. refl);
     refused = λ place cause is. absurd cc;
@@ -80,7 +80,7 @@ module _ {T : Type 0} (n start : ℕ) (steps : List Step) where
   tells_stopped number Write wrong = absurd wrong
 
   -- a world was not made
-  pub unopened : (result : Result T WriteTraceError) (fault : WriteTraceError) → result ≡ Err fault → Opens n start (Err fault) → Tells result
+  pub unopened : (result : Result T WriteTraceError) (fault : WriteTraceError) → result ≡ Err fault → OpensWorld n start (Err fault) → Tells result
   unopened result fault is opens = subst Tells (sym is) (tells_unopened fault opens)
 
   -- a step was not made

@@ -65,7 +65,7 @@ opens_not version nodes start not_so any is =
 
 not_of_version : (checker : Checker) (line : Line) → (IsLine checker.version line → ⊥) → Refuses checker line cause.Line
 not_of_version checker line not = record {
-  wrong = λ lines text rest stands begins.
+  wrong = λ lines text rest checker_is begins.
       let w = checker.world in
       inr (inl (
         checker.version,
@@ -73,9 +73,9 @@ not_of_version checker line not = record {
         w.start,
         w.moves,
         due_of checker,
-        stands.prefix,
-        λ other behind there.
-            let same = (begins_once text other line behind rest (begins_readable checker.version text other behind there) begins).0 in
+        checker_is.prefix,
+        λ other later there.
+            let same = (begins_once text other line later rest (begins_readable checker.version text other later there) begins).0 in
             absurd (not (subst (IsLine checker.version) same there.0)),
       ));
 }
@@ -90,14 +90,14 @@ mark_not_allowed checker mark not_so = not_of_version checker (Marked mark) (mar
 
 prefix_of : (checker : Checker) (lines : List Line) (due : List Mark) → due_of checker ≡ due → IsCheckerOf checker lines
     → IsTracePrefix checker.version checker.world.count checker.world.start checker.world.moves due lines
-prefix_of checker lines due is stands =
-    subst (λ (ms : List Mark). IsTracePrefix checker.version checker.world.count checker.world.start checker.world.moves ms lines) is stands.prefix
+prefix_of checker lines due is checker_is =
+    subst (λ (ms : List Mark). IsTracePrefix checker.version checker.world.count checker.world.start checker.world.moves ms lines) is checker_is.prefix
 
-stands_by_step : (old : Checker) (step : Step) (sends : List Message) (marks : Listed Mark) (world : WorldState) → due_of old ≡ []
+taken_by_step : (old : Checker) (step : Step) (sends : List Message) (marks : Listed Mark) (world : WorldState) → due_of old ≡ []
     → world ≡ with_move old.world step sends marks.items → IsRun world.count world.start world.moves
     → (lines : List Line) → IsLine old.version (Stepped step) → IsCheckerOf old lines
     → IsCheckerOf (record { version = old.version; world = world; table = old.table; marks = marks; come = 0 }) (lines ++ Stepped step ∷ [])
-stands_by_step old step sends marks world none is run lines ranges stands =
+taken_by_step old step sends marks world none is run lines ranges checker_is =
     let move : Move = record { step = step; sends = sends; marks = marks.items } in
     let moves : world.moves ≡ old.world.moves ++ move ∷ [] = ap (λ (w : WorldState). w.moves) is in
     let count : world.count ≡ old.world.count = ap (λ (w : WorldState). w.count) is in
@@ -105,22 +105,22 @@ stands_by_step old step sends marks world none is run lines ranges stands =
     let goes : IsRun old.world.count old.world.start (old.world.moves ++ move ∷ []) =
     subst (λ (ms : List Move). IsRun old.world.count old.world.start ms) moves
     (subst (λ (s : ℕ). IsRun old.world.count s world.moves) start (subst (λ (n : ℕ). IsRun n world.start world.moves) count run)) in
-    let prefix = prefix_and_step old.version old.world.count old.world.start old.world.moves lines move (prefix_of old lines [] none stands) goes ranges in
-    let behind = lines ++ Stepped step ∷ [] in
+    let prefix = prefix_and_step old.version old.world.count old.world.start old.world.moves lines move (prefix_of old lines [] none checker_is) goes ranges in
+    let longer = lines ++ Stepped step ∷ [] in
     record {
       prefix =
-          subst (λ (ms : List Move). IsTracePrefix old.version world.count world.start ms marks.items behind) (sym moves)
-          (subst (λ (s : ℕ). IsTracePrefix old.version world.count s (old.world.moves ++ move ∷ []) marks.items behind) (sym start)
-          (subst (λ (n : ℕ). IsTracePrefix old.version n old.world.start (old.world.moves ++ move ∷ []) marks.items behind) (sym count) prefix));
+          subst (λ (ms : List Move). IsTracePrefix old.version world.count world.start ms marks.items longer) (sym moves)
+          (subst (λ (s : ℕ). IsTracePrefix old.version world.count s (old.world.moves ++ move ∷ []) marks.items longer) (sym start)
+          (subst (λ (n : ℕ). IsTracePrefix old.version n old.world.start (old.world.moves ++ move ∷ []) marks.items longer) (sym count) prefix));
       table = subst (λ (ms : List Mark). TableRun ms old.table)
-          (sym (flat_map-append marks_in_line lines (Stepped step ∷ []) ∙ append-nil (marks_in lines))) stands.table;
+          (sym (flat_map-append marks_in_line lines (Stepped step ∷ []) ∙ append-nil (marks_in lines))) checker_is.table;
     }
 
 pub step_is_taken : (old : Checker) (step : Step) (sends : List Message) (marks : Listed Mark) (world : WorldState) → due_of old ≡ []
     → world ≡ with_move old.world step sends marks.items → IsRun world.count world.start world.moves → allows_step old.version step ≡ true
     → TakesOn old (Stepped step) (record { version = old.version; world = world; table = old.table; marks = marks; come = 0 })
 step_is_taken old step sends marks world none is run allowed =
-    record { on = λ lines ranges stands. stands_by_step old step sends marks world none is run lines (step_is old.version step ranges allowed) stands }
+    record { on = λ lines ranges checker_is. taken_by_step old step sends marks world none is run lines (step_is old.version step ranges allowed) checker_is }
 
 -- a step that the version allows begins the text
 step_begins : (checker : Checker) (step : Step) (text rest : List ℕ) → allows_step checker.version step ≡ true → BeginsReadable text (Stepped step) rest
@@ -132,13 +132,13 @@ pub step_comes_early : (checker : Checker) (step : Step) → allows_step checker
     → Refuses checker (Stepped step) cause.Marks
 step_comes_early checker step allowed some =
     record {
-      wrong = λ lines text rest stands begins. (
+      wrong = λ lines text rest checker_is begins. (
         checker.version,
         checker.world.count,
         checker.world.start,
         checker.world.moves,
         due_of checker,
-        stands.prefix,
+        checker_is.prefix,
         Stepped step,
         rest,
         step_begins checker step text rest allowed begins,
@@ -150,12 +150,12 @@ pub step_is_refused : (checker : Checker) (step : Step) → allows_step checker.
     → (GoesOn checker.world.count checker.world.start checker.world.moves step → ⊥) → Refuses checker (Stepped step) cause.Refused
 step_is_refused checker step allowed none of_client stops =
     record {
-      wrong = λ lines text rest stands begins. (
+      wrong = λ lines text rest checker_is begins. (
         checker.version,
         checker.world.count,
         checker.world.start,
         checker.world.moves,
-        prefix_of checker lines [] none stands,
+        prefix_of checker lines [] none checker_is,
         step,
         rest,
         step_begins checker step text rest allowed begins,
@@ -168,12 +168,12 @@ pub step_is_not_under_way : (checker : Checker) (step : Step) → allows_step ch
     → (GoesOn checker.world.count checker.world.start checker.world.moves step → ⊥) → Refuses checker (Stepped step) cause.NotUnderWay
 step_is_not_under_way checker step allowed none of_message stops =
     record {
-      wrong = λ lines text rest stands begins. (
+      wrong = λ lines text rest checker_is begins. (
         checker.version,
         checker.world.count,
         checker.world.start,
         checker.world.moves,
-        prefix_of checker lines [] none stands,
+        prefix_of checker lines [] none checker_is,
         step,
         rest,
         step_begins checker step text rest allowed begins,
@@ -210,38 +210,38 @@ mark_begins : (checker : Checker) (mark : Mark) (text rest : List ℕ) → allow
     → BeginsWith checker.version text (Marked mark) rest
 mark_begins checker mark text rest allowed begins = (mark_is checker.version mark begins.0 allowed, begins.1)
 
-stands_by_mark : LawsBelow → (old : Checker) (mark : Mark) (table : LockTable) → TableStep old.table mark table
+taken_by_mark : LawsBelow → (old : Checker) (mark : Mark) (table : LockTable) → TableStep old.table mark table
     → due_of old ≡ mark ∷ drop (old.come + 1) old.marks.items → (lines : List Line) → IsLine old.version (Marked mark) → IsCheckerOf old lines
     → IsCheckerOf (record { version = old.version; world = old.world; table = table; marks = old.marks; come = old.come + 1 }) (lines ++ Marked mark ∷ [])
-stands_by_mark laws old mark table step due lines ranges stands = record {
+taken_by_mark laws old mark table step due lines ranges checker_is = record {
   prefix = prefix_and_mark old.version old.world.count old.world.start old.world.moves mark (drop (old.come + 1) old.marks.items) lines
-      (prefix_of old lines (mark ∷ drop (old.come + 1) old.marks.items) due stands) ranges;
+      (prefix_of old lines (mark ∷ drop (old.come + 1) old.marks.items) due checker_is) ranges;
   table = subst (λ (ms : List Mark). TableRun ms table) (sym (flat_map-append marks_in_line lines (Marked mark ∷ [])))
-      (laws.steps_on (marks_in lines) mark old.table table stands.table step);
+      (laws.steps_on (marks_in lines) mark old.table table checker_is.table step);
 }
 
 pub mark_is_taken : LawsBelow → (old : Checker) (mark : Mark) (table : LockTable) → allows_mark old.version mark ≡ true → TableStep old.table mark table
     → due_of old ≡ mark ∷ drop (old.come + 1) old.marks.items
     → TakesOn old (Marked mark) (record { version = old.version; world = old.world; table = table; marks = old.marks; come = old.come + 1 })
 mark_is_taken laws old mark table allowed step due =
-    record { on = λ lines ranges stands. stands_by_mark laws old mark table step due lines (mark_is old.version mark ranges allowed) stands }
+    record { on = λ lines ranges checker_is. taken_by_mark laws old mark table step due lines (mark_is old.version mark ranges allowed) checker_is }
 
 -- the lock table refuses the mark
 pub table_refuses : LawsBelow → (checker : Checker) (mark : Mark) → allows_mark checker.version mark ≡ true → (AllowsMark checker.table mark → ⊥)
     → Refuses checker (Marked mark) cause.Table
 table_refuses laws checker mark allowed refused =
     record {
-      wrong = λ lines text rest stands begins. (
+      wrong = λ lines text rest checker_is begins. (
         checker.version,
         checker.world.count,
         checker.world.start,
         checker.world.moves,
         due_of checker,
-        stands.prefix,
+        checker_is.prefix,
         mark,
         rest,
         mark_begins checker mark text rest allowed begins,
-        λ on. refused ((laws.goes_on (marks_in lines) mark checker.table stands.table).1 on),
+        λ on. refused ((laws.goes_on (marks_in lines) mark checker.table checker_is.table).1 on),
       );
     }
 
@@ -250,17 +250,17 @@ mark_is_not_due : LawsBelow → (checker : Checker) (mark : Mark) (table : LockT
     → TableStep checker.table mark table → ((others : List Mark) → due_of checker ≢ mark ∷ others) → Refuses checker (Marked mark) cause.Marks
 mark_is_not_due laws checker mark table allowed step other =
     record {
-      wrong = λ lines text rest stands begins. (
+      wrong = λ lines text rest checker_is begins. (
         checker.version,
         checker.world.count,
         checker.world.start,
         checker.world.moves,
         due_of checker,
-        stands.prefix,
+        checker_is.prefix,
         Marked mark,
         rest,
         mark_begins checker mark text rest allowed begins,
-        ((table, laws.steps_on (marks_in lines) mark checker.table table stands.table step), other),
+        ((table, laws.steps_on (marks_in lines) mark checker.table table checker_is.table step), other),
       );
     }
 
@@ -286,13 +286,13 @@ step_may_come checker step allowed none (sends, marks, run) =
     let w = checker.world in
     let move : Move = record { step = step; sends = sends; marks = marks } in
     record {
-      right = λ lines ranges stands. (
+      right = λ lines ranges checker_is. (
         checker.version,
         w.count,
         w.start,
         w.moves ++ move ∷ [],
         marks,
-        prefix_and_step checker.version w.count w.start w.moves lines move (prefix_of checker lines [] none stands) run
+        prefix_and_step checker.version w.count w.start w.moves lines move (prefix_of checker lines [] none checker_is) run
             (step_is checker.version step ranges allowed),
       );
     }
@@ -302,13 +302,13 @@ pub mark_may_come : (checker : Checker) (mark : Mark) (others : List Mark) → a
 mark_may_come checker mark others allowed due =
     let w = checker.world in
     record {
-      right = λ lines ranges stands. (
+      right = λ lines ranges checker_is. (
         checker.version,
         w.count,
         w.start,
         w.moves,
         others,
-        prefix_and_mark checker.version w.count w.start w.moves mark others lines (prefix_of checker lines (mark ∷ others) due stands)
+        prefix_and_mark checker.version w.count w.start w.moves mark others lines (prefix_of checker lines (mark ∷ others) due checker_is)
             (mark_is checker.version mark ranges allowed),
       );
     }
@@ -318,13 +318,13 @@ mark_may_come checker mark others allowed due =
 pub last_comes_early : (checker : Checker) → due_of checker ≢ [] → Refuses checker Last cause.Marks
 last_comes_early checker some =
     record {
-      wrong = λ lines text rest stands begins. (
+      wrong = λ lines text rest checker_is begins. (
         checker.version,
         checker.world.count,
         checker.world.start,
         checker.world.moves,
         due_of checker,
-        stands.prefix,
+        checker_is.prefix,
         Last,
         rest,
         begins,
@@ -336,7 +336,7 @@ last_comes_early checker some =
 pub first_comes_again : (checker : Checker) (version : Version) (nodes start : ℕ) → Refuses checker (First version nodes start) cause.Line
 first_comes_again checker version nodes start =
     record {
-      wrong = λ lines text rest stands begins.
+      wrong = λ lines text rest checker_is begins.
           let w = checker.world in
           inr (inl (
             checker.version,
@@ -344,9 +344,9 @@ first_comes_again checker version nodes start =
             w.start,
             w.moves,
             due_of checker,
-            stands.prefix,
-            λ other behind there.
-                let same = (begins_once text other (First version nodes start) behind rest (begins_readable checker.version text other behind there) begins).0 in
+            checker_is.prefix,
+            λ other later there.
+                let same = (begins_once text other (First version nodes start) later rest (begins_readable checker.version text other later there) begins).0 in
                 subst IsFirst (sym same) tt,
           ));
     }

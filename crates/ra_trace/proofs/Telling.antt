@@ -24,20 +24,20 @@ pub tells_at : (limit left : ℕ) (old now : Option (List ℕ)) (checker : Check
     → IsAlong limit left old now checker number → mark ≡ slice_get checker.marks.items checker.come
     → TellsDue old (Ok (Invalid number why)) mark
 tells_at limit left None now checker number why mark along is = tt
-tells_at limit left (Some input) None checker number why mark along is = absurd along.behind.taken
+tells_at limit left (Some input) None checker number why mark along is = absurd along.so_far.taken
 tells_at limit left (Some input) (Some rest) checker number why mark along is = λ line same.
     let here : line ≡ number = cc in
     record {
       prefix = along.prefix;
       rest = rest;
-      text_is = along.behind.taken;
+      text_is = along.so_far.taken;
       line_is = here ∙ along.number_is;
       version = checker.version;
       count = checker.world.count;
       start = checker.world.start;
       moves = checker.world.moves;
       due = due_of checker;
-      lines = along.stands.prefix;
+      lines = along.checker_is.prefix;
       first = is ∙ first_of_rest checker.marks.items checker.come;
     }
 

@@ -167,15 +167,15 @@ module _ (prefixes : (n start : ℕ) (prefix suffix : List Move) → IsRun n sta
   repeat_is_numbered prefix (Repeat message) sends marks run fit =
       All-cons IsNumberedMessage message [] (numbers n start prefix message count run fit.0) (All-nil IsNumberedMessage)
 
-  repeats_behind : (suffix prefix : List Move) → IsRun n start (prefix ++ suffix) → AreFit n prefix suffix → All IsNumberedMessage (repeated_by suffix)
-  repeats_behind [] prefix run fit = All-nil IsNumberedMessage
-  repeats_behind (move ∷ suffix) prefix run fit =
+  repeats_after : (suffix prefix : List Move) → IsRun n start (prefix ++ suffix) → AreFit n prefix suffix → All IsNumberedMessage (repeated_by suffix)
+  repeats_after [] prefix run fit = All-nil IsNumberedMessage
+  repeats_after (move ∷ suffix) prefix run fit =
       All-append IsNumberedMessage (repeated_in move.step) (repeated_by suffix)
       (repeat_is_numbered prefix move.step move.sends move.marks (prefixes n start prefix (move ∷ suffix) run) fit.0)
-      (repeats_behind suffix (prefix ++ move ∷ []) (subst (IsRun n start) (sym (append_assoc prefix (move ∷ []) suffix)) run) fit.1)
+      (repeats_after suffix (prefix ++ move ∷ []) (subst (IsRun n start) (sym (append_assoc prefix (move ∷ []) suffix)) run) fit.1)
 
   pub repeats_are_numbered : (moves : List Move) → IsRun n start moves → All IsNumberedMessage (repeated_by moves)
-  repeats_are_numbered moves run = repeats_behind moves [] run run.each_fits
+  repeats_are_numbered moves run = repeats_after moves [] run run.each_fits
 
 pub traced_all : (n start : ℕ) (steps : List Step) (world : WorldState) (text : List ℕ) → HasTraced n start steps world text → start < 2 ^ 64
     → All IsNumberedMark (marks_of world.moves) → All IsNumberedMessage (taken_by world.moves) → All IsNumberedMessage (repeated_by world.moves)

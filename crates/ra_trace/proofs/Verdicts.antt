@@ -46,7 +46,7 @@ record Blamed (prefix : List Line) (text : List ℕ) (why : Cause) : Type 0 wher
   start : ℕ
   moves : List Move
   due : List Mark
-  behind : IsTracePrefix version n start moves due prefix
+  so_far : IsTracePrefix version n start moves due prefix
   line : Line
   rest : List ℕ
   begins : BeginsWith version text line rest
@@ -62,42 +62,42 @@ undue n start moves due prefix Last u = (u, refl)
 blamed : (prefix : List Line) (text : List ℕ) (why : Cause) → IsWrong prefix text why
     → ((why ≡ cause.Line) × HasNoLine prefix text) ⊎ Blamed prefix text why
 blamed prefix text cause.Line w = inl (refl, w)
-blamed prefix text cause.Table (version, n, start, moves, due, behind, mark, rest, begins, refused) =
-    inr (record { version = version; n = n; start = start; moves = moves; due = due; behind = behind; line = Marked mark; rest = rest; begins = begins; blame = inl (refused, refl) })
-blamed prefix text cause.Marks (version, n, start, moves, due, behind, line, rest, begins, u) =
+blamed prefix text cause.Table (version, n, start, moves, due, so_far, mark, rest, begins, refused) =
+    inr (record { version = version; n = n; start = start; moves = moves; due = due; so_far = so_far; line = Marked mark; rest = rest; begins = begins; blame = inl (refused, refl) })
+blamed prefix text cause.Marks (version, n, start, moves, due, so_far, line, rest, begins, u) =
     inr (record {
       version = version;
       n = n;
       start = start;
       moves = moves;
       due = due;
-      behind = behind;
+      so_far = so_far;
       line = line;
       rest = rest;
       begins = begins;
       blame = undue n start moves due prefix line u;
     })
-blamed prefix text cause.Refused (version, n, start, moves, behind, step, rest, begins, of_client, stops) =
+blamed prefix text cause.Refused (version, n, start, moves, so_far, step, rest, begins, of_client, stops) =
     inr (record {
       version = version;
       n = n;
       start = start;
       moves = moves;
       due = [];
-      behind = behind;
+      so_far = so_far;
       line = Stepped step;
       rest = rest;
       begins = begins;
       blame = inr (inl (refl, stops, of_client, refl));
     })
-blamed prefix text cause.NotUnderWay (version, n, start, moves, behind, step, rest, begins, takes, stops) =
+blamed prefix text cause.NotUnderWay (version, n, start, moves, so_far, step, rest, begins, takes, stops) =
     inr (record {
       version = version;
       n = n;
       start = start;
       moves = moves;
       due = [];
-      behind = behind;
+      so_far = so_far;
       line = Stepped step;
       rest = rest;
       begins = begins;
@@ -147,17 +147,17 @@ blamed_once n start moves due prefix Last why other a b = a.1 ∙ sym b.1
 -- ---- One cause
 
 no_line_is_not_blamed : LawsBelow → (prefix : List Line) (text : List ℕ) (why : Cause) → HasNoLine prefix text → Blamed prefix text why → ⊥
-no_line_is_not_blamed laws prefix text why (inl none) b = not_empty b.version b.n b.start b.moves b.due prefix b.behind none.0
-no_line_is_not_blamed laws prefix text why (inr (inl (version, n, start, moves, due, behind, any))) b =
-    let same = one_prefix laws b.version b.n b.start b.moves b.due version n start moves due prefix b.behind behind in
+no_line_is_not_blamed laws prefix text why (inl none) b = not_empty b.version b.n b.start b.moves b.due prefix b.so_far none.0
+no_line_is_not_blamed laws prefix text why (inr (inl (version, n, start, moves, due, so_far, any))) b =
+    let same = one_prefix laws b.version b.n b.start b.moves b.due version n start moves due prefix b.so_far so_far in
     let begins : BeginsWith version text b.line b.rest = subst (λ (v : Version). BeginsWith v text b.line b.rest) same.named b.begins in
     first_is_not_blamed b.n b.start b.moves b.due prefix b.line why (any b.line b.rest begins) b.blame
 no_line_is_not_blamed laws prefix text why (inr (inr (version, n, start, moves, trace, whole, some))) b =
-    no_trace laws b.version b.n b.start b.moves b.due version n start moves prefix b.behind whole
+    no_trace laws b.version b.n b.start b.moves b.due version n start moves prefix b.so_far whole
 
 one_blame : LawsBelow → (prefix : List Line) (text : List ℕ) (why other : Cause) → Blamed prefix text why → Blamed prefix text other → why ≡ other
 one_blame laws prefix text why other a b =
-    let same = one_prefix laws b.version b.n b.start b.moves b.due a.version a.n a.start a.moves a.due prefix b.behind a.behind in
+    let same = one_prefix laws b.version b.n b.start b.moves b.due a.version a.n a.start a.moves a.due prefix b.so_far a.so_far in
     let line = (begins_in_one b.version a.version text b.line a.line b.rest a.rest b.begins a.begins).0 in
     let there : Blame a.n a.start a.moves a.due prefix a.line other =
     subst (λ (l : Line). Blame a.n a.start a.moves a.due prefix l other) line
@@ -183,19 +183,19 @@ one_cause laws prefix text why other p q =
 -- ---- A line that may come next is not wrong
 
 -- what is after a line that may come next
-behind_next : (version : Version) (prefix : List Line) (line : Line) → MayFollow version prefix line
+after_next : (version : Version) (prefix : List Line) (line : Line) → MayFollow version prefix line
     → (IsFirst line × (prefix ≡ [])) ⊎ ((n start : ℕ) × (moves : List Move) × (due : List Mark) × IsTracePrefix version n start moves due prefix)
-behind_next version prefix (First named nodes from) next = inl (tt, next)
-behind_next version prefix (Stepped step) (n, start, moves, behind, goes) = inr (n, start, moves, [], behind)
-behind_next version prefix (Marked mark) (n, start, moves, others, behind, goes) = inr (n, start, moves, mark ∷ others, behind)
-behind_next version prefix Last (n, start, moves, behind) = inr (n, start, moves, [], behind)
+after_next version prefix (First named nodes from) next = inl (tt, next)
+after_next version prefix (Stepped step) (n, start, moves, so_far, goes) = inr (n, start, moves, [], so_far)
+after_next version prefix (Marked mark) (n, start, moves, others, so_far, goes) = inr (n, start, moves, mark ∷ others, so_far)
+after_next version prefix Last (n, start, moves, so_far) = inr (n, start, moves, [], so_far)
 
 -- a first line has none before it
-first_behind_nothing : (version : Version) (prefix : List Line) (line : Line) → MayFollow version prefix line → IsFirst line → prefix ≡ []
-first_behind_nothing version prefix (First named nodes from) next first = next
-first_behind_nothing version prefix (Stepped step) next first = absurd first
-first_behind_nothing version prefix (Marked mark) next first = absurd first
-first_behind_nothing version prefix Last next first = absurd first
+first_after_nothing : (version : Version) (prefix : List Line) (line : Line) → MayFollow version prefix line → IsFirst line → prefix ≡ []
+first_after_nothing version prefix (First named nodes from) next first = next
+first_after_nothing version prefix (Stepped step) next first = absurd first
+first_after_nothing version prefix (Marked mark) next first = absurd first
+first_after_nothing version prefix Last next first = absurd first
 
 goes_on_too : (n start : ℕ) (moves : List Move) (n' start' : ℕ) (moves' : List Move) (step : Step) → n ≡ n' → start ≡ start' → moves ≡ moves'
     → GoesOn n start moves step → GoesOn n' start' moves' step
@@ -204,41 +204,41 @@ goes_on_too n start moves n' start' moves' step p q r g =
 
 next_is_not_blamed : LawsBelow → (version second : Version) (n start : ℕ) (moves : List Move) (due : List Mark) (prefix : List Line) (line : Line) (why : Cause)
     → IsTracePrefix second n start moves due prefix → MayFollow version prefix line → Blame n start moves due prefix line why → ⊥
-next_is_not_blamed laws version second n start moves due prefix (First named nodes from) why behind next b = b
-next_is_not_blamed laws version second n start moves due prefix (Stepped step) why behind (n', start', moves', there, goes) b =
-    let same = one_prefix laws version n' start' moves' [] second n start moves due prefix there behind in
+next_is_not_blamed laws version second n start moves due prefix (First named nodes from) why so_far next b = b
+next_is_not_blamed laws version second n start moves due prefix (Stepped step) why so_far (n', start', moves', there, goes) b =
+    let same = one_prefix laws version n' start' moves' [] second n start moves due prefix there so_far in
     let on = goes_on_too n' start' moves' n start moves step same.count same.from same.run goes in
     elim b [
       | inl marks ↦ marks.0 (sym same.left)
       | inr other ↦ elim other [ inl refused ↦ refused.1 on | inr gone ↦ gone.1 on ]
     ]
-next_is_not_blamed laws version second n start moves due prefix (Marked mark) why behind (n', start', moves', others, there, goes) b =
+next_is_not_blamed laws version second n start moves due prefix (Marked mark) why so_far (n', start', moves', others, there, goes) b =
     elim b [
       | inl table ↦ table.0 goes
-      | inr marks ↦ marks.1 others (sym (one_prefix laws version n' start' moves' (mark ∷ others) second n start moves due prefix there behind).left)
+      | inr marks ↦ marks.1 others (sym (one_prefix laws version n' start' moves' (mark ∷ others) second n start moves due prefix there so_far).left)
     ]
-next_is_not_blamed laws version second n start moves due prefix Last why behind (n', start', moves', there) b =
-    b.0 (sym (one_prefix laws version n' start' moves' [] second n start moves due prefix there behind).left)
+next_is_not_blamed laws version second n start moves due prefix Last why so_far (n', start', moves', there) b =
+    b.0 (sym (one_prefix laws version n' start' moves' [] second n start moves due prefix there so_far).left)
 
 next_has_line : LawsBelow → (version : Version) (prefix : List Line) (line : Line) (text rest : List ℕ) → MayFollow version prefix line
     → BeginsWith version text line rest → HasNoLine prefix text → ⊥
 next_has_line laws version prefix line text rest next begins (inl (none, no_first)) =
-    elim (behind_next version prefix line next) [
+    elim (after_next version prefix line next) [
       | inl first ↦ no_first version line rest begins first.0
-      | inr (n, start, moves, due, behind) ↦ not_empty version n start moves due prefix behind none
+      | inr (n, start, moves, due, so_far) ↦ not_empty version n start moves due prefix so_far none
     ]
-next_has_line laws version prefix line text rest next begins (inr (inl (second, n, start, moves, due, behind, any))) =
-    elim (behind_next version prefix line next) [
-      | inl first ↦ not_empty second n start moves due prefix behind first.1
+next_has_line laws version prefix line text rest next begins (inr (inl (second, n, start, moves, due, so_far, any))) =
+    elim (after_next version prefix line next) [
+      | inl first ↦ not_empty second n start moves due prefix so_far first.1
       | inr (n', start', moves', due', there) ↦
-          let same = one_prefix laws version n' start' moves' due' second n start moves due prefix there behind in
+          let same = one_prefix laws version n' start' moves' due' second n start moves due prefix there so_far in
           let again = subst (λ (v : Version). BeginsWith v text line rest) same.named begins in
-          not_empty second n start moves due prefix behind (first_behind_nothing version prefix line next (any line rest again))
+          not_empty second n start moves due prefix so_far (first_after_nothing version prefix line next (any line rest again))
     ]
 next_has_line laws version prefix line text rest next begins (inr (inr (second, n, start, moves, trace, whole, some))) =
-    elim (behind_next version prefix line next) [
+    elim (after_next version prefix line next) [
       | inl (first, none) ↦ let empty : [] ≡ trace_lines second n start moves = sym none ∙ whole in cc
-      | inr (n', start', moves', due, behind) ↦ no_trace laws version n' start' moves' due second n start moves prefix behind whole
+      | inr (n', start', moves', due, so_far) ↦ no_trace laws version n' start' moves' due second n start moves prefix so_far whole
     ]
 
 next_is_not_wrong : LawsBelow → (version : Version) (prefix : List Line) (line : Line) (text rest : List ℕ) (why : Cause) → MayFollow version prefix line
@@ -248,7 +248,7 @@ next_is_not_wrong laws version prefix line text rest why next begins w =
       | inl none ↦ next_has_line laws version prefix line text rest next begins none.1
       | inr b ↦
           let same = (begins_in_one b.version version text b.line line b.rest rest b.begins begins).0 in
-          next_is_not_blamed laws version b.version b.n b.start b.moves b.due prefix line why b.behind next
+          next_is_not_blamed laws version b.version b.n b.start b.moves b.due prefix line why b.so_far next
           (subst (λ (l : Line). Blame b.n b.start b.moves b.due prefix l why) same b.blame)
     ]
 
@@ -262,22 +262,22 @@ AreRight lines =
     ⊎ ((version : Version) × (n start : ℕ) × (moves : List Move) × (text : List ℕ) × IsTraceIn version n start moves text
     × (lines ≡ trace_lines version n start moves))
 
-wrong_behind_right : (prefix : List Line) (text : List ℕ) (why : Cause) → IsWrong prefix text why → AreRight prefix
-wrong_behind_right prefix text cause.Line (inl none) = inl none.0
-wrong_behind_right prefix text cause.Line (inr (inl (version, n, start, moves, due, behind, any))) = inr (inl (version, n, start, moves, due, behind))
-wrong_behind_right prefix text cause.Line (inr (inr (version, n, start, moves, trace, whole, some))) =
+wrong_after_right : (prefix : List Line) (text : List ℕ) (why : Cause) → IsWrong prefix text why → AreRight prefix
+wrong_after_right prefix text cause.Line (inl none) = inl none.0
+wrong_after_right prefix text cause.Line (inr (inl (version, n, start, moves, due, so_far, any))) = inr (inl (version, n, start, moves, due, so_far))
+wrong_after_right prefix text cause.Line (inr (inr (version, n, start, moves, trace, whole, some))) =
     inr (inr (version, n, start, moves, flat_map line_text prefix, trace, whole))
-wrong_behind_right prefix text cause.Table w = inr (inl (w.0, w.1, w.2, w.3, w.4, w.5))
-wrong_behind_right prefix text cause.Marks w = inr (inl (w.0, w.1, w.2, w.3, w.4, w.5))
-wrong_behind_right prefix text cause.Refused w = inr (inl (w.0, w.1, w.2, w.3, [], w.4))
-wrong_behind_right prefix text cause.NotUnderWay w = inr (inl (w.0, w.1, w.2, w.3, [], w.4))
+wrong_after_right prefix text cause.Table w = inr (inl (w.0, w.1, w.2, w.3, w.4, w.5))
+wrong_after_right prefix text cause.Marks w = inr (inl (w.0, w.1, w.2, w.3, w.4, w.5))
+wrong_after_right prefix text cause.Refused w = inr (inl (w.0, w.1, w.2, w.3, [], w.4))
+wrong_after_right prefix text cause.NotUnderWay w = inr (inl (w.0, w.1, w.2, w.3, [], w.4))
 
 all_readable : (version : Version) (lines : List Line) → All (IsLine version) lines → All IsReadable lines
 all_readable version lines each = All-weaker (IsLine version) IsReadable (readable version) lines each
 
 right_lines : (lines : List Line) → AreRight lines → All IsReadable lines
 right_lines lines (inl none) = subst (All IsReadable) (sym none) (All-nil IsReadable)
-right_lines lines (inr (inl (version, n, start, moves, due, behind))) = all_readable version lines behind.each
+right_lines lines (inr (inl (version, n, start, moves, due, so_far))) = all_readable version lines so_far.each
 right_lines lines (inr (inr (version, n, start, moves, text, trace, are))) =
     all_readable version lines (subst (All (IsLine version)) (sym are) trace.lines)
 
@@ -297,10 +297,10 @@ next_in_right laws prefix line rest (inl none) = absurd (something prefix none)
     something : (prefix : List Line) → prefix ++ line ∷ rest ≡ [] → ⊥
     something [] e = cc
     something (x ∷ prefix) e = cc
-next_in_right laws prefix line rest (inr (inl (version, n, start, moves, due, behind))) = record {
+next_in_right laws prefix line rest (inr (inl (version, n, start, moves, due, so_far))) = record {
   version = version;
-  next = (in_prefix laws version n start moves due prefix line rest behind).next;
-  ranges = All-at (IsLine version) prefix line rest behind.each;
+  next = (in_prefix laws version n start moves due prefix line rest so_far).next;
+  ranges = All-at (IsLine version) prefix line rest so_far.each;
 }
 next_in_right laws prefix line rest (inr (inr (version, n, start, moves, text, trace, are))) = record {
   version = version;
@@ -387,11 +387,11 @@ trace_is_not_wrong laws version n start moves rest why nothing w =
       | inl (is, none) ↦ elim none [
         | inl (empty, no_first) ↦ cc
         | inr other ↦ elim other [
-          | inl (second, m, from, others, due, behind, any) ↦ no_trace laws second m from others due version n start moves lines behind refl
+          | inl (second, m, from, others, due, so_far, any) ↦ no_trace laws second m from others due version n start moves lines so_far refl
           | inr (second, m, from, others, trace, whole, some) ↦ some nothing
         ]
       ]
-      | inr b ↦ no_trace laws b.version b.n b.start b.moves b.due version n start moves lines b.behind refl
+      | inr b ↦ no_trace laws b.version b.n b.start b.moves b.due version n start moves lines b.so_far refl
     ]
 
 -- ---- One verdict
@@ -419,7 +419,7 @@ not_valid_and_invalid laws text requests messages line why (version, n, start, m
     let p = trace_lines version n start moves in
     let texts : flat_map line_text p ++ [] ≡ flat_map line_text prefix ++ rest = append-nil (flat_map line_text p) ∙ sym a.text_is ∙ is in
     let same : SameEnd p prefix [] rest =
-    elim (longer_or_not p prefix [] rest (all_readable version p a.lines) (right_lines prefix (wrong_behind_right prefix rest why w)) texts) [
+    elim (longer_or_not p prefix [] rest (all_readable version p a.lines) (right_lines prefix (wrong_after_right prefix rest why w)) texts) [
       | inl h ↦ nothing_left p prefix rest h
       | inr h ↦
           let end = no_more laws prefix p rest [] why w (trace_is_right version n start moves text a) h in
@@ -430,8 +430,8 @@ not_valid_and_invalid laws text requests messages line why (version, n, start, m
 both_invalid : LawsBelow → (text : List ℕ) (line : ℕ) (why : Cause) (line' : ℕ) (why' : Cause) → IsVerdict text (Invalid line why)
     → IsVerdict text (Invalid line' why') → Invalid line why ≡ Invalid line' why'
 both_invalid laws text line why line' why' (prefix, rest, is, at, w) (prefix', rest', is', at', w') =
-    let right = wrong_behind_right prefix rest why w in
-    let right' = wrong_behind_right prefix' rest' why' w' in
+    let right = wrong_after_right prefix rest why w in
+    let right' = wrong_after_right prefix' rest' why' w' in
     let same : SameEnd prefix prefix' rest rest' =
     elim (longer_or_not prefix prefix' rest rest' (right_lines prefix right) (right_lines prefix' right') (sym is ∙ is')) [
       | inl h ↦ no_more laws prefix prefix' rest rest' why w right' h

@@ -21,14 +21,14 @@ pub record HasTaken (limit left : ℕ) (old now : Option (List ℕ)) (prefix : L
 -- the lines so far are right, the last line is not among them, and the checker has taken them
 pub record IsAlong (limit left : ℕ) (old now : Option (List ℕ)) (checker : Checker) (number : ℕ) : Type 0 where
   pub prefix : List Line
-  pub behind : HasTaken limit left old now prefix
+  pub so_far : HasTaken limit left old now prefix
   pub number_is : number ≡ length prefix + 1
-  pub stands : IsCheckerOf checker prefix
+  pub checker_is : IsCheckerOf checker prefix
 
 -- the lines are a whole trace
 pub record IsDone (limit left : ℕ) (old now : Option (List ℕ)) (checker : Checker) (number : ℕ) : Type 0 where
   pub prefix : List Line
-  pub behind : HasTaken limit left old now prefix
+  pub so_far : HasTaken limit left old now prefix
   pub number_is : number ≡ length prefix + 1
   pub trace : IsTraceIn checker.version checker.world.count checker.world.start checker.world.moves (flat_map line_text prefix)
   pub lines : prefix ≡ trace_lines checker.version checker.world.count checker.world.start checker.world.moves

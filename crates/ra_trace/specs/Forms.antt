@@ -20,8 +20,10 @@ use Rattle.ra_trace.specs.declared.line.forms.Fate.{Fate}
 use Rattle.ra_trace.specs.declared.line.forms.Fate.TheVariants.{Delivered, Lost, Repeated}
 use Rattle.ra_trace.specs.declared.line.forms.Change.{Change}
 use Rattle.ra_trace.specs.declared.line.forms.Change.TheVariants as change
-use Rattle.ra_trace.specs.declared.line.forms.Kind.{Kind}
-use Rattle.ra_trace.specs.declared.line.forms.Kind.TheVariants as kind
+use Rattle.ra_trace.specs.declared.line.forms.Field.{Field}
+use Rattle.ra_trace.specs.declared.line.forms.Field.TheVariants as field
+use Rattle.ra_trace.specs.declared.line.forms.LineKind.{LineKind}
+use Rattle.ra_trace.specs.declared.line.forms.LineKind.TheVariants as kind
 use Rattle.ra_trace.specs.declared.line.Line.{Line}
 use Rattle.ra_trace.specs.declared.line.Line.TheVariants.{First, Stepped, Marked, Last}
 use Rattle.ra_trace.specs.declared.line.version.Version.{Version}
@@ -144,13 +146,23 @@ entry_line change.Requested entry = Marked (Requested entry)
 entry_line change.Entered entry = Marked (Entered entry)
 entry_line change.Left entry = Marked (Left entry)
 
+-- what the fields of a line of this kind are
+abbrev pub fields_of : LineKind → List Field
+fields_of (kind.First version) = field.Nodes ∷ field.Start ∷ []
+fields_of kind.Ask = field.Node ∷ field.Client ∷ field.Name ∷ field.Mode ∷ []
+fields_of kind.Leave = field.Node ∷ field.Client ∷ field.Name ∷ []
+fields_of (kind.Request fate) = field.From ∷ field.To ∷ field.Name ∷ field.Mode ∷ field.Seq ∷ []
+fields_of (kind.Reply fate) = field.From ∷ field.To ∷ field.Name ∷ field.Seq ∷ []
+fields_of (kind.Mark change) = field.Node ∷ field.Client ∷ field.Name ∷ field.Mode ∷ field.Seq ∷ []
+fields_of kind.Last = []
+
 -- how the rest of a line of this kind is read, after its first words
-abbrev pub read_as : Kind → List ℕ → Option Line
+abbrev pub read_as : LineKind → List ℕ → Option Line
 read_as (kind.First version) = first_in version
 read_as kind.Ask = λ rest. option_map Stepped (ask_in rest)
 read_as kind.Leave = λ rest. option_map Stepped (leave_in rest)
-read_as (kind.Request way) = λ rest. option_map (sent_line way) (request_in rest)
-read_as (kind.Reply way) = λ rest. option_map (sent_line way) (reply_in rest)
+read_as (kind.Request fate) = λ rest. option_map (sent_line fate) (request_in rest)
+read_as (kind.Reply fate) = λ rest. option_map (sent_line fate) (reply_in rest)
 read_as (kind.Mark change) = λ rest. option_map (entry_line change) (entry_in rest)
 read_as kind.Last = last_in
 

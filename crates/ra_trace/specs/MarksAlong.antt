@@ -55,7 +55,7 @@ pub record IsAlongMarks (limit left : ℕ) (old now : Option (List ℕ)) (log : 
   pub taken : Consumes old now (marks_text marks)
   pub room : length (marks_text marks) + left ≡ limit
   pub number_is : number ≡ length marks + 1
-  pub behind : IsLogOf log marks
+  pub so_far : IsLogOf log marks
 
 -- how a mark is judged
 abbrev pub JudgedMark : MarkLog → Mark → MarkLog → Result MarkJudgement TraceError → Type 0

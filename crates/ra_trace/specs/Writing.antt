@@ -46,13 +46,13 @@ pub record IsOpened (n start : ℕ) (world : WorldState) : Type 0 where
   pub run : IsRun world.count world.start world.moves
 
 -- the world was made, or it was not, since it cannot have this many nodes, or for lack of memory
-abbrev pub Opens : ℕ → ℕ → Result WorldState WriteTraceError → Type 0
-Opens n start (Ok world) = IsOpened n start world
-Opens n start (Err (Run run.BadCount)) = IsNodeNumber n → ⊥
-Opens n start (Err (Run (run.Refused place cause))) = ⊥
-Opens n start (Err (Run run.Memory)) = ⊥
-Opens n start (Err Memory) = (IsNodeNumber n → ⊥) → ⊥
-Opens n start (Err Write) = ⊥
+abbrev pub OpensWorld : ℕ → ℕ → Result WorldState WriteTraceError → Type 0
+OpensWorld n start (Ok world) = IsOpened n start world
+OpensWorld n start (Err (Run run.BadCount)) = IsNodeNumber n → ⊥
+OpensWorld n start (Err (Run (run.Refused place cause))) = ⊥
+OpensWorld n start (Err (Run run.Memory)) = ⊥
+OpensWorld n start (Err Memory) = (IsNodeNumber n → ⊥) → ⊥
+OpensWorld n start (Err Write) = ⊥
 
 -- why no more of these steps were made
 abbrev pub StopsIn : ℕ → ℕ → List Step → WriteTraceError → Type 0

@@ -1,7 +1,7 @@
 pub mod check_text;
 pub mod verdict;
 
-ghost use Rattle.std.specs.Prelude.{◌≡◌, ◌≢◌, ◌⊎◌, ◌<◌, ◌+◌, List, ◌∷◌, [], false, drop, length, slice_get, IfOk, IfErr, IfSome, IsNone, IsTrue};
+ghost use Rattle.std.specs.Prelude.{◌≡◌, ◌≢◌, ◌⊎◌, ◌<◌, ◌+◌, ◌^◌, List, ◌∷◌, [], false, drop, length, slice_get, IfOk, IfErr, IfSome, IsNone, IsTrue};
 ghost use Rattle.ra_stamp.specs.declared.entry.Mark.{Mark};
 ghost use Rattle.ra_table.specs.Laws.{AllowsMark};
 ghost use Rattle.ra_world.specs.Quiet.{requests_in};
@@ -13,7 +13,6 @@ ghost use Rattle.ra_trace.specs.Forms.{IsReadable};
 ghost use Rattle.ra_trace.specs.TraceText.{IsLine};
 ghost use Rattle.ra_trace.specs.Verdict.{IsFirst};
 
-use crate::laws::traces_rest_on_runs;
 use crate::line::Line;
 use crate::line::version::Version;
 use crate::marked_table::{allows, try_mark};
@@ -65,7 +64,6 @@ impl Checker {
         ensures err { IfErr result (λ fault. (fault ≡ TraceError.Memory)
             × (IsReadable line.now → HasBegun (line.now ∷ []))) }
     {
-        traces_rest_on_runs();
         let Line::First {
             version,
             nodes,
@@ -181,6 +179,7 @@ impl Checker {
     /// Returns whether this is the next mark that is due.
     fn is_due(&self, mark: &Mark) -> bool
         ensures within { IsTrue result → self.now.come < length self.now.marks.items }
+        ensures fits { IsTrue result → self.now.come + 1 < 2 ^ 64 }
         ensures next { IsTrue result
             → due_of self.now ≡ mark.now ∷ drop (self.now.come + 1) self.now.marks.items }
         ensures other { result ≡ false → (others : List Mark) → due_of self.now ≢ mark.now ∷ others }
@@ -201,7 +200,6 @@ impl Checker {
         ensures judged { Judged self.old (Line.Marked mark.now) self.new result }
         ensures due { IfOk result (λ next. (cause : Cause) → next ≡ Judgement.Wrong cause → HasSameDue self.old self.new) }
     {
-        traces_rest_on_runs();
         if !self.version.allows_mark(mark) {
             return Ok(Judgement::Wrong(Cause::Line));
         }
@@ -211,8 +209,6 @@ impl Checker {
         match try_mark(&mut self.table, mark)? {
             Some(_) => Ok(Judgement::Wrong(Cause::Table)),
             None => {
-                // The count fits, since there are no more than these.
-                let _all = self.marks.len();
                 self.come += 1;
                 Ok(Judgement::Right)
             }

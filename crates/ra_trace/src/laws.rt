@@ -2,37 +2,16 @@
 ghost use Rattle.std.specs.Prelude.{◌≡◌, ℕ, List, All, map};
 ghost use Rattle.ra_world.specs.Traffic.{Move};
 ghost use Rattle.ra_trace.specs.declared.checker.verdict.Verdict.{Verdict};
-ghost use Rattle.ra_trace.specs.Below.{LawsBelow};
 ghost use Rattle.ra_trace.specs.declared.line.version.Version.{Version};
 ghost use Rattle.ra_trace.specs.TraceText.{IsLine, IsTraceIn, trace_lines, trace_text};
 ghost use Rattle.ra_trace.specs.Verdict.{IsVerdict};
 ghost use Rattle.ra_trace.specs.declared.mark_log.marks_verdict.MarksVerdict.{MarksVerdict};
 ghost use Rattle.ra_trace.specs.Marks.{IsMarksVerdict};
-ghost use Rattle.ra_trace.specs.MarksAlong.{TableLaws};
-
-use ra_table::{runs_go_on_by_steps, tables_of_one_run_have_the_same_entries};
-use ra_world::{
-    marks_of_runs_are_table_runs, prefixes_of_runs_are_runs, runs_are_determined,
-    runs_go_on_where_steps_are_allowed,
-};
-
-/// What the proofs on traces take from those on runs and on the lock table, in one place.
-pub fn traces_rest_on_runs()
-    ensures { LawsBelow }
-{
-    prefixes_of_runs_are_runs();
-    marks_of_runs_are_table_runs();
-    runs_are_determined();
-    runs_go_on_by_steps();
-    runs_go_on_where_steps_are_allowed();
-}
 
 /// No text has two verdicts: it is the trace of a run, or one line is the first wrong one, for one cause.
 pub fn each_text_has_one_verdict()
     ensures { (text : List ℕ) (a b : Verdict) → IsVerdict text a → IsVerdict text b → a ≡ b }
-{
-    traces_rest_on_runs();
-}
+{}
 
 /// No two lists of moves, with fields in the ranges of a version, have the same text, whether they are runs or not. The
 /// text tells the version, the number of nodes, the number that each resource begins with, each step and its marks.
@@ -51,21 +30,9 @@ pub fn traces_tell_their_runs()
     ensures { (version second : Version) (n m start other : ℕ) (moves others : List Move) (text : List ℕ)
         → IsTraceIn version n start moves text → IsTraceIn second m other others text
         → (version ≡ second) × (n ≡ m) × (start ≡ other) × (moves ≡ others) }
-{
-    runs_are_determined();
-}
-
-/// What the proofs on mark logs take from those on the lock table, in one place.
-pub fn mark_logs_rest_on_tables()
-    ensures { TableLaws }
-{
-    runs_go_on_by_steps();
-    tables_of_one_run_have_the_same_entries();
-}
+{}
 
 /// No text has two verdicts as a mark log: its marks are a run of the lock table, or one line is the first wrong one, for one cause.
 pub fn each_mark_log_has_one_verdict()
     ensures { (text : List ℕ) (a b : MarksVerdict) → IsMarksVerdict text a → IsMarksVerdict text b → a ≡ b }
-{
-    mark_logs_rest_on_tables();
-}
+{}

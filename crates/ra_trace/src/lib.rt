@@ -21,7 +21,7 @@ pub use laws::{
 };
 pub use line::Line;
 pub use line::fields::{client_of, cut, mode_of, name_of, node_of, seq_of, start_of};
-pub use line::forms::rest_after;
+pub use line::forms::{Change, Fate, Field, LineKind, rest_after};
 pub use line::version::Version;
 pub use mark_log::marks_verdict::{MarkCause, MarksVerdict};
 pub use mark_log::{check_marks, check_marks_buffered, check_marks_within};

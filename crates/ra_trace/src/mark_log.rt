@@ -11,7 +11,6 @@ ghost use Rattle.ra_trace.specs.Marks.{grants_in};
 ghost use Rattle.ra_trace.specs.MarksAlong.{IsAlongMarks, IsMissing, IsNewLog, JudgedLine, JudgedMark, SomeMarkTaken, TurnsMarks};
 ghost use Rattle.ra_trace.specs.MarksReading.{AnswersMarks};
 
-use crate::laws::{each_mark_log_has_one_verdict, mark_logs_rest_on_tables};
 use crate::line::Line;
 use crate::line_source::{ByBytes, FromBuffer, LineRoom, LineSource};
 use crate::marked_table::try_mark;
@@ -145,7 +144,6 @@ fn take_next<R: Read, S: LineSource<R>>(
         → TurnsMarks limit left old (R.remaining reader.new) log.new number taken.new result }
     ensures some { IfOk result (λ next. SomeMarkTaken left taken.new next) }
 {
-    mark_logs_rest_on_tables();
     S::next_line(reader, room, taken, left)?;
     match &room.line {
         Some(line) => log.take_line(line),
@@ -167,7 +165,6 @@ fn verdict_after<R: Read, S: LineSource<R>>(
     requires new { IsNewLog log.old }
     ensures { AnswersMarks limit (R.remaining reader.old) (R.remaining reader.new) result }
 {
-    mark_logs_rest_on_tables();
     let mut taken = 0;
     let mut room = LineRoom::new();
     let mut left = limit;
@@ -201,8 +198,6 @@ fn check_by<R: Read, S: LineSource<R>>(
     requires { limit ≤ 16777216 }
     ensures { ChecksLog limit (R.remaining reader.old) (R.remaining reader.new) result }
 {
-    each_mark_log_has_one_verdict();
-    mark_logs_rest_on_tables();
     let mut log = MarkLog::new(alloc)?;
     let verdict = verdict_after::<R, S>(reader, &mut log, limit as usize);
     // By a call, since to drop each of its parts here is long to prove.

@@ -6,13 +6,12 @@ ghost use Rattle.ra_trace.specs.Marks.{TriesMark};
 
 use crate::{MarkCause, TraceError};
 use ra_stamp::{Entry, Mark};
-use ra_table::{EnterError, LeaveError, RequestError, Table, steps_exist_where_they_are_allowed};
+use ra_table::{EnterError, LeaveError, RequestError, Table};
 
 /// Returns whether a lock table allows a mark, unless memory runs out. It does not allocate.
 pub fn allows(table: &Table, mark: &Mark) -> bool
     ensures { IsTrue result ↔ AllowsMark table.now mark.now }
 {
-    steps_exist_where_they_are_allowed();
     match mark {
         Mark::Requested(entry) => table.can_request(entry),
         Mark::Entered(entry) => table.can_enter(entry),
@@ -29,7 +28,6 @@ fn request(table: &mut Table, entry: &Entry) -> Result<Option<MarkCause>, TraceE
     ensures tries { TriesMark table.old (Mark.Requested entry.now) table.new result }
     ensures left { (result ≡ Ok None → ⊥) → table.new ≡ table.old }
 {
-    steps_exist_where_they_are_allowed();
     match table.request(*entry) {
         Ok(()) => Ok(None),
         Err(RequestError::NodeBusy) => Ok(Some(MarkCause::NodeBusy)),
@@ -47,7 +45,6 @@ fn enter(table: &mut Table, entry: &Entry) -> Result<Option<MarkCause>, TraceErr
     ensures tries { TriesMark table.old (Mark.Entered entry.now) table.new result }
     ensures left { (result ≡ Ok None → ⊥) → table.new ≡ table.old }
 {
-    steps_exist_where_they_are_allowed();
     match table.enter(entry) {
         Ok(()) => Ok(None),
         Err(EnterError::NotWaiting) => Ok(Some(MarkCause::NotWaiting)),

@@ -10,7 +10,7 @@ ghost use Rattle.ra_trace.specs.declared.line.version.Version.{Version};
 ghost use Rattle.ra_trace.specs.TraceText as spec;
 ghost use Rattle.ra_trace.specs.TraceText.{IsTrace};
 ghost use Rattle.ra_trace.specs.Ranges.{StepFits, MarkFits};
-ghost use Rattle.ra_trace.specs.Writing.{HasTraced, IsOpened, Opens, Traces, Written, refusal_of_run};
+ghost use Rattle.ra_trace.specs.Writing.{HasTraced, IsOpened, OpensWorld, Traces, Written, refusal_of_run};
 
 use crate::WriteTraceError;
 use crate::line::Line;
@@ -18,9 +18,8 @@ use crate::line::field_ranges::{mark_fits, step_fits};
 use crate::line::version::Version;
 use ra_stamp::{Marks, Memory, Message, Name, NodeId};
 use ra_world::{
-    MarklessWorld, RunError, Step, StepError, Steps, marks_of_runs_are_numbered,
-    messages_under_way_are_between_nodes, prefixes_of_runs_are_runs, push_field, push_mark_line,
-    push_number, write_out,
+    MarklessWorld, RunError, Step, StepError, Steps, marks_of_runs_are_numbered, push_field,
+    push_mark_line, push_number, write_out,
 };
 use std::alloc::Global;
 use std::io::Write;
@@ -175,7 +174,7 @@ fn refusal_of(refused: RunError) -> WriteTraceError
 ///
 /// `Run`: the number of nodes is not 1 to 64. `Memory`.
 fn opening_world(alloc: Global, nodes: u16, start: u64) -> Result<MarklessWorld, WriteTraceError>
-    ensures { Opens nodes start result }
+    ensures { OpensWorld nodes start result }
 {
     match MarklessWorld::new(alloc, nodes, start) {
         Ok(world) => Ok(world),
@@ -203,7 +202,6 @@ fn trace_step(
     ensures memory { IsErrOf result WriteTraceError.Memory
         → GoesOn world.old.count world.old.start world.old.moves step.now }
 {
-    prefixes_of_runs_are_runs();
     match world.step(alloc, step) {
         Ok(outcome) => {
             let Ok(()) = push_move(text, step, &outcome.marks) else {
@@ -233,7 +231,6 @@ fn trace_steps(
         → IsErrOf result WriteTraceError.Memory
         → (place : ℕ) × (place < length steps.now.items) × WorldRun n start (take (place + 1) steps.now.items) }
 {
-    prefixes_of_runs_are_runs();
     for (place, step) in steps.as_slice().iter().enumerate() {
         trace_step(alloc, text, world, place, step)?;
     }
@@ -257,8 +254,6 @@ fn trace_run(
         → Written nodes start steps.now.items (string_bytes text.new) result }
 {
     marks_of_runs_are_numbered();
-    prefixes_of_runs_are_runs();
-    messages_under_way_are_between_nodes();
     let Ok(()) = push_first_line(text, nodes, start) else {
         return Err(WriteTraceError::Memory);
     };

@@ -10,7 +10,6 @@ ghost use Rattle.ra_trace.specs.NextLine.{EndsText};
 ghost use Rattle.ra_trace.specs.Reading.{Answers};
 
 use crate::checker::{Checker, Judgement};
-use crate::laws::{each_text_has_one_verdict, traces_rest_on_runs};
 use crate::line_source::byte_lines::is_at_end;
 use crate::line_source::{ByBytes, FromBuffer, LineRoom, LineSource};
 use crate::text_limits::MAX_TEXT;
@@ -92,7 +91,6 @@ fn take_next<R: Read, S: LineSource<R>>(
     ensures some { IfOk result (λ next. SomeTaken left taken.new next) }
     ensures due { IfOk result (λ next. (cause : Cause) → next ≡ Judgement.Wrong cause → HasSameDue checker.old checker.new) }
 {
-    traces_rest_on_runs();
     S::next_line(reader, room, taken, left)?;
     match &room.line {
         Some(line) => checker.take(alloc, line),
@@ -160,8 +158,6 @@ fn check_by<R: Read, S: LineSource<R>>(
     ensures checks { ChecksTrace limit (R.remaining reader.old) (R.remaining reader.new) result }
     ensures due { TellsDue (R.remaining reader.old) result due.new }
 {
-    each_text_has_one_verdict();
-    traces_rest_on_runs();
     let limit = limit as usize;
     let mut taken = 0;
     match take_first::<R, S>(alloc, reader, &mut taken, limit)? {

@@ -1,5 +1,5 @@
 //! The forms of lines.
-ghost use Rattle.std.specs.Prelude.{◌≡◌, ◌++◌, Some, None, MatchOption, codes, drop};
+ghost use Rattle.std.specs.Prelude.{◌≡◌, ◌++◌, ℕ, List, Some, None, MatchOption, codes, drop};
 ghost use Rattle.ra_trace.specs.Forms as spec;
 
 use crate::line::Line;
@@ -105,7 +105,7 @@ fn first_of(version: Version, text: &[u8]) -> Option<Line>
 /// Reads node, client, name and mode.
 #[inline(always)]
 fn ask_of(text: &[u8]) -> Option<Line>
-    ensures { result ≡ spec.read_as Kind.Ask text.now }
+    ensures { result ≡ spec.read_as LineKind.Ask text.now }
 {
     let Some((node, rest)) = node_before(text) else {
         return None;
@@ -125,7 +125,7 @@ fn ask_of(text: &[u8]) -> Option<Line>
 /// Reads node, client and name.
 #[inline(always)]
 fn leave_of(text: &[u8]) -> Option<Line>
-    ensures { result ≡ spec.read_as Kind.Leave text.now }
+    ensures { result ≡ spec.read_as LineKind.Leave text.now }
 {
     let Some((node, rest)) = node_before(text) else {
         return None;
@@ -211,7 +211,7 @@ fn last_of(text: &[u8]) -> Option<Line>
 
 /// What becomes of a message.
 #[derive(Clone, Copy)]
-enum Fate {
+pub enum Fate {
     Delivered,
     Lost,
     Repeated,
@@ -233,7 +233,7 @@ impl Fate {
 
 /// What becomes of a request.
 #[derive(Clone, Copy)]
-enum Change {
+pub enum Change {
     Requested,
     Entered,
     Left,
@@ -252,55 +252,148 @@ impl Change {
     }
 }
 
-/// What a line is, and so how it goes on after its first words.
+/// What a line is, and so which words begin it and which fields follow them.
 #[derive(Clone, Copy)]
-enum Kind {
+pub enum LineKind {
+    /// The first line of a trace.
     First(Version),
+    /// A client asks.
     Ask,
+    /// A client leaves.
     Leave,
+    /// A REQUEST is delivered, lost or repeated.
     Request(Fate),
+    /// A REPLY is delivered, lost or repeated.
     Reply(Fate),
+    /// A mark of a request.
     Mark(Change),
+    /// The last line of a trace.
     Last,
+}
+
+/// A field of a line.
+#[derive(Clone, Copy)]
+pub enum Field {
+    /// How many nodes there are.
+    Nodes,
+    /// The number that each resource begins with.
+    Start,
+    /// The node of a client.
+    Node,
+    /// The node that sends a message.
+    From,
+    /// The node that gets it.
+    To,
+    /// The number of a client at its node.
+    Client,
+    /// The name of a resource.
+    Name,
+    /// How it is locked.
+    Mode,
+    /// The number of a request.
+    Seq,
+}
+
+/// The fields of the first line.
+const FIRST: &[Field] = &[Field::Nodes, Field::Start];
+
+/// The fields of an ask.
+const ASK: &[Field] = &[Field::Node, Field::Client, Field::Name, Field::Mode];
+
+/// The fields of a release.
+const LEAVE: &[Field] = &[Field::Node, Field::Client, Field::Name];
+
+/// The fields of a REQUEST.
+const REQUEST: &[Field] = &[Field::From, Field::To, Field::Name, Field::Mode, Field::Seq];
+
+/// The fields of a REPLY.
+const REPLY: &[Field] = &[Field::From, Field::To, Field::Name, Field::Seq];
+
+/// The fields of a mark.
+const MARK: &[Field] = &[
+    Field::Node,
+    Field::Client,
+    Field::Name,
+    Field::Mode,
+    Field::Seq,
+];
+
+impl LineKind {
+    /// Returns the words that begin such a line, with the space before its first field if it has one. It does not allocate.
+    pub fn words(self) -> &'static str
+        ensures { (rest : List ℕ) → spec.line_in (result.now ++ rest) ≡ spec.read_as self rest }
+    {
+        match self {
+            LineKind::First(Version::One) => "trace 1 ",
+            LineKind::First(Version::Two) => "trace 2 ",
+            LineKind::Ask => "ask ",
+            LineKind::Leave => "release ",
+            LineKind::Request(Fate::Delivered) => "deliver request ",
+            LineKind::Request(Fate::Lost) => "lose request ",
+            LineKind::Request(Fate::Repeated) => "repeat request ",
+            LineKind::Reply(Fate::Delivered) => "deliver reply ",
+            LineKind::Reply(Fate::Lost) => "lose reply ",
+            LineKind::Reply(Fate::Repeated) => "repeat reply ",
+            LineKind::Mark(Change::Requested) => "request ",
+            LineKind::Mark(Change::Entered) => "enter ",
+            LineKind::Mark(Change::Left) => "leave ",
+            LineKind::Last => "end",
+        }
+    }
+
+    /// Returns the fields that follow the words of such a line, in order, with one space between them. It does not allocate.
+    pub fn fields(self) -> &'static [Field]
+        ensures { result.now ≡ spec.fields_of self }
+    {
+        match self {
+            LineKind::First(_) => FIRST,
+            LineKind::Ask => ASK,
+            LineKind::Leave => LEAVE,
+            LineKind::Request(_) => REQUEST,
+            LineKind::Reply(_) => REPLY,
+            LineKind::Mark(_) => MARK,
+            LineKind::Last => &[],
+        }
+    }
 }
 
 /// Reads the line of an ask.
 fn read_ask(text: &[u8], line: &mut Option<Line>)
-    ensures { line.new ≡ spec.read_as Kind.Ask text.now }
+    ensures { line.new ≡ spec.read_as LineKind.Ask text.now }
 {
     *line = ask_of(text);
 }
 
 /// Reads the line of a release.
 fn read_leave(text: &[u8], line: &mut Option<Line>)
-    ensures { line.new ≡ spec.read_as Kind.Leave text.now }
+    ensures { line.new ≡ spec.read_as LineKind.Leave text.now }
 {
     *line = leave_of(text);
 }
 
 /// Reads the line of a request.
-fn read_request(way: Fate, text: &[u8], line: &mut Option<Line>)
-    ensures { line.new ≡ spec.read_as (Kind.Request way) text.now }
+fn read_request(fate: Fate, text: &[u8], line: &mut Option<Line>)
+    ensures { line.new ≡ spec.read_as (LineKind.Request fate) text.now }
 {
     match request_of(text) {
-        Some(message) => *line = Some(way.line_of(message)),
+        Some(message) => *line = Some(fate.line_of(message)),
         None => *line = None,
     }
 }
 
 /// Reads the line of a reply.
-fn read_reply(way: Fate, text: &[u8], line: &mut Option<Line>)
-    ensures { line.new ≡ spec.read_as (Kind.Reply way) text.now }
+fn read_reply(fate: Fate, text: &[u8], line: &mut Option<Line>)
+    ensures { line.new ≡ spec.read_as (LineKind.Reply fate) text.now }
 {
     match reply_of(text) {
-        Some(message) => *line = Some(way.line_of(message)),
+        Some(message) => *line = Some(fate.line_of(message)),
         None => *line = None,
     }
 }
 
 /// Reads the line of a mark.
 fn read_mark(change: Change, text: &[u8], line: &mut Option<Line>)
-    ensures { line.new ≡ spec.read_as (Kind.Mark change) text.now }
+    ensures { line.new ≡ spec.read_as (LineKind.Mark change) text.now }
 {
     match entry_of(text) {
         Some(entry) => *line = Some(change.line_of(entry)),
@@ -308,20 +401,20 @@ fn read_mark(change: Change, text: &[u8], line: &mut Option<Line>)
     }
 }
 
-impl Kind {
+impl LineKind {
     /// Reads what is after the first words of such a line.
     #[inline(always)]
     fn read(self, rest: &[u8], line: &mut Option<Line>)
         ensures { line.new ≡ spec.read_as self rest.now }
     {
         match self {
-            Kind::First(version) => *line = first_of(version, rest),
-            Kind::Ask => read_ask(rest, line),
-            Kind::Leave => read_leave(rest, line),
-            Kind::Request(way) => read_request(way, rest, line),
-            Kind::Reply(way) => read_reply(way, rest, line),
-            Kind::Mark(change) => read_mark(change, rest, line),
-            Kind::Last => *line = last_of(rest),
+            LineKind::First(version) => *line = first_of(version, rest),
+            LineKind::Ask => read_ask(rest, line),
+            LineKind::Leave => read_leave(rest, line),
+            LineKind::Request(fate) => read_request(fate, rest, line),
+            LineKind::Reply(fate) => read_reply(fate, rest, line),
+            LineKind::Mark(change) => read_mark(change, rest, line),
+            LineKind::Last => *line = last_of(rest),
         }
     }
 }
@@ -335,13 +428,13 @@ pub fn read_line_of(text: &[u8], line: &mut Option<Line>)
     ensures { line.new ≡ spec.line_in text.now }
 {
     if let Some(rest) = rest_after(b"request ", text) {
-        return Kind::Mark(Change::Requested).read(rest, line);
+        return LineKind::Mark(Change::Requested).read(rest, line);
     }
     if let Some(rest) = rest_after(b"enter ", text) {
-        return Kind::Mark(Change::Entered).read(rest, line);
+        return LineKind::Mark(Change::Entered).read(rest, line);
     }
     if let Some(rest) = rest_after(b"leave ", text) {
-        return Kind::Mark(Change::Left).read(rest, line);
+        return LineKind::Mark(Change::Left).read(rest, line);
     }
     read_line_without_mark(text, line);
 }
@@ -353,10 +446,10 @@ fn read_line_without_mark(text: &[u8], line: &mut Option<Line>)
     ensures { line.new ≡ spec.line_by (drop 3 spec.forms) text.now }
 {
     if let Some(rest) = rest_after(b"ask ", text) {
-        return Kind::Ask.read(rest, line);
+        return LineKind::Ask.read(rest, line);
     }
     if let Some(rest) = rest_after(b"release ", text) {
-        return Kind::Leave.read(rest, line);
+        return LineKind::Leave.read(rest, line);
     }
     if let Some(rest) = rest_after(b"deliver ", text) {
         return read_delivery(rest, line);
@@ -370,10 +463,10 @@ fn read_delivery(message: &[u8], line: &mut Option<Line>)
     ensures { line.new ≡ spec.line_by (drop 5 spec.forms) (codes "deliver " ++ message.now) }
 {
     if let Some(rest) = rest_after(b"request ", message) {
-        return Kind::Request(Fate::Delivered).read(rest, line);
+        return LineKind::Request(Fate::Delivered).read(rest, line);
     }
     if let Some(rest) = rest_after(b"reply ", message) {
-        return Kind::Reply(Fate::Delivered).read(rest, line);
+        return LineKind::Reply(Fate::Delivered).read(rest, line);
     }
     *line = None;
 }
@@ -383,16 +476,16 @@ fn read_rare_line(text: &[u8], line: &mut Option<Line>)
     ensures { line.new ≡ spec.line_by (drop 7 spec.forms) text.now }
 {
     if let Some(rest) = rest_after(b"lose request ", text) {
-        return Kind::Request(Fate::Lost).read(rest, line);
+        return LineKind::Request(Fate::Lost).read(rest, line);
     }
     if let Some(rest) = rest_after(b"lose reply ", text) {
-        return Kind::Reply(Fate::Lost).read(rest, line);
+        return LineKind::Reply(Fate::Lost).read(rest, line);
     }
     if let Some(rest) = rest_after(b"repeat request ", text) {
-        return Kind::Request(Fate::Repeated).read(rest, line);
+        return LineKind::Request(Fate::Repeated).read(rest, line);
     }
     if let Some(rest) = rest_after(b"repeat reply ", text) {
-        return Kind::Reply(Fate::Repeated).read(rest, line);
+        return LineKind::Reply(Fate::Repeated).read(rest, line);
     }
     read_end_line(text, line);
 }
@@ -402,13 +495,13 @@ fn read_end_line(text: &[u8], line: &mut Option<Line>)
     ensures { line.new ≡ spec.line_by (drop 11 spec.forms) text.now }
 {
     if let Some(rest) = rest_after(b"trace 1 ", text) {
-        return Kind::First(Version::One).read(rest, line);
+        return LineKind::First(Version::One).read(rest, line);
     }
     if let Some(rest) = rest_after(b"trace 2 ", text) {
-        return Kind::First(Version::Two).read(rest, line);
+        return LineKind::First(Version::Two).read(rest, line);
     }
     if let Some(rest) = rest_after(b"end", text) {
-        return Kind::Last.read(rest, line);
+        return LineKind::Last.read(rest, line);
     }
     *line = None;
 }

@@ -2,6 +2,7 @@ use Rattle.std.proofs.Common.{ℕ, Ok, IfOk, sym, subst}
 use Rattle.std.proofs.lemmas.Result.{err_from_is_err_and}
 use Rattle.ra_trace.specs.MarksAlong.{IsMissing, SomeMarkTaken, TurnsMarks}
 use Rattle.ra_trace.proofs.MarksAlong.{fails_there, turns_by, some_taken_by, none_turns, none_taken}
+use Rattle.ra_trace.proofs.TraceLaws.{mark_logs_rest_on_tables}
 use Rattle.ra_trace.proofs.mark_log.take_next.Goals as goal
 
 pub returns-in_err-next_line-clause-turned : goal.returns-in_err-next_line-clause-turned
@@ -19,7 +20,7 @@ returns-in-Some-clause-turned g c limit number old along =
     let new = g.R.Read.remaining c.next_line.new.reader in
     let after = c.take_line.new.self in
     subst (λ (n : ℕ). TurnsMarks limit c.args.left old new after number n c.take_line.result) count
-    (turns_by c.mark_logs_rest_on_tables.ensures limit c.args.left old now new c.args.log.now after number c.in-Some.line bytes c.take_line.result along
+    (turns_by mark_logs_rest_on_tables limit c.args.left old now new c.args.log.now after number c.in-Some.line bytes c.take_line.result along
     some.0 some.1 some.2 c.take_line.ensures)
 
 pub returns-in-Some-clause-some : goal.returns-in-Some-clause-some

@@ -1,4 +1,5 @@
 use Rattle.std.proofs.Common.{Err, refl, ap, inl, inr}
+use Rattle.ra_table.proofs.Next.{allows_request}
 use Rattle.ra_trace.proofs.marked_table.request.Goals as goal
 
 pub returns-in-Ok-clause-tries : goal.returns-in-Ok-clause-tries
@@ -16,4 +17,4 @@ returns-in-Err-NotAbove-clause-tries c =
 pub returns-in-Err-Memory-clause-tries : goal.returns-in-Err-Memory-clause-tries
 returns-in-Err-Memory-clause-tries c =
     let arm = c.in-Err-Memory in
-    (refl, (c.steps_exist_where_they_are_allowed.ensures.request c.args.table.now c.args.entry.now).1 (arm.ensures.allowed.0 arm.field-0-is))
+    (refl, (allows_request c.args.table.now c.args.entry.now).1 (arm.ensures.allowed.0 arm.field-0-is))

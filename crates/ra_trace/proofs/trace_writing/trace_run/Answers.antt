@@ -3,6 +3,9 @@ use Rattle.std.proofs.lemmas.Result.{err_from_is_err_and}
 use Rattle.ra_trace.specs.declared.line.Line.TheVariants.{First}
 use Rattle.ra_trace.specs.declared.line.version.Version.TheVariants.{Two}
 use Rattle.ra_trace.specs.TraceText.{IsTrace, line_text}
+use Rattle.ra_world.proofs.Outcomes.{is_traffic}
+use Rattle.ra_world.proofs.WorldLaws.{laws_below}
+use Rattle.ra_trace.proofs.TraceLaws.{traces_rest_on_runs}
 use Rattle.ra_trace.proofs.Traced.{traced_none, repeats_are_numbered, traced_all}
 use Rattle.ra_trace.proofs.trace_writing.trace_run.Goals as goal
 
@@ -26,7 +29,8 @@ returns c empty opened =
     c.in-Ok.ensures ∙ ap (λ (prefix : List ℕ). prefix ++ line_text (First Two n start)) empty in
     let traced = c.in_ok-trace_steps.ensures.traced n start (traced_none n start c.args.world.now (string_bytes c.push_first_line.new.text) opened first) in
     let longer : string_bytes c.push_str.new.self ≡ text ++ codes "end\n" = search rules in
-    let repeated = repeats_are_numbered c.prefixes_of_runs_are_runs.ensures.moves c.messages_under_way_are_between_nodes.ensures.numbered n start traced.number
+    let repeated = repeats_are_numbered traces_rest_on_runs.prefixes
+    (λ n start moves message count run was. (is_traffic laws_below n start moves count run message was).numbered) n start traced.number
     world.moves traced.run in
     let trace = traced_all n start c.args.steps.now.items world text traced (omega arith) (law.marks n start world.moves traced.number traced.run)
     (law.taken n start world.moves traced.number traced.run) repeated in

@@ -1,6 +1,8 @@
 use Rattle.std.proofs.Common.{string_bytes, refl, ap, ◌∙◌, inl, inr}
 use Rattle.ra_trace.specs.Writing.{refusal_of_run}
 use Rattle.ra_world.proofs.Refusing.{memory_or_not}
+use Rattle.ra_world.proofs.Runs.{prefix_of_steps, steps_go_on}
+use Rattle.ra_world.proofs.WorldLaws.{laws_below}
 use Rattle.ra_trace.proofs.Traced.{traced_more, stops_by}
 use Rattle.ra_trace.proofs.trace_writing.trace_step.Goals as goal
 
@@ -12,8 +14,7 @@ returns-in-Ok-push_move-clause-traced c n start steps inside is traced =
 
 pub returns-in-Err-clause-traced : goal.returns-in-Err-clause-traced
 returns-in-Err-clause-traced c n start steps inside is traced =
-    let law = c.prefixes_of_runs_are_runs.ensures in
-    stops_by law.steps law.step n start c.args.place steps c.args.step.now c.args.world.now (string_bytes c.args.text.now) c.in-Err.cause c.refusal_of.result
+    stops_by (prefix_of_steps laws_below.splits) (steps_go_on laws_below) n start c.args.place steps c.args.step.now c.args.world.now (string_bytes c.args.text.now) c.in-Err.cause c.refusal_of.result
     traced inside is (λ other. (c.in-Err.ensures.refused c.in-Err.cause other).0 refl) c.in-Err.ensures.allowed.1
     (λ same. c.refusal_of.ensures ∙ ap refusal_of_run (c.at.ensures.memory same)) (λ other. c.refusal_of.ensures ∙ ap refusal_of_run (c.at.ensures.refused other))
 

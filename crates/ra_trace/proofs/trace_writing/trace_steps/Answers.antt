@@ -4,6 +4,8 @@ use Rattle.ra_world.specs.declared.step.Step.{Step}
 use Rattle.ra_world.specs.Run.{WorldRun}
 use Rattle.ra_trace.specs.declared.error.WriteTraceError.TheVariants.{Memory}
 use Rattle.std.proofs.Common.{string_bytes}
+use Rattle.ra_world.proofs.Runs.{steps_go_on}
+use Rattle.ra_world.proofs.WorldLaws.{laws_below}
 use Rattle.ra_trace.proofs.Traced.{goes_there}
 use Rattle.ra_trace.proofs.trace_writing.trace_steps.Goals as goal
 
@@ -15,7 +17,7 @@ returns-in_err-trace_step-clause-memory c n start opened is =
     let place = c.loop-place.place in
     let items = c.as_slice-step-items.result.now in
     let run : WorldRun n start (take (place + 1) items) =
-    goes_there c.prefixes_of_runs_are_runs.ensures.step n start place items c.step-item.result c.loop-place.world (string_bytes c.loop-place.text)
+    goes_there (steps_go_on laws_below) n start place items c.step-item.result c.loop-place.world (string_bytes c.loop-place.text)
     (c.loop-place.invariant n start opened) c.loop-place-test.true c.step-item.is (c.in_err-trace_step.ensures.memory (ap Err why)) in
     subst (λ (steps : List Step). (k : ℕ) × (k < length steps) × WorldRun n start (take (k + 1) steps)) c.as_slice-step-items.ensures
     (place, c.loop-place-test.true, run)

@@ -1,5 +1,6 @@
 use Rattle.std.proofs.Common.{◌≡◌, true, sym, ◌∙◌}
 use Rattle.ra_trace.specs.Forms.{has_node}
+use Rattle.ra_trace.proofs.TraceLaws.{traces_rest_on_runs}
 use Rattle.ra_trace.proofs.Taking.{opens, opens_not, first_may_come}
 use Rattle.ra_trace.proofs.checker.Checker.after_first.Goals as goal
 
@@ -12,11 +13,11 @@ pub returns-in-Ok-clause-some : goal.returns-in-Ok-clause-some
 returns-in-Ok-clause-some c =
     let has : has_node c.in-First.version c.in-First.nodes ≡ true = sym c.has_node.ensures ∙ c.if-not-has_node.false in
     rw c.in-First.is
-    (opens c.traces_rest_on_runs.ensures c.in-First.version c.in-First.nodes c.in-First.start c.in-Ok.checker c.in-Ok.ensures.ok has)
+    (opens traces_rest_on_runs c.in-First.version c.in-First.nodes c.in-First.start c.in-Ok.checker c.in-Ok.ensures.ok has)
 
 pub returns-in-Err-clause-err : goal.returns-in-Err-clause-err
 returns-in-Err-clause-err c =
     let has : has_node c.in-First.version c.in-First.nodes ≡ true = sym c.has_node.ensures ∙ c.if-not-has_node.false in (
       c.in-Err.ensures.err,
-      rw c.in-First.is (first_may_come c.traces_rest_on_runs.ensures c.in-First.version c.in-First.nodes c.in-First.start has),
+      rw c.in-First.is (first_may_come traces_rest_on_runs c.in-First.version c.in-First.nodes c.in-First.start has),
     )

@@ -1,5 +1,5 @@
-use Rattle.std.proofs.Common.{◌≡◌, ◌∙◌, sym, ap, Some}
-use Rattle.std.proofs.lemmas.Bool.{false≢true}
+use Rattle.std.proofs.Common.{◌≡◌, ◌∙◌, length, sym, ap, Some, arith}
+use Rattle.std.proofs.lemmas.Bool.{false≢true, ltb-true}
 use Rattle.std.proofs.lemmas.Option.{same_Some, slice_get_within}
 use Rattle.ra_trace.proofs.Due.{found_at, none_at, next_left, first_left}
 use Rattle.ra_trace.proofs.checker.Checker.is_due.Goals as goal
@@ -9,6 +9,10 @@ returns-in-Some-clause-within c = λ _.
     let marks = c.args.self.now.marks.items in
     let at = found_at c.as_slice.result.now marks c.args.self.now.come c.in-Some.due.now c.as_slice.ensures c.in-Some.ensures.lookup.0 c.in-Some.ensures.lookup.1 in
     slice_get_within marks c.args.self.now.come c.in-Some.due.now at
+
+pub returns-in-Some-clause-fits : goal.returns-in-Some-clause-fits
+returns-in-Some-clause-fits c = λ _.
+    omega (arith, ltb-true c.args.self.now.come (length c.as_slice.result.now) (sym c.in-Some.ensures.lookup.0))
 
 pub returns-in-Some-clause-next : goal.returns-in-Some-clause-next
 returns-in-Some-clause-next c is =
@@ -27,6 +31,9 @@ returns-in-Some-clause-other c is others e =
 
 pub returns-in-None-clause-within : goal.returns-in-None-clause-within
 returns-in-None-clause-within c = λ none. absurd (false≢true none)
+
+pub returns-in-None-clause-fits : goal.returns-in-None-clause-fits
+returns-in-None-clause-fits c = λ none. absurd (false≢true none)
 
 pub returns-in-None-clause-next : goal.returns-in-None-clause-next
 returns-in-None-clause-next c = λ none. absurd (false≢true none)

@@ -1,6 +1,7 @@
 use Rattle.std.proofs.Common.{sym, ◌∙◌, arith}
 use Rattle.std.proofs.lemmas.Result.{err_from_is_err_and}
 use Rattle.ra_trace.proofs.MarkRefusals.{refused_is_not_allowed}
+use Rattle.ra_trace.proofs.TraceLaws.{traces_rest_on_runs}
 use Rattle.ra_trace.proofs.Taking.{mark_not_allowed, mark_is_taken, table_refuses, wrong_mark, mark_may_come}
 use Rattle.ra_trace.proofs.checker.Checker.take_mark.Goals as goal
 
@@ -9,12 +10,12 @@ returns-then-not-allows_mark-clause-judged c = mark_not_allowed c.args.self.now 
 
 pub returns-then-not-is_due-clause-judged : goal.returns-then-not-is_due-clause-judged
 returns-then-not-is_due-clause-judged c =
-    wrong_mark c.traces_rest_on_runs.ensures c.args.self.now c.args.mark.now c.cause_of.result (sym c.allows_mark.ensures ∙ c.if-not-allows_mark.false)
+    wrong_mark traces_rest_on_runs c.args.self.now c.args.mark.now c.cause_of.result (sym c.allows_mark.ensures ∙ c.if-not-allows_mark.false)
     (c.is_due.ensures.other c.if-not-is_due.true) c.cause_of.ensures
 
 pub returns-in-Some-clause-judged : goal.returns-in-Some-clause-judged
 returns-in-Some-clause-judged c =
-    table_refuses c.traces_rest_on_runs.ensures c.args.self.now c.args.mark.now (sym c.allows_mark.ensures ∙ c.if-not-allows_mark.false)
+    table_refuses traces_rest_on_runs c.args.self.now c.args.mark.now (sym c.allows_mark.ensures ∙ c.if-not-allows_mark.false)
     (refused_is_not_allowed c.args.self.now.table c.args.mark.now _ (rw c.in-Some.is at c.in_ok-try_mark.ensures.tries))
 
 pub returns-in_err-try_mark-clause-judged : goal.returns-in_err-try_mark-clause-judged
@@ -27,11 +28,11 @@ returns-in_err-try_mark-clause-judged c =
     )
 
 pub overflow_add-self : goal.overflow_add-self
-overflow_add-self c = omega (arith, c.is_due.ensures.within c.if-not-is_due.false)
+overflow_add-self c = omega (arith, c.is_due.ensures.fits c.if-not-is_due.false)
 
 pub returns-in-None-clause-judged : goal.returns-in-None-clause-judged
 returns-in-None-clause-judged c = (
   λ last. cc,
-  mark_is_taken c.traces_rest_on_runs.ensures c.args.self.now c.args.mark.now c.try_mark.new.table
+  mark_is_taken traces_rest_on_runs c.args.self.now c.args.mark.now c.try_mark.new.table
       (sym c.allows_mark.ensures ∙ c.if-not-allows_mark.false) (rw c.in-None.is at c.in_ok-try_mark.ensures.tries) (c.is_due.ensures.next c.if-not-is_due.false),
 )

@@ -2,6 +2,7 @@ use Rattle.std.proofs.Common.{ℕ, IfOk, subst}
 use Rattle.std.proofs.lemmas.Result.{err_from_is_err_and}
 use Rattle.ra_trace.specs.Along.{SomeTaken, Turns}
 use Rattle.ra_trace.proofs.Along.{fails_next, none_next, turns_by, some_taken_by}
+use Rattle.ra_trace.proofs.TraceLaws.{traces_rest_on_runs}
 use Rattle.ra_trace.proofs.checker.check_text.take_next.Goals as goal
 
 pub returns-in_err-next_line-clause-turned : goal.returns-in_err-next_line-clause-turned
@@ -9,7 +10,7 @@ returns-in_err-next_line-clause-turned g c limit number old along =
     let p = err_from_is_err_and c.from_residual.result c.from_residual.ensures.1 in
     let (bytes, failed) = c.in_err-next_line.ensures in
     rw (p.1, p.2)
-    (fails_next c.traces_rest_on_runs.ensures limit c.args.left old (g.R.Read.remaining c.args.reader.now) (g.R.Read.remaining c.next_line.new.reader)
+    (fails_next traces_rest_on_runs limit c.args.left old (g.R.Read.remaining c.args.reader.now) (g.R.Read.remaining c.next_line.new.reader)
     c.args.checker.now number bytes c.in_err-next_line.field-0.0 along failed)
 
 pub returns-in-Some-clause-turned : goal.returns-in-Some-clause-turned
@@ -19,7 +20,7 @@ returns-in-Some-clause-turned g c limit number old along =
     let new = g.R.Read.remaining c.next_line.new.reader in
     let after = c.take.new.self in
     subst (λ (n : ℕ). Turns limit c.args.left old new after number n c.take.result) count
-    (turns_by c.traces_rest_on_runs.ensures limit c.args.left old now new c.args.checker.now after number c.in-Some.line bytes c.take.result along
+    (turns_by traces_rest_on_runs limit c.args.left old now new c.args.checker.now after number c.in-Some.line bytes c.take.result along
     some.0 some.1 some.2 c.take.ensures.judged)
 
 pub returns-in-Some-clause-some : goal.returns-in-Some-clause-some
@@ -31,5 +32,5 @@ returns-in-Some-clause-some g c =
 pub returns-in-None-clause-turned : goal.returns-in-None-clause-turned
 returns-in-None-clause-turned g c limit number old along =
     let (bytes, count, none) = rw c.in-None.is at c.in_ok-next_line.ensures in
-    none_next c.traces_rest_on_runs.ensures limit c.args.left old (g.R.Read.remaining c.args.reader.now) (g.R.Read.remaining c.next_line.new.reader)
+    none_next traces_rest_on_runs limit c.args.left old (g.R.Read.remaining c.args.reader.now) (g.R.Read.remaining c.next_line.new.reader)
     c.args.checker.now number bytes along none.0 none.1

@@ -46,9 +46,9 @@ returns-in-Wrong-clause-answers g c old first =
 pub returns-in-Last-clause-answers : goal.returns-in-Last-clause-answers
 returns-in-Last-clause-answers g c old first =
     let after = c.take_next.new.checker in
-    let behind = g.R.Read.remaining c.take_next.new.reader in
+    let remaining = g.R.Read.remaining c.take_next.new.reader in
     let done = rw c.in-Last.is at (c.in_ok-next.ensures.turned c.args.limit c.loop-next.number old (c.loop-next.invariant.along old first)) in
-    answers_at_end c.args.limit (c.loop-next.left - c.take_next.new.taken) old behind (g.R.Read.remaining c.ending.new.reader) after (c.loop-next.number + 1)
+    answers_at_end c.args.limit (c.loop-next.left - c.take_next.new.taken) old remaining (g.R.Read.remaining c.ending.new.reader) after (c.loop-next.number + 1)
     c.ending.result done c.ending.ensures
 
 pub returns-in_err-next-clause-due : goal.returns-in_err-next-clause-due
