@@ -1,9 +1,8 @@
 //! Why the node of a book does not take a line.
-ghost use Rattle.std.specs.Prelude.{IfOk};
 ghost use Rattle.ra_book.specs.Timed.{CanCome};
 
 use crate::book_openings::Opening;
-use ra_book::{MAX_LINE, Refusal, TimedNode, event_of};
+use ra_book::{Refusal, TimedNode, event_of};
 use ra_explain::Stage;
 use ra_history::{BookError, BookKind};
 use ra_stamp::{Mark, Mode, Name};
@@ -23,24 +22,10 @@ pub struct Standing {
     pub since: u64,
 }
 
-/// Returns the event that a line is.
-///
-/// # Errors
-///
-/// Why it is none. `Line`: it has none of the forms, or more than 256 bytes.
-pub fn event_in(line: &[u8]) -> Result<BookKind, Refusal>
-    ensures { IfOk result CanCome }
-{
-    if line.len() > MAX_LINE {
-        return Err(Refusal::Line);
-    }
-    event_of(line)
-}
-
 impl Standing {
     /// Makes that of the client of a line, which has not asked yet, if the line is one at which a client asks or leaves.
     fn of_line(line: &[u8]) -> Option<Standing> {
-        let (client, name) = match &event_in(line) {
+        let (client, name) = match &event_of(line) {
             Ok(BookKind::Asked { client, name, .. } | BookKind::Gave { client, name }) => {
                 (*client, *name)
             }
@@ -119,7 +104,7 @@ fn take_line(
     line: u64,
     shown: &[u8],
 ) -> Result<(), Refusal> {
-    match event_in(shown) {
+    match event_of(shown) {
         Ok(kind) => take_event(alloc, node, standing, line, &kind),
         Err(why) => Err(why),
     }

@@ -2,9 +2,9 @@
 use crate::book_openings::Openings;
 use crate::input_places::PlaceNote;
 use crate::note_texts::text_cause_text;
-use crate::refused_event::{event_in, refused_event};
+use crate::refused_event::refused_event;
 use crate::refused_notes::push_refused;
-use ra_book::{FirstLine, TextCause};
+use ra_book::{FirstLine, TextCause, event_of};
 use ra_frame::Frame;
 use ra_history::BookKind;
 use ra_world::{Note, cut};
@@ -54,7 +54,7 @@ fn push_first(note: &mut Note, openings: &Openings<'_>, first: &FirstLine, cause
 
 /// Returns the frame that comes by a line, if one does.
 fn frame_in(line: &[u8]) -> Option<Frame> {
-    match event_in(line) {
+    match event_of(line) {
         Ok(BookKind::Got(frame)) => Some(frame),
         _ => None,
     }

@@ -116,20 +116,22 @@ fn receive_line(digits: &[u8]) -> Result<BookKind, Refusal>
     }
 }
 
-/// Returns the event that a line of at most 256 bytes is, without its line feed. It does not allocate, and the cost is linear in the line.
+/// Returns the event that a line is, without its line feed. It does not allocate, and the cost is linear in the line.
 ///
 /// # Errors
 ///
 /// The first that holds:
 ///
-/// 1. `Line`: it has none of the forms of lines.
+/// 1. `Line`: it has none of the forms of lines, or more than 256 bytes.
 /// 2. `Hex`: the digits are an odd number, or not hexadecimal.
 /// 3. `Frame`: the bytes are no frame, with the fault that [`decode`] names.
 pub fn event_of(line: &[u8]) -> Result<BookKind, Refusal>
-    requires { length line.now ≤ 256 }
     ensures read { MatchResult result (IsEvent line.now) (IsUnread line.now) }
     ensures can_come { IfOk result CanCome }
 {
+    if line.len() > MAX_LINE {
+        return Err(Refusal::Line);
+    }
     if let Some(digits) = rest_after(b"receive ", line) {
         return receive_line(digits);
     }

@@ -1,5 +1,5 @@
 //! The books of a text, as they are gathered line by line.
-ghost use Rattle.std.specs.Prelude.{◌≡◌, ◌↔◌, ◌≤◌, ℕ, List, All, length, IfSome, IsTrue, MatchBool};
+ghost use Rattle.std.specs.Prelude.{◌≡◌, ◌↔◌, ℕ, List, All, IfSome, IsTrue, MatchBool};
 ghost use Rattle.std.specs.List.{Any};
 ghost use Rattle.ra_book.specs.BookText.{IsFirst};
 ghost use Rattle.ra_history.specs.Book.{HasHistory, opening_book};
@@ -8,7 +8,7 @@ ghost use Rattle.ra_book.specs.Gathering.{TakesEvent, TakesFirst, TakesLine, boo
 
 use crate::text_settling::came_frames::{CameList, note};
 use crate::text_settling::happening::happen;
-use crate::{FirstLine, MAX_LINE, Refusal, TextCause, event_of};
+use crate::{FirstLine, Refusal, TextCause, event_of};
 use ra_history::{Book, BookError};
 use std::alloc::Global;
 use std::mem::replace;
@@ -112,7 +112,6 @@ impl Gathered {
     /// `Wrong` with `Line`: it has none of the forms of lines. `Wrong` with `Refused`: its digits are no frame, or the node of
     /// the last book does not take the event. `Memory`.
     fn take_event(&mut self, alloc: Global, number: u64, line: &[u8]) -> Result<(), LineFault>
-        requires { length line.now ≤ 256 }
         ensures { ((node nodes start : ℕ) → IsFirst line.now node nodes start → ⊥)
             → TakesEvent self.old number line.now self.new result }
     {
@@ -140,9 +139,6 @@ impl Gathered {
     pub fn take_line(&mut self, alloc: Global, number: u64, line: &[u8]) -> Result<(), LineFault>
         ensures { TakesLine self.old number line.now self.new result }
     {
-        if line.len() > MAX_LINE {
-            return Err(LineFault::Wrong(TextCause::Line));
-        }
         match FirstLine::parse(line) {
             Some(first) => self.open(alloc, &first),
             None => self.take_event(alloc, number, line),

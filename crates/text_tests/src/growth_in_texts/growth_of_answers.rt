@@ -130,11 +130,7 @@ fn take(alloc: Global, node: &mut TimedNode, kind: &BookKind, line: &Line) -> Re
 
 /// Hands a line to the node. If it is refused, returns whether that is for lack of memory and the clock is as before.
 fn hand(alloc: Global, node: &mut TimedNode, line: &Line) -> Result<Tried, bool> {
-    let text = line.0.as_bytes();
-    if text.len() > 256 {
-        return Err(false);
-    }
-    match event_of(text) {
+    match event_of(line.0.as_bytes()) {
         Ok(kind) => take(alloc, node, &kind, line),
         Err(_) => Err(false),
     }

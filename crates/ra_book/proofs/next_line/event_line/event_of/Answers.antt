@@ -6,17 +6,17 @@ use Rattle.ra_book.proofs.next_line.event_line.event_of.Goals as goal
 pub returns-in-Some-clause-read : goal.returns-in-Some-clause-read
 returns-in-Some-clause-read c =
     c.receive_line.ensures.read c.args.line.now (rest_after-only (codes "receive ") c.args.line.now c.in-Some.digits.now (rw c.in-Some.is at c.rest_after.ensures))
-    c.requires
+    c.if-line-gt-MAX_LINE.false
 
 pub returns-in-Some-rest_after-clause-read : goal.returns-in-Some-rest_after-clause-read
 returns-in-Some-rest_after-clause-read c =
     c.ask_line.ensures.read c.args.line.now (rest_after-only (codes "ask ") c.args.line.now c.in-Some-rest_after.rest.now (rw c.in-Some-rest_after.is at c.rest_after-2.ensures))
-    c.requires
+    c.if-line-gt-MAX_LINE.false
 
 pub returns-in-Some-rest_after-2-clause-read : goal.returns-in-Some-rest_after-2-clause-read
 returns-in-Some-rest_after-2-clause-read c =
     c.release_line.ensures.read c.args.line.now
-    (rest_after-only (codes "release ") c.args.line.now c.in-Some-rest_after-2.rest.now (rw c.in-Some-rest_after-2.is at c.rest_after-3.ensures)) c.requires
+    (rest_after-only (codes "release ") c.args.line.now c.in-Some-rest_after-2.rest.now (rw c.in-Some-rest_after-2.is at c.rest_after-3.ensures)) c.if-line-gt-MAX_LINE.false
 
 pub returns-in-None-clause-read : goal.returns-in-None-clause-read
 returns-in-None-clause-read c =
