@@ -3,10 +3,10 @@ ghost use Rattle.std.specs.Prelude.{◌≡◌};
 ghost use Rattle.ra_draw.specs.Drawing.{DrawsLog};
 
 use crate::DrawError;
-use crate::draw_text::{MAX_TEXT, read_text, write_picture};
+use crate::draw_text::{read_text, write_picture};
 use crate::drawn_part::Part;
 use crate::svg::Totals;
-use ra_trace::{MarksVerdict, check_marks_within};
+use ra_trace::{MAX_TEXT, MarksVerdict, check_marks_within};
 use std::alloc::Global;
 use std::io::{Read, Write};
 
@@ -33,7 +33,7 @@ pub fn draw_marks<R: Read, W: Write>(
     *text = read_text(alloc, reader)?;
     let input = text.as_slice();
     let mut unread = input;
-    let verdict = check_marks_within(alloc, &mut unread, MAX_TEXT as u64)?;
+    let verdict = check_marks_within(alloc, &mut unread, MAX_TEXT)?;
     let MarksVerdict::Valid { requests, grants } = verdict else {
         return Ok(verdict);
     };

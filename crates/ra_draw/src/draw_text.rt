@@ -8,12 +8,10 @@ ghost use Rattle.ra_draw.specs.Lines as spec;
 use crate::DrawError;
 use crate::drawn_part::Part;
 use crate::svg::{Totals, picture_of};
+use ra_trace::MAX_TEXT;
 use ra_world::{ReadFault, read_up_to, write_out};
 use std::alloc::Global;
 use std::io::{Read, Write};
-
-/// The most bytes that a text may have.
-pub const MAX_TEXT: usize = 16_777_216;
 
 /// The most lines that are drawn, since a reader of a trace can count them. A line has at most 126 arrows.
 const MAX_LINES: u64 = 4096;
@@ -46,12 +44,12 @@ pub fn read_text<R: Read>(alloc: Global, reader: &mut R) -> Result<Vec<u8>, Draw
     ensures ok { IfOk result (λ text. IsInput (R.remaining reader.old) (R.remaining reader.new) text.items) }
     ensures err { IfErr result (IsUnread (R.remaining reader.old) (R.remaining reader.new)) }
 {
-    let read = match read_up_to(alloc, reader, MAX_TEXT + 1) {
+    let read = match read_up_to(alloc, reader, MAX_TEXT as usize + 1) {
         Ok(read) => read,
         Err(ReadFault::Read) => return Err(DrawError::Read),
         Err(ReadFault::Memory) => return Err(DrawError::Memory),
     };
-    if read.len() > MAX_TEXT {
+    if read.len() > MAX_TEXT as usize {
         return Err(DrawError::Limit);
     }
     Ok(read)

@@ -3,10 +3,10 @@ ghost use Rattle.std.specs.Prelude.{◌≡◌};
 ghost use Rattle.ra_draw.specs.Drawing.{DrawsTrace};
 
 use crate::DrawError;
-use crate::draw_text::{MAX_TEXT, read_text, write_picture};
+use crate::draw_text::{read_text, write_picture};
 use crate::drawn_part::Part;
 use crate::svg::Totals;
-use ra_trace::{Verdict, check_within};
+use ra_trace::{MAX_TEXT, Verdict, check_within};
 use std::alloc::Global;
 use std::io::{Read, Write};
 
@@ -47,7 +47,7 @@ pub fn draw<R: Read, W: Write>(
     *text = read_text(alloc, reader)?;
     let input = text.as_slice();
     let mut unread = input;
-    let verdict = check_within(alloc, &mut unread, MAX_TEXT as u64)?;
+    let verdict = check_within(alloc, &mut unread, MAX_TEXT)?;
     let Verdict::Valid { requests, messages } = verdict else {
         return Ok(verdict);
     };

@@ -3,7 +3,7 @@ ghost use Rattle.ra_draw.specs.Lines as spec;
 
 /// The lines of a text that are to be drawn, counted from 1, both ends among them. `from` may be 0, which is as 1, and `to` after the
 /// last line, which is as that one.
-#[derive(Clone, Copy, Debug, PartialEq, Eq)]
+#[derive(Clone, Copy)]
 pub struct Part {
     /// The first one.
     pub from: u64,

@@ -8,7 +8,7 @@ mod moment;
 use crate::drawn_part::Part;
 pub use deferral::{Deferral, DeferralSpans};
 pub use lock_span::{LockKey, LockSpan, LockSpans};
-pub use message_path::{Fate, MessagePath, MessagePaths};
+pub use message_path::{MessageEnd, MessagePath, MessagePaths};
 pub use moment::Moment;
 use ra_stamp::{Mark, Memory, Message, Mode};
 use ra_trace::Line;

@@ -3,7 +3,7 @@ use crate::layout::{Layout, Point};
 use crate::svg::layers::Layers;
 use crate::svg::svg_writer::PatternValue::{Node, Number, Short, Text, Whole};
 use crate::svg::wording::{kind_of, mode_text};
-use crate::timeline::{Fate, MessagePath, Moment};
+use crate::timeline::{MessageEnd, MessagePath, Moment};
 use ra_stamp::{Message, Name};
 
 impl Layers {
@@ -176,10 +176,10 @@ impl Layers {
             from.x = layout.copies_x();
         }
         self.begin_message(path);
-        match path.fate {
-            Fate::Delivered(end) => self.draw_delivered(layout, path, from, end),
-            Fate::Lost(end) => self.draw_lost(layout, &path.message, from, end),
-            Fate::UnderWay { place, is_first } => {
+        match path.end {
+            MessageEnd::Delivered(end) => self.draw_delivered(layout, path, from, end),
+            MessageEnd::Lost(end) => self.draw_lost(layout, &path.message, from, end),
+            MessageEnd::UnderWay { place, is_first } => {
                 self.draw_under_way(layout, &path.message, from, place, is_first);
             }
         }

@@ -6,7 +6,7 @@ use std::alloc::Global;
 
 /// What became of a message.
 #[derive(Drop)]
-pub enum Fate {
+pub enum MessageEnd {
     Delivered(Moment),
     Lost(Moment),
     /// It is still under way, at this place among those that are. Equal ones have the same place, and the first of them has the label.
@@ -21,7 +21,7 @@ pub struct MessagePath {
     pub start: Moment,
     /// It is a copy that a repeat made. Otherwise it was sent.
     pub copied: bool,
-    pub fate: Fate,
+    pub end: MessageEnd,
     /// It is a REQUEST, and the node to which it was delivered deferred its REPLY.
     pub is_deferred: bool,
 }
@@ -93,10 +93,10 @@ impl MessagePaths {
                 message: *message,
                 start,
                 copied,
-                fate: if is_lost {
-                    Fate::Lost(end)
+                end: if is_lost {
+                    MessageEnd::Lost(end)
                 } else {
-                    Fate::Delivered(end)
+                    MessageEnd::Delivered(end)
                 },
                 is_deferred: false,
             })?;
@@ -137,7 +137,7 @@ fn push_under_way(
                 message: *message,
                 start,
                 copied,
-                fate: Fate::UnderWay { place, is_first },
+                end: MessageEnd::UnderWay { place, is_first },
                 is_deferred: false,
             })?;
             is_first = false;
