@@ -1,5 +1,5 @@
 -- Rounds of an audit: the events that were taken of each node go on.
-use Rattle.std.proofs.Common.{◌≡◌, ℕ, zero, suc, ◌+◌, ◌-◌, ◌<◌, List, [], ◌∷◌, ◌++◌, map, drop, length, get_or, set, Option, None, Some, Result, Ok, Err, refl, sym, ap, ◌∙◌, subst, append_assoc, ◌↔◌, ◌⊎◌, ◌≤◌, inl, inr, arith}
+use Rattle.std.proofs.Common.{◌≡◌, ℕ, zero, suc, ◌+◌, ◌-◌, ◌<◌, List, [], ◌∷◌, ◌++◌, map, drop, length, get_or, set, None, Some, Result, Ok, Err, refl, sym, ap, ◌∙◌, subst, append_assoc, ◌↔◌, ◌⊎◌, ◌≤◌, inl, inr, arith}
 use Rattle.std.specs.Prelude.{slice_get, flat_map, All, IsOk, IsErrOf, OnOk, OnErr}
 use Rattle.std.specs.List.{AllWithin, range_with_len}
 use Rattle.std.proofs.lemmas.List.{append-nil, length-append, length-map, length-set, get_or-map, get_or-set_same}

@@ -11,3 +11,4 @@ mod OwnMessages
 mod SentFrames
 mod Flying
 mod Tracking
+mod AuditLaws

@@ -79,7 +79,7 @@ impl fmt::Display for FinishError {
 }
 
 /// Why not all that the books of a closed cluster say is in the run of an auditor.
-#[derive(Clone, Copy, Debug, PartialEq, Eq, Error)]
+#[derive(Clone, Copy, Debug, Error)]
 pub enum BehindError {
     /// There are more or fewer books than nodes in the run.
     OtherCount,

@@ -8,7 +8,7 @@ pub mod put_events;
 pub mod put_losses;
 pub mod unsettled;
 
-ghost use Rattle.std.specs.Prelude.{◌≡◌, ◌≢◌, ◌↔◌, ◌∷◌, ◌++◌, [], ℕ, List, Some, None, All, length, map, sum_by, IsErrOf, IfOk, IfSome, IsNone, IsTrue, OnOk, OnErr, MatchOption};
+ghost use Rattle.std.specs.Prelude.{◌≡◌, ◌≢◌, ◌↔◌, ◌++◌, [], ℕ, List, Some, None, All, length, map, sum_by, IsErrOf, IfOk, IfSome, IsNone, IsTrue, OnOk, OnErr, MatchOption};
 ghost use Rattle.std.specs.List.{range_with_len};
 ghost use Rattle.ra_stamp.specs.NodeId.{IsNodeNumber};
 ghost use Rattle.ra_world.specs.Traffic.{LeavesUnderWay, sent_by};
@@ -20,7 +20,6 @@ ghost use Rattle.ra_stamp.specs.declared.message.Message.{Message};
 ghost use Rattle.ra_frame.specs.declared.frame.Frame.{Frame};
 ghost use Rattle.ra_audit.specs.Audit.{Takes, AreAllIn, IsBehind, TakesHanded, NoneWaits, IsNeverSent, IsAhead, MayBePut, IsUnsent, IsLeastLeft, clocks_taken, fresh_progress};
 
-use crate::audit_laws::runs_meet_the_theorem;
 use crate::auditor::closing::check_all;
 use crate::auditor::flights::Flights;
 use crate::auditor::never_sent::{clocks_of, first_unsent};
@@ -236,7 +235,6 @@ impl Auditor {
         ensures not_lost { (frame : Frame) → IsErrOf result (AuditError.NotLost frame)
             → NoneIsReady self.new.nodes × IsNotLost self.new.world self.new.nodes self.new.losing frame }
     {
-        runs_meet_the_theorem();
         if let Some(fault) = self.fault {
             return Err(AuditError::Fault(fault));
         }
@@ -438,23 +436,18 @@ fn take_handed_into<R: Wait>(
 }
 
 /// Returns, for each of this many nodes, that nothing was taken from it.
+///
+/// # Errors
+///
+/// `Memory`: there is no room for them.
 fn none_taken(alloc: Global, nodes: u16) -> Result<Vec<NodeProgress>, Memory>
+    requires { IsNodeNumber nodes }
     ensures { IfOk result (λ progress. progress.items ≡ map fresh_progress (range_with_len 1 nodes)) }
 {
     let mut progress = Vec::new(alloc);
     for place in 0..nodes {
-        push_fresh(alloc, &mut progress, place + 1)?;
+        let node = NodeId::at(usize::from(place));
+        progress.push(NodeProgress::new(alloc, node))?;
     }
     Ok(progress)
-}
-
-/// Puts the node with this number, from which nothing was taken, after the others.
-fn push_fresh(alloc: Global, progress: &mut Vec<NodeProgress>, number: u16) -> Result<(), Memory>
-    ensures { OnOk result (progress.new.items ≡ progress.old.items ++ fresh_progress number ∷ []) }
-{
-    let Some(node) = NodeId::new(number) else {
-        return Err(Memory);
-    };
-    progress.push(NodeProgress::new(alloc, node))?;
-    Ok(())
 }

@@ -15,7 +15,6 @@
 #![tactic(auto)]
 
 mod audit_error;
-mod audit_laws;
 mod auditor;
 mod mark_observer;
 

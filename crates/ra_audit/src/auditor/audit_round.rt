@@ -6,7 +6,6 @@ ghost use Rattle.ra_frame.specs.declared.frame.Frame.{Frame};
 ghost use Rattle.ra_audit.specs.Audit.{NoneIsReady, NoneIsReached, NoneWaits, IsNeverSent, IsLeastLeft, IsAhead, IsMisfit, IsNotLost, IsUnsent, MayBePut, IsAudited, HasLost, AllWereSent, IsAuditorOf, Audits, TakesMore, TakesMoreAt, TakesAllAt, NotTakenAt, IsNotTaken, NoneIsKept, AnswersRound, clocks_taken, last_round};
 ghost use Rattle.ra_stamp.specs.NodeId.{IsNodeNumber};
 
-use crate::audit_laws::runs_meet_the_theorem;
 use crate::{AuditError, Auditor, FinishError, MarkObserver, RoundError};
 use ra_cluster::{Cluster, Gate, TakeError};
 use ra_stamp::NodeId;
@@ -56,7 +55,6 @@ impl Auditor {
     ) -> Result<(), RoundError>
         ensures { AnswersRound cluster.now self.old (O.told observer.old) self.new (O.told observer.new) result }
     {
-        runs_meet_the_theorem();
         match check_round(cluster, self) {
             Ok(()) => go_round(rt, alloc, cluster, self, observer),
             Err(refused) => Err(refused),

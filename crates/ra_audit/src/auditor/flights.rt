@@ -7,7 +7,7 @@ ghost use Rattle.ra_audit.specs.AuditKeeping.{NoneFlies, FliesOn, FliesAfter, Ar
 use indexmap::IndexMap;
 use ra_cluster::{BookEvent, BookKind};
 use ra_frame::Frame;
-use ra_stamp::{Memory, Message, Messages, equal_is_same};
+use ra_stamp::{Memory, Message, Messages};
 use std::alloc::Global;
 use std::marker::Model;
 
@@ -132,7 +132,6 @@ impl Flights {
     pub fn take(&mut self, message: &Message)
         ensures { FliesAfter self.old (message.now ∷ []) self.old.clock self.old.last self.new }
     {
-        equal_is_same();
         let slot = slot_of(self.nodes, message);
         if has_message(&self.slots, slot, message) {
             self.slots[slot] = None;
@@ -166,10 +165,10 @@ fn kind_of(message: &Message) -> usize
 
 /// Returns whether a slot has this frame.
 #[inline(always)]
+#[tactic(auto, using(ra_stamp::proofs::StampLaws::same_messages))]
 fn is_in_slot(slots: &[Option<Frame>], slot: usize, frame: &Frame) -> bool
     ensures { IsTrue result ↔ (slice_index_or slots.now slot None ≡ Some frame.now) }
 {
-    equal_is_same();
     match slots.get(slot) {
         Some(Some(kept)) => kept.clock == frame.clock && kept.message == frame.message,
         Some(None) | None => false,
@@ -178,6 +177,7 @@ fn is_in_slot(slots: &[Option<Frame>], slot: usize, frame: &Frame) -> bool
 
 /// Returns whether a slot has a frame with this message.
 #[inline(always)]
+#[tactic(auto, using(ra_stamp::proofs::StampLaws::same_messages))]
 fn has_message(slots: &[Option<Frame>], slot: usize, message: &Message) -> bool
     ensures within { IsTrue result → slot < length slots.now }
     ensures some { IsTrue result → slice_index_or slots.now slot None ≢ None }
@@ -186,7 +186,6 @@ fn has_message(slots: &[Option<Frame>], slot: usize, message: &Message) -> bool
     ensures other { IsFalse result → (clock : ℕ)
         → slice_index_or slots.now slot None ≡ Some (record { clock = clock; message = message.now }) → ⊥ }
 {
-    equal_is_same();
     match slots.get(slot) {
         Some(Some(kept)) => kept.message == *message,
         Some(None) | None => false,
@@ -195,6 +194,7 @@ fn has_message(slots: &[Option<Frame>], slot: usize, message: &Message) -> bool
 
 /// Returns whether there is this slot and no frame of another message is in it.
 #[inline(always)]
+#[tactic(auto, using(ra_stamp::proofs::StampLaws::same_messages))]
 fn may_take(slots: &[Option<Frame>], slot: usize, message: &Message) -> bool
     ensures within { IsTrue result → slot < length slots.now }
     ensures no_other { IsTrue result → (frame : Frame) → slice_index_or slots.now slot None ≡ Some frame
@@ -202,7 +202,6 @@ fn may_take(slots: &[Option<Frame>], slot: usize, message: &Message) -> bool
     ensures other { IsFalse result → (clock : ℕ)
         → slice_index_or slots.now slot None ≡ Some (record { clock = clock; message = message.now }) → ⊥ }
 {
-    equal_is_same();
     match slots.get(slot) {
         Some(Some(kept)) => kept.message == *message,
         Some(None) => true,
@@ -263,7 +262,6 @@ fn note(
         (IsNotedIn nodes slots.new.items others.new.entries) }
     ensures ok { OnOk result (IsIn (IsNotedIn nodes slots.new.items others.new.entries) message.now) }
 {
-    equal_is_same();
     let slot = slot_of(nodes, message);
     if may_take(slots.as_slice(), slot, message) && are_without(others, message) {
         slots[slot] = Some(Frame {

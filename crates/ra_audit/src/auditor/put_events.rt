@@ -6,7 +6,6 @@ ghost use Rattle.ra_world.specs.Traffic.{lost_by};
 ghost use Rattle.ra_audit.specs.Audit.{ProgressState, IsAudited, IsReached, IsDue, IsReady, NoneIsReady, IsMisfit, Advances};
 ghost use Rattle.ra_audit.specs.AuditKeeping.{IsTracked, StaySent};
 
-use crate::audit_laws::messages_of_runs_are_known;
 use crate::auditor::flights::Flights;
 use crate::auditor::node_progress::NodeProgress;
 use crate::{AuditError, AuditFault, MarkObserver};
@@ -79,7 +78,6 @@ fn put_next<O: MarkObserver>(
     ensures fault { (fault : AuditFault) → IsErrOf result (AuditError.Fault fault) → IsMisfit world.new nodes.new fault }
     ensures not_lost { (frame : Frame) → IsErrOf result (AuditError.NotLost frame) → ⊥ }
 {
-    messages_of_runs_are_known();
     flights.note_last(alloc)?;
     let progress = &mut nodes[place];
     let Some(event) = progress.next() else {

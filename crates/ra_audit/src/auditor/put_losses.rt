@@ -6,7 +6,6 @@ ghost use Rattle.ra_world.specs.Traffic.{IsUnderWay, lost_by};
 ghost use Rattle.ra_audit.specs.Audit.{ProgressState, IsAudited, HasLost, Advances, PutsLosses, IsMisfit, IsNotLost, NoneIsReady, NoneIsReached, WasSentIn};
 ghost use Rattle.ra_audit.specs.AuditKeeping.{LooksAtFirst, IsTracked, StaySent};
 
-use crate::audit_laws::messages_of_runs_are_known;
 use crate::auditor::flights::Flights;
 use crate::auditor::node_progress::NodeProgress;
 use crate::auditor::noted_losses::Losses;
@@ -173,7 +172,6 @@ fn put_loss(
         × (IsUnderWay world.new.moves frame.now.message → WasSentIn nodes.now world.new.moves frame.now → ⊥) }
     ensures no_fault { (fault : AuditFault) → IsErrOf result (AuditError.Fault fault) → ⊥ }
 {
-    messages_of_runs_are_known();
     if flights.note_last(alloc).is_err() {
         return Err(AuditError::Memory);
     }

@@ -1,6 +1,7 @@
 use Rattle.std.proofs.Common.{◌≡◌, ◌∙◌, All, List, ◌++◌, length, take, drop, vec_len, arith, ap, sym, subst}
 use Rattle.ra_audit.specs.Audit.{ProgressState, AuditState, IsAudited, AllWereSent, WasSentIn, HasLost, PutsLosses, NoneIsReady, NoneIsReached, IsNotLost, RunTheorem}
 use Rattle.ra_audit.specs.AuditKeeping.{IsTracked}
+use Rattle.ra_audit.proofs.AuditLaws.{runs_meet_the_theorem}
 use Rattle.ra_audit.proofs.AuditLosses.{puts_none}
 use Rattle.ra_audit.proofs.AuditSteps.{on_done, slice_back}
 use Rattle.ra_audit.proofs.auditor.Auditor.advance.Goals as goal
@@ -9,7 +10,7 @@ pub returns-in-Some-clause-theorem : goal.returns-in-Some-clause-theorem
 returns-in-Some-clause-theorem g c =
     let w = c.self.inside.world in
     subst (λ (a : AuditState). RunTheorem a.world.count a.world.moves) c.self.view_is
-    (c.runs_meet_the_theorem.ensures w.count w.start w.moves c.self.invariant.0.count c.self.invariant.0.run)
+    (runs_meet_the_theorem w.count w.start w.moves c.self.invariant.0.count c.self.invariant.0.run)
 
 pub returns-in-Some-clause-losses : goal.returns-in-Some-clause-losses
 returns-in-Some-clause-losses g c = puts_none c.args.self.now.nodes c.args.self.now.losing c.args.self.now.lost
@@ -21,7 +22,7 @@ pub returns-clause-theorem : goal.returns-clause-theorem
 returns-clause-theorem g c =
     let w = c.put_events_and_losses-answer.new.world in
     let a = c.put_events_and_losses-answer.ensures.advances.audited in
-    c.runs_meet_the_theorem.ensures w.count w.start w.moves a.count a.run
+    runs_meet_the_theorem w.count w.start w.moves a.count a.run
 
 pub returns-clause-losses : goal.returns-clause-losses
 returns-clause-losses g c =

@@ -1,5 +1,6 @@
 use Rattle.std.proofs.Common.{◌≡◌, true, false, refl, sym, ◌∙◌}
 use Rattle.std.proofs.lemmas.Option.{none-some}
+use Rattle.ra_audit.proofs.AuditLaws.{runs_meet_the_theorem}
 use Rattle.ra_audit.proofs.AuditRounds.{audits_nothing}
 use Rattle.ra_audit.proofs.auditor.Auditor.audit.Goals as goal
 
@@ -10,7 +11,7 @@ returns-in-Ok g c =
     let says = c.go_round.ensures in
     record {
       audits = says.audits;
-      theorem = c.runs_meet_the_theorem.ensures _ _ _ says.audits.audited.count says.audits.audited.run;
+      theorem = runs_meet_the_theorem _ _ _ says.audits.audited.count says.audits.audited.run;
       ok = says.ok;
       none_reached = says.none_reached;
       kept = says.kept;
@@ -30,7 +31,7 @@ returns-in-Err g c =
     let says = c.in-Err.ensures in
     record {
       audits = audits_nothing c.args.self.now (g.O.MarkObserver.told c.args.observer.now) says.audited says.lost says.sent;
-      theorem = c.runs_meet_the_theorem.ensures _ _ _ says.audited.count says.audited.run;
+      theorem = runs_meet_the_theorem _ _ _ says.audited.count says.audited.run;
       ok = tt;
       none_reached = tt;
       kept = tt;

@@ -1,4 +1,4 @@
-use Rattle.std.proofs.Common.{◌≡◌, ◌<◌, ◌≤◌, length, ap, arith}
+use Rattle.std.proofs.Common.{◌<◌, length, ap, arith}
 use Rattle.std.specs.Prelude.{is_some}
 use Rattle.ra_audit.proofs.BooksIn.{all_in_more, all_in, is_behind}
 use Rattle.ra_audit.proofs.auditor.closing.first_behind.Goals as goal

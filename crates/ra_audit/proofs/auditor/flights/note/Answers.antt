@@ -1,6 +1,7 @@
 use Rattle.std.proofs.Common.{◌≡◌, ◌<◌, ℕ, List, Option, None, length, get_or, refl, sym, ap, ◌∙◌, subst}
 use Rattle.std.proofs.lemmas.Bool.{true≢false}
 use Rattle.ra_frame.specs.declared.frame.Frame.{Frame}
+use Rattle.ra_stamp.proofs.StampLaws.{same_messages}
 use Rattle.ra_audit.specs.AuditKeeping.{IsInSlot, slot_of}
 use Rattle.ra_audit.proofs.Flying.{put_in_slot, not_in_slot, among_apart, among_notes, among_now}
 use Rattle.ra_audit.proofs.auditor.flights.note.Goals.{else-may_take-via-then-may_take+else-are_without, else-may_take-via-else-may_take}
@@ -44,14 +45,14 @@ returns-clause-apart c =
           not_in_slot nodes slots others m c.requires (λ none. true≢false (sym (w.are_without.ensures.1 none) ∙ w.if-are_without.false))
       | else-may_take-via-else-may_take w ↦ λ clock is. c.may_take.ensures.other w.if-may_take.false clock (at ∙ is)
     ] in
-    among_apart c.equal_is_same.ensures.messages nodes slots others c.insert.new.self.entries m c.args.clock (λ x. c.in_ok-insert.ensures.updates.0 x) out c.requires
+    among_apart same_messages nodes slots others c.insert.new.self.entries m c.args.clock (λ x. c.in_ok-insert.ensures.updates.0 x) out c.requires
 
 pub returns-clause-notes : goal.returns-clause-notes
 returns-clause-notes c =
-    among_notes c.equal_is_same.ensures.messages c.args.nodes c.args.slots.now.items c.args.others.now.entries c.insert.new.self.entries c.args.message.now c.args.clock
+    among_notes same_messages c.args.nodes c.args.slots.now.items c.args.others.now.entries c.insert.new.self.entries c.args.message.now c.args.clock
     (λ x. c.in_ok-insert.ensures.updates.0 x)
 
 pub returns-clause-ok : goal.returns-clause-ok
 returns-clause-ok c =
-    among_now c.equal_is_same.ensures.messages c.args.nodes c.args.slots.now.items c.args.others.now.entries c.insert.new.self.entries c.args.message.now c.args.clock
+    among_now same_messages c.args.nodes c.args.slots.now.items c.args.others.now.entries c.insert.new.self.entries c.args.message.now c.args.clock
     (λ x. c.in_ok-insert.ensures.updates.0 x)

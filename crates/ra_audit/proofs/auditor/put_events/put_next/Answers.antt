@@ -2,6 +2,7 @@ use Rattle.std.proofs.Common.{◌≡◌, List, ◌++◌, Err, get_or, refl, ap, 
 use Rattle.std.proofs.lemmas.List.{get_or_default, set-get_or}
 use Rattle.std.proofs.lemmas.Option.{none-some}
 use Rattle.ra_stamp.specs.declared.entry.Mark.{Mark}
+use Rattle.ra_audit.proofs.AuditLaws.{messages_are_known}
 use Rattle.ra_audit.proofs.AuditSteps.{advances_none, advances_step, advances_kept, misfit_of, misfit_now, nothing_lost_by}
 use Rattle.ra_audit.proofs.Tracking.{tracked_on, tracked_by_event, tracked_kept, stay_kept, does_not_fit}
 use Rattle.std.proofs.lemmas.Bool.{false≢true}
@@ -78,7 +79,7 @@ returns-then-not-has_frame_of-clause-fault g c =
     let kind = c.in-Some.event.kind in
     misfit_now w nodes _ place p c.node-node.result c.in-Some.event (set-get_or nodes place c.index-nodes-place.result) c.requires.within at c.node-node.ensures
     (sym c.in-Some.ensures.value) (c.requires.ready c.index-nodes-place.result)
-    (does_not_fit c.messages_of_runs_are_known.ensures w nodes c.note_last.new.self c.node-node.result kind c.requires.audited
+    (does_not_fit messages_are_known w nodes c.note_last.new.self c.node-node.result kind c.requires.audited
     (tracked_on nodes w.moves c.args.flights.now c.note_last.new.self c.note_last.ensures.same c.requires.tracked) c.in_ok-note_last.ensures.ok
     (λ noted. false≢true (sym c.if-not-has_frame_of.true ∙ c.has_frame_of.ensures.1 noted)))
 
@@ -98,7 +99,7 @@ returns-in-Ok-clause-tracked g c =
     let w = c.args.world.now in
     let p = get_or nodes place c.index-nodes-place.result in
     let at : p ≡ get_or nodes place p = get_or_default nodes place c.index-nodes-place.result p c.requires.within in
-    (tracked_by_event c.messages_of_runs_are_known.ensures w nodes place p c.put.new.self c.in-Some.event c.in-Ok.outcome.sends.items c.in-Ok.outcome.marks.items
+    (tracked_by_event messages_are_known w nodes place p c.put.new.self c.in-Some.event c.in-Ok.outcome.sends.items c.in-Ok.outcome.marks.items
     c.note_last.new.self c.go_on.new.self c.step_of-step.result c.node-node.result c.step.new.self
     c.requires.audited c.requires.within at c.in-Some.ensures.for_node c.put.ensures.node (c.put.ensures.one_more c.in-Some.event (sym c.in-Some.ensures.value))
     c.node-node.ensures c.step_of-step.ensures c.in-Ok.ensures.ok c.step.ensures.run (c.has_frame_of.ensures.0 c.if-not-has_frame_of.false) c.in_ok-note_last.ensures.ok c.go_on.ensures
@@ -111,7 +112,7 @@ returns-in-Ok-clause-stay g c =
     let w = c.args.world.now in
     let p = get_or nodes place c.index-nodes-place.result in
     let at : p ≡ get_or nodes place p = get_or_default nodes place c.index-nodes-place.result p c.requires.within in
-    (tracked_by_event c.messages_of_runs_are_known.ensures w nodes place p c.put.new.self c.in-Some.event c.in-Ok.outcome.sends.items c.in-Ok.outcome.marks.items
+    (tracked_by_event messages_are_known w nodes place p c.put.new.self c.in-Some.event c.in-Ok.outcome.sends.items c.in-Ok.outcome.marks.items
     c.note_last.new.self c.go_on.new.self c.step_of-step.result c.node-node.result c.step.new.self
     c.requires.audited c.requires.within at c.in-Some.ensures.for_node c.put.ensures.node (c.put.ensures.one_more c.in-Some.event (sym c.in-Some.ensures.value))
     c.node-node.ensures c.step_of-step.ensures c.in-Ok.ensures.ok c.step.ensures.run (c.has_frame_of.ensures.0 c.if-not-has_frame_of.false) c.in_ok-note_last.ensures.ok c.go_on.ensures

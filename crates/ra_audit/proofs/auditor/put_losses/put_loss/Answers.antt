@@ -1,5 +1,6 @@
 use Rattle.std.proofs.Common.{◌≡◌, [], Err, ap, refl, sym, ◌∙◌, arith}
 use Rattle.std.proofs.lemmas.Bool.{false≢true}
+use Rattle.ra_audit.proofs.AuditLaws.{messages_are_known}
 use Rattle.ra_audit.proofs.AuditSteps.{advances_none, advances_kept}
 use Rattle.ra_audit.proofs.AuditLosses.{advances_by_loss, lost_one_more, few_lost, loss_refused, loss_unfit, same_error}
 use Rattle.ra_audit.proofs.Tracking.{tracked_on, tracked_kept, stay_kept, tracked_by_loss, noted_was_sent, not_noted, if_not_err}
@@ -35,7 +36,7 @@ returns-then-not-has-clause-not_lost c = λ found is.
     let nodes = c.args.nodes.now in
     let frame = c.args.frame.now in
     loss_unfit w nodes frame found
-    (not_noted c.messages_of_runs_are_known.ensures w nodes c.note_last.new.self frame c.requires.audited
+    (not_noted messages_are_known w nodes c.note_last.new.self frame c.requires.audited
     (tracked_on nodes w.moves c.args.flights.now c.note_last.new.self c.note_last.ensures.same c.requires.tracked) (if_not_err (c.note_last.new.self.last ≡ []) c.note_last.result (sym c.is_err.ensures.value ∙ c.if-is_err.false) c.note_last.ensures.ok)
     (λ noted. false≢true (sym c.if-not-has.true ∙ c.has.ensures.1 noted)))
     (same_error _ _ is)
@@ -50,7 +51,7 @@ pub returns-in-Ok-clause-tracked : goal.returns-in-Ok-clause-tracked
 returns-in-Ok-clause-tracked c =
     let w = c.args.world.now in
     let nodes = c.args.nodes.now in
-    (tracked_by_loss c.messages_of_runs_are_known.ensures w nodes c.args.frame.now.message _ _ c.note_last.new.self c.take.new.self c.step.new.self
+    (tracked_by_loss messages_are_known w nodes c.args.frame.now.message _ _ c.note_last.new.self c.take.new.self c.step.new.self
     c.requires.audited c.in-Ok.ensures.ok c.step.ensures.run (if_not_err (c.note_last.new.self.last ≡ []) c.note_last.result (sym c.is_err.ensures.value ∙ c.if-is_err.false) c.note_last.ensures.ok) c.take.ensures
     (tracked_on nodes w.moves c.args.flights.now c.note_last.new.self c.note_last.ensures.same c.requires.tracked)).0
 
@@ -58,7 +59,7 @@ pub returns-in-Ok-clause-stay : goal.returns-in-Ok-clause-stay
 returns-in-Ok-clause-stay c =
     let w = c.args.world.now in
     let nodes = c.args.nodes.now in
-    (tracked_by_loss c.messages_of_runs_are_known.ensures w nodes c.args.frame.now.message _ _ c.note_last.new.self c.take.new.self c.step.new.self
+    (tracked_by_loss messages_are_known w nodes c.args.frame.now.message _ _ c.note_last.new.self c.take.new.self c.step.new.self
     c.requires.audited c.in-Ok.ensures.ok c.step.ensures.run (if_not_err (c.note_last.new.self.last ≡ []) c.note_last.result (sym c.is_err.ensures.value ∙ c.if-is_err.false) c.note_last.ensures.ok) c.take.ensures
     (tracked_on nodes w.moves c.args.flights.now c.note_last.new.self c.note_last.ensures.same c.requires.tracked)).1
 
