@@ -15,7 +15,7 @@ use Rattle.ra_script.specs.declared.error.ScriptError.TheVariants as fault
 use Rattle.ra_script.specs.Document.{texts}
 use Rattle.ra_script.specs.Faults.{IsRefusal, of_op}
 use Rattle.ra_script.specs.Operation.{op_of}
-use Rattle.ra_script.specs.ScriptText.{with_last, is_held_after, fitting, next_op, ops_behind, script_ops}
+use Rattle.ra_script.specs.ScriptText.{with_last, is_held_after, fitting, next_op, ops_after, script_ops}
 use Rattle.ra_script.proofs.Held.{held_after, is_held_after-false}
 
 -- an operation that fits is taken as it is
@@ -96,7 +96,7 @@ pub record IsAddedTo (base : ScriptState) (node : ℕ) (strings : List (List ℕ
   pub done : List Op
   pub is : script ≡ with_last base (record { node = node; ops = done })
   pub count : length done ≡ place
-  pub same : ops_behind [] strings ≡ ops_behind done (drop place strings)
+  pub same : ops_after [] strings ≡ ops_after done (drop place strings)
   pub valid : IsScript script
 
 pub IsAddedTo-more : (base : ScriptState) (node : ℕ) (strings : List (List ℕ)) (place : ℕ) (script new : ScriptState) (string : List ℕ) → place < length strings → string ≡ get_or strings place string → length strings ≤ 1024
@@ -105,7 +105,7 @@ pub IsAddedTo-more : (base : ScriptState) (node : ℕ) (strings : List (List ℕ
     → IsScript new → IsAddedTo base node strings place script → IsAddedTo base node strings (place + 1) new
 IsAddedTo-more base node strings place script new string lt at few step valid h =
     let w = step base node h.done h.is (omega (arith, h.count)) in
-    let drop_is = at_drop_more (ops_behind h.done) strings place string lt in
+    let drop_is = at_drop_more (ops_after h.done) strings place string lt in
     record {
       done = h.done ++ w.0 ∷ [];
       is = w.2;
@@ -116,20 +116,20 @@ IsAddedTo-more base node strings place script new string lt at few step valid h 
 
 pub IsAddedTo-refused : (base : ScriptState) (node : ℕ) (strings : List (List ℕ)) (place : ℕ) (script : ScriptState) (string : List ℕ) (why : ScriptError) → place < length strings → string ≡ get_or strings place string → length strings ≤ 1024
     → ((origin : ScriptState) (n : ℕ) (done : List Op) → script ≡ with_last origin (record { node = n; ops = done }) → length done < 1024 → IsRefusal (next_op done string) why)
-    → IsAddedTo base node strings place script → IsRefusal (ops_behind [] strings) why
+    → IsAddedTo base node strings place script → IsRefusal (ops_after [] strings) why
 IsAddedTo-refused base node strings place script string why lt at few step h =
-    let drop_is = at_drop_more (ops_behind h.done) strings place string lt in
+    let drop_is = at_drop_more (ops_after h.done) strings place string lt in
     elim (step base node h.done h.is (omega (arith, h.count))) [
       | inl because ↦ inl (h.same ∙ (drop_is ∙ rw (sym at, because)))
       | inr memory ↦ inr memory
     ]
 
 pub IsAddedTo-all : (base : ScriptState) (node : ℕ) (strings : List (List ℕ)) (place : ℕ) (script : ScriptState) → length strings ≤ place
-    → (h : IsAddedTo base node strings place script) → ops_behind [] strings ≡ Ok h.done
+    → (h : IsAddedTo base node strings place script) → ops_after [] strings ≡ Ok h.done
 IsAddedTo-all base node strings place script past h = h.same ∙ rw (drop_all place strings past)
 
 -- within the limit, the operations are those of the strings
-pub script_ops-few : (strings : List (List ℕ)) → length strings ≤ 1024 → script_ops strings ≡ ops_behind [] strings
+pub script_ops-few : (strings : List (List ℕ)) → length strings ≤ 1024 → script_ops strings ≡ ops_after [] strings
 script_ops-few strings few = rw (within (length strings) few)
   where
     within : (n : ℕ) → n ≤ 1024 → nat_lt 1024 n ≡ false

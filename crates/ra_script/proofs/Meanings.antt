@@ -22,7 +22,7 @@ use Rattle.ra_script.specs.Document.{ClientTable, Document, document_of}
 use Rattle.ra_script.specs.Faults.{IsRefusal}
 use Rattle.ra_script.specs.Meaning.{written_client, written, IsNamed, Means}
 use Rattle.ra_script.specs.Operation.{op_of, spelling, name_in}
-use Rattle.ra_script.specs.ScriptText.{result_and_then, natural, is_up_to, is_held_after, fitting, next_op, ops_behind, script_ops, script_client, are_placed, clients_behind, script_in, tree_of, script_of}
+use Rattle.ra_script.specs.ScriptText.{result_and_then, natural, is_up_to, is_held_after, fitting, next_op, ops_after, script_ops, script_client, are_placed, clients_after, script_in, tree_of, script_of}
 use Rattle.ra_script.proofs.Names.{spelled_from, op_of-spelling}
 use Rattle.ra_script.proofs.Adding.{fitting-fits, script_ops-few}
 use Rattle.ra_script.proofs.Texts.{tree_of-text}
@@ -63,12 +63,12 @@ pub record AreWritten (done : List Op) (strings : List (List ℕ)) (ops : List O
   pub strings_are : strings ≡ map spelling new
   pub named : All (λ op. IsName (name_in op)) new
 
-ops_written : (done : List Op) (strings : List (List ℕ)) (ops : List Op) → ops_behind done strings ≡ Ok ops → AreWritten done strings ops
+ops_written : (done : List Op) (strings : List (List ℕ)) (ops : List Op) → ops_after done strings ≡ Ok ops → AreWritten done strings ops
 ops_written done [] ops e =
     let same : done ≡ ops = cc in
     record { new = []; is = sym same ∙ sym (append-nil done); strings_are = refl; named = All-nil (λ op. IsName (name_in op)) }
 ops_written done (string ∷ strings) ops e =
-    let w = passed (λ op. ops_behind (done ++ op ∷ []) strings) (next_op done string) ops e in
+    let w = passed (λ op. ops_after (done ++ op ∷ []) strings) (next_op done string) ops e in
     let spelled = next_op_spelled done string w.0 w.1 in
     let rest = ops_written (done ++ w.0 ∷ []) strings ops w.2 in
     record {
@@ -78,7 +78,7 @@ ops_written done (string ∷ strings) ops e =
       named = All-cons (λ op. IsName (name_in op)) w.0 rest.new spelled.1 rest.named;
     }
 
-limited : (strings : List (List ℕ)) (ops : List Op) → script_ops strings ≡ Ok ops → ops_behind [] strings ≡ Ok ops
+limited : (strings : List (List ℕ)) (ops : List Op) → script_ops strings ≡ Ok ops → ops_after [] strings ≡ Ok ops
 limited strings ops e =
     elim (cases_Bool (nat_lt 1024 (length strings))) [
       | inl many ↦ absurd (let clash : Err fault.Limit ≡ Ok ops = rw many at e in cc)
@@ -109,13 +109,13 @@ pub record AreTables (done : List ScriptClient) (tables : List ClientTable) (cli
   pub named : All IsNamed new
 
 clients_written : (nodes : ℕ) (done : List ScriptClient) (tables : List ClientTable) (clients : List ScriptClient) → list_all (λ (t : ClientTable). is_up_to nodes t.node) tables ≡ true
-    → clients_behind done tables ≡ Ok clients → AreTables done tables clients
+    → clients_after done tables ≡ Ok clients → AreTables done tables clients
 clients_written nodes done [] clients placed e =
     let same : done ≡ clients = cc in
     record { new = []; is = sym same ∙ sym (append-nil done); tables_are = refl; named = All-nil IsNamed }
 clients_written nodes done (table ∷ tables) clients placed e =
     let (here, others) = and_parts (is_up_to nodes table.node) (list_all (λ (t : ClientTable). is_up_to nodes t.node) tables) placed in
-    let w = passed (λ c. clients_behind (done ++ c ∷ []) tables) (script_client table) clients e in
+    let w = passed (λ c. clients_after (done ++ c ∷ []) tables) (script_client table) clients e in
     let first = client_written nodes table w.0 here w.1 in
     let rest = clients_written nodes (done ++ w.0 ∷ []) tables clients others w.2 in
     record {
@@ -132,7 +132,7 @@ pub record IsWritten (document : Document) (script : ScriptState) : Type 0 where
   pub named : All IsNamed script.clients
 
 taken : (document : Document) (script : ScriptState) (clients : List ScriptClient) → is_up_to 64 document.nodes ≡ true → are_placed (natural document.nodes) document.clients ≡ true
-    → clients_behind [] document.clients ≡ Ok clients → record { nodes = natural document.nodes; clients = clients } ≡ script → IsWritten document script
+    → clients_after [] document.clients ≡ Ok clients → record { nodes = natural document.nodes; clients = clients } ≡ script → IsWritten document script
 taken document script clients within placed read same =
     let (counts, each) = and_parts (nat_le 1 (length document.clients) && nat_le (length document.clients) 64) (list_all (λ (t : ClientTable). is_up_to (natural document.nodes) t.node) document.clients) placed in
     let (some, few) = and_parts (nat_le 1 (length document.clients)) (nat_le (length document.clients) 64) counts in
@@ -159,7 +159,7 @@ document_written document script e =
             | inr bad ↦ absurd (let clash : Err fault.Clients ≡ Ok script = rw (within, bad) at e in cc)
             | inl placed ↦
                 let made : List ScriptClient → Result ScriptState ScriptError = λ clients. Ok (record { nodes = natural document.nodes; clients = clients }) in
-                let w = passed made (clients_behind [] document.clients) script (rw (within, placed) at e) in
+                let w = passed made (clients_after [] document.clients) script (rw (within, placed) at e) in
                 let state : ScriptState = record { nodes = natural document.nodes; clients = w.0 } in
                 let is-ok : Ok state ≡ Ok script = w.2 in
                 let same : state ≡ script = cc in
@@ -200,7 +200,7 @@ means text script e valid =
     }
 
 -- the operations that are written are read
-ops_read : (done rest : List Op) → ((before after : List Op) (op : Op) → rest ≡ before ++ op ∷ after → Fits (done ++ before) op) → All (λ op. IsName (name_in op)) rest → ops_behind done (map spelling rest) ≡ Ok (done ++ rest)
+ops_read : (done rest : List Op) → ((before after : List Op) (op : Op) → rest ≡ before ++ op ∷ after → Fits (done ++ before) op) → All (λ op. IsName (name_in op)) rest → ops_after done (map spelling rest) ≡ Ok (done ++ rest)
 ops_read done [] fits named = ap Ok (sym (append-nil done))
 ops_read done (op ∷ rest) fits named =
     let here : Fits done op = rw append-nil at (fits [] rest op refl) in
@@ -214,7 +214,7 @@ client_read nodes client h named =
     let read = ops_read [] client.ops h.plan named in
     rw (script_ops-few (map spelling client.ops) few, read)
 
-clients_read : (nodes : ℕ) (done rest : List ScriptClient) → All (IsScriptClient nodes) rest → All IsNamed rest → clients_behind done (map written_client rest) ≡ Ok (done ++ rest)
+clients_read : (nodes : ℕ) (done rest : List ScriptClient) → All (IsScriptClient nodes) rest → All IsNamed rest → clients_after done (map written_client rest) ≡ Ok (done ++ rest)
 clients_read nodes done [] each named = ap Ok (sym (append-nil done))
 clients_read nodes done (client ∷ rest) each named =
     let here = client_read nodes client (All-head (IsScriptClient nodes) client rest each) (All-head IsNamed client rest named) in

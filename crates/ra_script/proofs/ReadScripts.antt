@@ -13,7 +13,7 @@ use Rattle.ra_script.specs.declared.error.ScriptError.{ScriptError}
 use Rattle.ra_script.specs.declared.error.ScriptError.TheVariants as fault
 use Rattle.ra_script.specs.Document.{ClientTable, Document, document_of}
 use Rattle.ra_script.specs.Operation.{op_of}
-use Rattle.ra_script.specs.ScriptText.{result_and_then, natural, is_up_to, is_held_after, fitting, next_op, ops_behind, script_ops, script_client, clients_behind, are_placed, script_in, tree_of, script_of}
+use Rattle.ra_script.specs.ScriptText.{result_and_then, natural, is_up_to, is_held_after, fitting, next_op, ops_after, script_ops, script_client, clients_after, are_placed, script_in, tree_of, script_of}
 use Rattle.ra_script.proofs.Held.{held_after, is_held_after-false}
 use Rattle.ra_script.proofs.Scripts.{placed_few, up_to_parts}
 
@@ -67,10 +67,10 @@ next_ok done string next is =
     let both = fitting_ok done op next fits in
     subst (Fits done) both.0 both.1
 
-ops_ok : (strings : List (List ℕ)) (done ops : List Op) → IsPlan done → ops_behind done strings ≡ Ok ops → IsPlan ops × (length ops ≡ length done + length strings)
+ops_ok : (strings : List (List ℕ)) (done ops : List Op) → IsPlan done → ops_after done strings ≡ Ok ops → IsPlan ops × (length ops ≡ length done + length strings)
 ops_ok [] done ops plan is = let same : done ≡ ops = ok_same is in (subst IsPlan same plan, omega (arith, ap length same))
 ops_ok (string ∷ strings) done ops plan is =
-    let (op, next, rest) = and_then_ok (λ op. ops_behind (done ++ op ∷ []) strings) (next_op done string) ops is in
+    let (op, next, rest) = and_then_ok (λ op. ops_after (done ++ op ∷ []) strings) (next_op done string) ops is in
     let more = ops_ok strings (done ++ op ∷ []) ops (plan_pushed done op plan (next_ok done string op next)) rest in
     (more.0, omega (arith, more.1, length-append done (op ∷ [])))
 
@@ -83,9 +83,9 @@ few n is = grind (arith, nat_tests)
 
 script_ops_ok : (strings : List (List ℕ)) (ops : List Op) → script_ops strings ≡ Ok ops → IsPlan ops × (length ops ≤ 1024)
 script_ops_ok strings ops is = elim (cases_Bool (nat_lt 1024 (length strings))) [
-  | inl many ↦ absurd (err_ok (subst (λ (b : Bool). (if b then Err fault.Limit else ops_behind [] strings) ≡ Ok ops) many is))
+  | inl many ↦ absurd (err_ok (subst (λ (b : Bool). (if b then Err fault.Limit else ops_after [] strings) ≡ Ok ops) many is))
   | inr low ↦
-      let both = ops_ok strings [] ops no_plan (subst (λ (b : Bool). (if b then Err fault.Limit else ops_behind [] strings) ≡ Ok ops) low is) in
+      let both = ops_ok strings [] ops no_plan (subst (λ (b : Bool). (if b then Err fault.Limit else ops_after [] strings) ≡ Ok ops) low is) in
       (both.0, omega (arith, both.1, few (length strings) low))
 ]
 
@@ -100,13 +100,13 @@ client_ok nodes table client placed is =
     subst (IsScriptClient nodes) made_is (record { first = at.0; last = at.1; at_most = both.1; plan = both.0 })
 
 clients_ok : (nodes : ℕ) (tables : List ClientTable) (done clients : List ScriptClient) → All (IsScriptClient nodes) done
-    → list_all (λ t. is_up_to nodes t.node) tables ≡ true → clients_behind done tables ≡ Ok clients
+    → list_all (λ t. is_up_to nodes t.node) tables ≡ true → clients_after done tables ≡ Ok clients
     → All (IsScriptClient nodes) clients × (length clients ≡ length done + length tables)
 clients_ok nodes [] done clients all placed is =
     let same : done ≡ clients = ok_same is in (subst (All (IsScriptClient nodes)) same all, omega (arith, ap length same))
 clients_ok nodes (table ∷ tables) done clients all placed is =
     let both = and_parts (is_up_to nodes table.node) (list_all (λ (t : ClientTable). is_up_to nodes t.node) tables) placed in
-    let (client, got, rest) = and_then_ok (λ c. clients_behind (done ++ c ∷ []) tables) (script_client table) clients is in
+    let (client, got, rest) = and_then_ok (λ c. clients_after (done ++ c ∷ []) tables) (script_client table) clients is in
     let more = clients_ok nodes tables (done ++ client ∷ []) clients
     (All-push (IsScriptClient nodes) done client all (client_ok nodes table client both.0 got)) both.1 rest in
     (more.0, omega (arith, more.1, length-append done (client ∷ [])))
@@ -115,8 +115,8 @@ clients_ok nodes (table ∷ tables) done clients all placed is =
 
 in_parts : (document : Document) (script : ScriptState) (a b : Bool)
     → (if not a then Err fault.Nodes else if not b then Err fault.Clients
-    else result_and_then (λ clients. Ok (record { nodes = natural document.nodes; clients = clients })) (clients_behind [] document.clients)) ≡ Ok script
-    → (a ≡ true) × (b ≡ true) × (result_and_then (λ clients. Ok (record { nodes = natural document.nodes; clients = clients })) (clients_behind [] document.clients) ≡ Ok script)
+    else result_and_then (λ clients. Ok (record { nodes = natural document.nodes; clients = clients })) (clients_after [] document.clients)) ≡ Ok script
+    → (a ≡ true) × (b ≡ true) × (result_and_then (λ clients. Ok (record { nodes = natural document.nodes; clients = clients })) (clients_after [] document.clients) ≡ Ok script)
 in_parts document script true true is = (refl, refl, is)
 in_parts document script true false is = absurd (err_ok is)
 in_parts document script false b is = absurd (err_ok is)
@@ -125,7 +125,7 @@ document_ok : (document : Document) (script : ScriptState) → script_in documen
 document_ok document script is =
     let nodes = natural document.nodes in
     let parts = in_parts document script (is_up_to 64 document.nodes) (are_placed nodes document.clients) is in
-    let (clients, got, made) = and_then_ok (λ clients. Ok (record { nodes = natural document.nodes; clients = clients })) (clients_behind [] document.clients) script parts.2 in
+    let (clients, got, made) = and_then_ok (λ clients. Ok (record { nodes = natural document.nodes; clients = clients })) (clients_after [] document.clients) script parts.2 in
     let each = (and_parts _ (list_all (λ (t : ClientTable). is_up_to nodes t.node) document.clients) parts.1).1 in
     let both = clients_ok nodes document.clients [] clients (All-nil (IsScriptClient nodes)) each got in
     let made_is : record { nodes = nodes; clients = clients } ≡ script = ok_same made in

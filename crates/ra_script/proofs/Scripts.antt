@@ -12,7 +12,7 @@ use Rattle.ra_script.specs.declared.error.ScriptError.{ScriptError}
 use Rattle.ra_script.specs.declared.error.ScriptError.TheVariants as fault
 use Rattle.ra_script.specs.Document.{ClientTable, Document, client_table}
 use Rattle.ra_script.specs.Faults.{IsRefusal}
-use Rattle.ra_script.specs.ScriptText.{with_last, result_and_then, natural, is_up_to, are_placed, script_ops, script_client, clients_behind, script_in}
+use Rattle.ra_script.specs.ScriptText.{with_last, result_and_then, natural, is_up_to, are_placed, script_ops, script_client, clients_after, script_in}
 
 -- a number that was looked at
 pub up_to_some : (b : Bool) (m n : ℕ) → Some m ≡ (if b then Some n else None) → (b ≡ true) × (m ≡ n)
@@ -56,14 +56,14 @@ some_up_to false o n e within = absurd cc
 pub record IsScriptTo (nodes : ℕ) (tables : List ClientTable) (place : ℕ) (script : ScriptState) : Type 0 where
   pub nodes_are : script.nodes ≡ nodes
   pub count : length script.clients ≡ place
-  pub same : clients_behind [] tables ≡ clients_behind script.clients (drop place tables)
+  pub same : clients_after [] tables ≡ clients_after script.clients (drop place tables)
   pub valid : IsScript script
 
 pub IsScriptTo-none : (nodes : ℕ) (tables : List ClientTable) (script : ScriptState) → script ≡ record { nodes = nodes; clients = [] } → IsScript script → IsScriptTo nodes tables 0 script
 IsScriptTo-none nodes tables script is valid = record {
   nodes_are = ap (λ (s : ScriptState). s.nodes) is;
   count = ap (λ (s : ScriptState). length s.clients) is;
-  same = ap (λ (s : ScriptState). clients_behind s.clients tables) (sym is);
+  same = ap (λ (s : ScriptState). clients_after s.clients tables) (sym is);
   valid = valid;
 }
 
@@ -75,7 +75,7 @@ pub IsScriptTo-more : (nodes : ℕ) (tables : List ClientTable) (place : ℕ) (s
     → IsScriptTo nodes tables place script → IsScriptTo nodes tables (place + 1) new
 IsScriptTo-more nodes tables place script new table node lt at same step valid h =
     let client : ScriptClient = record { node = node; ops = step.0 } in
-    let drop_is = at_drop_more (clients_behind script.clients) tables place table lt in
+    let drop_is = at_drop_more (clients_after script.clients) tables place table lt in
     let clients : new.clients ≡ script.clients ++ client ∷ [] = ap (λ (s : ScriptState). s.clients) step.2 in
     record {
       nodes_are = ap (λ (s : ScriptState). s.nodes) step.2 ∙ h.nodes_are;
@@ -88,9 +88,9 @@ refused_client : (o : Result (List Op) ScriptError) (why : ScriptError) (node : 
 refused_client o why node e = rw e
 
 pub IsScriptTo-refused : (nodes : ℕ) (tables : List ClientTable) (place : ℕ) (script : ScriptState) (table : ClientTable) (why : ScriptError) → place < length tables → table ≡ get_or tables place table
-    → IsRefusal (script_ops table.ops) why → IsScriptTo nodes tables place script → IsRefusal (clients_behind [] tables) why
+    → IsRefusal (script_ops table.ops) why → IsScriptTo nodes tables place script → IsRefusal (clients_after [] tables) why
 IsScriptTo-refused nodes tables place script table why lt at refusal h =
-    let drop_is = at_drop_more (clients_behind script.clients) tables place table lt in
+    let drop_is = at_drop_more (clients_after script.clients) tables place table lt in
     elim refusal [
       | inl because ↦
           let no_client : script_client table ≡ Err why = refused_client (script_ops table.ops) why (natural table.node) because in
@@ -98,7 +98,7 @@ IsScriptTo-refused nodes tables place script table why lt at refusal h =
       | inr memory ↦ inr memory
     ]
 
-pub IsScriptTo-all : (nodes : ℕ) (tables : List ClientTable) (place : ℕ) (script : ScriptState) → length tables ≤ place → IsScriptTo nodes tables place script → clients_behind [] tables ≡ Ok script.clients
+pub IsScriptTo-all : (nodes : ℕ) (tables : List ClientTable) (place : ℕ) (script : ScriptState) → length tables ≤ place → IsScriptTo nodes tables place script → clients_after [] tables ≡ Ok script.clients
 IsScriptTo-all nodes tables place script past h = h.same ∙ rw (drop_all place tables past)
 
 -- the checks before the operations
@@ -118,7 +118,7 @@ script_in-ok document nodes script within same placed h =
     rw (within, placed-too, all, nodes-too)
 
 pub script_in-refused : (document : Document) (nodes : ℕ) (why : ScriptError) → is_up_to 64 document.nodes ≡ true → nodes ≡ natural document.nodes → are_placed nodes document.clients ≡ true
-    → IsRefusal (clients_behind [] document.clients) why → IsRefusal (script_in document) why
+    → IsRefusal (clients_after [] document.clients) why → IsRefusal (script_in document) why
 script_in-refused document nodes why within same placed refusal =
     let placed-too : are_placed (natural document.nodes) document.clients ≡ true = rw (← same) placed in
     elim refusal [

@@ -50,22 +50,22 @@ abbrev pub next_op : List Op → List ℕ → Result Op ScriptError
 next_op done string = result_and_then (fitting done) (ok_or (op_of string) fault.Op)
 
 -- the operations that are done, and after them those of these strings
-abbrev pub ops_behind : List Op → List (List ℕ) → Result (List Op) ScriptError
-ops_behind done [] = Ok done
-ops_behind done (string ∷ strings) = result_and_then (λ op. ops_behind (done ++ op ∷ []) strings) (next_op done string)
+abbrev pub ops_after : List Op → List (List ℕ) → Result (List Op) ScriptError
+ops_after done [] = Ok done
+ops_after done (string ∷ strings) = result_and_then (λ op. ops_after (done ++ op ∷ []) strings) (next_op done string)
 
 -- the operations of a client, of which there are at most 1,024
 abbrev pub script_ops : List (List ℕ) → Result (List Op) ScriptError
-script_ops strings = if nat_lt 1024 (length strings) then Err fault.Limit else ops_behind [] strings
+script_ops strings = if nat_lt 1024 (length strings) then Err fault.Limit else ops_after [] strings
 
 -- a client of a script, from its table
 abbrev pub script_client : ClientTable → Result ScriptClient ScriptError
 script_client client = result_and_then (λ ops. Ok (record { node = natural client.node; ops = ops })) (script_ops client.ops)
 
 -- the clients that are done, and after them those of these tables
-abbrev pub clients_behind : List ScriptClient → List ClientTable → Result (List ScriptClient) ScriptError
-clients_behind done [] = Ok done
-clients_behind done (client ∷ clients) = result_and_then (λ c. clients_behind (done ++ c ∷ []) clients) (script_client client)
+abbrev pub clients_after : List ScriptClient → List ClientTable → Result (List ScriptClient) ScriptError
+clients_after done [] = Ok done
+clients_after done (client ∷ clients) = result_and_then (λ c. clients_after (done ++ c ∷ []) clients) (script_client client)
 
 -- whether there are 1 to 64 clients, each at one of the nodes
 abbrev pub are_placed : ℕ → List ClientTable → Bool
@@ -77,7 +77,7 @@ abbrev pub script_in : Document → Result ScriptState ScriptError
 script_in document =
     if not (is_up_to 64 document.nodes) then Err fault.Nodes
     else if not (are_placed (natural document.nodes) document.clients) then Err fault.Clients
-    else result_and_then (λ clients. Ok (record { nodes = natural document.nodes; clients = clients })) (clients_behind [] document.clients)
+    else result_and_then (λ clients. Ok (record { nodes = natural document.nodes; clients = clients })) (clients_after [] document.clients)
 
 -- the parser's tree of a text
 abbrev pub tree_of : List ℕ → Result Members ScriptError

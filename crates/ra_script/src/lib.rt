@@ -17,4 +17,4 @@ pub use performing::output_kind::OutputKind;
 pub use performing::printed::Printed;
 pub use performing::{MAX_TURNS, perform, perform_as, perform_trace};
 pub use script_reading::explaining::explain_script;
-pub use script_reading::read_script;
+pub use script_reading::{MAX_SCRIPT, read_script};

@@ -11,6 +11,7 @@ ghost use Rattle.ra_script.specs.Printing.{PrintsRun};
 use crate::laws::{choices_have_words_unless_messages_are_repeated, read_scripts_come_to_rest};
 use crate::performing::output_kind::OutputKind;
 use crate::performing::printed::Printed;
+use crate::script_reading::MAX_SCRIPT;
 use crate::{ChoicesError, PerformError, choices_text, read_script};
 use ra_schedule::{Choices, Policy, Script, Shown, drive, show, shrink, summarize};
 use ra_stamp::Memory;
@@ -18,9 +19,6 @@ use ra_trace::trace_text;
 use ra_world::{read_up_to, report_text, runs_are_determined, write_out};
 use std::alloc::Global;
 use std::io::{Read, Write};
-
-/// The most bytes that are read: one more than a script may have.
-const MAX_INPUT: usize = 65_537;
 
 /// The most turns that a run of a script may take.
 pub const MAX_TURNS: u64 = 16_777_216;
@@ -208,7 +206,7 @@ pub fn perform_as<R: Read, W: Write>(
         (W.contents writer.old) (W.contents writer.new) (writer.new ≡ writer.old) result }
 {
     read_scripts_come_to_rest();
-    let input = read_up_to(alloc, reader, MAX_INPUT)?;
+    let input = read_up_to(alloc, reader, MAX_SCRIPT + 1)?;
     let script = read_script(alloc, &input)?;
     let printed = print_run(alloc, format, policy, &script)?;
     write_out(writer, printed.text.as_bytes())?;

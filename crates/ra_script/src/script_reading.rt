@@ -23,8 +23,8 @@ use ra_stamp::NodeId;
 use std::alloc::Global;
 use toml::Table;
 
-/// The most bytes of a text.
-pub const MAX_TEXT: usize = 65_536;
+/// The most bytes that the text of a script may have.
+pub const MAX_SCRIPT: usize = 65_536;
 
 /// Returns the tree of a text.
 ///
@@ -42,7 +42,7 @@ fn tree_of(alloc: Global, text: &[u8]) -> Result<Table, ScriptError>
     ensures parsed { OnOk result (IsText text.now) }
     ensures memory { IsErrOf result ScriptError.Memory → IsText text.now }
 {
-    if text.len() > MAX_TEXT {
+    if text.len() > MAX_SCRIPT {
         return Err(ScriptError::Limit);
     }
     let Ok(text) = str::from_utf8(text) else {
@@ -172,8 +172,8 @@ fn script_with(alloc: Global, nodes: u16, clients: &[ClientRef<'_>]) -> Result<S
     requires placed { IsTrue (spec.are_placed nodes (map client_table clients.now)) }
     ensures nodes { IfOk result (λ script. script.nodes ≡ nodes) }
     ensures clients { IfOk result (λ script.
-        spec.clients_behind [] (map client_table clients.now) ≡ Ok script.clients) }
-    ensures err { IfErr result (IsRefusal (spec.clients_behind [] (map client_table clients.now))) }
+        spec.clients_after [] (map client_table clients.now) ≡ Ok script.clients) }
+    ensures err { IfErr result (IsRefusal (spec.clients_after [] (map client_table clients.now))) }
     ensures script { IfOk result IsScript }
 {
     let mut script = Script::new(alloc, nodes)?;

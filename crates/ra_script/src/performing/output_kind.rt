@@ -1,5 +1,5 @@
 /// What is written of a run.
-#[derive(Clone, Copy, Debug)]
+#[derive(Clone, Copy)]
 pub enum OutputKind {
     /// The lines of its report.
     Lines,

@@ -2,7 +2,7 @@
 use crate::ScriptError;
 use crate::script_reading::document::{ClientRef, DocumentRef, document_of};
 use crate::script_reading::shape_note::say_shape;
-use crate::script_reading::{MAX_TEXT, add_op};
+use crate::script_reading::{MAX_SCRIPT, add_op};
 use ra_schedule::Script;
 use ra_stamp::{Memory, NodeId};
 use ra_world::Note;
@@ -180,7 +180,7 @@ fn say_text(alloc: Global, note: &mut Note, text: &str) {
 }
 
 /// Returns the line and the column, in bytes, of what follows these bytes. Both are counted from 1.
-fn place_behind(text: &[u8]) -> (usize, usize) {
+fn place_after(text: &[u8]) -> (usize, usize) {
     let (mut line, mut column): (usize, usize) = (1, 1);
     for byte in text {
         if *byte == b'\n' {
@@ -198,7 +198,7 @@ fn say_bytes(alloc: Global, note: &mut Note, text: &[u8]) {
     match str::from_utf8(text) {
         Ok(text) => say_text(alloc, note, text),
         Err(fault) => {
-            let (line, column) = place_behind(text.get(..fault.valid_up_to()).unwrap_or(b""));
+            let (line, column) = place_after(text.get(..fault.valid_up_to()).unwrap_or(b""));
             note.push("the script is not valid UTF-8 at line ");
             note.number(line);
             note.push(", column ");
@@ -217,7 +217,7 @@ fn say_bytes(alloc: Global, note: &mut Note, text: &[u8]) {
 /// `Memory`: there is no room for it.
 pub fn explain_script(alloc: Global, text: &[u8]) -> Result<Option<String>, Memory> {
     let mut note = Note::new(alloc);
-    if text.len() > MAX_TEXT {
+    if text.len() > MAX_SCRIPT {
         note.push("the script has more than 65536 bytes");
     } else {
         say_bytes(alloc, &mut note, text);

@@ -5,22 +5,22 @@ use Rattle.ra_script.proofs.script_reading.tree_of.Goals as goal
 
 -- ---- The text is too long
 
-pub returns-then-text-gt-MAX_TEXT-clause-err : goal.returns-then-text-gt-MAX_TEXT-clause-err
-returns-then-text-gt-MAX_TEXT-clause-err c = inl (tree_of-long c.args.text.now c.if-text-gt-MAX_TEXT.true)
+pub returns-then-text-gt-MAX_SCRIPT-clause-err : goal.returns-then-text-gt-MAX_SCRIPT-clause-err
+returns-then-text-gt-MAX_SCRIPT-clause-err c = inl (tree_of-long c.args.text.now c.if-text-gt-MAX_SCRIPT.true)
 
-pub returns-then-text-gt-MAX_TEXT-clause-limit : goal.returns-then-text-gt-MAX_TEXT-clause-limit
-returns-then-text-gt-MAX_TEXT-clause-limit c = λ _. refl
+pub returns-then-text-gt-MAX_SCRIPT-clause-limit : goal.returns-then-text-gt-MAX_SCRIPT-clause-limit
+returns-then-text-gt-MAX_SCRIPT-clause-limit c = λ _. refl
 
-pub returns-then-text-gt-MAX_TEXT-clause-memory : goal.returns-then-text-gt-MAX_TEXT-clause-memory
-returns-then-text-gt-MAX_TEXT-clause-memory c = limit_is_not_memory
+pub returns-then-text-gt-MAX_SCRIPT-clause-memory : goal.returns-then-text-gt-MAX_SCRIPT-clause-memory
+returns-then-text-gt-MAX_SCRIPT-clause-memory c = limit_is_not_memory
 
 -- ---- It is not UTF-8
 
 pub returns-in_default-clause-err : goal.returns-in_default-clause-err
-returns-in_default-clause-err c = inl (tree_of-bytes c.args.text.now c.if-text-gt-MAX_TEXT.false c.in_default.ensures.cases.0)
+returns-in_default-clause-err c = inl (tree_of-bytes c.args.text.now c.if-text-gt-MAX_SCRIPT.false c.in_default.ensures.cases.0)
 
 pub returns-in_default-clause-limit : goal.returns-in_default-clause-limit
-returns-in_default-clause-limit c = not_both (length c.args.text.now) c.if-text-gt-MAX_TEXT.false
+returns-in_default-clause-limit c = not_both (length c.args.text.now) c.if-text-gt-MAX_SCRIPT.false
 
 pub returns-in_default-clause-memory : goal.returns-in_default-clause-memory
 returns-in_default-clause-memory c = toml_is_not_memory
@@ -29,14 +29,14 @@ returns-in_default-clause-memory c = toml_is_not_memory
 
 pub returns-in-Ok-table_from_str-clause-ok : goal.returns-in-Ok-table_from_str-clause-ok
 returns-in-Ok-table_from_str-clause-ok c =
-    tree_of-text c.args.text.now c.if-text-gt-MAX_TEXT.false c.in-Ok.ensures.cases.1
+    tree_of-text c.args.text.now c.if-text-gt-MAX_SCRIPT.false c.in-Ok.ensures.cases.1
     ∙ ap (λ o. ok_or o fault.Toml) (rw c.in-Ok.ensures.cases.0 at c.in-Ok-table_from_str.ensures.ok)
 
 pub returns-in-Ok-table_from_str-clause-limit : goal.returns-in-Ok-table_from_str-clause-limit
-returns-in-Ok-table_from_str-clause-limit c = not_both (length c.args.text.now) c.if-text-gt-MAX_TEXT.false
+returns-in-Ok-table_from_str-clause-limit c = not_both (length c.args.text.now) c.if-text-gt-MAX_SCRIPT.false
 
 pub returns-in-Ok-table_from_str-clause-parsed : goal.returns-in-Ok-table_from_str-clause-parsed
-returns-in-Ok-table_from_str-clause-parsed c = is_text c.args.text.now c.if-text-gt-MAX_TEXT.false c.in-Ok.ensures.cases.1
+returns-in-Ok-table_from_str-clause-parsed c = is_text c.args.text.now c.if-text-gt-MAX_SCRIPT.false c.in-Ok.ensures.cases.1
 
 pub returns-in-Ok-table_from_str-clause-memory : goal.returns-in-Ok-table_from_str-clause-memory
 returns-in-Ok-table_from_str-clause-memory c = not_refused _ _
@@ -47,7 +47,7 @@ pub returns-in-Err-clause-err : goal.returns-in-Err-clause-err
 returns-in-Err-clause-err c = inr refl
 
 pub returns-in-Err-clause-limit : goal.returns-in-Err-clause-limit
-returns-in-Err-clause-limit c = not_both (length c.args.text.now) c.if-text-gt-MAX_TEXT.false
+returns-in-Err-clause-limit c = not_both (length c.args.text.now) c.if-text-gt-MAX_SCRIPT.false
 
 pub returns-in-Err-clause-memory : goal.returns-in-Err-clause-memory
-returns-in-Err-clause-memory c memory = is_text c.args.text.now c.if-text-gt-MAX_TEXT.false c.in-Ok.ensures.cases.1
+returns-in-Err-clause-memory c memory = is_text c.args.text.now c.if-text-gt-MAX_SCRIPT.false c.in-Ok.ensures.cases.1
