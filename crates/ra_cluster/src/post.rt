@@ -5,7 +5,7 @@ ghost use Rattle.ra_cluster.specs.Cluster.{ChecksCount};
 
 use crossbeam_channel::{Receiver, Sender, unbounded};
 use ra_frame::{Frame, encode};
-use ra_stamp::{Memory, NodeId};
+use ra_stamp::{Memory, NodeCount, NodeId};
 use std::alloc::Global;
 use std::sync::{RwLock, Wait};
 use std::{fmt, thread};
@@ -74,7 +74,7 @@ impl Post {
         ensures inboxes { IfOk result (λ made. vec_len made.1 ≡ nodes) }
         ensures count { ChecksCount nodes result }
     {
-        if NodeId::new(nodes).is_none() {
+        if NodeCount::new(nodes).is_none() {
             return Err(NewPostError::BadCount);
         }
         let mut senders = Vec::new(alloc);

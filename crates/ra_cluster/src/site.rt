@@ -6,7 +6,7 @@ pub mod stop_causes;
 pub mod take_error;
 pub mod ticket;
 
-ghost use Rattle.std.specs.Prelude.{◌≡◌, ◌↔◌, ◌⊎◌, ◌≤◌, ◌<◌, [], All, IfOk, IsErrOf, IsTrue};
+ghost use Rattle.std.specs.Prelude.{◌≡◌, ◌⊎◌, ◌≤◌, [], All, IfOk, IsTrue};
 ghost use Rattle.ra_stamp.specs.NodeId.{IsNodeNumber};
 ghost use Rattle.ra_frame.specs.Fits.{Fits};
 
@@ -69,6 +69,7 @@ impl Model for Site {
 }
 
 impl Site {
+    ghost use Rattle.ra_automaton.specs.Members.{ChecksMember};
     ghost use Rattle.ra_history.specs.Book.{HasHistory, IsWhole};
     ghost use Rattle.ra_cluster.specs.ClientGrant.{IsGrantOf};
     ghost use Rattle.ra_cluster.specs.Handing.{IsHandedOver, OnlyTurnOrMemory};
@@ -85,9 +86,7 @@ impl Site {
     /// 2. `BadNode`: `me` is above `nodes`.
     pub fn new(alloc: Global, me: NodeId, nodes: u16, start: u64) -> Result<Site, NewError>
         ensures ok { IfOk result (λ site. site ≡ me) }
-        ensures bad_count { IsErrOf result NewError.BadCount ↔ (IsNodeNumber nodes → ⊥) }
-        ensures bad_node { IsErrOf result NewError.BadNode ↔ (IsNodeNumber nodes × (nodes < me)) }
-        ensures no_memory { IsErrOf result NewError.Memory → ⊥ }
+        ensures member { ChecksMember me nodes result }
     {
         let book = Book::new(alloc, me, nodes, start)?;
         Ok(Site::of(alloc, book, false))

@@ -24,7 +24,7 @@ impl<G: Gate> Gate for &G {
 }
 
 /// The gate that lets everything pass. Its calls do not allocate.
-#[derive(Clone, Copy, Debug, PartialEq, Eq)]
+#[derive(Clone, Copy)]
 pub struct OpenGate;
 
 impl Gate for OpenGate {
