@@ -1,3 +1,3 @@
 //! What is told to a person.
 pub mod asked_notes;
-pub mod explained;
+pub mod explained_texts;

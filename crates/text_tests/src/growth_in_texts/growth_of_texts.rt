@@ -3,7 +3,7 @@ use crate::note_tests::asked_notes::Asked::{
     Choice, Digits, Field, Frame, Kept, Order, Script, Unanswered, Unfinished,
 };
 use crate::note_tests::asked_notes::{Note, Told, Wrong, said};
-use crate::note_tests::explained::{A_DEADLOCK, A_KEEPER, DEADLOCK_NOTE};
+use crate::note_tests::explained_texts::{A_DEADLOCK, A_KEEPER, DEADLOCK_NOTE};
 use crate::pictures::{drawn_marks_to, drawn_to};
 use crate::script_texts::choice_words::choices_of;
 use crate::script_texts::performed_scripts::{performed, reader_of, text_of};
@@ -11,7 +11,7 @@ use crate::script_texts::script_clients::script_of;
 use crate::shared_texts::{ONE_LOCK, ONE_LOCK_SCRIPT, TWO_LOCKS, failing};
 use crate::text_asserting::assert_grown;
 use crate::trace_tests::log_readers::TWO_WRITERS;
-use crate::trace_tests::readers::{Judged, Way, checked_text};
+use crate::trace_tests::trace_readers::{Judged, Way, checked_text};
 use crate::trace_tests::traced_steps::{fault_of_steps, steps_of, text_of_steps};
 use ra_draw::{DrawError, Part};
 use ra_explain::Unanswered::WrongNode;

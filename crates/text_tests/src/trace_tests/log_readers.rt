@@ -1,7 +1,7 @@
 //! How far `check_marks` and `check_marks_buffered` read, and how they treat readers that fail or give a log in pieces.
 use crate::shared_texts::Part;
 use crate::text_asserting::assert_same;
-use crate::trace_tests::readers::{Case, Way, assert_cases, assert_not_tried_again};
+use crate::trace_tests::trace_readers::{Case, Way, assert_cases, assert_not_tried_again};
 use ErrorKind::WouldBlock;
 use Part::{Text, Times};
 use Way::{Failing, InPieces, Within};

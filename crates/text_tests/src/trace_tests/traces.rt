@@ -84,7 +84,7 @@ repeat request 1 2 r X 1
 ];
 
 #[test]
-fn nothing_is_written_where_the_steps_are_no_run(rt: HostRuntime) {
+fn nothing_is_written_if_the_steps_are_no_run(rt: HostRuntime) {
     assert_no_runs(&rt, NO_RUNS);
 }
 

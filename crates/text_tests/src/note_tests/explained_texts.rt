@@ -178,7 +178,7 @@ const UNSAID: &[Note] = &[
 ];
 
 #[test]
-fn nothing_is_said_where_nothing_is_wrong(rt: HostRuntime) {
+fn nothing_is_said_if_nothing_is_wrong(rt: HostRuntime) {
     assert_said(&rt, "nothing is wrong", UNSAID);
 }
 
