@@ -1,9 +1,9 @@
 //! The texts for lines that do not belong in a trace or mark log, or that are out of place.
 use crate::hint::{AT_BOTH, AT_FIRST, AT_LATER, AT_MARKS, TAB, hint_at};
 use crate::trace_notes::line_fault::{push_fields, push_line_fault};
-use crate::trace_notes::line_form::{FIRST_FORMS, MARK_FORMS, STEP_FORMS, form_of};
-use crate::trace_notes::text_line::{MAX_LINE, TextLine};
-use ra_trace::Version;
+use crate::trace_notes::line_form::{FIRST_LINES, LATER_LINES, MARKS, kind_of, version_of};
+use crate::trace_notes::text_line::TextLine;
+use ra_trace::{MAX_LINE, Version};
 use ra_world::Note;
 
 /// The text for a later line that does not begin with any of the words of a trace.
@@ -45,20 +45,9 @@ fn unless_tab<'a>(line: &[u8], text: &'a str) -> &'a str {
     if line.contains(&b'\t') { TAB } else { text }
 }
 
-/// Returns the version that the first line of a text names, or `None` if it does not name one.
-pub fn version_of(text: &[u8]) -> Option<Version> {
-    if text.starts_with(b"trace 1 ") {
-        Some(Version::One)
-    } else if text.starts_with(b"trace 2 ") {
-        Some(Version::Two)
-    } else {
-        None
-    }
-}
-
 /// Adds the text for a later line of a trace, or `other` if nothing is found.
 fn push_later_line(note: &mut Note, text: &[u8], version: Option<Version>, other: &str) {
-    if form_of(FIRST_FORMS, text).is_some() {
+    if kind_of(FIRST_LINES, text).is_some() {
         note.push(FIRST_AGAIN);
         return;
     }
@@ -66,9 +55,9 @@ fn push_later_line(note: &mut Note, text: &[u8], version: Option<Version>, other
         note.push(NO_REPEATS);
         return;
     }
-    match form_of(MARK_FORMS, text).or(form_of(STEP_FORMS, text)) {
-        Some((form, fields)) => {
-            if !push_fields(note, form, fields, version) {
+    match kind_of(MARKS, text).or(kind_of(LATER_LINES, text)) {
+        Some((kind, fields)) => {
+            if !push_fields(note, kind, fields, version) {
                 note.push(other);
             }
         }
@@ -84,7 +73,7 @@ pub fn push_trace_text(note: &mut Note, line: &TextLine<'_>, other: &str) {
         note.push(text);
     } else if line.number == 1 {
         let text = line.bytes;
-        if !push_line_fault(note, FIRST_FORMS, text, version_of(text)) {
+        if !push_line_fault(note, FIRST_LINES, text, version_of(text)) {
             note.push(hint_at(&[AT_BOTH, AT_FIRST], text).unwrap_or(NOT_FIRST));
         }
     } else {
@@ -96,7 +85,7 @@ pub fn push_trace_text(note: &mut Note, line: &TextLine<'_>, other: &str) {
 pub fn push_mark_text(note: &mut Note, line: &TextLine<'_>, other: &str) {
     if let Some(text) = end_text(line) {
         note.push(text);
-    } else if !push_line_fault(note, MARK_FORMS, line.bytes, Some(Version::Two)) {
+    } else if !push_line_fault(note, MARKS, line.bytes, Some(Version::Two)) {
         let hint = hint_at(&[AT_BOTH, AT_MARKS], line.bytes);
         note.push(hint.unwrap_or(unless_tab(line.bytes, other)));
     }

@@ -1,9 +1,11 @@
 //! Why a message is not under way at a line of a trace.
+use crate::trace_notes::line_form::version_of;
 use crate::trace_notes::open_request::OpenRequest;
 use crate::trace_notes::open_text::Sought;
 use crate::trace_notes::replay::Replay;
 use crate::trace_notes::text_line::TextLine;
 use ra_stamp::Message;
+use ra_trace::Version;
 use ra_world::Note;
 use std::alloc::Global;
 
@@ -65,7 +67,7 @@ pub fn push_not_under_way(alloc: Global, note: &mut Note, line: &TextLine<'_>, o
         });
         note.number(number);
         // Version 1 has no repeats.
-        if !is_lost && !line.before.starts_with(b"trace 1 ") {
+        if !is_lost && !matches!(version_of(line.before), Some(Version::One)) {
             note.push("; a copy needs a repeat line before that");
         }
     } else if let Some(answered) = answered_by(&replay, message) {

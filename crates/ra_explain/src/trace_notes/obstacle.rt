@@ -2,7 +2,7 @@
 use crate::trace_notes::open_request::{OpenRequest, Stage};
 use crate::trace_notes::open_text::{OpenText, Sought};
 use crate::trace_notes::replay::Replay;
-use crate::trace_notes::table_steps::refusal_at;
+use crate::trace_notes::table_steps::refusal_after;
 use crate::trace_notes::text_line::TextLine;
 use ra_stamp::Entry;
 use ra_trace::{Line, MarkCause};
@@ -131,7 +131,7 @@ pub fn push_obstacle(
     let replay = Replay::before(alloc, line);
     let cause = match log_cause {
         _ if !replay.open.is_whole => None,
-        None => refusal_at(alloc, line),
+        None => refusal_after(alloc, line.before, mark),
         why => why,
     };
     let Some(cause) = cause else {

@@ -5,10 +5,10 @@ use std::alloc::Global;
 use std::collections::HashMap;
 
 /// What tells a client that waits, is queued or holds from the others: its node, its number there, and the name.
-pub type Seat = (NodeId, u32, Name);
+pub type ClientKey = (NodeId, u32, Name);
 
-/// Returns the seat of an entry.
-fn seat_of(entry: &Entry) -> Seat {
+/// Returns the key of an entry.
+fn key_of(entry: &Entry) -> ClientKey {
     (entry.stamp.node, entry.client, entry.name)
 }
 
@@ -46,7 +46,7 @@ impl OpenRequest {
 /// Which clients wait, are queued and hold after some lines or marks.
 #[derive(Drop)]
 pub struct OpenText {
-    pub clients: HashMap<Seat, OpenRequest>,
+    pub clients: HashMap<ClientKey, OpenRequest>,
     /// Whether there was memory for all of them.
     pub is_whole: bool,
 }
@@ -66,7 +66,7 @@ impl OpenText {
             Mark::Requested(entry) => self.keep(entry, Stage::Waits, number),
             Mark::Entered(entry) => self.keep(entry, Stage::Holds, number),
             Mark::Left(entry) => {
-                self.clients.remove(&seat_of(entry));
+                self.clients.remove(&key_of(entry));
             }
         }
     }
@@ -78,12 +78,12 @@ impl OpenText {
             stage,
             since,
         };
-        self.is_whole = self.is_whole && self.clients.insert(seat_of(entry), open).is_ok();
+        self.is_whole = self.is_whole && self.clients.insert(key_of(entry), open).is_ok();
     }
 
     /// Returns the request of an entry, if that waits or holds.
     pub fn request_of(&self, entry: &Entry) -> Option<&OpenRequest> {
-        let request = self.clients.get(&seat_of(entry))?;
+        let request = self.clients.get(&key_of(entry))?;
         if request.is_on(&entry.name) && request.entry == *entry {
             Some(request)
         } else {

@@ -1,6 +1,6 @@
 //! Why a node refuses what a client wants at a line of a trace.
 use crate::trace_notes::open_request::Stage;
-use crate::trace_notes::open_text::Seat;
+use crate::trace_notes::open_text::ClientKey;
 use crate::trace_notes::replay::Replay;
 use crate::trace_notes::text_line::TextLine;
 use ra_stamp::{Mode, Name, NodeId};
@@ -50,9 +50,9 @@ pub fn push_exhausted(note: &mut Note, name: &Name) {
     note.push(": the greatest is 18446744073709551615");
 }
 
-/// Adds why a node refuses what the client of a seat wants, which is to ask for the name or to leave it, or `other` if that is not known.
-fn push_refusal(note: &mut Note, replay: &Replay, seat: &Seat, is_ask: bool, other: &str) {
-    let (node, client, name) = seat;
+/// Adds why a node refuses what the client of a key wants, which is to ask for the name or to leave it, or `other` if that is not known.
+fn push_refusal(note: &mut Note, replay: &Replay, key: &ClientKey, is_ask: bool, other: &str) {
+    let (node, client, name) = key;
     if node.get() > replay.nodes && replay.nodes > 0 {
         note.push("there is no node ");
         note.number(node.get());
@@ -64,7 +64,7 @@ fn push_refusal(note: &mut Note, replay: &Replay, seat: &Seat, is_ask: bool, oth
         note.push(other);
         return;
     }
-    match replay.open.clients.get(seat) {
+    match replay.open.clients.get(key) {
         Some(open) => {
             let mode = open.entry.mode;
             push_stage(

@@ -2,6 +2,7 @@
 ghost use Rattle.std.specs.Prelude.{◌≤◌, length};
 
 use crate::trace_notes::blockers::{MAX_CLIENTS, push_blockers, want_text};
+use crate::trace_notes::line_form::version_of;
 use crate::trace_notes::open_request::{OpenRequest, Stage};
 use crate::trace_notes::open_text::{OpenText, Sought};
 use crate::trace_notes::replay::Replay;
@@ -33,7 +34,7 @@ impl LeftOver {
 
 /// How many lines came of those that change what is left.
 #[derive(Drop)]
-struct Counts {
+struct LineCounts {
     asks: u64,
     requests: u64,
     enters: u64,
@@ -56,10 +57,10 @@ fn feeds_of(block: &[u8]) -> u64
         .to_bitmask()
 }
 
-impl Counts {
+impl LineCounts {
     /// Counts the lines of a trace or of a mark log. The cost is linear in the text.
-    fn of(text: &[u8]) -> Counts {
-        let mut counts = Counts {
+    fn of(text: &[u8]) -> LineCounts {
+        let mut counts = LineCounts {
             asks: 0,
             requests: 0,
             enters: 0,
@@ -197,7 +198,7 @@ fn push_counts(note: &mut Note, left: &LeftOver, is_trace: bool) {
 
 /// Adds what is left at the end of a text.
 fn push_end(alloc: Global, note: &mut Note, text: &[u8], left: &LeftOver) {
-    let is_trace = text.starts_with(b"trace ");
+    let is_trace = version_of(text).is_some();
     push_counts(note, left, is_trace);
     let want = if is_trace {
         want_text(left.under_way, left.lost)
@@ -233,7 +234,7 @@ fn push_end(alloc: Global, note: &mut Note, text: &[u8], left: &LeftOver) {
 /// `Memory`: memory ran out.
 pub fn end_note(alloc: Global, text: &[u8], sent: u128) -> Result<Option<String>, Memory> {
     let mut note = Note::new(alloc);
-    let left = Counts::of(text).left(sent);
+    let left = LineCounts::of(text).left(sent);
     if text.is_empty() {
         note.push("the log has no mark, so nothing was judged");
     } else if !left.is_nothing() {

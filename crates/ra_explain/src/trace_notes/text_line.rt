@@ -1,8 +1,6 @@
 //! The line of a text that is wrong.
+use ra_trace::{Line, MAX_LINE};
 use ra_world::cut;
-
-/// The most bytes of a line that a checker reads.
-pub const MAX_LINE: usize = 128;
 
 /// A line of a text.
 #[derive(Drop)]
@@ -36,7 +34,7 @@ impl<'a> TextLine<'a> {
             before: &text[..text.len().saturating_sub(rest.len())],
             bytes,
             has_feed: after.is_some(),
-            is_after_end: number > 1 && last == b"end".as_slice(),
+            is_after_end: number > 1 && matches!(Line::parse(last), Some(Line::Last)),
         }
     }
 }
