@@ -4,6 +4,8 @@ pub mod seen_writer;
 
 ghost use Rattle.std.specs.Prelude.{◌≡◌};
 
+use ra_script::MAX_SCRIPT;
+use ra_trace::{MAX_LINE, MAX_TEXT};
 use std::alloc::Global;
 use std::io;
 use std::io::{BufRead, Read};
@@ -24,10 +26,10 @@ pub struct Seen {
 impl Seen {
     /// The most bytes that are remembered of what is checked: as many as a text may have, and a line as far as it is
     /// read.
-    pub const MAX_TEXT: usize = 16_777_216 + 128;
+    pub const MAX_TEXT: usize = MAX_TEXT as usize + MAX_LINE;
 
     /// The most bytes that are remembered of another input: as many as are read of a script.
-    pub const MAX_BYTES: usize = 65_537;
+    pub const MAX_BYTES: usize = MAX_SCRIPT + 1;
 
     /// Makes that of a reader of which nothing was read, by a command with these arguments.
     fn new(alloc: Global, arguments: &[String]) -> Seen {

@@ -13,7 +13,7 @@ use crate::error::RunScriptError;
 use ra_book::push_book;
 use ra_cluster::{Book, ClusterError, OpenGate, Recorded, Settled, record_cluster};
 use ra_schedule::Script;
-use ra_script::read_script;
+use ra_script::{MAX_SCRIPT, read_script};
 use ra_stamp::Memory;
 use ra_task::ClusterOutput;
 use ra_trace::trace_text;
@@ -22,9 +22,6 @@ use std::alloc::Global;
 use std::io::{Read, Write};
 use std::sync::Wait;
 use std::thread::Threads;
-
-/// The most bytes that are read: one more than a script may have.
-const MAX_INPUT: usize = 65_537;
 
 /// Reads the text of a script.
 ///
@@ -40,7 +37,7 @@ pub fn script_from<R: Read>(alloc: Global, reader: &mut R) -> Result<Script, Run
     ensures early { IfErr result (λ fault. fault ≢ RunScriptError.Write) }
     ensures unrun { IfErr result (λ fault. (why : ClusterError) → fault ≢ RunScriptError.Cluster why) }
 {
-    let text = read_up_to(alloc, reader, MAX_INPUT)?;
+    let text = read_up_to(alloc, reader, MAX_SCRIPT + 1)?;
     let script = read_script(alloc, &text)?;
     Ok(script)
 }
