@@ -1,8 +1,9 @@
 -- Which arguments ask for a task that neither loses nor repeats a message.
-use Rattle.std.proofs.Common.{◌≡◌, ◌≢◌, ℕ, Bool, true, false, List, length, Option, Some, None, Result, Ok, Err, codes, slice_get, sym, ap, ◌∙◌, arith}
-use Rattle.std.specs.Prelude.{IfSome, IfOk}
-use Rattle.ra_task.specs.Finishing.{HasNoChoices, RunsFaithfully}
-use Rattle.ra_task.specs.Arguments.{ChecksBy, OnAnswer, OnHelp, SimsFaithfully}
+use Rattle.std.proofs.Common.{◌≡◌, ◌≢◌, ℕ, Bool, true, false, List, length, Option, Some, None, codes, slice_get, sym, ap, ◌∙◌, arith}
+use Rattle.std.specs.Prelude.{Any, IfSome}
+use Rattle.ra_task.specs.Finishing.{RunsFaithfully}
+use Rattle.ra_task.specs.Arguments.{IsHelpArgument, NamesFaithfully, OnHelp, SimsFaithfully}
+use Rattle.ra_task.specs.Asked.{AsksForTask, IsOfCommand}
 use Rattle.ra_task.specs.declared.command_line.Task.{Task}
 use Rattle.ra_task.specs.declared.command_line.Task.TheVariants as task
 
@@ -21,15 +22,6 @@ pub no_other : (arguments : List (List ℕ)) (argument command : List ℕ) → s
     → SimsFaithfully arguments → ⊥
 no_other arguments argument command first is long sims = long (ap length (sym is ∙ is_sim arguments argument first sims))
 
-pub other : (arguments : List (List ℕ)) → (SimsFaithfully arguments → ⊥) → (result : Option Task) → IfSome result (λ task. SimsFaithfully arguments → RunsFaithfully task)
-other arguments never None = tt
-other arguments never (Some task) = λ sims. absurd (never sims)
-
--- what is so needs no premise
-pub anyway : (P : Type 0) (result : Option Task) → IfSome result HasNoChoices → IfSome result (λ task. P → HasNoChoices task)
-anyway P None h = tt
-anyway P (Some task) h = λ p. h
-
 -- if no text of help is printed, it does not matter what asks for one
 pub no_help : (asked : Task) (P : Type 0) → OnHelp asked ⊥ → OnHelp asked P
 no_help (task.Answer node nodes) P none = tt
@@ -41,27 +33,32 @@ no_help (task.Draw kind part) P none = tt
 no_help (task.Cluster printed) P none = tt
 no_help (task.Help text) P none = absurd none
 
--- no numbers are told of what is no answer
-pub no_numbers : (P : ℕ → ℕ → Type 0) (asked : Task) → OnAnswer asked (λ _ _. ⊥) → OnAnswer asked P
-no_numbers P (task.Answer node nodes) none = absurd none
-no_numbers P (task.Sim policy choices format) none = tt
-no_numbers P (task.Survey faults find first last) none = tt
-no_numbers P task.Check none = tt
-no_numbers P task.CheckMarks none = tt
-no_numbers P (task.Draw kind part) none = tt
-no_numbers P (task.Cluster printed) none = tt
-no_numbers P (task.Help text) none = tt
+-- what a command asks for, the arguments do
+asks : (arguments : List (List ℕ)) (asked : Task) → IsOfCommand arguments asked → (SimsFaithfully arguments → RunsFaithfully asked) → AsksForTask arguments asked
+asks arguments asked is runs = record {
+  help = no_help asked (Any IsHelpArgument arguments) is.help;
+  numbers = is.numbers;
+  marks = is.marks;
+  faithful = runs;
+  choices = is.choices;
+}
 
-pub none_numbered : (P : ℕ → ℕ → Type 0) (result : Option Task) → IfSome result (λ task. OnAnswer task (λ _ _. ⊥)) → IfSome result (λ task. OnAnswer task P)
-none_numbered P None none = tt
-none_numbered P (Some asked) none = no_numbers P asked none
+-- `sim` does
+pub sim_asks : (arguments : List (List ℕ)) (result : Option Task) → IfSome result (IsOfCommand arguments)
+    → IfSome result (λ task. NamesFaithfully arguments → RunsFaithfully task) → IfSome result (AsksForTask arguments)
+sim_asks arguments None is runs = tt
+sim_asks arguments (Some asked) is runs = asks arguments asked is (λ sims. runs sims.names)
 
-pub none_numbered_by : {E : Type 0} (P : ℕ → ℕ → Type 0) (result : Result Task E) → IfOk result (λ task. OnAnswer task (λ _ _. ⊥)) → IfOk result (λ task. OnAnswer task P)
-none_numbered_by P (Ok asked) none = no_numbers P asked none
-none_numbered_by P (Err fault) none = tt
+-- a command whose argument has another length does
+pub other_asks : (arguments : List (List ℕ)) (argument command : List ℕ) → slice_get arguments 1 ≡ Some argument → argument ≡ command → length command ≢ 3
+    → (result : Option Task) → IfSome result (IsOfCommand arguments) → IfSome result (AsksForTask arguments)
+other_asks arguments argument command first same long None is = tt
+other_asks arguments argument command first same long (Some asked) is =
+    asks arguments asked is (λ sims. absurd (no_other arguments argument command first same long sims))
 
 -- what is so of any arguments is so of these
-pub of_these : (arguments : List (List ℕ)) (result : Option Task) → IfSome result (λ task. (any : List (List ℕ)) → ChecksBy any task) → IfSome result (ChecksBy arguments)
+pub of_these : (arguments : List (List ℕ)) (result : Option Task) → IfSome result (λ task. (any : List (List ℕ)) → IsOfCommand any task)
+    → IfSome result (IsOfCommand arguments)
 of_these arguments None h = tt
 of_these arguments (Some asked) h = h arguments
 

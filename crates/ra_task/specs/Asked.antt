@@ -17,6 +17,14 @@ pub record AsksForTask (arguments : List (List ℕ)) (asked : AskedTask) : Type 
   pub faithful : SimsFaithfully arguments → RunsFaithfully asked
   pub choices : GivesNoChoices arguments → HasNoChoices asked
 
+-- The task is that of a command: it is no text of help, it is of the node and the nodes that these arguments give, for mark
+-- logs exactly if an argument is `--marks`, and of threads what the arguments say. If they give no choices, it has none.
+pub record IsOfCommand (arguments : List (List ℕ)) (asked : AskedTask) : Type 0 where
+  pub help : OnHelp asked ⊥
+  pub numbers : OnAnswer asked (GivesNode arguments)
+  pub marks : ChecksBy arguments asked
+  pub choices : GivesNoChoices arguments → HasNoChoices asked
+
 -- they ask neither for `ra node` nor for `ra settle`
 pub record AreOtherArguments (arguments : List (List ℕ)) : Type 0 where
   pub no_node : AreNodeArguments arguments → ⊥

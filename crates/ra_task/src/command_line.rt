@@ -8,8 +8,9 @@ pub mod usage;
 
 ghost use Rattle.std.specs.Prelude.{◌≡◌, ◌≢◌, ◌⊎◌, [], ◌≤◌, ◌↔◌, ◌∷◌, ◌++◌, ℕ, List, Any, Some, map, codes, slice_get, IsTrue, IsOk, IfOk, IfSome, true, string_bytes};
 ghost use Rattle.ra_schedule.specs.Survey.{NoneIsLost, NoneIsRepeated};
-ghost use Rattle.ra_task.specs.Arguments.{AreSimArguments, ChecksBy, ReadsBy, Gives, GivesNoChoices, GivesNode, GivesNothingBut, GivesText, IsHelpArgument, NamesFaithfully, OnAnswer, OnHelp, SimsFaithfully};
-ghost use Rattle.ra_task.specs.Finishing.{HasNoChoices, IsFaithful, RunsFaithfully};
+ghost use Rattle.ra_task.specs.Arguments.{AreSimArguments, ReadsBy, Gives, GivesNothingBut, GivesText, IsHelpArgument, NamesFaithfully};
+ghost use Rattle.ra_task.specs.Asked.{AsksForTask, IsOfCommand};
+ghost use Rattle.ra_task.specs.Finishing.{IsFaithful, RunsFaithfully};
 
 use crate::cluster_output::{ClusterOutput, output_by};
 use crate::command_line::command_rows::command;
@@ -118,10 +119,7 @@ fn number_of(arguments: &[String], option: &str) -> Option<u16>
 /// Returns the task of the command `answer`, with the numbers that the arguments give. The parser has found that they
 /// give each once, and tells less of them in its contract than the arguments do.
 fn answer_task<'a>(arguments: &[String]) -> Option<Task<'a>>
-    ensures help { IfSome result (λ task. OnHelp task ⊥) }
-    ensures choices { IfSome result HasNoChoices }
-    ensures numbers { IfSome result (λ task. OnAnswer task (GivesNode (map string_bytes arguments.now))) }
-    ensures marks { IfSome result (λ task. (any : List (List ℕ)) → ChecksBy any task) }
+    ensures { IfSome result (IsOfCommand (map string_bytes arguments.now)) }
 {
     let node = number_of(arguments, "--node")?;
     let nodes = number_of(arguments, "--nodes")?;
@@ -236,7 +234,7 @@ pub fn format_of(policy: &PolicyName, arguments: &[String], sim: &ArgMatches) ->
 }
 
 /// Returns the text of the choices that the arguments give, or its default, no text. It does not allocate.
-pub fn choices_word<'a>(arguments: &'a [String]) -> &'a str
+pub fn given_choices<'a>(arguments: &'a [String]) -> &'a str
     ensures { (result.now ≡ []) ⊎ GivesText (map string_bytes arguments.now) (codes "--choices") result.now }
 {
     match text_of(arguments, "--choices") {
@@ -301,11 +299,8 @@ fn survey_task<'a>(
     ending: Option<Ending>,
     format: OutputKind,
 ) -> Option<Task<'a>>
-    ensures help { IfSome result (λ task. OnHelp task ⊥) }
-    ensures numbers { IfSome result (λ task. OnAnswer task (λ _ _. ⊥)) }
-    ensures marks { IfSome result (λ task. (any : List (List ℕ)) → ChecksBy any task) }
+    ensures asked { IfSome result (λ task. (arguments : List (List ℕ)) → IsOfCommand arguments task) }
     ensures faithful { IfSome result (λ task. IsFaithful policy → RunsFaithfully task) }
-    ensures choices { IfSome result HasNoChoices }
 {
     let faults = chance_of(policy)?;
     let find = search_of(ending, format)?;
@@ -320,14 +315,11 @@ fn survey_task<'a>(
 
 /// Returns the task of the command `sim`.
 fn sim_task<'a>(arguments: &'a [String], sim: &ArgMatches<'a>) -> Option<Task<'a>>
-    ensures help { IfSome result (λ task. OnHelp task ⊥) }
-    ensures numbers { IfSome result (λ task. OnAnswer task (λ _ _. ⊥)) }
-    ensures marks { IfSome result (λ task. (any : List (List ℕ)) → ChecksBy any task) }
+    ensures asked { IfSome result (IsOfCommand (map string_bytes arguments.now)) }
     ensures faithful { IfSome result (λ task. NamesFaithfully (map string_bytes arguments.now) → RunsFaithfully task) }
-    ensures choices { IfSome result (λ task. GivesNoChoices (map string_bytes arguments.now) → HasNoChoices task) }
 {
     let policy = policy_name(arguments, sim)?;
-    let choices = choices_word(arguments);
+    let choices = given_choices(arguments);
     let format = format_of(&policy, arguments, sim)?;
     let ending = ending_of(sim);
     if let Some(seeds) = sim.get_str("seeds") {
@@ -357,10 +349,7 @@ fn kind_of(arguments: &[String]) -> InputKind
 
 /// Returns the task of the command `draw`, or `None` if no line is in its part, whatever the input.
 fn draw_task<'a>(arguments: &[String], given: &ArgMatches<'a>) -> Option<Task<'a>>
-    ensures help { IfSome result (λ task. OnHelp task ⊥) }
-    ensures choices { IfSome result HasNoChoices }
-    ensures numbers { IfSome result (λ task. OnAnswer task (λ _ _. ⊥)) }
-    ensures marks { IfSome result (ChecksBy (map string_bytes arguments.now)) }
+    ensures { IfSome result (IsOfCommand (map string_bytes arguments.now)) }
 {
     let from: u64 = given.get_one("from")?;
     let to: u64 = given.get_one("to")?;
@@ -376,10 +365,7 @@ fn draw_task<'a>(arguments: &[String], given: &ArgMatches<'a>) -> Option<Task<'a
 
 /// Returns the task of the command `check`.
 fn check_task<'a>(arguments: &[String]) -> Task<'a>
-    ensures help { OnHelp result ⊥ }
-    ensures choices { HasNoChoices result }
-    ensures numbers { OnAnswer result (λ _ _. ⊥) }
-    ensures marks { ChecksBy (map string_bytes arguments.now) result }
+    ensures { IsOfCommand (map string_bytes arguments.now) result }
 {
     match kind_of(arguments) {
         InputKind::Trace => Task::Check,
@@ -389,10 +375,7 @@ fn check_task<'a>(arguments: &[String]) -> Task<'a>
 
 /// Returns the task of the command `cluster`, or `None` if the arguments ask it to print both the trace and the books.
 fn cluster_task<'a>(arguments: &[String]) -> Option<Task<'a>>
-    ensures help { IfSome result (λ task. OnHelp task ⊥) }
-    ensures choices { IfSome result HasNoChoices }
-    ensures numbers { IfSome result (λ task. OnAnswer task (λ _ _. ⊥)) }
-    ensures marks { IfSome result (ChecksBy (map string_bytes arguments.now)) }
+    ensures { IfSome result (IsOfCommand (map string_bytes arguments.now)) }
 {
     let printed = output_by(arguments)?;
     Some(Task::Cluster(printed))
@@ -410,11 +393,7 @@ fn command_argument(arguments: &[String]) -> Option<&str>
 /// Returns the task of a command line that was understood, or `None` if it has no command. The parser has found that
 /// the first argument is the command, and tells less of it in its contract than the arguments do.
 fn task_of<'a>(arguments: &'a [String], matches: &ArgMatches<'a>) -> Option<Task<'a>>
-    ensures help { IfSome result (λ task. OnHelp task ⊥) }
-    ensures numbers { IfSome result (λ task. OnAnswer task (GivesNode (map string_bytes arguments.now))) }
-    ensures marks { IfSome result (ChecksBy (map string_bytes arguments.now)) }
-    ensures faithful { IfSome result (λ task. SimsFaithfully (map string_bytes arguments.now) → RunsFaithfully task) }
-    ensures choices { IfSome result (λ task. GivesNoChoices (map string_bytes arguments.now) → HasNoChoices task) }
+    ensures { IfSome result (AsksForTask (map string_bytes arguments.now)) }
 {
     let (_, given) = matches.subcommand()?;
     let argument = command_argument(arguments)?;
@@ -477,12 +456,7 @@ fn are_sim_arguments(arguments: &[String]) -> bool
 ///
 /// `Usage`: they are no command line of `ra`. `Memory`: memory ran out.
 pub fn parse<'a>(alloc: Global, arguments: &'a [String]) -> Result<Task<'a>, CommandFault>
-    ensures help { IfOk result (λ task.
-        OnHelp task (Any IsHelpArgument (map string_bytes arguments.now))) }
-    ensures numbers { IfOk result (λ task. OnAnswer task (GivesNode (map string_bytes arguments.now))) }
-    ensures marks { IfOk result (ChecksBy (map string_bytes arguments.now)) }
-    ensures faithful { IfOk result (λ task. SimsFaithfully (map string_bytes arguments.now) → RunsFaithfully task) }
-    ensures choices { IfOk result (λ task. GivesNoChoices (map string_bytes arguments.now) → HasNoChoices task) }
+    ensures asked { IfOk result (AsksForTask (map string_bytes arguments.now)) }
     ensures plain { AreSimArguments (map string_bytes arguments.now) → IsOk result }
 {
     // No contract of the parser's says that it takes these arguments.
@@ -515,12 +489,7 @@ fn help_of<'a>(
     arguments: &[String],
     error: &ParseError,
 ) -> Result<Task<'a>, CommandFault>
-    ensures help { IfOk result (λ task.
-        OnHelp task (Any IsHelpArgument (map string_bytes arguments.now))) }
-    ensures numbers { IfOk result (λ task. OnAnswer task (λ _ _. ⊥)) }
-    ensures marks { IfOk result (ChecksBy (map string_bytes arguments.now)) }
-    ensures faithful { IfOk result (λ task. SimsFaithfully (map string_bytes arguments.now) → RunsFaithfully task) }
-    ensures choices { IfOk result (λ task. GivesNoChoices (map string_bytes arguments.now) → HasNoChoices task) }
+    ensures { IfOk result (AsksForTask (map string_bytes arguments.now)) }
 {
     match error.kind() {
         // No contract of the parser's says that it gives these only to arguments that ask for them.

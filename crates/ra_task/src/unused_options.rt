@@ -1,5 +1,5 @@
 //! Options of `sim` that are given but have no effect.
-use crate::command_line::{choices_word, policy_word, text_of};
+use crate::command_line::{given_choices, policy_word, text_of};
 use crate::notice::write_line;
 use std::io::Write;
 
@@ -65,7 +65,7 @@ fn write_limits<N: Write>(arguments: &[String], options: &[Limited], policy: &st
 pub fn write_unused_options<N: Write>(arguments: &[String], notes: &mut N) {
     let policy = policy_word(arguments);
     write_limits(arguments, LIMITED, policy, notes);
-    if policy == "listed" && choices_word(arguments).is_empty() {
+    if policy == "listed" && given_choices(arguments).is_empty() {
         write_line(
             notes,
             "--policy listed has nothing to do: --choices is missing or empty",

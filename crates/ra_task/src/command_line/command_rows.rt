@@ -78,7 +78,7 @@ pub fn is_command(name: &str) -> bool {
 }
 
 /// Makes a command. The summary of its help has its options, and names --help.
-fn command_of<'a>(
+fn command_with_options<'a>(
     alloc: Global,
     row: &CommandRow<'a>,
     is_summary: bool,
@@ -123,7 +123,7 @@ fn program<'a>(alloc: Global) -> Command<'a> {
 fn commands<'a>(alloc: Global, is_summary: bool) -> Result<Vec<Command<'a>>, AllocError> {
     let mut commands = Vec::new(alloc);
     for row in COMMANDS {
-        commands.push(command_of(alloc, row, is_summary)?)?;
+        commands.push(command_with_options(alloc, row, is_summary)?)?;
     }
     Ok(commands)
 }

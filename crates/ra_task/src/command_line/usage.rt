@@ -17,54 +17,54 @@ const STATE_TEXT: &str =
 const SEEDS_RANGE: &str = "A..B, such as 1..1000, with two numbers from 0 to 18446744073709551615";
 
 /// An option that takes a value, and which ones it takes.
-struct Range {
+struct ValueRange {
     option: &'static str,
     text: &'static str,
 }
 
 /// The options that take a value.
-const RANGES: &[Range] = &[
-    Range {
+const RANGES: &[ValueRange] = &[
+    ValueRange {
         option: "--policy",
         text: "oldest, newest, seeded, faulty or listed",
     },
-    Range {
+    ValueRange {
         option: "--seed",
         text: "0 to 18446744073709551615",
     },
-    Range {
+    ValueRange {
         option: "--lose",
         text: "0 to 1000, of 1000 messages",
     },
-    Range {
+    ValueRange {
         option: "--repeat",
         text: "0 to 400, of 1000 messages",
     },
-    Range {
+    ValueRange {
         option: "--choices",
         text: "choices with one space between them, each c, m or l and a number of 1 to 9 digits without leading zeros",
     },
-    Range {
+    ValueRange {
         option: "--seeds",
         text: SEEDS_RANGE,
     },
-    Range {
+    ValueRange {
         option: "--find",
         text: "finished or stuck",
     },
-    Range {
+    ValueRange {
         option: "--nodes",
         text: "1 to 64",
     },
-    Range {
+    ValueRange {
         option: "--node",
         text: "1 to the value of --nodes",
     },
-    Range {
+    ValueRange {
         option: "--from",
         text: "the number of a line, 1 or more",
     },
-    Range {
+    ValueRange {
         option: "--to",
         text: "the number of a line, at least that of --from",
     },

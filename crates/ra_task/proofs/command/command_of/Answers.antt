@@ -15,13 +15,7 @@ returns-in-Ok c = (
     no_node = λ are. false≢true (sym c.if-are_node_arguments.false ∙ c.are_node_arguments.ensures.1 are);
     no_books = none_asked (map string_bytes c.args.arguments.now) c.settle_arguments.result c.settle_arguments.ensures c.in_default.not-Some;
   },
-  record {
-    help = c.in-Ok.ensures.help;
-    numbers = c.in-Ok.ensures.numbers;
-    marks = c.in-Ok.ensures.marks;
-    faithful = c.in-Ok.ensures.faithful;
-    choices = c.in-Ok.ensures.choices;
-  },
+  c.in-Ok.ensures.asked,
 )
 
 pub returns-in-Err : goal.returns-in-Err

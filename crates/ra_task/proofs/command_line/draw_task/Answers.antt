@@ -1,0 +1,4 @@
+use Rattle.ra_task.proofs.command_line.draw_task.Goals as goal
+
+pub returns : goal.returns
+returns c = record { help = tt; numbers = tt; marks = c.kind_of-kind.ensures; choices = λ _. tt }
