@@ -1,6 +1,6 @@
 //! Sites, and the post between them.
-pub mod shown;
 pub mod site_cluster;
+pub mod site_ends;
 pub mod site_steps;
 pub mod sites_and_posts;
 pub mod waiting_clients;

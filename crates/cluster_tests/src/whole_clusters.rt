@@ -1,5 +1,4 @@
 //! Whole clusters, and what all tests of this crate share: values, how a test ends, and threads that have to end.
-pub mod asleep;
 pub mod cluster_asserting;
 pub mod cluster_calls;
 pub mod cluster_clients;
@@ -7,3 +6,4 @@ pub mod cluster_ends;
 pub mod cluster_values;
 pub mod owned_cluster;
 pub mod plays;
+pub mod sleeping_clients;

@@ -6,6 +6,7 @@ use ra_notes::{
     cluster_text, mark_cause_text, of_check, of_choices, of_command, of_drawing, of_end,
     of_performance, range_note, text_cause_text, write_hints, write_shrunk_notes,
 };
+use ra_stamp::NodeId;
 use ra_task::{Command, NO_MEMORY, Notice};
 use std::alloc::Global;
 use std::io::Write;
@@ -93,7 +94,7 @@ fn refusal_of(alloc: Global, source: &NoteSource<'_>, refusal: CommandRefusal) -
 fn of_answer(alloc: Global, asked: &Command<'_>, why: AnswerError) -> Notice {
     let (node, nodes) = asked.answering_node();
     match why {
-        AnswerError::BadCount => range_note(alloc, "--nodes", nodes, 64),
+        AnswerError::BadCount => range_note(alloc, "--nodes", nodes, NodeId::MAX),
         AnswerError::BadNode => range_note(alloc, "--node", node, nodes),
         AnswerError::Read => Notice::Text(NO_INPUT),
         AnswerError::Memory => Notice::Text(NO_MEMORY),

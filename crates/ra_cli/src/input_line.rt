@@ -1,8 +1,7 @@
 ghost use Rattle.std.specs.Prelude.{◌≡◌, ◌≢◌, ◌⊎◌, ◌↔◌, List, ℕ, [], ◌∷◌, ◌++◌, All, IsTrue, IfSome, IfNone};
 ghost use Rattle.ra_cli.specs.Line.{IsLine};
 
-/// The most bytes of a line, without its line feed.
-pub const MAX_LINE: usize = 256;
+use ra_book::MAX_LINE;
 
 /// Returns the input without the line feed at its end, if it has one there. It does not allocate.
 fn without_feed(input: &[u8]) -> &[u8]

@@ -254,7 +254,7 @@ fn print_invalid<W: Write>(denial: Denial, writer: &mut W) -> CommandOutcome
 
 /// Draws a part of the reader's input, or writes the line that says why it is not of this kind. Then the whole input is
 /// in `text`.
-fn draw_trace<R: Read, W: Write>(
+fn draw_part<R: Read, W: Write>(
     alloc: Global,
     kind: InputKind,
     part: Part,
@@ -326,7 +326,7 @@ pub fn do_command<T: Threads + Wait + Sync, R: BufRead, W: Write, O: Observer>(
         Command::Task(Task::Check) => judge(alloc, reader, writer),
         Command::Task(Task::CheckMarks) => judge_marks(alloc, reader, writer),
         Command::Task(Task::Draw { kind, part }) => {
-            draw_trace(alloc, kind, part, reader, writer, text)
+            draw_part(alloc, kind, part, reader, writer, text)
         }
         Command::Task(Task::Cluster(printed)) => run_by_threads(rt, alloc, printed, reader, writer),
         Command::Task(Task::Help(ref help)) => {

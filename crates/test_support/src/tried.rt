@@ -5,7 +5,7 @@
 //! `tools/refuse-growth`, which has each allocation refused in turn, tells it from one that failed.
 
 /// What became of calls.
-#[derive(Clone, Copy, Debug, PartialEq, Eq)]
+#[derive(Clone, Copy, Debug, PartialEq)]
 pub enum Tried {
     /// They were taken.
     NoFailure,

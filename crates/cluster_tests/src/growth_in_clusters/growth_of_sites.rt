@@ -1,7 +1,7 @@
 //! Each growth of a post or a site is refused: the call answers that memory ran out, and does what it should when it is
 //! made again; or a frame is lost, and all sites are stopped.
-use crate::site_tests::shown::{Ended, assert_ended};
 use crate::site_tests::site_cluster::{Cluster, books_at_the_end, loses_inbox, make_cluster, send};
+use crate::site_tests::site_ends::{Ended, assert_ended};
 use crate::whole_clusters::cluster_asserting::{assert_grown, assert_same};
 use crate::whole_clusters::cluster_values::{WANTING, request};
 use ra_cluster::{Book, Inbox, NewPostError, OpenGate, Post, SendError, Site, SiteError, Stop};

@@ -1,6 +1,6 @@
 //! What a cluster of sites with a post does and shows, step by step, with clients on threads of their own.
-use crate::site_tests::shown::{Shown, after_all, assert_all_shown};
 use crate::site_tests::site_cluster::{Cluster, gated_cluster, loses_inbox, send, taken_from};
+use crate::site_tests::site_ends::{Shown, after_all, assert_all_shown};
 use crate::whole_clusters::cluster_asserting::{assert_comes_to, assert_same, fail_at};
 use crate::whole_clusters::cluster_values::{entry, request};
 use crate::whole_clusters::plays::{Acts, follow};

@@ -1,5 +1,5 @@
 //! Sites, and the post between them.
-use crate::site_tests::shown::{Ended, Shown};
+use crate::site_tests::site_ends::{Ended, Shown};
 use crate::site_tests::site_steps::Step::{
     ClosesPost, HasLeft, HasLeftOne, HasStepped, Locks, Pumps, RefusesToLock, RefusesToSend,
     RefusesToUnlock, Sends, Stops, Unlocks,

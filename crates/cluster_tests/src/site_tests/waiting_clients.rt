@@ -1,5 +1,5 @@
 //! Clients that wait at sites which threads share.
-use crate::site_tests::shown::{Ended, Shown};
+use crate::site_tests::site_ends::{Ended, Shown};
 use crate::site_tests::site_steps::Step::{
     ClosesPost, ComesToBeStopped, ComesToStep, HasLeft, HaveEnded, LetsGo, LetsSleep, Locks,
     RefusesToLock, RefusesToUnlock, Starts, Stays, Stops, StopsAll, Unlocks,

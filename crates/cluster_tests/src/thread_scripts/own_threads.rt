@@ -1,5 +1,5 @@
 //! The threads that do a script, in a cluster that the test makes.
-use crate::site_tests::shown::{Ended, assert_ended};
+use crate::site_tests::site_ends::{Ended, assert_ended};
 use crate::thread_scripts::letter_scripts::Does::{Locks, Shares, Unlocks};
 use crate::thread_scripts::letter_scripts::{Client, USES_R, script_of};
 use crate::whole_clusters::cluster_asserting::{assert_same, fail_at};

@@ -38,7 +38,7 @@ const CALLS: [Call; 8] = [
 ];
 
 /// Returns whether this is the highest number of `r`, and this request holds it.
-fn stands_at(node: &Node, highest: u64, holder: Option<Entry>) -> bool {
+fn shows(node: &Node, highest: u64, holder: Option<Entry>) -> bool {
     node.highest(&r()) == highest && node.holder(&r()) == holder
 }
 
@@ -94,7 +94,7 @@ fn try_call(alloc: Global, node: &mut Node, call: Call) -> Tried {
             let is_as_before = memory
                 && node.waiting() == waiting
                 && node.queued() == queued
-                && stands_at(node, highest, holder);
+                && shows(node, highest, holder);
             make_again(alloc, node, call, is_as_before)
         }
     }
@@ -189,7 +189,7 @@ fn growth_of_a_node_that_strays_leave_as_it_was(rt: HostRuntime) {
 }
 
 /// Returns whether a request may wait, whether it may enter, and whether it holds.
-fn stands(table: &Table, entry: &Entry) -> [bool; 3] {
+fn state_of(table: &Table, entry: &Entry) -> [bool; 3] {
     [
         table.can_request(entry),
         table.can_enter(entry),
@@ -224,11 +224,11 @@ fn does(table: &mut Table, entry: &Entry, is_grant: bool) -> Result<(), bool> {
 
 /// Makes a request or grants it, and tries again if memory ran out.
 fn try_entry(table: &mut Table, entry: &Entry, is_grant: bool) -> Tried {
-    let before = stands(table, entry);
+    let before = state_of(table, entry);
     match does(table, entry, is_grant) {
         Ok(()) => Tried::NoFailure,
         Err(memory) => {
-            let is_as_before = memory && stands(table, entry) == before;
+            let is_as_before = memory && state_of(table, entry) == before;
             let is_done_again = is_as_before && does(table, entry, is_grant).is_ok();
             at_once_or(false, is_done_again)
         }

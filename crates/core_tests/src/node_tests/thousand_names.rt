@@ -65,7 +65,7 @@ fn finds_each(rt: &(impl Abort + AllocGlobal), node: &mut Node) {
     assert_same(rt, row("one is left"), &fault, &None);
     assert_held(rt, "is held after one was left", node, Some(500));
     let counts = (node.waiting(), node.queued());
-    assert_same(rt, row("who waits and is queued"), &counts, &(0, 0));
+    assert_same(rt, row("how many wait and are queued"), &counts, &(0, 0));
 }
 
 /// The node is alone.

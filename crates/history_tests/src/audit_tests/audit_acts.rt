@@ -4,7 +4,7 @@ use crate::audit_tests::audited_clusters::{
 };
 use crate::audit_tests::audits::{Came, Shown, assert_losses, fault_of, loses};
 use crate::kept_books::history_asserting::{assert_same, fail_at};
-use crate::kept_books::history_values::{node, request};
+use crate::kept_books::history_values::{message_of, node};
 use Act::{
     Asks, Audits, AuditsAnew, Comes, Ends, Enters, HandsOver, HasAt, HasLosses, IsRefused, Leaves,
     Loses, Shows, Stops, Waits,
@@ -27,9 +27,9 @@ use test_support::{At, Tried, both, row as row_at};
 /// The answer of a call that found no memory and did nothing.
 const WANTING: SiteError = SiteError::Refused(BookError::Memory);
 
-/// The REQUEST of an exclusive request with the last number, in a frame with this clock, from the first node to the second.
+/// A frame: its clock, and a line of a trace that delivers its message.
 #[derive(Clone, Copy)]
-pub struct Sends(pub u64, pub u16, pub u16, pub u64);
+pub struct Sends(pub u64, pub &'static str);
 
 /// What a round answers, or the end of an audit.
 #[derive(Clone, Copy)]
@@ -64,8 +64,8 @@ pub enum Act {
     Asks(u16, Mode),
     /// Client 1 of this node asks for the name, and is refused for this cause.
     IsRefused(u16, BookError),
-    /// A REQUEST of an exclusive request with number 1 comes, in a frame with this clock, as if the first node had sent it to the second.
-    Comes(u64, u16, u16),
+    /// This frame comes, as if its sender had sent it.
+    Comes(Sends),
     /// The site of this node hands over what came after an event with this clock: its last event has the other clock, and this frame
     /// was lost, or none.
     HandsOver(u16, u64, u64, Option<Sends>),
@@ -182,9 +182,11 @@ fn last_round<R: Wait>(
 
 /// Returns the frame.
 fn frame_of(rt: &impl Abort, sends: Sends) -> Frame {
-    let Sends(clock, from, to, seq) = sends;
-    let message = request(rt, from, to, Exclusive, seq);
-    Frame { clock, message }
+    let Sends(clock, line) = sends;
+    match message_of(line) {
+        Some(message) => Frame { clock, message },
+        None => panic!(rt; "{line:?} delivers no message"),
+    }
 }
 
 /// Returns what a round is to answer.
@@ -391,7 +393,7 @@ fn happens<R: AllocGlobal + Wait + Abort>(
             let came = refusal_of_unlock(rt, rt.alloc(), cluster, number);
             assert_same(rt, at, &came, &None);
         }
-        Comes(clock, from, to) => comes(rt, at, cluster, &frame_of(rt, Sends(clock, from, to, 1))),
+        Comes(sends) => comes(rt, at, cluster, &frame_of(rt, sends)),
         Shows(shown) => assert_run(rt, at, auditor, shown),
         Waits(events) => assert_same(rt, at, &auditor.waiting(), &events),
         HasAt(number, clock, events) => assert_at_site(rt, at, cluster, number, (clock, events)),

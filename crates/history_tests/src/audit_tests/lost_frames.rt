@@ -9,7 +9,7 @@ use crate::audit_tests::audits::Shown;
 use ra_stamp::Mode;
 
 /// The REQUEST with number 2 of node 1.
-const SECOND: Sends = Sends(5, 1, 2, 2);
+const SECOND: Sends = Sends(5, "deliver request 1 2 r X 2");
 
 /// Client 1 of node 1 locks the name and unlocks it, and asks again in vain. Each node hands over what happened: first all of it, then
 /// what came after that, and then nothing more.

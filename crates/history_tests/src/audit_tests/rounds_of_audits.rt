@@ -32,20 +32,29 @@ const THREE_NODES: Made = Made {
 const FIRST: Came = Came(2, 2, 1, Wire::Asks);
 
 /// That REQUEST is the first frame that node 1 sends.
-const REQUEST: Sends = Sends(1, 1, 2, 1);
+const REQUEST: Sends = Sends(1, "deliver request 1 2 r X 1");
 
 /// The same frame comes to it again.
 const SECOND: Came = Came(2, 3, 1, Wire::Asks);
 
-/// The REQUEST with clock 100 comes to node 2 first.
+/// The REQUEST with clock 100, which is ahead of that of node 1.
+const TOO_EARLY: Sends = Sends(100, "deliver request 1 2 r X 1");
+
+/// It comes to node 2 first.
 const AHEAD: Came = Came(2, 101, 100, Wire::Asks);
+
+/// A REQUEST of node 2, with a clock after that.
+const LATER: Sends = Sends(102, "deliver request 2 1 r X 1");
+
+/// The REQUEST with the last clock but one.
+const LAST: Sends = Sends(LAST_CLOCK - 1, "deliver request 1 2 r X 1");
 
 /// Frames that come to nodes.
 const FRAMES: &[Row] = &[
     Row {
         words: "a frame waits for the event that sends it",
         acts: &[
-            Comes(1, 1, 2),
+            Comes(REQUEST),
             Audits(Fine),
             Waits(1),
             Shows(Shown(0, 0, 0, 0, 0)),
@@ -61,7 +70,7 @@ const FRAMES: &[Row] = &[
     Row {
         words: "an event with its clock sends another frame",
         acts: &[
-            Comes(1, 1, 2),
+            Comes(REQUEST),
             Asks(1, Mode::Shared),
             Audits(Finds(FIRST)),
             Audits(Finds(FIRST)),
@@ -73,8 +82,8 @@ const FRAMES: &[Row] = &[
     Row {
         words: "a frame comes twice",
         acts: &[
-            Comes(1, 1, 2),
-            Comes(1, 1, 2),
+            Comes(REQUEST),
+            Comes(REQUEST),
             Asks(1, Mode::Exclusive),
             Audits(Finds(SECOND)),
             Ends(Finds(SECOND)),
@@ -85,7 +94,7 @@ const FRAMES: &[Row] = &[
     Row {
         words: "its clock is ahead of its sender's, which has no event",
         acts: &[
-            Comes(100, 1, 2),
+            Comes(TOO_EARLY),
             Audits(Fine),
             Audits(Finds(AHEAD)),
             Audits(Finds(AHEAD)),
@@ -96,7 +105,7 @@ const FRAMES: &[Row] = &[
     Row {
         words: "its clock is ahead of its sender's, which has an event in the run",
         acts: &[
-            Comes(100, 1, 2),
+            Comes(TOO_EARLY),
             Asks(1, Mode::Exclusive),
             Audits(Fine),
             // The ask, and the loss of its REQUEST.
@@ -108,8 +117,8 @@ const FRAMES: &[Row] = &[
     Row {
         words: "its sender comes beyond its clock by a frame that waits for it",
         acts: &[
-            Comes(100, 1, 2),
-            Comes(102, 2, 1),
+            Comes(TOO_EARLY),
+            Comes(LATER),
             Asks(2, Mode::Exclusive),
             Audits(Finds(AHEAD)),
             Ends(Finds(AHEAD)),
@@ -122,7 +131,7 @@ const FRAMES: &[Row] = &[
         words: "a frame comes just before the end",
         acts: &[
             Audits(Fine),
-            Comes(100, 1, 2),
+            Comes(TOO_EARLY),
             Ends(NeverSent(AHEAD)),
             Ends(Finds(AHEAD)),
         ],
@@ -136,10 +145,10 @@ fn rounds_find_frames_that_no_node_sent(rt: HostRuntime) {
 }
 
 /// The REQUEST with clock 7 of node 1, which sends no such frame.
-const UNSENT: Sends = Sends(7, 1, 2, 1);
+const UNSENT: Sends = Sends(7, "deliver request 1 2 r X 1");
 
 /// The REQUEST with clock 1 of node 3, of which there are two.
-const OF_NOBODY: Sends = Sends(1, 3, 1, 1);
+const OF_NOBODY: Sends = Sends(1, "deliver request 3 1 r X 1");
 
 /// Frames that are lost.
 const LOSSES: &[Row] = &[
@@ -184,7 +193,7 @@ const LOSSES: &[Row] = &[
     Row {
         words: "the end of the audit finds that a lost frame came",
         acts: &[
-            Comes(1, 1, 2),
+            Comes(REQUEST),
             Asks(1, Mode::Exclusive),
             Ends(NotLost(REQUEST)),
             HasLosses(0, 1),
@@ -196,7 +205,7 @@ const LOSSES: &[Row] = &[
     Row {
         words: "a loss waits if an event does not fit",
         acts: &[
-            Comes(1, 1, 2),
+            Comes(REQUEST),
             Asks(1, Mode::Shared),
             Audits(Finds(FIRST)),
             HasLosses(0, 1),
@@ -243,7 +252,7 @@ const LOSSES: &[Row] = &[
     Row {
         words: "an auditor that is out of turn takes no loss",
         acts: &[
-            Comes(1, 1, 2),
+            Comes(REQUEST),
             Audits(Fine),
             Asks(2, Mode::Exclusive),
             AuditsAnew(OutOfTurn(2)),
@@ -377,7 +386,7 @@ const BOOKS: &[Row] = &[
     Row {
         words: "a lock is refused, since no clock is left for it",
         acts: &[
-            Comes(LAST_CLOCK - 1, 1, 2),
+            Comes(LAST),
             HasAt(2, LAST_CLOCK, 1),
             IsRefused(2, BookError::ClockFull),
             HasAt(2, LAST_CLOCK, 1),

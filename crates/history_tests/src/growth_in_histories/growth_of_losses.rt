@@ -134,7 +134,7 @@ const HANDED_OVER: &Row = &Row {
     words: "a loss is handed over once",
     acts: &[
         ASKS,
-        HandsOver(1, 0, 1, Some(Sends(1, 1, 2, 1))),
+        HandsOver(1, 0, 1, Some(Sends(1, "deliver request 1 2 r X 1"))),
         HandsOver(2, 0, 0, None),
         HandsOver(1, 1, 1, None),
         HandsOver(2, 0, 0, None),

@@ -2,9 +2,11 @@
 use ra_frame::{Frame, encode};
 use ra_history::{Book, Grant, NewError, SettleError, Settled, is_cluster, settle};
 use ra_stamp::{Entry, Message, Mode, NodeId};
+use ra_trace::Line;
+use ra_world::Step;
 use std::alloc::Global;
 use std::process::Abort;
-use test_support::{entry_of, message_between, r};
+use test_support::{entry_of, r};
 
 /// Makes the book of a node of this many, in which each name begins with the number `start`.
 ///
@@ -54,9 +56,20 @@ pub fn node(rt: &impl Abort, number: u16) -> NodeId {
     }
 }
 
-/// Returns the REQUEST for the name `r` with this number, which goes between these nodes.
-pub fn request(rt: &impl Abort, from: u16, to: u16, mode: Mode, seq: u64) -> Message {
-    message_between(node(rt, from), node(rt, to), r(), Some(mode), seq)
+/// Returns the step that a line of a trace tells, or `None` if it tells none.
+pub fn step_of(line: &str) -> Option<Step> {
+    match Line::parse(line.as_bytes()) {
+        Some(Line::Stepped(step)) => Some(step),
+        _ => None,
+    }
+}
+
+/// Returns the message that a line of a trace delivers, or `None` if it delivers none.
+pub fn message_of(line: &str) -> Option<Message> {
+    match step_of(line) {
+        Some(Step::Deliver(message)) => Some(message),
+        _ => None,
+    }
 }
 
 /// Returns the request of a client on the name `r` at a node, with this number.

@@ -7,12 +7,11 @@ use crate::kept_books::histories::{
     Done, Granted, Made, ONE, TWO, books_after, grants_of, new_books,
 };
 use crate::kept_books::history_asserting::{assert_prints, assert_same, fail_at};
-use crate::kept_books::history_values::settled;
+use crate::kept_books::history_values::{settled, step_of};
 use Mode::{Exclusive, Shared};
 use Outcome::{Refused, Settles};
 use ra_history::{Book, Grant, SettleError, Settled, is_cluster};
 use ra_stamp::Mode;
-use ra_trace::Line;
 use ra_world::{Report, Step, report_text};
 use std::alloc::Global;
 use std::process::Abort;
@@ -25,14 +24,6 @@ enum Outcome {
     Refused(SettleError),
     /// They settle into the steps of these lines of a trace, with a report that prints as this text.
     Settles(&'static [&'static str], &'static str),
-}
-
-/// Returns the step that a line of a trace tells, or `None` if it tells none.
-fn step_of(line: &str) -> Option<Step> {
-    match Line::parse(line.as_bytes()) {
-        Some(Line::Stepped(step)) => Some(step),
-        _ => None,
-    }
 }
 
 /// Asserts that these lines tell the steps of a run.
@@ -300,7 +291,7 @@ fn what_did_not_happen_does_not_settle(rt: HostRuntime) {
 }
 
 #[test]
-fn who_reads_at_once_has_the_same_clocks(rt: HostRuntime) {
+fn clients_that_read_at_once_have_the_same_clocks(rt: HostRuntime) {
     let words = "both nodes read at once";
     let books = books_after(&rt, rt.alloc(), words, &[ONE, TWO], READ_AT_ONCE);
     for book in &books {

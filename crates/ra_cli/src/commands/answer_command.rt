@@ -8,9 +8,10 @@ ghost use Rattle.ra_cli.specs.AnswerCall.{ComesTo, IsOfInput, of_receive};
 ghost use Rattle.ra_automaton.specs.State.{IsForNode};
 
 use crate::AnswerError;
-use crate::input_line::{MAX_LINE, line_of};
+use crate::input_line::line_of;
 use hex::FromHexError;
 use ra_automaton::{Automaton, Reaction, ReceiveError};
+use ra_book::MAX_LINE;
 use ra_frame::{Frame, decode, encode};
 use ra_stamp::{Member, MemberError, Memory, Message, Messages, NodeId};
 use ra_world::{read_up_to, write_out};

@@ -117,7 +117,7 @@ returns-in-Task-Draw g c arguments asks =
     let known = rw c.in-Task-Draw.is at asks in
     let is = rw c.in-Task-Draw.is at c.in-Task-Draw.field-0-is in
     served law.finished law.only_memory arguments (task.Draw c.in-Task-Draw.kind c.in-Task-Draw.part) _ _ _ _ _ _
-    (rw is at known) c.draw_trace.ensures
+    (rw is at known) c.draw_part.ensures
 
 pub returns-in-Task-Cluster : goal.returns-in-Task-Cluster
 returns-in-Task-Cluster g c arguments asks =

@@ -6,7 +6,7 @@ use Rattle.ra_cli.proofs.PictureLemmas.{of_picture, of_denied}
 use Rattle.ra_cli.proofs.Statuses.{of_draw}
 use Rattle.ra_cli.proofs.TaskLemmas.{of_part}
 use Rattle.ra_cli.proofs.TaskStatuses.{if_denied, if_done, if_refused}
-use Rattle.ra_cli.proofs.serving.draw_trace.Goals as goal
+use Rattle.ra_cli.proofs.serving.draw_part.Goals as goal
 
 pub returns-in-Ok-None : goal.returns-in-Ok-None
 returns-in-Ok-None g c =
