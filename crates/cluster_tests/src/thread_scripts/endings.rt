@@ -111,10 +111,10 @@ fn assert_done(rt: &impl Abort, at: At<'_>, settled: &Settled, requests: u128, s
 }
 
 /// Returns the first two marks of which each is one of these, in the order in which they come.
-fn in_order(marks: &[Mark], one: Mark, other: Mark) -> (Option<Mark>, Option<Mark>) {
+fn in_order(marks: &[Mark], one: &Mark, other: &Mark) -> (Option<Mark>, Option<Mark>) {
     let mut first = None;
     for mark in marks {
-        if *mark == one || *mark == other {
+        if *mark == *one || *mark == *other {
             if first.is_some() {
                 return (first, Some(*mark));
             }
@@ -129,8 +129,8 @@ fn in_order(marks: &[Mark], one: Mark, other: Mark) -> (Option<Mark>, Option<Mar
 fn assert_order(rt: &impl Abort, at: At<'_>, marks: &[Mark], first: u16, second: u16) {
     let one = Mark::Entered(entry(rt, first, u32::from(first), Mode::Exclusive, 1));
     let two = Mark::Entered(entry(rt, second, u32::from(second), Mode::Exclusive, 2));
-    let due = (Some(one), Some(two));
-    assert_same(rt, at, &in_order(marks, one, two), &due);
+    let came = in_order(marks, &one, &two);
+    assert_same(rt, at, &came, &(Some(one), Some(two)));
 }
 
 /// How a script ends.

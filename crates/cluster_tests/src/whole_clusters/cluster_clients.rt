@@ -191,8 +191,10 @@ fn uses<R: AllocGlobal + Wait + Abort>(
     let node = node(rt, number);
     let came = match use_name(rt, rt.alloc(), stage.cluster, node, client, cause) {
         Ok(held) => {
+            let seq = held.grant.entry.stamp.seq;
             *stage.grant.lock(rt) = Some(held.grant);
-            assert_same(rt, at, &held.value, &Some(held.grant.entry));
+            let holder = entry(rt, number, client, Mode::Exclusive, seq);
+            assert_same(rt, at, &held.value, &Some(holder));
             Ok(held.unlocked)
         }
         Err(refused) => Err(refused),

@@ -171,7 +171,7 @@ fn assert_refused<R: AllocGlobal + Wait + Abort>(rt: &R, start: u64, turn: usize
         } else {
             None
         };
-        let at = At("a client locks twice", "lock", place + 1);
+        let at = At("a client locks twice", "lock", place.saturating_add(1));
         assert_same(rt, at, &came, &due);
     }
 }
