@@ -1,10 +1,10 @@
 //! The place in what was read that a note is about.
 use ra_cli::{AnswerError, CommandRefusal, Remark, RunScriptError};
 use ra_cluster::ClusterError;
-use ra_explain::{LineCause, Unanswered, digits_note, frame_note, line_note, order_note};
+use ra_explain::{LineCause, Unanswered, digits_note, frame_note, line_note};
 use ra_notes::{
-    PlaceNote, cause_in, cause_text, mark_cause_text, perform_place, text_in, unanswered_place,
-    unfinished_place, unsettled_note,
+    PlaceNote, cause_in, cause_text, mark_cause_text, order_note, perform_place, text_in,
+    unanswered_place, unfinished_place, unsettled_note,
 };
 use ra_script::explain_script;
 use ra_task::Command;

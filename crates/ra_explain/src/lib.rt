@@ -4,19 +4,14 @@
 
 mod frame_notes;
 mod hint;
-mod run_notes;
-mod script_notes;
 mod trace_notes;
 
 pub use frame_notes::frame_fault::{frame_note, push_frame_fault};
 pub use frame_notes::hexadecimal::{digits_note, push_digits_fault};
 pub use frame_notes::unanswered::{Unanswered, unanswered_note};
-pub use run_notes::shrunk::{ShrunkNotes, shrunk_notes};
-pub use run_notes::unfinished::unfinished_note;
-pub use script_notes::choosing::choices_note;
-pub use script_notes::order_note::order_note;
-pub use script_notes::script_end::script_end_note;
+pub use trace_notes::blockers::{MAX_CLIENTS, TellsBlocker, push_blockers, want_text};
 pub use trace_notes::line_cause::{LineCause, line_note};
-pub use trace_notes::open_request::Stage;
+pub use trace_notes::open_request::{OpenRequest, Stage};
+pub use trace_notes::open_text::{OpenText, Sought};
 pub use trace_notes::refused_step::{push_exhausted, push_not_held, push_stage};
 pub use trace_notes::text_end::end_note;

@@ -1,5 +1,7 @@
 //! The place in what was read that a note is about, and which client waits for which.
-use ra_explain::{LineCause, Unanswered, choices_note, unanswered_note, unfinished_note};
+use crate::run_notes::unfinished::unfinished_note;
+use crate::script_notes::choosing::choices_note;
+use ra_explain::{LineCause, Unanswered, unanswered_note};
 use ra_schedule::{Policy, chance};
 use ra_script::{PerformError, explain_script};
 use ra_stamp::{Mark, Memory};

@@ -8,6 +8,8 @@ mod note_texts;
 mod refused_event;
 mod refused_notes;
 mod run_hints;
+mod run_notes;
+mod script_notes;
 mod seed_progress;
 mod seen;
 mod settle_notes;
@@ -25,6 +27,10 @@ pub use note_texts::{
     cluster_text, mark_cause_text, text_cause_text,
 };
 pub use run_hints::write_hints;
+pub use run_notes::unfinished::unfinished_note;
+pub use script_notes::choosing::choices_note;
+pub use script_notes::order_note::order_note;
+pub use script_notes::script_end::script_end_note;
 pub use seed_progress::SeedProgress;
 pub use seen::end_reader::EndReader;
 pub use seen::seen_writer::{OutputFault, SeenWriter};

@@ -1,6 +1,6 @@
 //! Hints for the user when nothing was refused but something may surprise: options that have no effect, names that stay
 //! locked, and which seed was found.
-use ra_explain::script_end_note;
+use crate::script_notes::script_end::script_end_note;
 use ra_schedule::Ending;
 use ra_task::{Command, Search, Task, write_line, write_unused_options};
 use std::alloc::Global;

@@ -1,7 +1,7 @@
 //! The notes on a run that was shrunk: by how much, and what is left to do in the shorter run, whose choices were printed.
 use crate::input_places::policy_by;
 use crate::note_texts::UNEXPLAINED;
-use ra_explain::{ShrunkNotes, shrunk_notes};
+use crate::run_notes::shrunk::{ShrunkNotes, shrunk_notes};
 use ra_task::{Command, write_line};
 use std::alloc::Global;
 use std::io::Write;

@@ -1,5 +1,5 @@
 //! Which requests are in the way of one that waits or is queued.
-use crate::run_notes::client_end::RunEnd;
+use crate::trace_notes::open_request::OpenRequest;
 use crate::trace_notes::open_text::{OpenText, Sought};
 use ra_world::Note;
 
@@ -9,13 +9,27 @@ pub const MAX_CLIENTS: u64 = 4;
 /// The most requests that are named as blocking one request.
 const MAX_BLOCKERS: u64 = 3;
 
-/// Adds the first of these requests, each as it is at the end of a run if one is given, and otherwise with its line. Returns whether
-/// there is any.
-pub fn push_blockers(
+/// What a note says of a request that is in the way of another one.
+pub trait TellsBlocker {
+    /// Adds it.
+    fn push_blocker(&self, note: &mut Note, request: &OpenRequest);
+}
+
+/// Each is told with its line.
+pub struct ByLine;
+
+impl TellsBlocker for ByLine {
+    fn push_blocker(&self, note: &mut Note, request: &OpenRequest) {
+        request.push_in_the_way(note);
+    }
+}
+
+/// Adds the first of these requests, and how many more there are. Returns whether there is any.
+pub fn push_blockers<T: TellsBlocker>(
     note: &mut Note,
     open: &OpenText,
     sought: &Sought,
-    ending: Option<&RunEnd<'_>>,
+    tells: &T,
 ) -> bool {
     let mut after = 0;
     for named in 0..MAX_BLOCKERS {
@@ -23,10 +37,7 @@ pub fn push_blockers(
             break;
         };
         note.push(if named == 0 { ": " } else { ", " });
-        match ending {
-            Some(ending) => ending.push_blocker(note, other),
-            None => other.push_in_the_way(note),
-        }
+        tells.push_blocker(note, other);
         after = other.since;
     }
     note.push_more(" and ", open.count_of(sought), MAX_BLOCKERS);

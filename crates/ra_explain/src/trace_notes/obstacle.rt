@@ -48,6 +48,17 @@ fn push_number(note: &mut Note, request: &OpenRequest) {
     note.number(request.entry.stamp.seq);
 }
 
+/// Adds that an entry was never requested and, if it should hold, who holds its name.
+fn push_never(note: &mut Note, entry: &Entry, replay: &Replay, cause: MarkCause) {
+    note.push(": it was never requested");
+    if let MarkCause::NotHeld = cause {
+        let holder = replay
+            .open
+            .next_of(0, &Sought::On(Stage::Holds, entry.name));
+        push_other(note, "; ", holder, true);
+    }
+}
+
 /// Adds what became of an entry that neither waits nor holds: it was released, or it was never requested. If it was not, a request
 /// like it is named in its place, or the last one that its node released. If none is, and it should hold, who holds its name.
 fn push_past(note: &mut Note, entry: &Entry, replay: &Replay, cause: MarkCause) {
@@ -62,15 +73,7 @@ fn push_past(note: &mut Note, entry: &Entry, replay: &Replay, cause: MarkCause) 
             released.push(note, " last released ", " in line ");
             push_number(note, released);
         }
-        (None, None) => {
-            note.push(": it was never requested");
-            if let MarkCause::NotHeld = cause {
-                let holder = replay
-                    .open
-                    .next_of(0, &Sought::On(Stage::Holds, entry.name));
-                push_other(note, "; ", holder, true);
-            }
-        }
+        (None, None) => push_never(note, entry, replay, cause),
     }
 }
 

@@ -1,5 +1,5 @@
 //! Why a node refuses what a client wants at a line of a trace.
-use crate::trace_notes::open_request::Stage;
+use crate::trace_notes::open_request::{OpenRequest, Stage};
 use crate::trace_notes::open_text::ClientKey;
 use crate::trace_notes::replay::Replay;
 use crate::trace_notes::text_line::TextLine;
@@ -50,14 +50,39 @@ pub fn push_exhausted(note: &mut Note, name: &Name) {
     note.push(": the greatest is 18446744073709551615");
 }
 
+/// Adds that a trace of this many nodes has no such node.
+fn push_no_node(note: &mut Note, node: NodeId, nodes: u16) {
+    note.push("there is no node ");
+    note.number(node.get());
+    note.push(": the highest node of the trace is ");
+    note.number(nodes);
+}
+
+/// Adds what the client of a key does with the name, so that it may not ask for it again, or does not hold it.
+fn push_open(note: &mut Note, key: &ClientKey, open: &OpenRequest, is_ask: bool) {
+    let (node, client, name) = key;
+    let mode = open.entry.mode;
+    push_stage(
+        note,
+        *client,
+        open.stage,
+        name,
+        mode,
+        Some(*node),
+        open.since,
+    );
+    note.push(if is_ask {
+        " and may not ask for it again"
+    } else {
+        " and does not hold it"
+    });
+}
+
 /// Adds why a node refuses what the client of a key wants, which is to ask for the name or to leave it, or `other` if that is not known.
 fn push_refusal(note: &mut Note, replay: &Replay, key: &ClientKey, is_ask: bool, other: &str) {
     let (node, client, name) = key;
     if node.get() > replay.nodes && replay.nodes > 0 {
-        note.push("there is no node ");
-        note.number(node.get());
-        note.push(": the highest node of the trace is ");
-        note.number(replay.nodes);
+        push_no_node(note, *node, replay.nodes);
         return;
     }
     if replay.nodes == 0 || !replay.open.is_whole {
@@ -65,23 +90,7 @@ fn push_refusal(note: &mut Note, replay: &Replay, key: &ClientKey, is_ask: bool,
         return;
     }
     match replay.open.clients.get(key) {
-        Some(open) => {
-            let mode = open.entry.mode;
-            push_stage(
-                note,
-                *client,
-                open.stage,
-                name,
-                mode,
-                Some(*node),
-                open.since,
-            );
-            note.push(if is_ask {
-                " and may not ask for it again"
-            } else {
-                " and does not hold it"
-            });
-        }
+        Some(open) => push_open(note, key, open, is_ask),
         None if is_ask => push_exhausted(note, name),
         None => push_not_held(note, *client, name, Some(*node)),
     }

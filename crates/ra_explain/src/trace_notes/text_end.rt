@@ -1,7 +1,7 @@
 //! What is left at the end of a trace or of a mark log.
 ghost use Rattle.std.specs.Prelude.{◌≤◌, length};
 
-use crate::trace_notes::blockers::{MAX_CLIENTS, push_blockers, want_text};
+use crate::trace_notes::blockers::{ByLine, MAX_CLIENTS, push_blockers, want_text};
 use crate::trace_notes::line_form::version_of;
 use crate::trace_notes::open_request::{OpenRequest, Stage};
 use crate::trace_notes::open_text::{OpenText, Sought};
@@ -138,7 +138,7 @@ fn push_wants(note: &mut Note, open: &OpenText, request: &OpenRequest, want: &st
     let entry = &request.entry;
     match request.stage {
         Stage::Waits => {
-            if !push_blockers(note, open, &Sought::Blocking(*entry), None) {
+            if !push_blockers(note, open, &Sought::Blocking(*entry), &ByLine) {
                 note.push(want);
             }
         }
@@ -147,7 +147,7 @@ fn push_wants(note: &mut Note, open: &OpenText, request: &OpenRequest, want: &st
                 note,
                 open,
                 &Sought::AtNode(entry.stamp.node, entry.name),
-                None,
+                &ByLine,
             );
         }
         Stage::Holds => {}

@@ -2,11 +2,9 @@
 use crate::script_texts::choice_words::choices_of;
 use crate::text_asserting::assert_same;
 use Asked::{Choice, Digits, Field, Frame, Kept, Order, Script, Unanswered, Unfinished};
-use ra_explain::{
-    LineCause, choices_note, digits_note, frame_note, line_note, order_note, script_end_note,
-    unanswered_note, unfinished_note,
-};
+use ra_explain::{LineCause, digits_note, frame_note, line_note, unanswered_note};
 use ra_frame::FrameError;
+use ra_notes::{choices_note, order_note, script_end_note, unfinished_note};
 use ra_schedule::Policy;
 use ra_script::explain_script;
 use ra_stamp::{Mark, Memory};

@@ -1,8 +1,7 @@
 //! Which clients wait for which others at the end of a run.
 use crate::run_notes::client_end::{ClientEnd, RunEnd};
 use crate::script_notes::script_text::{run_of, script_in};
-use crate::trace_notes::blockers::{MAX_CLIENTS, push_blockers, want_text};
-use crate::trace_notes::open_text::{OpenText, Sought};
+use ra_explain::{MAX_CLIENTS, OpenText, Sought, push_blockers, want_text};
 use ra_schedule::{Policy, Script};
 use ra_stamp::{Memory, Name, NodeId};
 use ra_world::Note;
@@ -34,12 +33,7 @@ fn push_client(note: &mut Note, ending: &RunEnd<'_>, client: u32, client_end: &C
     client_end.push(note);
     match client_end {
         ClientEnd::Waits(entry) => {
-            if !push_blockers(
-                note,
-                &ending.requests,
-                &Sought::Blocking(*entry),
-                Some(ending),
-            ) {
+            if !push_blockers(note, &ending.requests, &Sought::Blocking(*entry), ending) {
                 note.push(want_text(ending.report.under_way, ending.report.lost));
             }
         }

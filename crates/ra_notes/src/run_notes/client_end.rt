@@ -1,6 +1,5 @@
 //! The states of the clients of a script when a run of it ends.
-use crate::trace_notes::open_request::{OpenRequest, Stage};
-use crate::trace_notes::open_text::OpenText;
+use ra_explain::{OpenRequest, OpenText, Stage, TellsBlocker};
 use ra_schedule::{Choice, Op, Policy, Script};
 use ra_stamp::{Entry, Mark, Mode, Name};
 use ra_world::{Note, Report};
@@ -143,9 +142,10 @@ impl<'a> RunEnd<'a> {
             _ => ClientEnd::Idle(done.saturating_add(1)),
         }
     }
+}
 
-    /// Adds that a request is in the way.
-    pub fn push_blocker(&self, note: &mut Note, request: &OpenRequest) {
+impl TellsBlocker for RunEnd<'_> {
+    fn push_blocker(&self, note: &mut Note, request: &OpenRequest) {
         note.client(request.entry.client);
         if request.holds() {
             if let ClientEnd::Done = self.client_end(request.entry.client) {

@@ -66,11 +66,8 @@ fn push_messages(note: &mut Note, count: u64) {
     }
 }
 
-/// Adds which choice can't be made, and why.
-fn push_choice_at(alloc: Global, note: &mut Note, script: &Script, choices: &Choices, place: u64) {
-    let Some(choice) = choices.at(place) else {
-        return;
-    };
+/// Adds the choice at a place, as it is written.
+fn push_choice(note: &mut Note, choice: Choice, place: u64) {
     let (letter, number) = match choice {
         Choice::Client(client) => ("c", u64::from(client)),
         Choice::Message(number) => ("m", number),
@@ -82,17 +79,30 @@ fn push_choice_at(alloc: Global, note: &mut Note, script: &Script, choices: &Cho
     note.push(" of --choices, ");
     note.push(letter);
     note.number(number);
+}
+
+/// Adds why a choice can't be made at the end of a run.
+fn push_reason(note: &mut Note, ending: &RunEnd<'_>, choice: Choice) {
+    match choice {
+        Choice::Client(client) => push_client(note, ending, client),
+        _ => push_messages(
+            note,
+            u64::try_from(ending.report.under_way).unwrap_or(u64::MAX),
+        ),
+    }
+}
+
+/// Adds which choice can't be made, and why.
+fn push_choice_at(alloc: Global, note: &mut Note, script: &Script, choices: &Choices, place: u64) {
+    let Some(choice) = choices.at(place) else {
+        return;
+    };
+    push_choice(note, choice, place);
     note.push(", is not possible: ");
     let policy = first_of(alloc, note, choices, place);
     if let Some(summary) = run_of(alloc, note, script, &policy) {
         let ending = RunEnd::new(alloc, note, script, &policy, &summary.report);
-        match choice {
-            Choice::Client(client) => push_client(note, &ending, client),
-            _ => push_messages(
-                note,
-                u64::try_from(ending.report.under_way).unwrap_or(u64::MAX),
-            ),
-        }
+        push_reason(note, &ending, choice);
     }
 }
 
