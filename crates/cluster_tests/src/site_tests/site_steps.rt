@@ -344,7 +344,10 @@ impl Acts for Stage<'_> {
     }
 
     fn act<R: AllocGlobal + Wait + Abort>(&self, rt: &R, place: usize) {
-        let (at, all) = (At(self.row.words, "step", place + 1), self.all);
+        let (at, all) = (
+            At(self.row.words, "step", place.saturating_add(1)),
+            self.all,
+        );
         let Some(step) = self.row.steps.get(place) else {
             fail_at(rt, at, "there is no such step");
         };

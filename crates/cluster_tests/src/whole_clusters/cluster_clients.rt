@@ -284,7 +284,7 @@ impl Acts for Stage<'_> {
     }
 
     fn act<R: AllocGlobal + Wait + Abort>(&self, rt: &R, place: usize) {
-        let at = At(self.row.words, "act", place + 1);
+        let at = At(self.row.words, "act", place.saturating_add(1));
         let Some(act) = self.row.acts.get(place) else {
             fail_at(rt, at, "there is no such act");
         };
