@@ -6,7 +6,7 @@ use Rattle.std.specs.Map.{lookup, set_value}
 use Rattle.std.specs.FinMap as finmap
 use Rattle.std.proofs.lemmas.Map.Steps.{set_value_same}
 use Rattle.std.proofs.lemmas.Option.{none-some}
-use Rattle.indexmap.specs.IndexMap.{IndexMap, WritesThrough}
+use Rattle.std.specs.HashMap.{HashMap, WritesThrough}
 use Rattle.ra_stamp.specs.declared.mode.Mode.{Mode}
 use Rattle.ra_stamp.specs.declared.message.Message.{Message}
 use Rattle.ra_stamp.specs.declared.message.Message.TheVariants.{Request, Reply}
@@ -18,7 +18,7 @@ use Rattle.ra_automaton.specs.State.{IsConsistent}
 use Rattle.ra_node.specs.declared.outcome.Outcome.{Outcome}
 use Rattle.ra_node.specs.Resource.{Resource, unmet, Holds, holder_of, IsConsistentResource}
 use Rattle.ra_node.specs.Turns.{AskTurn, LeaveTurn, ReceiveTurn, IsStrayAt}
-use Rattle.ra_node.specs.Node.{NodeState, resource_at, waiting_count, queued_count, IsConsistentNode}
+use Rattle.ra_node.specs.Node.{NodeState, resource_at, with_resource, waiting_count, queued_count, IsConsistentNode}
 use Rattle.ra_node.specs.Events.{AskEvent, LeaveEvent, ReceiveEvent}
 use Rattle.ra_node.specs.declared.node.Node.TheInside.{Inside}
 use Rattle.ra_node.specs.View.{node_with, Finds, excess_of, IsKept}
@@ -92,11 +92,11 @@ module _ (me nodes start : ℕ) (slots : List (List ℕ × Resource)) (now : Nod
 
 -- ---- A call at the slot that a look-up among a node's slots finds
 
-pub written_through : {S : Type 0} (slots slots' : IndexMap (List ℕ) Resource S) (name : List ℕ) (slot new : Resource) → Some slot ≡ lookup (bytes_eq name) slots.entries → WritesThrough bytes_eq (bytes_eq name) slots new slots'
+pub written_through : {S : Type 0} (slots slots' : HashMap (List ℕ) Resource S) (name : List ℕ) (slot new : Resource) → Some slot ≡ lookup (bytes_eq name) slots.entries → WritesThrough bytes_eq (bytes_eq name) slots new slots'
     → IsWritten slots.entries name slot new slots'.entries
 written_through slots slots' name slot new was written = record { was = was; slots_are = written.0; finds = (written.3 (subst IsSome was refl)).0 }
 
-module _ {S E : Type 0} (me nodes start : ℕ) (slots slots' : IndexMap (List ℕ) Resource S) (now : NodeState) (is : node_with me nodes start slots.entries ≡ now) (invariant : IsConsistentNode (node_with me nodes start slots.entries)) (slot new : Resource)
+module _ {S E : Type 0} (me nodes start : ℕ) (slots slots' : HashMap (List ℕ) Resource S) (now : NodeState) (is : node_with me nodes start slots.entries ≡ now) (invariant : IsConsistentNode (node_with me nodes start slots.entries)) (slot new : Resource)
     (result : Result Outcome E) (Refused : E → Type 0)
   where
     abbrev kept : IsConsistentNode now
@@ -131,11 +131,6 @@ module _ {S E : Type 0} (me nodes start : ℕ) (slots slots' : IndexMap (List �
         (λ o turn state. received me nodes start slots.entries now is kept slot new slots'.entries message o.sends.items o.marks.items (found me nodes start slots.entries now is (name_of message) slot written.was) written.finds turn state
         (λ stray. unchanged me nodes start slots.entries now is kept slot new slots'.entries (name_of message) written (stray_stays slot message o.sends.items o.marks.items new turn stray)))
 
--- a resource that the map does not have is unmet
-pub unmet_here : (me nodes start : ℕ) (slots : List (List ℕ × Resource)) (now : NodeState) (name : List ℕ) → node_with me nodes start slots ≡ now → finmap.get now.resources name ≡ None
-    → unmet me nodes name start ≡ resource_at now name
-unmet_here me nodes start slots now name is none = ap (λ (m : NodeState). unmet m.me m.nodes name m.start) is ∙ sym (ap (λ (o : Option Resource). unwrap_or o (unmet now.me now.nodes name now.start)) none)
-
 -- nobody holds a resource that nothing was about yet
 pub nobody_holds : (r : Resource) (me nodes : ℕ) (name : List ℕ) (start : ℕ) → r ≡ unmet me nodes name start → (client : ℕ) (entry : Entry) → Holds r client entry → ⊥
 nobody_holds r me nodes name start is client entry held = none-some entry (sym (ap holder_of is) ∙ held.granted)
@@ -164,24 +159,36 @@ pub seen_from : {E : Type 0} (result : Result Outcome E) (Refused : E → Type 0
 seen_from (Ok outcome) Refused Event old now new is ended = (subst (λ (n : NodeState). Event n outcome) is ended, tt)
 seen_from (Err fault) Refused Event old now new is ended = (tt, ended.1 ∙ is)
 
-module _ (me nodes start : ℕ) (before slots : List (List ℕ × Resource)) (now : NodeState) (is : node_with me nodes start before ≡ now) (invariant : IsConsistentNode (node_with me nodes start before)) (same : slots ≡ before) (name : List ℕ)
-    (none : finmap.get now.resources name ≡ None) (slot new : Resource) (fresh : slot ≡ unmet me nodes name start) (slots' : List (List ℕ × Resource)) (finds : Finds slots slots' name new)
-  where
-    abbrev view : node_with me nodes start slots ≡ now
-    view = same_view me nodes start before slots now same is
+module _ (now : NodeState) (name : List ℕ) (none : finmap.get now.resources name ≡ None) (slot : Resource) (fresh : slot ≡ unmet now.me now.nodes name now.start) where
+  pub first_here : slot ≡ resource_at now name
+  first_here = fresh ∙ sym (ap (λ (o : Option Resource). unwrap_or o (unmet now.me now.nodes name now.start)) none)
 
-    abbrev here : slot ≡ resource_at now name
-    here = fresh ∙ unmet_here me nodes start slots now name view none
+  first_is_consistent : IsConsistentNode now → IsConsistentResource now.me now.nodes name now.start slot
+  first_is_consistent kept = subst (λ (r : Resource). IsConsistentResource now.me now.nodes name now.start r) (sym first_here) (kept.each name)
 
-    pub first_asked : (client : ℕ) (mode : Mode) (sends : List Message) (marks : List Mark) → AskTurn slot client mode sends marks new → IsConsistent new.state
-        → IsConsistentNode (node_with me nodes start slots') × AskEvent now client name mode sends marks (node_with me nodes start slots')
-    first_asked client mode sends marks turn state = asked me nodes start slots now view (subst IsConsistentNode is invariant) slot new slots' client name mode sends marks here finds turn state
+  -- the slot after a turn can be taken in
+  pub first_ask_kept : IsConsistentNode now → (client : ℕ) (mode : Mode) (sends : List Message) (marks : List Mark) (new : Resource) → AskTurn slot client mode sends marks new → IsConsistent new.state
+      → IsConsistentResource now.me now.nodes name now.start new
+  first_ask_kept kept client mode sends marks new turn state = ask_kept now.me now.nodes name now.start slot client mode sends marks new turn state (first_is_consistent kept)
 
-    pub first_received : (message : Message) (sends : List Message) (marks : List Mark) → name ≡ name_of message → ReceiveTurn slot message sends marks new → IsConsistent new.state → (IsStrayAt slot message → ⊥)
-        → IsConsistentNode (node_with me nodes start slots') × ReceiveEvent now message sends marks (node_with me nodes start slots')
-    first_received message sends marks name-is turn state other =
-        received me nodes start slots now view (subst IsConsistentNode is invariant) slot new slots' message sends marks
-        (here ∙ ap (λ (q : List ℕ). resource_at now q) name-is) (subst (λ (q : List ℕ). Finds slots slots' q new) name-is finds) turn state (λ stray. absurd (other stray))
+  pub first_receive_kept : IsConsistentNode now → (message : Message) (sends : List Message) (marks : List Mark) (new : Resource) → ReceiveTurn slot message sends marks new → IsConsistent new.state
+      → IsConsistentResource now.me now.nodes name now.start new
+  first_receive_kept kept message sends marks new turn state = receive_kept now.me now.nodes name now.start slot message sends marks new turn state (first_is_consistent kept)
+
+  -- and then the event has happened
+  pub first_asked : (client : ℕ) (mode : Mode) (sends : List Message) (marks : List Mark) (new : Resource) → AskTurn slot client mode sends marks new → (after : NodeState) → after ≡ with_resource now name new → AskEvent now client name mode sends marks after
+  first_asked client mode sends marks new turn after is = record { resource = new; turn = subst (λ (r : Resource). AskTurn r client mode sends marks new) first_here turn; new_is = is }
+
+  pub first_received : (message : Message) (sends : List Message) (marks : List Mark) (new : Resource) → name ≡ name_of message → ReceiveTurn slot message sends marks new → (IsStrayAt slot message → ⊥) → (after : NodeState) → after ≡ with_resource now name new
+      → ReceiveEvent now message sends marks after
+  first_received message sends marks new name-is turn other after is =
+      let here = first_here ∙ ap (resource_at now) name-is in
+      record {
+        resource = new;
+        turn = subst (λ (r : Resource). ReceiveTurn r message sends marks new) here turn;
+        after_stray = λ stray. absurd (other (subst (λ (r : Resource). IsStrayAt r message) (sym here) stray));
+        after_other = λ _. is ∙ ap (λ (q : List ℕ). with_resource now q new) name-is;
+      }
 
 -- ---- A message about a name that nothing was about yet
 

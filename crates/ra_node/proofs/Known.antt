@@ -1,14 +1,14 @@
 -- How the known clients of a queue follow what comes and goes.
-use Rattle.std.proofs.Common.{◌≡◌, ◌≢◌, ◌↔◌, ℕ, suc, Bool, true, false, cond, ◌||◌, List, [], ◌∷◌, ◌++◌, Any, length, refl, sym, ap, ◌∙◌, subst, arith}
+use Rattle.std.proofs.Common.{◌≡◌, ◌↔◌, ℕ, suc, Bool, true, false, cond, ◌||◌, List, [], ◌∷◌, ◌++◌, Any, refl, sym, ap, ◌∙◌, subst, arith}
 use Rattle.std.specs.Prelude.{nat_eq, IsTrue}
 use Rattle.std.specs.List.{list_any}
 use Rattle.std.specs.Map.{lookup, keys_of}
 use Rattle.std.specs.Option.{is_some}
 use Rattle.std.proofs.Common.{Option, Some, None}
-use Rattle.std.proofs.lemmas.Bool.{true≢false, eq-eqb, eqb-true}
+use Rattle.std.proofs.lemmas.Bool.{eq-eqb, eqb-true}
 use Rattle.std.proofs.lemmas.List.Folds.{Any-from_list_any, list_any-from_Any}
 use Rattle.ra_node.specs.declared.queued_client.Queued.{Queued}
-use Rattle.ra_node.specs.Queue.{AreApart, AreClients, IsKnown}
+use Rattle.ra_node.specs.Queue.{AreApart, AreClients}
 use Rattle.ra_node.proofs.Distinct.{queues_has}
 
 -- ---- Who is queued, by a test and by a fact
@@ -21,11 +21,6 @@ is_queued queue client h =
 has_queued : (queue : List Queued) (client : ℕ) → Any (λ x. x.client ≡ client) queue → list_any (λ x. nat_eq client x.client) queue ≡ true
 has_queued queue client a =
     list_any-from_Any (λ (x : Queued). nat_eq client x.client) queue (a.0, a.1, a.2, a.3, eq-eqb client a.1.client (sym a.4))
-
--- entries of which a test says that there are some have keys
-pub some_keys : {X : Type 0} (entries : List (ℕ × X)) (empty : Bool) → empty ≡ false → (IsTrue empty ↔ (length entries ≡ 0)) → keys_of entries ≢ []
-some_keys [] empty not says e = true≢false (sym (says.1 refl) ∙ not)
-some_keys (x ∷ xs) empty not says e = omega (arith, ap length e)
 
 -- ---- What a map says of its keys
 
@@ -58,12 +53,12 @@ one_key_less old new client updates = λ q.
     sym (has_value (nat_eq q) new) ∙ ap is_some (updates q) ∙ none_or (nat_eq client q) (lookup (nat_eq q) old)
     ∙ ap (cond (nat_eq client q) false) (has_value (nat_eq q) old)
 
--- a look-up among the known clients, of which there are some, finds who is queued
-pub finds : (known : List ℕ) (queue : List Queued) (client : ℕ) (found : Bool) → IsKnown known queue → known ≢ [] → found ≡ list_any (nat_eq client) known
+-- a look-up among the known clients finds who is queued
+pub finds : (known : List ℕ) (queue : List Queued) (client : ℕ) (found : Bool) → AreClients known queue → found ≡ list_any (nat_eq client) known
     → IsTrue found ↔ Any (λ x. x.client ≡ client) queue
-finds known queue client found knows some is =
-    let are = is ∙ knows some client in
-    (λ yes. is_queued queue client (sym are ∙ yes), λ any. are ∙ has_queued queue client any)
+finds known queue client found are is =
+    let same = is ∙ are client in
+    (λ yes. is_queued queue client (sym same ∙ yes), λ any. same ∙ has_queued queue client any)
 
 -- ---- One comes
 

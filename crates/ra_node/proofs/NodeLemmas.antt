@@ -8,7 +8,7 @@ use Rattle.std.specs.Ordering.{nat_cmp}
 use Rattle.std.specs.Cmp.Lexicographic.{slice_cmp}
 use Rattle.std.specs.FinMap as finmap
 use Rattle.std.proofs.lemmas.Bool.{true≢false}
-use Rattle.indexmap.specs.IndexMap.{IndexMap}
+use Rattle.std.specs.HashMap.{HashMap}
 use Rattle.ra_stamp.specs.NodeId.{IsNodeNumber}
 use Rattle.ra_node.specs.Resource.{Resource, unmet, IsConsistentResource}
 use Rattle.ra_node.specs.Node.{NodeState, opening_node, resource_at, with_resource, IsConsistentNode}
@@ -36,8 +36,8 @@ with_kept n name r h new =
     }
 
 -- a map without a slot of this name, which is as another that has none
-pub absent_in : {S : Type 0} (slots slots' : IndexMap (List ℕ) Resource S) (name : List ℕ) → slots' ≡ slots → None ≡ lookup (bytes_eq name) slots.entries → finmap.get (finmap.from_entries {R = slice_cmp nat_cmp} slots'.entries) name ≡ None
-absent_in {S} slots slots' name same none = get_slot slots'.entries name ∙ ap (λ (m : IndexMap (List ℕ) Resource S). lookup (bytes_eq name) m.entries) same ∙ sym none
+pub absent_in : {S : Type 0} (slots slots' : HashMap (List ℕ) Resource S) (name : List ℕ) → slots' ≡ slots → None ≡ lookup (bytes_eq name) slots.entries → finmap.get (finmap.from_entries {R = slice_cmp nat_cmp} slots'.entries) name ≡ None
+absent_in {S} slots slots' name same none = get_slot slots'.entries name ∙ ap (λ (m : HashMap (List ℕ) Resource S). lookup (bytes_eq name) m.entries) same ∙ sym none
 
 module _ (me nodes start : ℕ) (slots : List (List ℕ × Resource)) (now : NodeState) (is : node_with me nodes start slots ≡ now) (name : List ℕ) where
   -- the slot that a look-up finds is the resource of this name

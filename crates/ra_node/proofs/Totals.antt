@@ -1,5 +1,5 @@
 -- Sums over all names, and what becomes of them if the resource of one name changes.
-use Rattle.std.proofs.Common.{◌≡◌, ℕ, ◌+◌, ◌*◌, ◌/◌, ◌^◌, ◌≤◌, Bool, true, false, cond, List, [], ◌∷◌, length, Option, Some, None, Result, Ok, Err, MatchResult, refl, sym, ap, ◌∙◌, subst, arith, inl, inr}
+use Rattle.std.proofs.Common.{◌≡◌, ℕ, ◌+◌, ◌*◌, ◌/◌, ◌^◌, ◌≤◌, Bool, true, false, cond, List, [], ◌∷◌, length, Option, Some, None, Result, Ok, Err, MatchResult, refl, sym, ap, ◌∙◌, subst, arith}
 use Rattle.std.specs.Prelude.{sum_by, unwrap_or}
 use Rattle.std.specs.Str.{bytes_eq}
 use Rattle.std.specs.List.{IsDistinct}
@@ -8,12 +8,9 @@ use Rattle.std.specs.Ordering.{nat_cmp, eq_by_cmp}
 use Rattle.std.specs.Cmp.Lexicographic.{slice_cmp, nat_list_cmp_total}
 use Rattle.std.specs.FinMap as finmap
 use Rattle.std.proofs.lemmas.List.Sums.{sum_by-cons}
-use Rattle.indexmap.specs.IndexMap.{IndexMap, WritesThrough}
-use Rattle.ra_stamp.specs.declared.mode.Mode.{Mode}
+use Rattle.std.specs.HashMap.{HashMap, WritesThrough}
 use Rattle.ra_stamp.specs.declared.message.Message.{Message}
-use Rattle.ra_stamp.specs.declared.message.Message.TheVariants.{Request, Reply}
-use Rattle.ra_automaton.specs.State.{State, IsConsistent}
-use Rattle.ra_automaton.specs.Steps.{ReceiveStep}
+use Rattle.ra_automaton.specs.State.{IsConsistent}
 use Rattle.ra_node.specs.declared.outcome.Outcome.{Outcome}
 use Rattle.ra_node.specs.Resource.{Resource, waiting_in, waiting_at}
 use Rattle.ra_node.specs.Turns.{ReceiveTurn}
@@ -21,7 +18,7 @@ use Rattle.ra_automaton.specs.declared.phase.Phase.{Phase}
 use Rattle.ra_automaton.specs.declared.phase.Phase.TheVariants.{Idle, Waiting, Inside}
 use Rattle.ra_node.specs.Node.{NodeState}
 use Rattle.ra_node.specs.View.{node_with, Finds}
-use Rattle.ra_node.proofs.After.{written_through, same_view}
+use Rattle.ra_node.proofs.After.{written_through}
 use Rattle.ra_node.proofs.Lookups.{names-Decides, same_name}
 use Rattle.ra_node.proofs.Named.{same_names, get_slot, updated, sum_of_slots, sum_of_insert, sum_of_none}
 
@@ -104,16 +101,16 @@ pub part : (f : Resource → ℕ) (slots : List (List ℕ × Resource)) (name : 
 part f slots name old was = omega (arith, sum_is f (finmap.from_entries {R = slice_cmp nat_cmp} slots) name old (get_slot slots name ∙ sym was))
 
 -- a write goes through a look-up
-pub through : {S : Type 0} (f : Resource → ℕ) (slots slots' : IndexMap (List ℕ) Resource S) (name : List ℕ) (old new : Resource) → Some old ≡ lookup (bytes_eq name) slots.entries → WritesThrough bytes_eq (bytes_eq name) slots new slots'
+pub through : {S : Type 0} (f : Resource → ℕ) (slots slots' : HashMap (List ℕ) Resource S) (name : List ℕ) (old new : Resource) → Some old ≡ lookup (bytes_eq name) slots.entries → WritesThrough bytes_eq (bytes_eq name) slots new slots'
     → sum_at f slots'.entries + f old ≡ sum_at f slots.entries + f new
 through f slots slots' name old new was writes = moved f slots.entries slots'.entries name old new was (written_through slots slots' name old new was writes).finds
 
--- the slot of a name comes, once room was made for it
-pub come : (f : Resource → ℕ) (me nodes start : ℕ) (before slots slots' : List (List ℕ × Resource)) (now : NodeState) (name : List ℕ) (new : Resource) → node_with me nodes start before ≡ now → slots ≡ before → finmap.get now.resources name ≡ None
-    → Finds slots slots' name new → sum_at f slots' ≡ f new + sum_at f before
-come f me nodes start before slots slots' now name new is same none finds =
-    let nowhere : finmap.get (finmap.from_entries {R = slice_cmp nat_cmp} slots) name ≡ None = ap (λ (m : NodeState). finmap.get m.resources name) (same_view me nodes start before slots now same is) ∙ none in
-    ap (sum_over f) (updated slots slots' name new finds) ∙ (sum_of_insert f (finmap.from_entries slots) name new nowhere ∙ ap (λ (es : List (List ℕ × Resource)). f new + sum_at f es) same)
+-- the slot of a name comes
+pub come : (f : Resource → ℕ) (me nodes start : ℕ) (slots slots' : List (List ℕ × Resource)) (now : NodeState) (name : List ℕ) (new : Resource) → node_with me nodes start slots ≡ now → finmap.get now.resources name ≡ None
+    → Finds slots slots' name new → sum_at f slots' ≡ f new + sum_at f slots
+come f me nodes start slots slots' now name new is none finds =
+    let nowhere : finmap.get (finmap.from_entries {R = slice_cmp nat_cmp} slots) name ≡ None = ap (λ (m : NodeState). finmap.get m.resources name) is ∙ none in
+    ap (sum_over f) (updated slots slots' name new finds) ∙ sum_of_insert f (finmap.from_entries slots) name new nowhere
 
 -- ---- Bounds
 
@@ -147,25 +144,6 @@ few_queue slots distinct short =
     omega (arith, sym (sum_of_slots (λ r. length r.queue) slots distinct), queued_room slots (sum_of_slots (λ r. length r.queue / 2 ^ 64) slots distinct ∙ short))
 
 -- ---- A message
-
--- a node that is idle stays so
-pub idle_stays : (old : State) (message : Message) (sends : List Message) (entered : Bool) (new : State) → ReceiveStep old message sends entered new → old.phase ≡ Idle → new.phase ≡ Idle
-idle_stays old (Request from to name mode seq) sends entered new step idle =
-    elim step.1 [
-      | inl defers ↦ ap (λ (s : State). s.phase) defers.new_is ∙ idle
-      | inr replies ↦ ap (λ (s : State). s.phase) replies.new_is ∙ idle
-    ]
-idle_stays old (Reply from to name seq) sends entered new step idle =
-    elim step.1 [
-      | inl stray ↦ ap (λ (s : State). s.phase) stray.new_is ∙ idle
-      | inr awaited ↦ elim awaited.1 [
-        | inl enters ↦ absurd (not_both old.phase seq awaited.0 idle enters.awaits.waits)
-        | inr waits ↦ absurd (not_both old.phase seq awaited.0 idle waits.awaits.waits)
-      ]
-    ]
-  where
-    not_both : (phase : Phase) (number : ℕ) (mode : Mode) → phase ≡ Idle → phase ≡ Waiting number mode → ⊥
-    not_both phase number mode e k = cc
 
 -- a message changes no queue
 pub queue_stays : {E : Type 0} (result : Result Outcome E) (Refused : E → Type 0) (old new : Resource) (message : Message) → MatchResult result (λ o. ReceiveTurn old message o.sends.items o.marks.items new × IsConsistent new.state) (λ fault. Refused fault × (new ≡ old)) → new.queue ≡ old.queue

@@ -1,5 +1,5 @@
 -- How a queue knows its clients without going through it.
-use Rattle.std.specs.Prelude.{◌≡◌, ◌≢◌, ℕ, nat_eq, List, [], map, AllPairs}
+use Rattle.std.specs.Prelude.{◌≡◌, ◌≢◌, ℕ, nat_eq, List, map, AllPairs}
 use Rattle.std.specs.List.{list_any}
 use Rattle.ra_node.specs.declared.queued_client.Queued.{Queued}
 
@@ -10,7 +10,3 @@ AreApart queue = AllPairs (λ a b. a ≢ b) (map (λ queued. queued.client) queu
 -- the known clients are those that are queued
 abbrev pub AreClients : List ℕ → List Queued → Type 0
 AreClients known queue = (client : ℕ) → list_any (nat_eq client) known ≡ list_any (λ queued. nat_eq client queued.client) queue
-
--- no client is known, or exactly those that are queued
-abbrev pub IsKnown : List ℕ → List Queued → Type 0
-IsKnown known queue = known ≢ [] → AreClients known queue

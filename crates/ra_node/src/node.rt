@@ -1,5 +1,4 @@
-ghost use Rattle.std.specs.Prelude.{◌≡◌, ◌≤◌, ◌↔◌, None, length, slice_get, IsErrOf, IsOk, IsOkUnless, IfOk, OnErr, MatchResult, IsNone, IfSome, IsTrue};
-ghost use Rattle.indexmap.specs.IndexMap.{spare};
+ghost use Rattle.std.specs.Prelude.{◌≡◌, ◌↔◌, None, length, slice_get, IsErrOf, IsOk, IsOkUnless, IfOk, OnOk, OnErr, MatchResult, IsNone, IfSome, IsTrue};
 ghost use Rattle.ra_node.specs.Resource.{unmet};
 ghost use Rattle.ra_node.specs.Room.{IsNothing, HasRoomToLeave};
 ghost use Rattle.ra_node.specs.View.{Finds};
@@ -7,10 +6,10 @@ ghost use Rattle.ra_node.specs.View.{Finds};
 use crate::outcome::nothing;
 use crate::slot::Slot;
 use crate::{AskError, LeaveError, NewError, Outcome, Queued, ReceiveError};
-use indexmap::IndexMap;
 use ra_automaton::check_address;
 use ra_stamp::{Entry, Member, Memory, Message, Mode, Name, NodeId};
 use std::alloc::Global;
+use std::collections::HashMap;
 use std::marker::Model;
 
 /// A node: many resources by their names, and the node's clients. Contracts see the map from names to resources.
@@ -30,8 +29,8 @@ use std::marker::Model;
 pub struct Node {
     member: Member,
     start: u64,
-    /// One for each name that the node has met, in the order in which it met them.
-    slots: IndexMap<Name, Slot>,
+    /// One for each name that the node has met.
+    slots: HashMap<Name, Slot>,
     /// How many requests wait for their REPLYs, over all names. It fits in a `u64`, since a node has at most one
     /// waiting request on a name, and memory for fewer than 2^64 names.
     waiting: u64,
@@ -55,32 +54,17 @@ impl Model for Node {
     ghost invariant = { IsKept };
 }
 
-/// Makes the slot of a name that the node has not met yet, and room for it.
+/// Inserts the slot of a name, in place of another one if there is one.
 ///
 /// # Errors
 ///
 /// `Memory`: the slots are as before.
-fn first_slot(
-    slots: &mut IndexMap<Name, Slot>,
-    alloc: Global,
-    member: Member,
-    name: Name,
-    start: u64,
-) -> Result<Slot, Memory>
-    ensures same { slots.new.entries ≡ slots.old.entries }
-    ensures made { IfOk result (λ slot.
-        (slot ≡ unmet member.node member.nodes name start) × (1 ≤ spare slots.new)) }
+fn put(slots: &mut HashMap<Name, Slot>, name: Name, slot: Slot) -> Result<(), Memory>
+    ensures ok { OnOk result (Finds slots.old.entries slots.new.entries name slot) }
+    ensures err { OnErr result (slots.new.entries ≡ slots.old.entries) }
 {
-    slots.reserve(1)?;
-    Ok(Slot::new(alloc, member, name, start))
-}
-
-/// Inserts the slot of a name, for which there is room.
-fn put(slots: &mut IndexMap<Name, Slot>, name: Name, slot: Slot)
-    requires { 1 ≤ spare slots.old }
-    ensures { Finds slots.old.entries slots.new.entries name slot }
-{
-    drop_slot(slots.insert(name, slot).unwrap());
+    drop_slot(slots.insert(name, slot)?);
+    Ok(())
 }
 
 /// Drops a slot, if there is one. All that a slot owns is freed here, and in no other function.
@@ -94,9 +78,9 @@ impl Node {
     ghost use Rattle.ra_stamp.specs.Message.{name_of};
     ghost use Rattle.ra_automaton.specs.Calls.{ChecksAddress};
     ghost use Rattle.ra_automaton.specs.Members.{ChecksMember};
-    ghost use Rattle.ra_node.specs.Resource.{IsBusy, Holds, holder_of, waiter_of};
+    ghost use Rattle.ra_node.specs.Resource.{IsBusy, Holds, holder_of, waiter_of, IsConsistentResource};
     ghost use Rattle.ra_node.specs.Turns.{MayAsk};
-    ghost use Rattle.ra_node.specs.Node.{opening_node, resource_at, waiting_count, queued_count, IsConsistentNode};
+    ghost use Rattle.ra_node.specs.Node.{opening_node, resource_at, with_resource, waiting_count, queued_count, IsConsistentNode};
     ghost use Rattle.ra_node.specs.Events.{AskEvent, LeaveEvent, ReceiveEvent};
     ghost use Rattle.ra_node.specs.Faults.{IsAskRefusal};
     ghost use Rattle.ra_node.specs.Memory.{BringsNothing};
@@ -129,7 +113,7 @@ impl Node {
         Node {
             member,
             start,
-            slots: IndexMap::new(alloc),
+            slots: HashMap::new(alloc),
             waiting: 0,
             queued: 0,
         }
@@ -475,14 +459,7 @@ impl Node {
             (λ fault. IsAskRefusal (resource_at self.old name) client fault × (self.new ≡ self.old)) }
         ensures consistent { IsConsistentNode self.new }
     {
-        if self.start == u64::MAX {
-            return Err(AskError::Exhausted);
-        }
-        let slots = &mut self.slots;
-        let first = first_slot(slots, alloc, self.member, name, self.start);
-        let Ok(mut slot) = first else {
-            return Err(AskError::Memory);
-        };
+        let mut slot = self.unmet_slot(alloc, name);
         let outcome = match slot.ask(alloc, client, mode) {
             Ok(outcome) => outcome,
             Err(fault) => {
@@ -490,11 +467,9 @@ impl Node {
                 return Err(fault);
             }
         };
-        // The totals have room, since there are fewer than 2^64 names.
-        prove!(self.slots.len() < usize::MAX);
-        self.waiting += slot.waiting();
-        self.queued += slot.queued() as u128;
-        put(&mut self.slots, name, slot);
+        if self.meet(name, slot).is_err() {
+            return Err(AskError::Memory);
+        }
         Ok(outcome)
     }
 
@@ -507,21 +482,18 @@ impl Node {
     fn receive_first(&mut self, alloc: Global, message: &Message) -> Result<Outcome, ReceiveError>
         requires first { map.get self.old.resources (name_of message.now) ≡ None }
         requires addressed { IsForNode self.old.me self.old.nodes message.now }
+        requires consistent { IsConsistentNode self.old }
         ensures received { MatchResult result
             (λ outcome. ReceiveEvent self.old message.now outcome.sends.items outcome.marks.items self.new)
             (λ fault. (fault ≡ ReceiveError.Memory) × (self.new ≡ self.old)) }
         ensures brings { OnErr result (BringsNothing self.old message.now → ⊥) }
         ensures consistent { IsConsistentNode self.new }
     {
-        let slots = &mut self.slots;
         let Message::Request { name, .. } = *message else {
             // A REPLY is a stray, since the node has asked nobody.
             return Ok(nothing(alloc));
         };
-        let first = first_slot(slots, alloc, self.member, name, self.start);
-        let Ok(mut slot) = first else {
-            return Err(ReceiveError::Memory);
-        };
+        let mut slot = self.unmet_slot(alloc, name);
         let outcome = match slot.receive(alloc, message) {
             Ok(outcome) => outcome,
             Err(fault) => {
@@ -529,8 +501,39 @@ impl Node {
                 return Err(fault);
             }
         };
-        // No request waits in this slot and no client is queued, so the totals stay.
-        put(slots, name, slot);
+        if self.meet(name, slot).is_err() {
+            return Err(ReceiveError::Memory);
+        }
         Ok(outcome)
+    }
+
+    /// Makes the slot of a name that the node has not met yet. It does not allocate.
+    fn unmet_slot(&self, alloc: Global, name: Name) -> Slot
+        ensures value { result ≡ unmet self.now.me self.now.nodes name self.now.start }
+        ensures consistent { IsConsistentNode self.now }
+    {
+        Slot::new(alloc, self.member, name, self.start)
+    }
+
+    /// Takes in the slot of a name that the node had not met.
+    ///
+    /// # Errors
+    ///
+    /// `Memory`: the node is as before.
+    fn meet(&mut self, name: Name, slot: Slot) -> Result<(), Memory>
+        requires first { map.get self.old.resources name ≡ None }
+        requires consistent { IsConsistentResource self.old.me self.old.nodes name self.old.start slot }
+        ensures met { OnOk result (self.new ≡ with_resource self.old name slot) }
+        ensures err { OnErr result (self.new ≡ self.old) }
+        ensures consistent { IsConsistentNode self.new }
+    {
+        // The totals have room, since there are fewer than 2^64 names.
+        prove!(self.slots.len() < usize::MAX);
+        let waiting = self.waiting + slot.waiting();
+        let queued = self.queued + slot.queued() as u128;
+        put(&mut self.slots, name, slot)?;
+        self.waiting = waiting;
+        self.queued = queued;
+        Ok(())
     }
 }

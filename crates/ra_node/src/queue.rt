@@ -1,18 +1,20 @@
 //! The clients that wait for their turns at one resource.
-ghost use Rattle.std.specs.Prelude.{◌≡◌, ◌≢◌, ◌↔◌, ◌++◌, ◌∷◌, [], List, take, length, slice_get, Any, MatchOption, IsTrue, IsNone, IfSome, OnOk, OnErr};
-ghost use Rattle.indexmap.specs.IndexMap.{keys};
-ghost use Rattle.ra_node.specs.Queue.{AreApart, IsKnown};
+ghost use Rattle.std.specs.Prelude.{◌≡◌, ◌↔◌, ◌++◌, ◌∷◌, [], List, take, length, slice_get, Any, MatchOption, IsTrue, IsNone, IfSome, OnOk, OnErr};
+ghost use Rattle.std.specs.HashMap.{keys};
+ghost use Rattle.ra_node.specs.Queue.{AreApart, AreClients};
 ghost use Rattle.ra_node.specs.declared.queued_client.Queued.{Queued};
 
 use crate::queued_client::Queued;
-use indexmap::IndexMap;
 use ra_stamp::Memory;
 use std::alloc::Global;
-use std::collections::VecDeque;
+use std::collections::{HashMap, VecDeque};
 use std::marker::Model;
 
 /// If no more clients than these are queued, they are looked through.
 const MAX_LINEAR_SCAN: usize = 16;
+
+/// The clients of a long queue as keys, in any order. They are behind a pointer, since most queues are short and have none.
+type Known = Box<HashMap<u32, ()>>;
 
 /// A queue of clients, the first one next. Contracts see the list.
 ///
@@ -22,22 +24,21 @@ const MAX_LINEAR_SCAN: usize = 16;
 #[derive(Drop)]
 pub struct Queue {
     clients: VecDeque<Queued>,
-    /// The same clients as keys, in any order, or none if they are not known. A set would bring more code to prove into each
-    /// crate above, which has maps already.
-    known: IndexMap<u32, ()>,
+    /// The same clients, or `None` if they are not known.
+    known: Option<Known>,
 }
 
 impl Model for Queue {
-    ghost use Rattle.std.specs.Prelude.{List};
+    ghost use Rattle.std.specs.Prelude.{List, IfSome};
+    ghost use Rattle.std.specs.HashMap.{keys};
     ghost use Rattle.ra_node.specs.declared.queued_client.Queued.{Queued};
-    ghost use Rattle.indexmap.specs.IndexMap.{keys};
-    ghost use Rattle.ra_node.specs.Queue.{IsKnown};
+    ghost use Rattle.ra_node.specs.Queue.{AreClients};
 
     ghost Value = { List Queued };
 
     ghost view = { λ q. q.clients.items };
 
-    ghost invariant = { λ q. IsKnown (keys q.known) q.clients.items };
+    ghost invariant = { λ q. IfSome q.known (λ known. AreClients (keys known.value) q.clients.items) };
 }
 
 impl Queue {
@@ -47,7 +48,7 @@ impl Queue {
     {
         Queue {
             clients: VecDeque::new(alloc),
-            known: IndexMap::new(alloc),
+            known: None,
         }
     }
 
@@ -63,10 +64,10 @@ impl Queue {
     pub fn has(&self, client: u32) -> bool
         ensures { IsTrue result ↔ Any (λ queued. queued.client ≡ client) self.now }
     {
-        if self.known.is_empty() {
-            return self.clients.iter().any(|queued| queued.client == client);
+        match &self.known {
+            Some(known) => known.contains_key(&client),
+            None => self.clients.iter().any(|queued| queued.client == client),
         }
-        self.known.contains_key(&client)
     }
 
     /// Returns the first client, or `None` if no client is queued.
@@ -90,12 +91,12 @@ impl Queue {
     /// # Errors
     ///
     /// `Memory`: the queue is as before.
-    pub fn push_back(&mut self, queued: Queued) -> Result<(), Memory>
+    pub fn push_back(&mut self, alloc: Global, queued: Queued) -> Result<(), Memory>
         ensures ok { OnOk result (self.new ≡ self.old ++ queued ∷ []) }
         ensures err { OnErr result (self.new ≡ self.old) }
     {
         self.clients.push_back(queued)?;
-        learn_last(&mut self.known, &self.clients, &queued);
+        self.known = learn_last(alloc, self.known.take(), &self.clients, &queued);
         Ok(())
     }
 
@@ -105,61 +106,64 @@ impl Queue {
         ensures { MatchOption result ((self.old ≡ []) × (self.new ≡ [])) (λ first. self.old ≡ first ∷ self.new) }
     {
         let first = self.clients.pop_front()?;
-        unlearn(&mut self.known, &first);
+        self.known = unlearn(self.known.take(), &first, &self.clients);
         Some(first)
     }
 }
 
-/// Learns the last client, which was put after the others, or all if they are many and were not known.
-fn learn_last(known: &mut IndexMap<u32, ()>, clients: &VecDeque<Queued>, last: &Queued)
+/// Learns the last client, which was put after the others, or all if they are many and were not known. Returns those that are
+/// known then.
+fn learn_last(
+    alloc: Global,
+    known: Option<Known>,
+    clients: &VecDeque<Queued>,
+    last: &Queued,
+) -> Option<Known>
     ensures { (before : List Queued) → clients.now.items ≡ before ++ last.now ∷ []
-        → IsKnown (keys known.old) before → IsKnown (keys known.new) clients.now.items }
+        → IfSome known (λ k. AreClients (keys k.value) before)
+        → IfSome result (λ k. AreClients (keys k.value) clients.now.items) }
 {
-    if !known.is_empty() {
-        learn(known, last.client);
-    } else if clients.len() > MAX_LINEAR_SCAN {
-        learn_all(known, clients);
+    match known {
+        Some(known) => learn(known, last.client),
+        None if clients.len() > MAX_LINEAR_SCAN => learn_all(alloc, clients),
+        None => None,
     }
 }
 
-/// Learns all clients, of which none is known, or none if memory runs out.
-fn learn_all(known: &mut IndexMap<u32, ()>, clients: &VecDeque<Queued>)
-    requires { keys known.old ≡ [] }
-    ensures { IsKnown (keys known.new) clients.now.items }
+/// Learns all clients, or returns `None` if memory runs out.
+fn learn_all(alloc: Global, clients: &VecDeque<Queued>) -> Option<Known>
+    ensures { IfSome result (λ k. AreClients (keys k.value) clients.now.items) }
 {
+    let mut known = HashMap::new(alloc);
     for place in 0..clients.len() {
         if known.insert(clients[place].client, ()).is_err() {
-            forget(known);
-            return;
+            return None;
         }
     }
+    Box::new(alloc, known).ok()
 }
 
-/// Learns one client more, or forgets all if memory runs out.
-fn learn(known: &mut IndexMap<u32, ()>, client: u32)
-    ensures { (before : List Queued) (last : Queued) → last.client ≡ client
-        → IsKnown (keys known.old) before → keys known.old ≢ [] → IsKnown (keys known.new) (before ++ last ∷ []) }
+/// Learns one client more, or forgets all and returns `None` if memory runs out.
+fn learn(mut known: Known, client: u32) -> Option<Known>
+    ensures { (before : List Queued) (last : Queued) → last.client ≡ client → AreClients (keys known.value) before
+        → IfSome result (λ k. AreClients (keys k.value) (before ++ last ∷ [])) }
 {
     if known.insert(client, ()).is_err() {
-        forget(known);
+        return None;
     }
+    Some(known)
 }
 
-/// Forgets a client that is no longer queued.
-fn unlearn(known: &mut IndexMap<u32, ()>, gone: &Queued)
-    ensures { (left : List Queued) → AreApart (gone.now ∷ left)
-        → IsKnown (keys known.old) (gone.now ∷ left) → IsKnown (keys known.new) left }
+/// Forgets a client that is no longer queued, and all if none is left. Returns those that are known then.
+fn unlearn(known: Option<Known>, gone: &Queued, left: &VecDeque<Queued>) -> Option<Known>
+    ensures { AreApart (gone.now ∷ left.now.items)
+        → IfSome known (λ k. AreClients (keys k.value) (gone.now ∷ left.now.items))
+        → IfSome result (λ k. AreClients (keys k.value) left.now.items) }
 {
-    if known.is_empty() {
-        return;
+    let mut known = known?;
+    if left.is_empty() {
+        return None;
     }
-    known.swap_remove(&gone.client);
-}
-
-/// Forgets all clients.
-fn forget(known: &mut IndexMap<u32, ()>)
-    ensures { keys known.new ≡ [] }
-{
-    // `clear` would take time linear in the largest number of clients that there ever were.
-    known.truncate(0);
+    known.remove(&gone.client);
+    Some(known)
 }

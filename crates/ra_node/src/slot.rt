@@ -202,7 +202,11 @@ impl Slot {
             (λ outcome. QueuesUp self.old client mode outcome.sends.items outcome.marks.items self.new)
             (λ fault. (fault ≡ AskError.Memory) × (self.new ≡ self.old)) }
     {
-        if self.queue.push_back(Queued { client, mode }).is_err() {
+        if self
+            .queue
+            .push_back(alloc, Queued { client, mode })
+            .is_err()
+        {
             return Err(AskError::Memory);
         }
         Ok(nothing(alloc))

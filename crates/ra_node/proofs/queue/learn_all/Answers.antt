@@ -1,7 +1,7 @@
 use Rattle.std.proofs.Common.{rules, ◌≡◌, ◌<◌, ◌++◌, ◌∷◌, [], ℕ, suc, ◌+◌, arith, nat_eq, Some, cond, take, length, subst, sym, ap, ◌∙◌}
 use Rattle.std.proofs.Math.Seq.{take-suc}
 use Rattle.std.specs.Map.{lookup}
-use Rattle.indexmap.specs.IndexMap.{keys}
+use Rattle.std.specs.HashMap.{keys}
 use Rattle.ra_node.specs.Queue.{AreClients}
 use Rattle.ra_node.proofs.Known.{one_key_more, learned}
 use Rattle.ra_node.proofs.queue.learn_all.Goals as goal

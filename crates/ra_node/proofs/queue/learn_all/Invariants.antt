@@ -1,5 +1,5 @@
 use Rattle.std.proofs.Common.{take}
-use Rattle.indexmap.specs.IndexMap.{keys}
+use Rattle.std.specs.HashMap.{keys}
 use Rattle.ra_node.specs.Queue.{AreClients}
 use Rattle.ra_node.proofs.queue.learn_all.Given as goal
 

@@ -1,5 +1,5 @@
 use Rattle.std.proofs.Common.{◌≡◌, ℕ, ◌/◌, ◌^◌, List, length, IfOk, OnErr, refl, ap, subst, arith}
-use Rattle.indexmap.specs.IndexMap.{IndexMap}
+use Rattle.std.specs.HashMap.{HashMap}
 use Rattle.ra_node.specs.declared.outcome.Outcome.{Outcome}
 use Rattle.ra_node.specs.Resource.{Resource, waiting_at}
 use Rattle.ra_node.specs.Node.{NodeState, resource_at}
@@ -81,7 +81,7 @@ pub invariant_of-self-in-None : goal.invariant_of-self-in-None
 invariant_of-self-in-None c =
     let n = c.self.inside in
     let none = c.get_mut.follows.holds-at-none in
-    kept_as n (record n { slots = c.get_mut.follows.lender-at-none }) refl (ap (λ (m : IndexMap (List ℕ) Resource _). m.entries) none) c.self.invariant
+    kept_as n (record n { slots = c.get_mut.follows.lender-at-none }) refl (ap (λ (m : HashMap (List ℕ) Resource _). m.entries) none) c.self.invariant
 
 pub ask_first-requires : goal.ask_first-requires
 ask_first-requires c = absent_in c.self.inside.slots c.get_mut.follows.lender-at-none c.args.name c.get_mut.follows.holds-at-none c.in-None.ensures.value
@@ -90,7 +90,7 @@ first_seen : (c : goal.After-ask_first) → IfOk c.ask_first.result (λ o. AskEv
 first_seen c =
     let n = c.self.inside in
     let new = c.ask_first.new.self in
-    let view = same_view n.member.node n.member.nodes n.start n.slots.entries c.get_mut.follows.lender-at-none.entries c.args.self.now (ap (λ (m : IndexMap (List ℕ) Resource _). m.entries) c.get_mut.follows.holds-at-none) c.self.view_is in
+    let view = same_view n.member.node n.member.nodes n.start n.slots.entries c.get_mut.follows.lender-at-none.entries c.args.self.now (ap (λ (m : HashMap (List ℕ) Resource _). m.entries) c.get_mut.follows.holds-at-none) c.self.view_is in
     seen_from c.ask_first.result _ (λ (m : NodeState) (o : Outcome). AskEvent m c.args.client c.args.name c.args.mode o.sends.items o.marks.items new) _ c.args.self.now new view c.ask_first.ensures.asked
 
 pub returns-in-None-clause-ok : goal.returns-in-None-clause-ok
@@ -102,7 +102,7 @@ returns-in-None-clause-err c = (first_seen c).1
 first_tells : (c : goal.After-ask_first) → AskTells c.ask_first.result (resource_at c.args.self.now c.args.name) c.args.client
 first_tells c =
     let n = c.self.inside in
-    let view = same_view n.member.node n.member.nodes n.start n.slots.entries c.get_mut.follows.lender-at-none.entries c.args.self.now (ap (λ (m : IndexMap (List ℕ) Resource _). m.entries) c.get_mut.follows.holds-at-none) c.self.view_is in
+    let view = same_view n.member.node n.member.nodes n.start n.slots.entries c.get_mut.follows.lender-at-none.entries c.args.self.now (ap (λ (m : HashMap (List ℕ) Resource _). m.entries) c.get_mut.follows.holds-at-none) c.self.view_is in
     event_tells c.ask_first.result _ c.args.self.now c.ask_first.new.self view c.args.name c.args.client c.args.mode _ c.ask_first.ensures.asked
 
 pub returns-in-None-clause-busy : goal.returns-in-None-clause-busy

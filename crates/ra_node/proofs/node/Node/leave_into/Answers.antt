@@ -1,5 +1,5 @@
 use Rattle.std.proofs.Common.{rules, ◌≡◌, ℕ, ◌/◌, ◌^◌, List, length, refl, sym, subst, arith}
-use Rattle.indexmap.specs.IndexMap.{IndexMap}
+use Rattle.std.specs.HashMap.{HashMap}
 use Rattle.ra_node.specs.declared.error.LeaveError.TheVariants.{NotHeld, Memory}
 use Rattle.ra_node.specs.Resource.{Resource, waiting_at}
 use Rattle.ra_node.specs.View.{IsKept}
@@ -51,7 +51,7 @@ overflow_add-self-2 c =
 pub invariant_of-self : goal.invariant_of-self
 invariant_of-self c =
     let n = c.self.inside in
-    subst (λ (m : IndexMap (List ℕ) Resource _). IsKept (record n { slots = m })) (sym c.get_mut.follows.holds-at-none) c.self.invariant
+    subst (λ (m : HashMap (List ℕ) Resource _). IsKept (record n { slots = m })) (sym c.get_mut.follows.holds-at-none) c.self.invariant
 
 pub invariant_of-self-2 : goal.invariant_of-self-2
 invariant_of-self-2 c =

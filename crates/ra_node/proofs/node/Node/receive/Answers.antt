@@ -1,7 +1,7 @@
 use Rattle.std.proofs.Common.{List, ℕ, ◌≡◌, IfOk, OnErr, refl, ◌/◌, ◌^◌, length, Some, None, sym, ap, ◌∙◌, subst, arith}
 use Rattle.std.specs.Str.{bytes_eq}
 use Rattle.std.specs.Map.{lookup}
-use Rattle.indexmap.specs.IndexMap.{IndexMap}
+use Rattle.std.specs.HashMap.{HashMap}
 use Rattle.ra_stamp.specs.Message.{name_of}
 use Rattle.ra_automaton.specs.State.{IsForNode}
 use Rattle.ra_node.specs.declared.outcome.Outcome.{Outcome}
@@ -39,6 +39,11 @@ pub receive_first-requires-clause-first : goal.receive_first-requires-clause-fir
 receive_first-requires-clause-first c =
     absent_in c.self.inside.slots c.get_mut.follows.lender-at-none (name_of c.args.message.now) c.get_mut.follows.holds-at-none
     (subst (λ (q : List ℕ). None ≡ lookup (bytes_eq q) c.self.inside.slots.entries) c.name.ensures c.in-None.ensures.value)
+
+pub receive_first-requires-clause-consistent : goal.receive_first-requires-clause-consistent
+receive_first-requires-clause-consistent c =
+    let n = c.self.inside in
+    (kept_as n (record n { slots = c.get_mut.follows.lender-at-none }) refl (ap (λ (m : HashMap (List ℕ) Resource _). m.entries) c.get_mut.follows.holds-at-none) c.self.invariant).consistent
 
 pub overflow_sub-waiting : goal.overflow_sub-waiting
 overflow_sub-waiting c =
@@ -95,7 +100,7 @@ returns-in-Some-clause-allowed c = (tells c).allowed
 pub invariant_of-self-in-None : goal.invariant_of-self-in-None
 invariant_of-self-in-None c =
     let n = c.self.inside in
-    kept_as n (record n { slots = c.get_mut.follows.lender-at-none }) refl (ap (λ (m : IndexMap (List ℕ) Resource _). m.entries) c.get_mut.follows.holds-at-none) c.self.invariant
+    kept_as n (record n { slots = c.get_mut.follows.lender-at-none }) refl (ap (λ (m : HashMap (List ℕ) Resource _). m.entries) c.get_mut.follows.holds-at-none) c.self.invariant
 
 first_tells : (c : goal.After-receive_first) → ReceiveTells c.receive_first.result c.args.self.now.me c.args.self.now.nodes c.args.message.now
 first_tells c =
@@ -112,7 +117,7 @@ first_seen : (c : goal.After-receive_first) → IfOk c.receive_first.result (λ 
 first_seen c =
     let n = c.self.inside in
     let new = c.receive_first.new.self in
-    let view = same_view n.member.node n.member.nodes n.start n.slots.entries c.get_mut.follows.lender-at-none.entries c.args.self.now (ap (λ (m : IndexMap (List ℕ) Resource _). m.entries) c.get_mut.follows.holds-at-none) c.self.view_is in
+    let view = same_view n.member.node n.member.nodes n.start n.slots.entries c.get_mut.follows.lender-at-none.entries c.args.self.now (ap (λ (m : HashMap (List ℕ) Resource _). m.entries) c.get_mut.follows.holds-at-none) c.self.view_is in
     seen_from c.receive_first.result _ (λ (m : NodeState) (o : Outcome). ReceiveEvent m c.args.message.now o.sends.items o.marks.items new) _ c.args.self.now new view c.receive_first.ensures.received
 
 pub returns-in-None-clause-ok : goal.returns-in-None-clause-ok
@@ -137,5 +142,5 @@ returns-in-Some-clause-memory_only_to_bring c =
 pub returns-in-None-clause-memory_only_to_bring : goal.returns-in-None-clause-memory_only_to_bring
 returns-in-None-clause-memory_only_to_bring c =
     let n = c.self.inside in
-    let view = same_view n.member.node n.member.nodes n.start n.slots.entries c.get_mut.follows.lender-at-none.entries c.args.self.now (ap (λ (m : IndexMap (List ℕ) Resource _). m.entries) c.get_mut.follows.holds-at-none) c.self.view_is in
+    let view = same_view n.member.node n.member.nodes n.start n.slots.entries c.get_mut.follows.lender-at-none.entries c.args.self.now (ap (λ (m : HashMap (List ℕ) Resource _). m.entries) c.get_mut.follows.holds-at-none) c.self.view_is in
     λ is brings. refused_to_bring c.receive_first.result _ is c.receive_first.ensures.brings (subst (λ (m : NodeState). BringsNothing m c.args.message.now) (sym view) brings)

@@ -1,11 +1,13 @@
-use Rattle.std.proofs.Common.{rules, ◌∙◌, nat_eq}
-use Rattle.indexmap.specs.IndexMap.{keys}
-use Rattle.ra_node.specs.Queue.{IsKnown}
-use Rattle.ra_node.proofs.Known.{finds, has_value, some_keys}
+use Rattle.std.proofs.Common.{Option, ◌∙◌, sym, subst, nat_eq}
+use Rattle.std.specs.Prelude.{IfSome}
+use Rattle.std.specs.HashMap.{HashMap, keys}
+use Rattle.ra_node.specs.Queue.{AreClients}
+use Rattle.ra_node.proofs.Known.{finds, has_value}
 use Rattle.ra_node.proofs.queue.Queue.has.Goals as goal
 
-pub returns : goal.returns
-returns c =
-    let known = keys c.self.inside.known in
-    let follows : IsKnown known c.args.self.now = search rules in
-    finds known c.args.self.now c.args.client c.contains_key.result follows (some_keys c.self.inside.known.entries c.is_empty.result c.if-is_empty.false c.is_empty.ensures) (c.contains_key.ensures ∙ has_value (nat_eq c.args.client) c.self.inside.known.entries)
+pub returns-in-Some : goal.returns-in-Some
+returns-in-Some c =
+    let known = c.deref.result.now in
+    let here = subst (λ (o : Option _). IfSome o (λ k. AreClients (keys k.value) c.self.inside.clients.items)) c.in-Some.is c.self.invariant in
+    let are = subst (λ (m : HashMap _ _ _). AreClients (keys m) c.args.self.now) (sym c.deref.ensures) (subst (AreClients (keys c.in-Some.known.value)) c.self.view_is here) in
+    finds (keys known) c.args.self.now c.args.client c.contains_key.result are (c.contains_key.ensures ∙ has_value (nat_eq c.args.client) known.entries)
