@@ -1,15 +1,15 @@
 -- The node at a place of a world, and what is kept when it is put back or changed there.
-use Rattle.std.proofs.Common.{◌≡◌, ℕ, ◌+◌, ◌*◌, ◌<◌, ◌≤◌, List, ◌++◌, ◌∷◌, [], length, set, get_or, sym, ap, ◌∙◌, subst, arith}
+use Rattle.std.proofs.Common.{◌≡◌, ℕ, ◌+◌, ◌<◌, ◌≤◌, List, ◌++◌, ◌∷◌, [], length, set, get_or, refl, sym, ap, ◌∙◌, subst, arith}
 use Rattle.std.proofs.lemmas.List.{set-get_or, length-set}
 use Rattle.ra_stamp.specs.declared.message.Message.{Message}
 use Rattle.ra_stamp.specs.declared.entry.Mark.{Mark}
 use Rattle.ra_stamp.specs.NodeId.{IsNodeNumber}
-use Rattle.ra_node.specs.Node.{NodeState}
+use Rattle.ra_node.specs.Node.{NodeState, IsConsistentNode}
 use Rattle.ra_world.specs.declared.step.Step.{Step}
 use Rattle.ra_world.specs.Traffic.{Move}
 use Rattle.ra_world.specs.World.{WorldState, with_move}
-use Rattle.ra_world.specs.Keeping.{Keeps}
-use Rattle.ra_world.proofs.StepTries.{shown}
+use Rattle.ra_world.specs.Keeping.{nodes_of, Keeps}
+use Rattle.ra_world.proofs.StepTries.{shown, node_here}
 
 -- a place of the nodes as they are lent
 pub place_in : (nodes lent : List NodeState) (place : ℕ) → lent ≡ nodes → place < length lent → place < length nodes
@@ -54,27 +54,27 @@ moved start nodes moves before after w place new step sends marks is same more =
     let moves_are : after ≡ moves ++ move ∷ [] = more ∙ ap (λ (ms : List Move). ms ++ move ∷ []) same in
     (λ k. record { count = count k; start = start; moves = moves_are k }) ∙ ap (λ (v : WorldState). with_move v step sends marks) is
 
--- there is room for what is sent if there is room for as many messages as there are nodes, as they are lent
-pub sends_fit : (nodes lent : List NodeState) (len room sends spare : ℕ) → lent ≡ nodes → length lent ≡ len → room ≡ len → sends ≤ length nodes → room ≤ spare
-    → sends ≤ spare
-sends_fit nodes lent len room sends spare same is of few has =
-    let count : length lent ≡ length nodes = ap length same in omega (arith, count)
-
--- the same for twice as many
-pub sends_fit_twice : (nodes lent : List NodeState) (len room sends spare : ℕ) → lent ≡ nodes → length lent ≡ len → room ≡ len → sends ≤ 2 * length nodes
-    → 2 * room ≤ spare → sends ≤ spare
-sends_fit_twice nodes lent len room sends spare same is of few has =
-    let count : length lent ≡ length nodes = ap length same in omega (arith, count)
+-- the node at a place, as it is lent, is consistent and knows how many nodes there are
+pub known_at : (nodes : List NodeState) (place : ℕ) (old : NodeState) → (nodes_of nodes (place + 1)).nodes ≡ length nodes
+    → IsConsistentNode (nodes_of nodes (place + 1)) → place < length nodes → old ≡ get_or nodes place old
+    → IsConsistentNode old × (old.nodes ≡ length nodes)
+known_at nodes place old many consistent within at =
+    let is = node_here nodes place (place + 1) old refl within at in
+    (subst IsConsistentNode is consistent, ap (λ (s : NodeState). s.nodes) (sym is) ∙ many)
 
 -- what has room still has it if there is no less
 pub sends_fit_still : (sends room spare : ℕ) → sends ≤ room → room ≤ spare → sends ≤ spare
 sends_fit_still sends room spare few more = omega arith
 
--- the world after one more move that changed no node
-pub moved_elsewhere : (start : ℕ) (nodes : List NodeState) (moves before after : List Move) (w : WorldState) (step : Step) (sends : List Message) (marks : List Mark)
-    → shown start nodes moves ≡ w → before ≡ moves → after ≡ before ++ record { step = step; sends = sends; marks = marks } ∷ []
+-- one more move that sends and marks nothing, of equal lists
+pub quiet_move : (moves before after : List Move) (step this : Step) → before ≡ moves → step ≡ this
+    → after ≡ before ++ record { step = step; sends = []; marks = [] } ∷ []
+    → after ≡ moves ++ record { step = this; sends = []; marks = [] } ∷ []
+quiet_move moves before after step this same is more = more ∙ (λ i. same i ++ record { step = is i; sends = []; marks = [] } ∷ [])
+
+-- the world after it
+pub moved_quietly : (start : ℕ) (nodes : List NodeState) (moves after : List Move) (w : WorldState) (step : Step) (sends : List Message) (marks : List Mark)
+    → shown start nodes moves ≡ w → after ≡ moves ++ record { step = step; sends = []; marks = [] } ∷ [] → sends ≡ [] → marks ≡ []
     → shown start nodes after ≡ with_move w step sends marks
-moved_elsewhere start nodes moves before after w step sends marks is same more =
-    let move : Move = record { step = step; sends = sends; marks = marks } in
-    let moves_are : after ≡ moves ++ move ∷ [] = more ∙ ap (λ (ms : List Move). ms ++ move ∷ []) same in
-    ap (shown start nodes) moves_are ∙ ap (λ (v : WorldState). with_move v step sends marks) is
+moved_quietly start nodes moves after w step sends marks is more none unmarked =
+    ap (shown start nodes) more ∙ ap (λ (v : WorldState). with_move v step [] []) is ∙ sym (λ i. with_move w step (none i) (unmarked i))

@@ -44,6 +44,7 @@ mod Causes
 mod Reporting
 mod StepTries
 mod AtPlace
+mod EventTries
 mod StepAnswers
 mod Worlds
 pub mod Refusing

@@ -1,25 +1,18 @@
 -- What is said of a step that is tried, from what a world keeps.
 use Rattle.std.proofs.Common.{eq-eqb, ◌≡◌, ◌⊎◌, ◌↔◌, ℕ, ◌+◌, ◌<◌, ◌≤◌, Bool, List, Contains, ◌++◌, ◌∷◌, [], length, set, get_or, Option, Some, None, Result, Ok, Err, refl, sym, ap, ◌∙◌, subst, inl, inr, arith}
 use Rattle.std.specs.Prelude.{IsErrAnd, IfSome, IfOk, IsNone, IsOk, IsTrue, ◌==◌, if◌then◌else◌}
-use Rattle.std.proofs.lemmas.List.{set-get_or, length-set, get_or_default}
+use Rattle.std.proofs.lemmas.List.{set-get_or, get_or_default}
 use Rattle.ra_stamp.specs.declared.message.Message.{Message}
 use Rattle.ra_stamp.specs.declared.memory.Memory.{Memory as MemoryRefused}
-use Rattle.ra_stamp.specs.declared.entry.Mark.{Mark}
 use Rattle.ra_bag.specs.Bag.{TakesFirst, TakesOne}
 use Rattle.ra_node.specs.declared.outcome.Outcome.{Outcome}
 use Rattle.ra_stamp.specs.declared.mode.Mode.{Mode}
 use Rattle.ra_stamp.specs.declared.entry.Entry.{Entry}
 use Rattle.ra_stamp.specs.NodeId.{IsNodeNumber}
-use Rattle.ra_automaton.specs.Steps.{greatest_number}
-use Rattle.ra_node.specs.declared.error.AskError.{AskError}
-use Rattle.ra_node.specs.declared.error.AskError.TheVariants as ask
-use Rattle.ra_node.specs.declared.error.LeaveError.{LeaveError}
-use Rattle.ra_node.specs.declared.error.LeaveError.TheVariants as leave
-use Rattle.ra_node.specs.Resource.{IsBusy, Holds}
+use Rattle.ra_node.specs.Resource.{Holds}
 use Rattle.ra_node.specs.Turns.{MayAsk}
-use Rattle.ra_node.specs.Events.{Event, NodeEvent, ReceiveEvent}
-use Rattle.ra_node.specs.Carried.{sends_at_most, marks_at_most}
-use Rattle.ra_node.specs.Node.{NodeState, opening_node, resource_at, IsConsistentNode}
+use Rattle.ra_node.specs.Events.{Event, NodeEvent}
+use Rattle.ra_node.specs.Node.{NodeState, opening_node, resource_at}
 use Rattle.ra_world.specs.declared.step.Step.{Step}
 use Rattle.ra_world.specs.declared.step.Step.TheVariants.{Ask, Leave}
 use Rattle.ra_world.specs.declared.error.StepError.{StepError}
@@ -29,7 +22,6 @@ use Rattle.ra_world.specs.Run.{IsRun, IsFit, GoesOn, EndsWith, events_at}
 use Rattle.ra_world.specs.World.{WorldState, HasCause, MayNeedMemory, IsFull, AtNode}
 use Rattle.ra_world.specs.Keeping.{nodes_of, Keeps, IsShort, Tries}
 use Rattle.ra_world.specs.StepLog.{LogState, HasRoom}
-use Rattle.ra_world.specs.Refused.{refusal_of_ask, refusal_of_leave}
 
 -- the world of these fields
 abbrev pub shown : ℕ → List NodeState → List Move → WorldState
@@ -60,14 +52,6 @@ short start nodes moves w now step r is same on needs fails =
         needs = subst (λ (v : WorldState). MayNeedMemory v.count v.start v.moves step ⊎ IsFull v.moves) is needs;
       }),
     ))
-
--- a refusal for this cause, at which nothing changed
-pub fails_for : (start : ℕ) (nodes : List NodeState) (moves : List Move) (w now : WorldState) (step : Step) (cause : StepError) (r : Result Outcome StepError)
-    → shown start nodes moves ≡ w → now ≡ shown start nodes moves → HasCause (length nodes) start moves step cause
-    → IsErrAnd r (λ x. x ≡ cause) → Tries w step r now
-fails_for start nodes moves w now step cause r is same why fails =
-    at_err r (λ x. x ≡ cause) (λ q. Tries w step q now) fails
-    (λ x here. (same ∙ is, with_cause start nodes moves w step x is (subst (λ (y : StepError). HasCause (length nodes) start moves step y) (sym here) why)))
 
 -- the nodes with one of them put at its own place
 pub same_nodes : (start : ℕ) (nodes : List NodeState) (moves moves' : List Move) (place : ℕ) (old new : NodeState)
@@ -105,13 +89,6 @@ copied_on (Err e) before left new message told copied ok same there = absurd (no
     not_ok : IsOk {T = Bool} (Err e) → ⊥
     not_ok is = cc
 
--- one more move, of lists that are equal to these
-pub one_more : (moves before after : List Move) (step : Step) (sends sends' : List Message) (marks marks' : List Mark)
-    → after ≡ before ++ record { step = step; sends = sends; marks = marks } ∷ [] → before ≡ moves → sends ≡ sends' → marks ≡ marks'
-    → after ≡ moves ++ record { step = step; sends = sends'; marks = marks' } ∷ []
-one_more moves before after step sends sends' marks marks' is same es em =
-    is ∙ (λ i. same i ++ record { step = step; sends = es i; marks = em i } ∷ [])
-
 -- ---- At a node
 
 -- the node at a place is the one with the number after it
@@ -132,20 +109,6 @@ at_node start nodes left moves place i old P keeps number within at holds =
       ends = keeps.ends;
       holds = subst P (sym (node_here nodes place i old number within at)) holds;
     }
-
--- why an ask is refused
-pub ask_refused : (start : ℕ) (nodes : List NodeState) (left : List Message) (moves : List Move) (place i client : ℕ) (name : List ℕ) (mode : Mode)
-    (old : NodeState) (e : AskError)
-    → Keeps start nodes left moves → place + 1 ≡ i → place < length nodes → old ≡ get_or nodes place old
-    → (e ≡ ask.Busy → IsBusy (resource_at old name) client)
-    → (e ≡ ask.Exhausted → (IsBusy (resource_at old name) client → ⊥) × ((resource_at old name).state.highest ≡ greatest_number))
-    → (e ≡ ask.Memory → ⊥)
-    → HasCause (length nodes) start moves (Ask i client name mode) (refusal_of_ask e)
-ask_refused start nodes left moves place i client name mode old ask.Busy keeps number within at busy exhausted memory =
-    at_node start nodes left moves place i old (λ s. IsBusy (resource_at s name) client) keeps number within at (busy refl)
-ask_refused start nodes left moves place i client name mode old ask.Exhausted keeps number within at busy exhausted memory =
-    at_node start nodes left moves place i old (λ s. (IsBusy (resource_at s name) client → ⊥) × ((resource_at s name).state.highest ≡ greatest_number)) keeps number within at (exhausted refl)
-ask_refused start nodes left moves place i client name mode old ask.Memory keeps number within at busy exhausted memory = absurd (memory refl)
 
 -- an ask that its node allows
 pub ask_on :
@@ -205,85 +168,6 @@ kept_by law start nodes left next after moves before logged move place i event o
 pub here : (i : ℕ) (event : Event) → (if i == i then event ∷ [] else []) ≡ event ∷ []
 here i event = ap (λ b. if b then event ∷ [] else []) (eq-eqb i i refl)
 
--- the run of what is kept, of nodes of which one was put at its own place
-pub run_of : (start : ℕ) (nodes : List NodeState) (left : List Message) (moves moves' : List Move) (place : ℕ) (new : NodeState)
-    → Keeps start nodes left moves → moves' ≡ moves → IsRun (length (set nodes place new)) start moves'
-run_of start nodes left moves moves' place new keeps is =
-    subst (λ (k : ℕ). IsRun k start moves') (sym (length-set nodes place new)) (subst (λ (ms : List Move). IsRun (length nodes) start ms) (sym is) keeps.run)
-
--- a refusal that the node of an ask gave, at which nothing changed
-pub ask_fails : (law :
-    (n start : ℕ) (moves : List Move) (nodes : ℕ → NodeState)
-    → IsNodeNumber n → IsRun n start moves → EndsWith n start moves nodes
-    → (node client : ℕ) (name : List ℕ) (mode : Mode)
-    → GoesOn n start moves (Ask node client name mode)
-    ↔ (((1 ≤ node) × (node ≤ n)) × MayAsk (resource_at (nodes node) name) client))
-    → (start : ℕ) (nodes : List NodeState) (left : List Message) (moves : List Move) (place i client : ℕ) (name : List ℕ) (mode : Mode) (old : NodeState)
-    (w now : WorldState) (e : AskError) (r : Result Outcome StepError)
-    → Keeps start nodes left moves → place + 1 ≡ i → place < length nodes → old ≡ get_or nodes place old
-    → shown start nodes moves ≡ w → now ≡ shown start nodes moves
-    → (e ≡ ask.Busy → IsBusy (resource_at old name) client)
-    → (e ≡ ask.Exhausted → (IsBusy (resource_at old name) client → ⊥) × ((resource_at old name).state.highest ≡ greatest_number))
-    → (e ≡ ask.Memory → MayAsk (resource_at old name) client)
-    → IsErrAnd r (λ x. x ≡ refusal_of_ask e) → Tries w (Ask i client name mode) r now
-ask_fails law start nodes left moves place i client name mode old w now ask.Memory r keeps number within at is same busy exhausted may fails =
-    short start nodes moves w now (Ask i client name mode) r is same
-    (ask_on law start nodes left moves place i client name mode old keeps number within at (may refl)) (inl tt) fails
-ask_fails law start nodes left moves place i client name mode old w now ask.Busy r keeps number within at is same busy exhausted may fails =
-    fails_for start nodes moves w now (Ask i client name mode) (refusal_of_ask ask.Busy) r is same
-    (ask_refused start nodes left moves place i client name mode old ask.Busy keeps number within at busy exhausted (λ none. cc)) fails
-ask_fails law start nodes left moves place i client name mode old w now ask.Exhausted r keeps number within at is same busy exhausted may fails =
-    fails_for start nodes moves w now (Ask i client name mode) (refusal_of_ask ask.Exhausted) r is same
-    (ask_refused start nodes left moves place i client name mode old ask.Exhausted keeps number within at busy exhausted (λ none. cc)) fails
-
--- a refusal that the node of a leave gave, at which nothing changed
-pub leave_fails : (law :
-    (n start : ℕ) (moves : List Move) (nodes : ℕ → NodeState)
-    → IsNodeNumber n → IsRun n start moves → EndsWith n start moves nodes
-    → (node client : ℕ) (name : List ℕ)
-    → GoesOn n start moves (Leave node client name)
-    ↔ (((1 ≤ node) × (node ≤ n)) × ((entry : Entry) × Holds (resource_at (nodes node) name) client entry)))
-    → (start : ℕ) (nodes : List NodeState) (left : List Message) (moves : List Move) (place i client : ℕ) (name : List ℕ) (old : NodeState)
-    (w now : WorldState) (e : LeaveError) (r : Result Outcome StepError)
-    → Keeps start nodes left moves → place + 1 ≡ i → place < length nodes → old ≡ get_or nodes place old
-    → shown start nodes moves ≡ w → now ≡ shown start nodes moves
-    → (e ≡ leave.NotHeld → (entry : Entry) → Holds (resource_at old name) client entry → ⊥)
-    → (e ≡ leave.Memory → (entry : Entry) × Holds (resource_at old name) client entry)
-    → IsErrAnd r (λ x. x ≡ refusal_of_leave e) → Tries w (Leave i client name) r now
-leave_fails law start nodes left moves place i client name old w now leave.Memory r keeps number within at is same free may fails =
-    short start nodes moves w now (Leave i client name) r is same
-    (leave_on law start nodes left moves place i client name old keeps number within at (may refl)) (inl tt) fails
-leave_fails law start nodes left moves place i client name old w now leave.NotHeld r keeps number within at is same free may fails =
-    fails_for start nodes moves w now (Leave i client name) (refusal_of_leave leave.NotHeld) r is same
-    (at_node start nodes left moves place i old (λ s. (entry : Entry) → Holds (resource_at s name) client entry → ⊥) keeps number within at (free refl)) fails
-
--- two reads of one place
-pub reads_same : (nodes : List NodeState) (place : ℕ) (old next : NodeState) → place < length nodes → old ≡ get_or nodes place old
-    → next ≡ get_or nodes place next → next ≡ old
-reads_same nodes place old next within at at' = at' ∙ get_or_default nodes place next old within ∙ sym at
-
--- what an event sends and marks at most
-pub few_carried :
-    ((old new : NodeState) (event : Event) (sends : List Message) (marks : List Mark)
-    → IsConsistentNode old → NodeEvent old event sends marks new → (length sends ≤ sends_at_most old.nodes event) × (length marks ≤ marks_at_most event))
-    → (nodes : List NodeState) (place : ℕ) (old new : NodeState) (event : Event) (sends : List Message) (marks : List Mark)
-    → (nodes_of nodes (place + 1)).nodes ≡ length nodes → IsConsistentNode (nodes_of nodes (place + 1))
-    → place < length nodes → old ≡ get_or nodes place old
-    → NodeEvent old event sends marks new → (length sends ≤ sends_at_most (length nodes) event) × (length marks ≤ marks_at_most event)
-few_carried law nodes place old new event sends marks many consistent within at happened =
-    let here = node_here nodes place (place + 1) old refl within at in
-    let count : old.nodes ≡ length nodes = ap (λ (s : NodeState). s.nodes) (sym here) ∙ many in
-    subst (λ (n : ℕ). (length sends ≤ sends_at_most n event) × (length marks ≤ marks_at_most event)) count
-    (law old new event sends marks (subst IsConsistentNode here consistent) happened)
-
 -- room for the most is room for fewer
 pub room_for : (log : LogState) (marks most : ℕ) → HasRoom log most → marks ≤ most → HasRoom log marks
 room_for log marks most has few = record { for_step = has.for_step; for_marks = omega (arith, few, has.for_marks) }
-
--- there is room for what comes of a message at the node that was read before
-pub room_here : (spare : ℕ) (log : LogState) (message : Message) (nodes : List NodeState) (place : ℕ) (first old new : NodeState) (sends : List Message) (marks : List Mark)
-    → ((sends : List Message) (marks : List Mark) (new : NodeState) → ReceiveEvent first message sends marks new → (length sends ≤ spare) × HasRoom log (length marks))
-    → place < length nodes → first ≡ get_or nodes place first → old ≡ get_or nodes place old → ReceiveEvent old message sends marks new
-    → (length sends ≤ spare) × HasRoom log (length marks)
-room_here spare log message nodes place first old new sends marks room within at_first at happened =
-    room sends marks new (subst (λ (s : NodeState). ReceiveEvent s message sends marks new) (reads_same nodes place first old within at_first at) happened)

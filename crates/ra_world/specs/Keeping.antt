@@ -30,11 +30,11 @@ pub record Keeps (start : ℕ) (nodes : List NodeState) (left : List Message) (m
 
 -- the world that the fields represent
 abbrev pub world_of : {keeps : ℕ} → Inside keeps → WorldState
-world_of {keeps} w = record { count = length w.nodes.items; start = w.start; moves = w.log.moves }
+world_of {keeps} w = record { count = length w.nodes.items; start = w.start; moves = w.kept.log.moves }
 
 -- what is true of the fields: the moves are a run, and the nodes and the messages are those at its end
 abbrev pub IsKept : {keeps : ℕ} → Inside keeps → Type 0
-IsKept {keeps} w = Keeps w.start w.nodes.items w.under_way.items w.log.moves
+IsKept {keeps} w = Keeps w.start w.nodes.items w.kept.under_way.items w.kept.log.moves
 
 -- the report of these figures and marks
 abbrev pub report_with : Figures → Listed Mark → Report

@@ -10,6 +10,7 @@ pub mod World
 pub mod MainTheorem
 pub mod StepLog
 pub mod Keeping
+pub mod Trying
 pub mod Refused
 pub mod Lines
 pub mod StateLines

@@ -1,3 +1,4 @@
+pub mod at_node;
 pub mod fitting;
 pub mod kept_steps;
 pub mod node_places;
@@ -9,12 +10,13 @@ ghost use Rattle.ra_stamp.specs.declared.message.Message.{Message};
 
 use crate::text::report::Figures;
 use crate::text::state_lines::state_text;
-use crate::world::kept_steps::{copy_of, keep, make_room, make_room_for, nothing, take};
+use crate::world::at_node::{ask_at, leave_at, receive_at};
+use crate::world::kept_steps::{KeptSteps, copy_of};
 use crate::world::node_places::{opening_nodes, place_of, queued_at, waiting_at};
 use crate::world::step_log::StepLog;
-use crate::{NewError, NodeRefusal, Report, Step, StepError};
+use crate::{NewError, Report, Step, StepError};
 use ra_bag::Bag;
-use ra_node::{Node, Outcome, ReceiveError};
+use ra_node::{Node, Outcome};
 use ra_stamp::{Memory, Message, Mode, Name, NodeCount, NodeId};
 use std::alloc::Global;
 use std::marker::Model;
@@ -36,8 +38,8 @@ pub struct WorldOf<const KEEPS_MARKS: u8> {
     start: u64,
     /// The nodes by their numbers, from 1.
     nodes: Vec<Node>,
-    under_way: Bag,
-    log: StepLog<KEEPS_MARKS>,
+    /// What is kept of the steps.
+    kept: KeptSteps<KEEPS_MARKS>,
 }
 
 impl<const KEEPS_MARKS: u8> Model for WorldOf<KEEPS_MARKS> {
@@ -83,8 +85,10 @@ impl<const KEEPS_MARKS: u8> WorldOf<KEEPS_MARKS> {
         Ok(WorldOf {
             start,
             nodes: opened,
-            under_way,
-            log: StepLog::new(alloc),
+            kept: KeptSteps {
+                under_way,
+                log: StepLog::new(alloc),
+            },
         })
     }
 
@@ -130,11 +134,11 @@ impl<const KEEPS_MARKS: u8> WorldOf<KEEPS_MARKS> {
                 client,
                 name,
                 mode,
-            } => self.ask(alloc, *node, *client, *name, *mode),
-            Step::Leave { node, client, name } => self.leave(alloc, *node, *client, *name),
-            Step::Deliver(message) => self.deliver(alloc, message, near),
-            Step::Lose(message) => self.lose(alloc, message, near),
-            Step::Repeat(message) => self.repeat(alloc, message, near),
+            } => self.ask(alloc, step, *node, *client, name, *mode),
+            Step::Leave { node, client, name } => self.leave(alloc, step, *node, *client, name),
+            Step::Deliver(message) => self.deliver(alloc, step, message, near),
+            Step::Lose(message) => self.lose(alloc, step, message, near),
+            Step::Repeat(message) => self.repeat(alloc, step, message, near),
         }
     }
 
@@ -154,7 +158,7 @@ impl<const KEEPS_MARKS: u8> WorldOf<KEEPS_MARKS> {
             } => self.may_ask(node, client, &name),
             Step::Leave { node, client, name } => self.may_leave(node, client, &name),
             Step::Deliver(message) | Step::Lose(message) | Step::Repeat(message) => {
-                self.under_way.contains(&message)
+                self.kept.under_way.contains(&message)
             }
         }
     }
@@ -168,7 +172,7 @@ impl<const KEEPS_MARKS: u8> WorldOf<KEEPS_MARKS> {
         ensures run { IsRun self.now.count self.now.start self.now.moves }
         ensures count { IsNodeNumber self.now.count }
     {
-        self.under_way.at(place)
+        self.kept.under_way.at(place)
     }
 
     /// Returns how many messages are under way. It does not allocate.
@@ -177,7 +181,7 @@ impl<const KEEPS_MARKS: u8> WorldOf<KEEPS_MARKS> {
         ensures run { IsRun self.now.count self.now.start self.now.moves }
         ensures count { IsNodeNumber self.now.count }
     {
-        self.under_way.len()
+        self.kept.under_way.len()
     }
 
     /// Returns how many requests wait. It does not allocate. The cost is linear in the number of nodes.
@@ -196,7 +200,7 @@ impl<const KEEPS_MARKS: u8> WorldOf<KEEPS_MARKS> {
         ensures count { IsNodeNumber self.now.count }
     {
         // There are at most as many queued clients as steps, so their count fits.
-        let _steps = self.log.len();
+        let _steps = self.kept.log.len();
         queued_at(&self.nodes)
     }
 
@@ -206,7 +210,7 @@ impl<const KEEPS_MARKS: u8> WorldOf<KEEPS_MARKS> {
         ensures run { IsRun self.now.count self.now.start self.now.moves }
         ensures count { IsNodeNumber self.now.count }
     {
-        self.log.len()
+        self.kept.log.len()
     }
 
     /// Returns how many requests were made. It does not allocate. (`report` does, since it copies all marks.)
@@ -215,7 +219,7 @@ impl<const KEEPS_MARKS: u8> WorldOf<KEEPS_MARKS> {
         ensures run { IsRun self.now.count self.now.start self.now.moves }
         ensures count { IsNodeNumber self.now.count }
     {
-        self.log.requests()
+        self.kept.log.requests()
     }
 
     /// Returns how many messages were sent. It does not allocate.
@@ -224,7 +228,7 @@ impl<const KEEPS_MARKS: u8> WorldOf<KEEPS_MARKS> {
         ensures run { IsRun self.now.count self.now.start self.now.moves }
         ensures count { IsNodeNumber self.now.count }
     {
-        self.log.sent()
+        self.kept.log.sent()
     }
 
     /// Returns the lines of the state after the steps so far: how many they were, what each node knows of each of these names,
@@ -241,138 +245,138 @@ impl<const KEEPS_MARKS: u8> WorldOf<KEEPS_MARKS> {
         ensures run { IsRun self.now.count self.now.start self.now.moves }
         ensures count { IsNodeNumber self.now.count }
     {
-        let steps = self.log.len();
-        state_text(alloc, steps, &self.nodes, &self.under_way, names, clients)
+        let steps = self.kept.log.len();
+        state_text(
+            alloc,
+            steps,
+            &self.nodes,
+            &self.kept.under_way,
+            names,
+            clients,
+        )
     }
 
     /// Makes the step in which a client asks for a name at a node.
     fn ask(
         &mut self,
         alloc: Global,
+        step: &Step,
         node: NodeId,
         client: u32,
-        name: Name,
+        name: &Name,
         mode: Mode,
     ) -> Result<Outcome, StepError>
-        ensures tried { Tries self.old (Step.Ask node client name mode) result self.new }
+        requires { step.now ≡ Step.Ask node client name.now mode }
+        ensures tried { Tries self.old (Step.Ask node client name.now mode) result self.new }
         ensures run { IsRun self.new.count self.new.start self.new.moves }
         ensures count { IsNodeNumber self.new.count }
     {
         let Some(place) = place_of(&self.nodes, node) else {
             return Err(StepError::NoNode);
         };
-        let asked = &self.nodes[place];
-        // A REQUEST is sent to each other node, and the request may enter at once.
+        // A REQUEST is sent to each other node.
         let sends = self.nodes.len() as u64;
-        let Ok(()) = make_room(&mut self.under_way, &mut self.log, sends, 2) else {
-            // That the node refuses comes before that memory ran out.
-            asked.may_ask(client, &name)?;
-            return Err(StepError::Memory);
-        };
         let asked = &mut self.nodes[place];
-        let outcome = asked.ask(alloc, client, name, mode)?;
-        let step = Step::Ask {
-            node,
+        ask_at(
+            asked,
+            &mut self.kept,
+            alloc,
+            sends,
+            step,
             client,
             name,
             mode,
-        };
-        keep(&mut self.under_way, &mut self.log, &step, &outcome);
-        Ok(outcome)
+        )
     }
 
     /// Makes the step in which a client leaves a name at a node.
     fn leave(
         &mut self,
         alloc: Global,
+        step: &Step,
         node: NodeId,
         client: u32,
-        name: Name,
+        name: &Name,
     ) -> Result<Outcome, StepError>
-        ensures tried { Tries self.old (Step.Leave node client name) result self.new }
+        requires { step.now ≡ Step.Leave node client name.now }
+        ensures tried { Tries self.old (Step.Leave node client name.now) result self.new }
         ensures run { IsRun self.new.count self.new.start self.new.moves }
         ensures count { IsNodeNumber self.new.count }
     {
         let Some(place) = place_of(&self.nodes, node) else {
             return Err(StepError::NoNode);
         };
-        let left = &self.nodes[place];
-        // The deferred REPLYs and the next request are sent, and the marks are Left, Requested and Entered.
+        // The deferred REPLYs and the next request are sent.
         let sends = 2 * self.nodes.len() as u64;
-        let Ok(()) = make_room(&mut self.under_way, &mut self.log, sends, 3) else {
-            // That the node refuses comes before that memory ran out.
-            if !left.is_held_by(client, &name) {
-                return Err(StepError::Node(NodeRefusal::NotHeld));
-            }
-            return Err(StepError::Memory);
-        };
         let left = &mut self.nodes[place];
-        let outcome = left.leave(alloc, client, name)?;
-        let step = Step::Leave { node, client, name };
-        keep(&mut self.under_way, &mut self.log, &step, &outcome);
-        Ok(outcome)
+        leave_at(left, &mut self.kept, alloc, sends, step, client, name)
     }
 
     /// Makes the step in which a message under way reaches its node.
-    fn deliver(&mut self, alloc: Global, message: &Message, near: u64) -> Result<Outcome, StepError>
+    fn deliver(
+        &mut self,
+        alloc: Global,
+        step: &Step,
+        message: &Message,
+        near: u64,
+    ) -> Result<Outcome, StepError>
+        requires { step.now ≡ Step.Deliver message.now }
         ensures tried { Tries self.old (Step.Deliver message.now) result self.new }
         ensures run { IsRun self.new.count self.new.start self.new.moves }
         ensures count { IsNodeNumber self.new.count }
     {
-        let Some(found) = self.under_way.find(message, near) else {
+        let Some(found) = self.kept.under_way.find(message, near) else {
             return Err(StepError::NotUnderWay);
         };
         // A message under way is for one of the nodes.
         let Some(place) = place_of(&self.nodes, message.to()) else {
             unreachable!()
         };
-        let receiver = &self.nodes[place];
-        make_room_for(&mut self.under_way, &mut self.log, receiver, message)?;
         let receiver = &mut self.nodes[place];
-        let outcome = match receiver.receive(alloc, message) {
-            Ok(outcome) => outcome,
-            Err(ReceiveError::Memory) => return Err(StepError::Memory),
-            // A message under way is for its node, and from another one.
-            Err(ReceiveError::WrongNode | ReceiveError::Stranger) => unreachable!(),
-        };
-        take(&mut self.under_way, &self.log, found, message);
-        let step = Step::Deliver(*message);
-        keep(&mut self.under_way, &mut self.log, &step, &outcome);
-        Ok(outcome)
+        receive_at(receiver, &mut self.kept, alloc, step, found, message)
     }
 
     /// Makes the step in which a message under way is lost.
-    fn lose(&mut self, alloc: Global, message: &Message, near: u64) -> Result<Outcome, StepError>
+    fn lose(
+        &mut self,
+        alloc: Global,
+        step: &Step,
+        message: &Message,
+        near: u64,
+    ) -> Result<Outcome, StepError>
+        requires { step.now ≡ Step.Lose message.now }
         ensures tried { Tries self.old (Step.Lose message.now) result self.new }
         ensures run { IsRun self.new.count self.new.start self.new.moves }
         ensures count { IsNodeNumber self.new.count }
     {
-        let Some(found) = self.under_way.find(message, near) else {
+        let Some(found) = self.kept.under_way.find(message, near) else {
             return Err(StepError::NotUnderWay);
         };
-        make_room(&mut self.under_way, &mut self.log, 0, 0)?;
-        let outcome = nothing(alloc);
-        take(&mut self.under_way, &self.log, found, message);
-        let step = Step::Lose(*message);
-        keep(&mut self.under_way, &mut self.log, &step, &outcome);
-        Ok(outcome)
+        self.kept.make_room(0, 0)?;
+        self.kept.take(found, message);
+        Ok(self.kept.keep_nothing(alloc, step))
     }
 
     /// Makes the step in which a copy of a message under way is put under way, after all others.
-    fn repeat(&mut self, alloc: Global, message: &Message, near: u64) -> Result<Outcome, StepError>
+    fn repeat(
+        &mut self,
+        alloc: Global,
+        step: &Step,
+        message: &Message,
+        near: u64,
+    ) -> Result<Outcome, StepError>
+        requires { step.now ≡ Step.Repeat message.now }
         ensures tried { Tries self.old (Step.Repeat message.now) result self.new }
         ensures run { IsRun self.new.count self.new.start self.new.moves }
         ensures count { IsNodeNumber self.new.count }
     {
-        let Some(_) = self.under_way.find(message, near) else {
+        let Some(_) = self.kept.under_way.find(message, near) else {
             return Err(StepError::NotUnderWay);
         };
-        make_room(&mut self.under_way, &mut self.log, 1, 0)?;
+        self.kept.make_room(1, 0)?;
         // The message is under way, and there is room for the copy.
-        self.under_way.again(message).unwrap();
-        let outcome = nothing(alloc);
-        self.log.push(&Step::Repeat(*message), &outcome);
-        Ok(outcome)
+        self.kept.under_way.again(message).unwrap();
+        Ok(self.kept.keep_nothing(alloc, step))
     }
 
     /// Returns whether a client may ask for a name at a node.
@@ -423,7 +427,7 @@ impl WorldOf<1> {
         ensures main_theorem { IfOk result (MainTheorem self.now.count) }
     {
         let figures = self.figures();
-        let marks = copy_of(alloc, self.log.marks())?;
+        let marks = copy_of(alloc, self.kept.log.marks())?;
         Ok(figures.with_marks(marks))
     }
 
@@ -436,7 +440,8 @@ impl WorldOf<1> {
         ensures main_theorem { MainTheorem self.count result }
     {
         let figures = self.figures();
-        let marks = self.log.into_marks();
+        let kept = self.kept;
+        let marks = kept.log.into_marks();
         figures.with_marks(marks)
     }
 
@@ -448,13 +453,13 @@ impl WorldOf<1> {
         ensures count { IsNodeNumber self.now.count }
     {
         // There are at most as many queued clients as steps, so their count fits.
-        let _steps = self.log.len();
+        let _steps = self.kept.log.len();
         Figures {
-            sent: self.log.sent(),
-            requests: self.log.requests(),
-            under_way: u128::from(self.under_way.len()),
-            lost: u128::from(self.log.lost()),
-            repeated: u128::from(self.log.repeated()),
+            sent: self.kept.log.sent(),
+            requests: self.kept.log.requests(),
+            under_way: u128::from(self.kept.under_way.len()),
+            lost: u128::from(self.kept.log.lost()),
+            repeated: u128::from(self.kept.log.repeated()),
             waiting: waiting_at(&self.nodes),
             queued: queued_at(&self.nodes),
         }

@@ -12,8 +12,8 @@ use Rattle.ra_world.proofs.world.WorldOf+1.figures.Goals as goal
 pub queued_at-requires : goal.queued_at-requires
 queued_at-requires c =
     let w = c.self.inside in
-    let few : sum_by queued_count w.nodes.items ≤ length w.log.moves =
-    kept_runs_go_on.queued w.start w.nodes.items w.under_way.items w.log.moves c.self.invariant in
+    let few : sum_by queued_count w.nodes.items ≤ length w.kept.log.moves =
+    kept_runs_go_on.queued w.start w.nodes.items w.kept.under_way.items w.kept.log.moves c.self.invariant in
     let same : sum_by queued_count c.deref-2.result.now ≡ sum_by queued_count w.nodes.items = ap (sum_by queued_count) c.deref-2.ensures.value in
     omega (arith, few, same, c.len-steps.ensures)
 
@@ -29,9 +29,9 @@ returns-clause-figures c marks are =
       waiting = c.waiting_at.result;
       queued = c.queued_at.result;
     } in
-    let kept : marks.items ≡ marks_of w.log.moves = are ∙ sym (ap (λ (s : WorldState). marks_of s.moves) c.self.view_is) in
+    let kept : marks.items ≡ marks_of w.kept.log.moves = are ∙ sym (ap (λ (s : WorldState). marks_of s.moves) c.self.view_is) in
     subst (λ (s : WorldState). Reports s.count s.start s.moves (report_with figures marks)) c.self.view_is
-    (reported w.start w.nodes.items w.under_way.items w.log.moves (report_with figures marks) c.self.invariant kept_runs_go_on.at_all
+    (reported w.start w.nodes.items w.kept.under_way.items w.kept.log.moves (report_with figures marks) c.self.invariant kept_runs_go_on.at_all
     kept c.sent.ensures c.requests.ensures
     (c.from.ensures ∙ c.len.ensures) (c.from-2.ensures ∙ c.lost.ensures) (c.from-3.ensures ∙ c.repeated.ensures)
     (c.waiting_at.ensures ∙ ap (sum_by waiting_count) c.deref.ensures.value)

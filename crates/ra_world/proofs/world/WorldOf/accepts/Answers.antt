@@ -18,13 +18,13 @@ pub returns-in-Deliver-clause-value : goal.returns-in-Deliver-clause-value
 returns-in-Deliver-clause-value g c =
     let w = c.self.inside in
     let k = c.self.invariant in
-    let some : (m : Message) × ((c.args.step.now ≡ Deliver m) ⊎ ((c.args.step.now ≡ Lose m) ⊎ (c.args.step.now ≡ Repeat m))) × (IsTrue c.contains.result ↔ Contains w.under_way.items m) =
+    let some : (m : Message) × ((c.args.step.now ≡ Deliver m) ⊎ ((c.args.step.now ≡ Lose m) ⊎ (c.args.step.now ≡ Repeat m))) × (IsTrue c.contains.result ↔ Contains w.kept.under_way.items m) =
     search rules in
     let m = some.0 in
     subst (λ (s : WorldState). IsTrue c.contains.result ↔ GoesOn s.count s.start s.moves c.args.step.now) c.self.view_is
-    (accepted_message (length w.nodes.items) w.start w.log.moves w.under_way.items c.args.step.now m c.contains.result
-    (deliver_allowed (length w.nodes.items) w.start w.log.moves k.count k.run m)
-    (lose_allowed (length w.nodes.items) w.start w.log.moves k.count k.run m)
-    (repeat_allowed (length w.nodes.items) w.start w.log.moves k.count k.run m)
-    (kept_runs_go_on.under_way w.start w.nodes.items w.under_way.items w.log.moves m k)
+    (accepted_message (length w.nodes.items) w.start w.kept.log.moves w.kept.under_way.items c.args.step.now m c.contains.result
+    (deliver_allowed (length w.nodes.items) w.start w.kept.log.moves k.count k.run m)
+    (lose_allowed (length w.nodes.items) w.start w.kept.log.moves k.count k.run m)
+    (repeat_allowed (length w.nodes.items) w.start w.kept.log.moves k.count k.run m)
+    (kept_runs_go_on.under_way w.start w.nodes.items w.kept.under_way.items w.kept.log.moves m k)
     some.2 some.1)

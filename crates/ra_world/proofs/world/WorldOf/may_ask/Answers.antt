@@ -16,11 +16,11 @@ returns-in-Some-clause-value g c = λ mode.
     let w = c.self.inside in
     let k = c.self.invariant in
     let step = Ask c.args.node c.args.client c.args.name.now mode in
-    let law = ask_goes_on laws_below (length w.nodes.items) w.start w.log.moves (nodes_of w.nodes.items) k.count k.run k.ends
+    let law = ask_goes_on laws_below (length w.nodes.items) w.start w.kept.log.moves (nodes_of w.nodes.items) k.count k.run k.ends
     c.args.node c.args.client c.args.name.now mode in
     let within : c.in-Some.place < length w.nodes.items = omega (arith, c.in-Some.ensures.some.1, ap length c.deref.ensures.value) in
     subst (λ (s : WorldState). IsTrue c.is_ok.result ↔ GoesOn s.count s.start s.moves step) c.self.view_is
-    (accepted_at w.start w.nodes.items w.log.moves step c.in-Some.place c.args.node c.index.result.now
+    (accepted_at w.start w.nodes.items w.kept.log.moves step c.in-Some.place c.args.node c.index.result.now
     (λ (n : NodeState). MayAsk (resource_at n c.args.name.now) c.args.client) c.is_ok.result
     law c.in-Some.ensures.some.0 within c.index.ensures
     (subst (λ (b : Bool). IsTrue b ↔ MayAsk (resource_at c.index.result.now c.args.name.now) c.args.client) (sym c.is_ok.ensures.value) c.may_ask.ensures.allowed))
@@ -30,8 +30,8 @@ returns-in-None-clause-value g c = λ mode.
     let w = c.self.inside in
     let k = c.self.invariant in
     let step = Ask c.args.node c.args.client c.args.name.now mode in
-    let law = ask_goes_on laws_below (length w.nodes.items) w.start w.log.moves (nodes_of w.nodes.items) k.count k.run k.ends
+    let law = ask_goes_on laws_below (length w.nodes.items) w.start w.kept.log.moves (nodes_of w.nodes.items) k.count k.run k.ends
     c.args.node c.args.client c.args.name.now mode in
     let above : length w.nodes.items < c.args.node = omega (arith, c.in-None.ensures.none.0 refl, ap length c.deref.ensures.value) in
     subst (λ (s : WorldState). IsTrue false ↔ GoesOn s.count s.start s.moves step) c.self.view_is
-    (refused_above (length w.nodes.items) w.start w.log.moves step c.args.node _ law above)
+    (refused_above (length w.nodes.items) w.start w.kept.log.moves step c.args.node _ law above)

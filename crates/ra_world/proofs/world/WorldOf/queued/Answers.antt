@@ -9,8 +9,8 @@ use Rattle.ra_world.proofs.world.WorldOf.queued.Goals as goal
 pub queued_at-requires : goal.queued_at-requires
 queued_at-requires g c =
     let w = c.self.inside in
-    let few : sum_by queued_count w.nodes.items ≤ length w.log.moves =
-    kept_runs_go_on.queued w.start w.nodes.items w.under_way.items w.log.moves c.self.invariant in
+    let few : sum_by queued_count w.nodes.items ≤ length w.kept.log.moves =
+    kept_runs_go_on.queued w.start w.nodes.items w.kept.under_way.items w.kept.log.moves c.self.invariant in
     let same : sum_by queued_count c.deref.result.now ≡ sum_by queued_count w.nodes.items = ap (sum_by queued_count) c.deref.ensures.value in
     omega (arith, few, same, c.len-steps.ensures)
 
@@ -18,5 +18,5 @@ pub returns-clause-value : goal.returns-clause-value
 returns-clause-value g c =
     let w = c.self.inside in
     subst (λ (s : WorldState). AreQueued s.count s.start s.moves c.queued_at.result) c.self.view_is
-    (queued_here w.start w.nodes.items w.under_way.items w.log.moves c.queued_at.result c.self.invariant kept_runs_go_on.at_all
+    (queued_here w.start w.nodes.items w.kept.under_way.items w.kept.log.moves c.queued_at.result c.self.invariant kept_runs_go_on.at_all
     (c.queued_at.ensures ∙ ap (sum_by queued_count) c.deref.ensures.value))

@@ -22,9 +22,9 @@ returns-clause-ok g c =
     let w = c.self.inside in
     subst (λ (s : WorldState). IfOk c.state_text.result (λ t. IsStateText s.count s.start s.moves c.args.names.now c.args.clients.now (string_bytes t))) c.self.view_is
     (IfOk-weaker c.state_text.result _ _
-    (λ t is. state_here w.start w.nodes.items w.under_way.items w.log.moves c.args.names.now c.args.clients.now (string_bytes t) c.self.invariant
+    (λ t is. state_here w.start w.nodes.items w.kept.under_way.items w.kept.log.moves c.args.names.now c.args.clients.now (string_bytes t) c.self.invariant
     (has_table laws_below)
     (λ n start moves nodes table count run ends. table_of_nodes laws_below n start moves count run nodes ends (same_entries (marks_of moves)) table)
-    (is ∙ ap (λ (ns : List NodeState). state_text (length ns) c.len-steps.result c.args.names.now (nodes_of ns) w.under_way.items c.args.clients.now) c.deref.ensures.value
-    ∙ ap (λ (n : ℕ). state_text (length w.nodes.items) n c.args.names.now (nodes_of w.nodes.items) w.under_way.items c.args.clients.now) c.len-steps.ensures))
+    (is ∙ ap (λ (ns : List NodeState). state_text (length ns) c.len-steps.result c.args.names.now (nodes_of ns) w.kept.under_way.items c.args.clients.now) c.deref.ensures.value
+    ∙ ap (λ (n : ℕ). state_text (length w.nodes.items) n c.args.names.now (nodes_of w.nodes.items) w.kept.under_way.items c.args.clients.now) c.len-steps.ensures))
     c.state_text.ensures)

@@ -9,33 +9,33 @@ pub returns-in-Ask : goal.returns-in-Ask
 returns-in-Ask g c =
     let w = c.self.inside in
     answers no_step one_cause c.args.self.now c.ask.new.self c.args.step.now
-    (kept_run w.start w.nodes.items w.under_way.items w.log.moves c.args.self.now c.self.invariant c.self.view_is) c.ask.ensures.run
+    (kept_run w.start w.nodes.items w.kept.under_way.items w.kept.log.moves c.args.self.now c.self.invariant c.self.view_is) c.ask.ensures.run
     c.ask.result (subst (λ (s : Step). Tries c.args.self.now s c.ask.result c.ask.new.self) (sym c.in-Ask.is) c.ask.ensures.tried) c.ask.ensures.count
 
 pub returns-in-Leave : goal.returns-in-Leave
 returns-in-Leave g c =
     let w = c.self.inside in
     answers no_step one_cause c.args.self.now c.leave.new.self c.args.step.now
-    (kept_run w.start w.nodes.items w.under_way.items w.log.moves c.args.self.now c.self.invariant c.self.view_is) c.leave.ensures.run
+    (kept_run w.start w.nodes.items w.kept.under_way.items w.kept.log.moves c.args.self.now c.self.invariant c.self.view_is) c.leave.ensures.run
     c.leave.result (subst (λ (s : Step). Tries c.args.self.now s c.leave.result c.leave.new.self) (sym c.in-Leave.is) c.leave.ensures.tried) c.leave.ensures.count
 
 pub returns-in-Deliver : goal.returns-in-Deliver
 returns-in-Deliver g c =
     let w = c.self.inside in
     answers no_step one_cause c.args.self.now c.deliver.new.self c.args.step.now
-    (kept_run w.start w.nodes.items w.under_way.items w.log.moves c.args.self.now c.self.invariant c.self.view_is) c.deliver.ensures.run
+    (kept_run w.start w.nodes.items w.kept.under_way.items w.kept.log.moves c.args.self.now c.self.invariant c.self.view_is) c.deliver.ensures.run
     c.deliver.result (subst (λ (s : Step). Tries c.args.self.now s c.deliver.result c.deliver.new.self) (sym c.in-Deliver.is) c.deliver.ensures.tried) c.deliver.ensures.count
 
 pub returns-in-Lose : goal.returns-in-Lose
 returns-in-Lose g c =
     let w = c.self.inside in
     answers no_step one_cause c.args.self.now c.lose.new.self c.args.step.now
-    (kept_run w.start w.nodes.items w.under_way.items w.log.moves c.args.self.now c.self.invariant c.self.view_is) c.lose.ensures.run
+    (kept_run w.start w.nodes.items w.kept.under_way.items w.kept.log.moves c.args.self.now c.self.invariant c.self.view_is) c.lose.ensures.run
     c.lose.result (subst (λ (s : Step). Tries c.args.self.now s c.lose.result c.lose.new.self) (sym c.in-Lose.is) c.lose.ensures.tried) c.lose.ensures.count
 
 pub returns-in-Repeat : goal.returns-in-Repeat
 returns-in-Repeat g c =
     let w = c.self.inside in
     answers no_step one_cause c.args.self.now c.repeat.new.self c.args.step.now
-    (kept_run w.start w.nodes.items w.under_way.items w.log.moves c.args.self.now c.self.invariant c.self.view_is) c.repeat.ensures.run
+    (kept_run w.start w.nodes.items w.kept.under_way.items w.kept.log.moves c.args.self.now c.self.invariant c.self.view_is) c.repeat.ensures.run
     c.repeat.result (subst (λ (s : Step). Tries c.args.self.now s c.repeat.result c.repeat.new.self) (sym c.in-Repeat.is) c.repeat.ensures.tried) c.repeat.ensures.count

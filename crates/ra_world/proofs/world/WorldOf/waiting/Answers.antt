@@ -10,5 +10,5 @@ pub returns-clause-value : goal.returns-clause-value
 returns-clause-value g c =
     let w = c.self.inside in
     subst (λ (s : WorldState). AreWaiting s.count s.start s.moves c.waiting_at.result) c.self.view_is
-    (waiting_here w.start w.nodes.items w.under_way.items w.log.moves c.waiting_at.result c.self.invariant kept_runs_go_on.at_all
+    (waiting_here w.start w.nodes.items w.kept.under_way.items w.kept.log.moves c.waiting_at.result c.self.invariant kept_runs_go_on.at_all
     (c.waiting_at.ensures ∙ ap (sum_by waiting_count) c.deref.ensures.value))

@@ -6,7 +6,7 @@ use Rattle.ra_node.specs.Memory.{BringsNothing}
 use Rattle.ra_world.specs.StepLog.{HasRoom}
 use Rattle.ra_node.proofs.Determined.{event_one}
 use Rattle.ra_node.proofs.EventLemmas.{receive_event_room_of}
-use Rattle.ra_world.proofs.world.kept_steps.make_room_for.Goals as goal
+use Rattle.ra_world.proofs.world.kept_steps.KeptSteps.make_room_for.Goals as goal
 
 pub returns-in-Ok-clause-room : goal.returns-in-Ok-clause-room
 returns-in-Ok-clause-room g c sends marks new event =
@@ -23,6 +23,6 @@ pub returns-clause-room : goal.returns-clause-room
 returns-clause-room g c sends marks new event =
     let none : BringsNothing c.args.receiver.now c.args.message.now = c.brings_nothing.ensures.value.0 (search rules) in
     let same = event_one c.args.receiver.now new none.0 (Receive c.args.message.now) sends [] marks [] event none.1 in (
-      subst (λ (xs : List Message). length xs ≤ c.make_room-2.new.under_way.spare) (sym same.0) zero-le,
-      subst (λ (xs : List Mark). HasRoom c.make_room-2.new.log (length xs)) (sym same.1) c.in_ok-make_room.ensures.log_room,
+      subst (λ (xs : List Message). length xs ≤ c.make_room-2.new.self.under_way.spare) (sym same.0) zero-le,
+      subst (λ (xs : List Mark). HasRoom c.make_room-2.new.self.log (length xs)) (sym same.1) c.in_ok-make_room.ensures.log_room,
     )

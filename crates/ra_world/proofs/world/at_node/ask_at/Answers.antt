@@ -1,0 +1,68 @@
+use Rattle.std.proofs.Common.{lit<, ◌≡◌, ◌++◌, ◌∷◌, [], List, length, Err, refl, ap, ◌∙◌}
+use Rattle.ra_stamp.specs.declared.message.Message.{Message}
+use Rattle.ra_node.specs.Events.Event.{Ask as AskedFor}
+use Rattle.ra_node.proofs.EventsKept.{event_room}
+use Rattle.ra_world.specs.Traffic.{Move}
+use Rattle.ra_world.specs.Trying.{TriesAt}
+use Rattle.ra_world.specs.Refused.{refusal_of_ask}
+use Rattle.ra_world.proofs.StepTries.{at_err, room_for}
+use Rattle.ra_world.proofs.AtPlace.{sends_fit_still}
+use Rattle.ra_world.proofs.EventTries.{ask_refused}
+use Rattle.ra_world.proofs.world.at_node.ask_at.Goals as goal
+
+pub returns-in_err-may_ask : goal.returns-in_err-may_ask
+returns-in_err-may_ask g c =
+    let old = c.args.asked.now in
+    let kept = c.args.kept.now in
+    at_err c.from_residual.result (λ e. e ≡ refusal_of_ask c.in_err-may_ask.field-0.0)
+    (λ q. TriesAt c.args.step.now (AskedFor c.args.client c.args.name.now c.args.mode) old kept q old c.make_room.new.self) c.from_residual.ensures.1
+    (λ e is. (
+      refl,
+      c.make_room.ensures.messages,
+      c.make_room.ensures.moves,
+      ask_refused old kept.log.moves c.args.client c.args.name.now c.args.mode c.in_err-may_ask.field-0.0 e is
+          (λ is. c.in_err-may_ask.ensures.busy.0 (ap Err is)) (λ is. c.in_err-may_ask.ensures.exhausted.0 (ap Err is)) (λ is. absurd (c.in_err-may_ask.ensures.no_memory (ap Err is))),
+    ))
+
+pub returns-in_default : goal.returns-in_default
+returns-in_default g c = (refl, c.make_room.ensures.messages, c.make_room.ensures.moves, c.in_ok-may_ask.ensures.allowed.0 refl)
+
+pub returns-in_err-outcome : goal.returns-in_err-outcome
+returns-in_err-outcome g c =
+    let old = c.args.asked.now in
+    let kept = c.args.kept.now in
+    at_err c.from_residual-in_err-outcome.result (λ e. e ≡ refusal_of_ask c.in_err-outcome.field-0.0)
+    (λ q. TriesAt c.args.step.now (AskedFor c.args.client c.args.name.now c.args.mode) old kept q c.ask.new.self c.make_room.new.self) c.from_residual-in_err-outcome.ensures.1
+    (λ e is. (
+      c.in_err-outcome.ensures.err,
+      c.make_room.ensures.messages,
+      c.make_room.ensures.moves,
+      ask_refused old kept.log.moves c.args.client c.args.name.now c.args.mode c.in_err-outcome.field-0.0 e is
+          (λ is. c.in_err-outcome.ensures.busy.0 (ap Err is)) (λ is. c.in_err-outcome.ensures.exhausted.0 (ap Err is)) (λ is. c.in_err-outcome.ensures.allowed.0 is),
+    ))
+
+-- an ask sends a message to each other node at most, and makes two marks at most
+pub keep-requires : goal.keep-requires
+keep-requires g c =
+    let outcome = c.in_ok-outcome.outcome in
+    let few = event_room c.args.asked.now c.ask.new.self (AskedFor c.args.client c.args.name.now c.args.mode) outcome.sends.items outcome.marks.items
+    c.requires.consistent c.in_ok-outcome.ensures.ok in (
+      lit< tt,
+      (
+        sends_fit_still _ _ _ (sends_fit_still _ _ _ few.0 c.requires.sends) c.in-Ok.ensures.bag_room,
+        room_for c.make_room.new.self.log (length outcome.marks.items) 2 c.in-Ok.ensures.log_room few.1,
+      ),
+    )
+
+pub returns : goal.returns
+returns g c =
+    let outcome = c.in_ok-outcome.outcome in
+    let move : Move = record { step = c.args.step.now; sends = outcome.sends.items; marks = outcome.marks.items } in (
+      c.in_ok-outcome.ensures.ok,
+      (
+        c.args.kept.now.under_way.items,
+        refl,
+        c.keep.ensures.messages ∙ ap (λ (ms : List Message). ms ++ outcome.sends.items) c.make_room.ensures.messages,
+      ),
+      c.keep.ensures.moves ∙ ap (λ (ms : List Move). ms ++ move ∷ []) c.make_room.ensures.moves,
+    )

@@ -1,0 +1,63 @@
+-- What comes of a step that is tried, in terms of what a world keeps. No public contract speaks of it.
+use Rattle.std.specs.Prelude.{◌≡◌, ◌⊎◌, ℕ, List, [], ◌∷◌, ◌++◌, Result, Ok, Err}
+use Rattle.ra_stamp.specs.declared.entry.Entry.{Entry}
+use Rattle.ra_stamp.specs.declared.message.Message.{Message}
+use Rattle.ra_bag.specs.Bag.{TakesFirst, TakesOne}
+use Rattle.ra_automaton.specs.Steps.{greatest_number}
+use Rattle.ra_node.specs.Resource.{IsBusy, Holds}
+use Rattle.ra_node.specs.Turns.{MayAsk}
+use Rattle.ra_node.specs.Node.{NodeState, resource_at}
+use Rattle.ra_node.specs.Memory.{BringsNothing}
+use Rattle.ra_node.specs.Events.{Event, NodeEvent}
+use Rattle.ra_node.specs.Events.Event.{Ask as AskedFor, Leave as GivenBack, Receive as Received}
+use Rattle.ra_node.specs.declared.outcome.Outcome.{Outcome}
+use Rattle.ra_world.specs.declared.step.Step.{Step}
+use Rattle.ra_world.specs.declared.error.NodeRefusal.TheVariants.{Busy, Exhausted, NotHeld}
+use Rattle.ra_world.specs.declared.error.StepError.{StepError}
+use Rattle.ra_world.specs.declared.error.StepError.TheVariants.{NoNode, NotUnderWay, Node, Memory}
+use Rattle.ra_world.specs.declared.world.kept_steps.KeptSteps.{KeptSteps}
+use Rattle.ra_world.specs.Traffic.{Move, repeated_by}
+use Rattle.ra_world.specs.World.{IsFull}
+
+-- The first message that is equal to this one is taken. If no move repeated one, it may be any equal one, since then
+-- there is no other.
+abbrev pub TakesEqual : List Move → List Message → Message → List Message → Type 0
+TakesEqual moves old message new = TakesFirst old message new ⊎ ((repeated_by moves ≡ []) × TakesOne old message new)
+
+-- what an event leaves of the messages under way: all of them, but not the one that its node receives
+abbrev pub LeavesOthers : List Move → List Message → Event → List Message → Type 0
+LeavesOthers moves old (AskedFor client name mode) new = new ≡ old
+LeavesOthers moves old (GivenBack client name) new = new ≡ old
+LeavesOthers moves old (Received message) new = TakesEqual moves old message new
+
+-- why an event does not happen at a node: the node refuses it, or it may happen but memory is short
+abbrev pub IsRefusedAt : NodeState → List Move → Event → StepError → Type 0
+IsRefusedAt s moves (AskedFor client name mode) NoNode = ⊥
+IsRefusedAt s moves (AskedFor client name mode) NotUnderWay = ⊥
+IsRefusedAt s moves (AskedFor client name mode) (Node Busy) = IsBusy (resource_at s name) client
+IsRefusedAt s moves (AskedFor client name mode) (Node Exhausted) =
+    (IsBusy (resource_at s name) client → ⊥) × ((resource_at s name).state.highest ≡ greatest_number)
+IsRefusedAt s moves (AskedFor client name mode) (Node NotHeld) = ⊥
+IsRefusedAt s moves (AskedFor client name mode) Memory = MayAsk (resource_at s name) client
+IsRefusedAt s moves (GivenBack client name) NoNode = ⊥
+IsRefusedAt s moves (GivenBack client name) NotUnderWay = ⊥
+IsRefusedAt s moves (GivenBack client name) (Node Busy) = ⊥
+IsRefusedAt s moves (GivenBack client name) (Node Exhausted) = ⊥
+IsRefusedAt s moves (GivenBack client name) (Node NotHeld) = (entry : Entry) → Holds (resource_at s name) client entry → ⊥
+IsRefusedAt s moves (GivenBack client name) Memory = (entry : Entry) × Holds (resource_at s name) client entry
+IsRefusedAt s moves (Received message) NoNode = ⊥
+IsRefusedAt s moves (Received message) NotUnderWay = ⊥
+IsRefusedAt s moves (Received message) (Node why) = ⊥
+IsRefusedAt s moves (Received message) Memory = (BringsNothing s message → ⊥) ⊎ IsFull moves
+
+-- what comes of a step that is tried as an event of a node: the event happens there, what it sends comes under way after
+-- the messages that it leaves there, and the step is logged; or nothing changes, for this cause
+abbrev pub TriesAt : {keeps : ℕ} → Step → Event → NodeState → KeptSteps keeps → Result Outcome StepError → NodeState → KeptSteps keeps → Type 0
+TriesAt {keeps} step event node kept (Ok outcome) node' kept' =
+    NodeEvent node event outcome.sends.items outcome.marks.items node'
+    × ((left : List Message) × LeavesOthers kept.log.moves kept.under_way.items event left
+    × (kept'.under_way.items ≡ left ++ outcome.sends.items))
+    × (kept'.log.moves ≡ kept.log.moves ++ record { step = step; sends = outcome.sends.items; marks = outcome.marks.items } ∷ [])
+TriesAt {keeps} step event node kept (Err cause) node' kept' =
+    (node' ≡ node) × (kept'.under_way.items ≡ kept.under_way.items) × (kept'.log.moves ≡ kept.log.moves)
+    × IsRefusedAt node kept.log.moves event cause
