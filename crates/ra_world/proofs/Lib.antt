@@ -50,6 +50,7 @@ mod Worlds
 pub mod Refusing
 mod Written
 mod StateTexts
+mod Drafts
 mod Elsewhere
 pub mod Times
 pub mod FittingRuns

@@ -14,4 +14,5 @@ pub mod Trying
 pub mod Refused
 pub mod Lines
 pub mod StateLines
+pub mod Drafting
 pub mod Input

@@ -1,5 +1,6 @@
 //! Lines of text: those of reports, states and notes, and how a text is cut apart.
 pub mod cutting;
+pub mod draft;
 pub mod lines;
 pub mod note;
 pub mod report;

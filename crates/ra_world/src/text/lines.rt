@@ -2,8 +2,10 @@
 //! is to be allocated for each line.
 ghost use Rattle.std.specs.Prelude.{◌≡◌, ◌++◌, codes, flat_map, string_bytes, IfOk, OnOk, OnErr};
 ghost use Rattle.ra_world.specs.Lines as spec;
+ghost use Rattle.ra_world.specs.Drafting.{Adds};
 
 use crate::Report;
+use crate::text::draft::Draft;
 use itoa::{Buffer, Integer};
 use ra_stamp::{Entry, Mark, Memory};
 use std::alloc::Global;
@@ -77,25 +79,24 @@ pub fn push_mark_line(text: &mut String, mark: &Mark) -> Result<(), Memory>
 }
 
 /// Adds the line of a total.
-pub fn push_total_line(text: &mut String, word: &str, total: u128) -> Result<(), Memory>
-    ensures { OnOk result (string_bytes text.new ≡ string_bytes text.old ++ spec.total_line word.now total) }
+pub fn push_total_line(text: &mut Draft, word: &str, total: u128)
+    ensures { Adds text.old (spec.total_line word.now total) text.new }
 {
-    text.push_str(word)?;
-    push_number(text, total)?;
-    text.push_str("\n")?;
-    Ok(())
+    text.push(word);
+    text.push_number(total);
+    text.end_line();
 }
 
 /// Adds the lines of the totals.
-fn push_totals(text: &mut String, report: &Report) -> Result<(), Memory>
-    ensures { OnOk result (string_bytes text.new ≡ string_bytes text.old ++ spec.total_lines report.now) }
+fn push_totals(text: &mut Draft, report: &Report)
+    ensures { Adds text.old (spec.total_lines report.now) text.new }
 {
-    push_total_line(text, "requests", report.requests)?;
-    push_total_line(text, "messages", report.sent)?;
-    push_total_line(text, "under-way", report.under_way)?;
-    push_total_line(text, "lost", report.lost)?;
-    push_total_line(text, "waiting", report.waiting)?;
-    push_total_line(text, "queued", report.queued)
+    push_total_line(text, "requests", report.requests);
+    push_total_line(text, "messages", report.sent);
+    push_total_line(text, "under-way", report.under_way);
+    push_total_line(text, "lost", report.lost);
+    push_total_line(text, "waiting", report.waiting);
+    push_total_line(text, "queued", report.queued);
 }
 
 /// Returns the line of a mark, its line feed at the end, in time linear in it.
@@ -112,13 +113,12 @@ pub fn mark_line(alloc: Global, mark: &Mark) -> Result<String, Memory>
 }
 
 /// Adds the lines of marks, in order.
-fn push_mark_lines(text: &mut String, marks: &[Mark]) -> Result<(), Memory>
-    ensures { OnOk result (string_bytes text.new ≡ string_bytes text.old ++ flat_map spec.mark_line marks.now) }
+fn push_mark_lines(text: &mut Draft, marks: &[Mark])
+    ensures { Adds text.old (flat_map spec.mark_line marks.now) text.new }
 {
     for mark in marks {
-        push_mark_line(text, mark)?;
+        text.push_mark_line(mark);
     }
-    Ok(())
 }
 
 /// Returns the lines of a report: one for each mark, in order, and then those of the six totals. The cost is linear in
@@ -130,8 +130,8 @@ fn push_mark_lines(text: &mut String, marks: &[Mark]) -> Result<(), Memory>
 pub fn report_text(alloc: Global, report: &Report) -> Result<String, Memory>
     ensures { IfOk result (λ text. string_bytes text ≡ spec.report_text report.now) }
 {
-    let mut text = String::new(alloc);
-    push_mark_lines(&mut text, report.marks.as_slice())?;
-    push_totals(&mut text, report)?;
-    Ok(text)
+    let mut text = Draft::new(alloc);
+    push_mark_lines(&mut text, report.marks.as_slice());
+    push_totals(&mut text, report);
+    text.finish()
 }

@@ -1,12 +1,9 @@
-use Rattle.std.proofs.Common.{rules, ◌≡◌, ℕ, List, [], ◌++◌, flat_map, string_bytes, ap, ◌∙◌}
-use Rattle.ra_world.specs.Lines.{mark_line, total_lines}
+use Rattle.std.proofs.Common.{[], flat_map, ap}
+use Rattle.ra_world.specs.Lines.{mark_line, report_text}
+use Rattle.ra_world.proofs.Drafts.{adds_as, adds_both}
 use Rattle.ra_world.proofs.text.lines.report_text.Goals as goal
 
 pub returns : goal.returns
 returns c =
-    let report = c.args.report.now in
-    let begins : string_bytes c.new-text.result ≡ [] = search rules in
-    c.in_ok-push_totals.ensures
-    ∙ ap (λ (text : List ℕ). text ++ total_lines report)
-    (c.in_ok-push_mark_lines.ensures ∙ ap (λ (text : List ℕ). text ++ flat_map mark_line c.as_slice.result.now) begins
-    ∙ ap (flat_map mark_line) c.as_slice.ensures)
+    c.finish.ensures (report_text c.args.report.now)
+    ((adds_both (adds_as c.push_mark_lines.ensures (ap (flat_map mark_line) c.as_slice.ensures)) c.push_totals.ensures).says [] c.new-text.ensures)

@@ -1,10 +1,16 @@
-use Rattle.std.proofs.Common.{string_bytes, sym}
+use Rattle.std.proofs.Common.{[], take, refl, sym}
+use Rattle.ra_world.specs.StateLines.{message_lines}
+use Rattle.ra_world.proofs.Drafts.{adds_nothing, adds_as, adds_both}
 use Rattle.ra_world.proofs.StateTexts.{at_place, next_message}
 use Rattle.ra_world.proofs.text.state_lines.push_messages.Goals as goal
+
+pub loop-place-init : goal.loop-place-init
+loop-place-init c = adds_nothing
 
 pub loop-place-preserved : goal.loop-place-preserved
 loop-place-preserved c =
     let items = c.args.under_way.now.items in
     let place = c.loop-place.place in
     let at = at_place items place c.in-Some.message (sym c.in-Some.ensures) in
-    next_message (string_bytes c.args.text.now) _ _ items place c.in-Some.message c.loop-place.invariant at.0 at.1 c.in_ok-push_message.ensures
+    adds_as (adds_both c.loop-place.invariant c.push_message.ensures)
+    (next_message [] (message_lines 0 (take place items)) _ items place c.in-Some.message refl at.0 at.1 refl)
