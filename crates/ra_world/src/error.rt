@@ -43,27 +43,32 @@ impl fmt::Display for NodeRefusal {
 
 /// Why a step was not made, in the order in which the causes are looked for.
 #[derive(Clone, Copy, Debug, PartialEq, Eq, Error)]
-#[error("{:?}", self)]
 pub enum StepError {
     /// An ask or a leave is at a node above the number of nodes.
     NoNode,
     /// A message that is to be delivered, lost or repeated is not under way.
     NotUnderWay,
     /// The node refuses it.
-    #[error(transparent)]
     Node(NodeRefusal),
     /// Memory ran out.
     Memory,
 }
 
+impl fmt::Display for StepError {
+    fn fmt<W: fmt::Write>(&self, f: &mut fmt::Formatter<W>) -> fmt::Result {
+        match self {
+            StepError::Node(refusal) => fmt::Display::fmt(refusal, f),
+            cause => fmt::Debug::fmt(cause, f),
+        }
+    }
+}
+
 /// Why a list of steps gave no report.
 #[derive(Clone, Copy, Debug, PartialEq, Eq, Error)]
-#[error("{:?}", self)]
 pub enum RunError {
     /// The number of nodes is not 1 to 64.
     BadCount,
     /// A step was refused, the first one that is: its place in the list, counted from 1, and the cause.
-    #[error("{cause}")]
     Refused {
         /// The place, 1 or more.
         place: u64,
@@ -72,6 +77,15 @@ pub enum RunError {
     },
     /// Memory ran out.
     Memory,
+}
+
+impl fmt::Display for RunError {
+    fn fmt<W: fmt::Write>(&self, f: &mut fmt::Formatter<W>) -> fmt::Result {
+        match self {
+            RunError::Refused { cause, .. } => fmt::Display::fmt(cause, f),
+            end => fmt::Debug::fmt(end, f),
+        }
+    }
 }
 
 /// Why an input was not read.
@@ -91,8 +105,13 @@ impl fmt::Display for ReadFault {
 
 /// The writer failed, or took nothing.
 #[derive(Clone, Copy, Debug, PartialEq, Eq, Error)]
-#[error("Write")]
 pub struct WriteFault;
+
+impl fmt::Display for WriteFault {
+    fn fmt<W: fmt::Write>(&self, f: &mut fmt::Formatter<W>) -> fmt::Result {
+        f.write_str("Write")
+    }
+}
 
 impl From<AllocError> for ReadFault {
     ghost from_gives = { λ _ e. e ≡ read.Memory };
