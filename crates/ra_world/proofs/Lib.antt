@@ -48,6 +48,7 @@ mod EventTries
 mod StepAnswers
 mod Worlds
 pub mod Refusing
+mod RunEnds
 mod Written
 mod StateTexts
 mod Drafts

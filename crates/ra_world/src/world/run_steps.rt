@@ -38,8 +38,7 @@ pub fn run(alloc: Global, nodes: u16, start: u64, steps: &Steps) -> Result<Repor
     let stepped = step_through(alloc, &mut world, steps.as_slice());
     // Also a world in which a step was refused ends in its report, which owns less that is to be given back.
     let report = world.into_report();
-    stepped?;
-    Ok(report)
+    stepped.and(Ok(report))
 }
 
 /// Steps a world, in which nothing has happened yet, through a list of steps.
