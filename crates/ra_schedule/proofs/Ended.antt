@@ -1,5 +1,9 @@
 -- What is known of a cluster that was driven until no choice was left, or until it was refused.
-use Rattle.std.proofs.Common.{◌≡◌, ◌≤◌, ℕ, Bool, true, Result, Ok, Err, IfOk, IfErr, OnOk, length, ap, ◌∙◌}
+use Rattle.std.proofs.Common.{◌≡◌, ◌≤◌, ℕ, Bool, true, false, List, [], ◌∷◌, ◌++◌, Result, Ok, Err, IfOk, IfErr, OnOk, length, sym, ap, ◌∙◌}
+use Rattle.std.proofs.lemmas.Bool.{false≢true}
+use Rattle.std.proofs.lemmas.List.{map-append}
+use Rattle.ra_world.specs.declared.step.Step.{Step}
+use Rattle.ra_world.specs.Traffic.{Move}
 use Rattle.ra_schedule.specs.declared.choice.Policy.{Policy}
 use Rattle.ra_schedule.specs.declared.driver.drive_script.DrivenCluster.{DrivenCluster}
 use Rattle.ra_schedule.specs.declared.error.DriveError.{DriveError}
@@ -48,3 +52,11 @@ driven_through {X} script fit policy limit records began cluster (Err fault) end
       answers = answers;
       in_time = in_time endings_rest_on_runs schedules_rest_on_runs script fit policy limit (Err fault) answers;
     }
+
+-- one more step is recorded
+pub recorded_more : (records : Bool) (moves : List Move) (move : Move) (step : Step) (old new : List Step) → records ≡ true → new ≡ old ++ step ∷ []
+    → move.step ≡ step → old ≡ recorded records moves → new ≡ recorded records (moves ++ move ∷ [])
+recorded_more true moves move step old new is pushed same so_far =
+    pushed ∙ ap (λ (xs : List Step). xs ++ step ∷ []) so_far ∙ ap (λ (s : Step). steps_of moves ++ s ∷ []) (sym same)
+    ∙ sym (map-append (λ (m : Move). m.step) moves (move ∷ []))
+recorded_more false moves move step old new is pushed same so_far = absurd (false≢true is)

@@ -76,3 +76,7 @@ unlocked_last ops before name is held =
       | inl w ↦ absurd cc
       | inr w ↦ w.0 refl
     ]
+
+-- a name that the last operation locks is held
+pub locked_last : (ops before : List Op) (name : List ℕ) (mode : Mode) → ops ≡ before ++ Lock name mode ∷ [] → IsHeldAfter ops name
+locked_last ops before name mode is = (before, [], mode, is, All-nil (λ op. op ≢ Unlock name))

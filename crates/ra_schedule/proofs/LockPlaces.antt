@@ -1,8 +1,9 @@
 -- Which names a client holds, by the places of its operations, and how loops over these find a lock out of order, or one
 -- that is never unlocked.
-use Rattle.std.proofs.Common.{◌≡◌, ◌≢◌, ℕ, zero, suc, ◌+◌, ◌-◌, ◌<◌, ◌≤◌, List, [], ◌∷◌, ◌++◌, length, take, drop, Some, None, slice_get, get_or, All, refl, sym, ap, ◌∙◌, subst, arith, inl, inr}
-use Rattle.std.proofs.lemmas.Bool.{cases_lt}
+use Rattle.std.proofs.Common.{◌≡◌, ◌≢◌, ℕ, zero, suc, true, false, ltb, ◌+◌, ◌-◌, ◌<◌, ◌≤◌, List, [], ◌∷◌, ◌++◌, length, take, drop, Some, None, slice_get, get_or, All, refl, sym, ap, ◌∙◌, subst, arith, inl, inr}
+use Rattle.std.proofs.lemmas.Bool.{cases_lt, ltb-true, ltb-false}
 use Rattle.std.proofs.lemmas.Option.{slice_get_within, slice_get-get_or, get_or_from_slice_get, same_Some, none-some}
+use Rattle.ra_stamp.specs.declared.mode.Mode.{Mode}
 use Rattle.ra_schedule.specs.declared.script.Op.{Op}
 use Rattle.ra_schedule.specs.declared.script.Op.TheVariants.{Lock, Unlock}
 use Rattle.ra_schedule.specs.Script.{IsHeldAfter}
@@ -231,3 +232,26 @@ pub not_kept : (ops : List Op) (held : List ℕ) (place later : ℕ) → place <
     → NeverUnlocks ops place → ⊥
 not_kept ops held place later more locks is b =
     b.kept later more (is ∙ ap (λ (n : List ℕ). Some (Unlock n)) (one_name ops place held b.name locks b.locks))
+
+-- ---- What is found at a place
+
+-- the operation at this place locks a name
+pub lock_found : (ops : List Op) (place : ℕ) (op : Op) (name : List ℕ) (mode : Mode) → true ≡ ltb place (length ops) → op ≡ get_or ops place op
+    → op ≡ Lock name mode → (place < length ops) × LocksAt ops place name
+lock_found ops place op name mode inside at is =
+    let less = ltb-true place (length ops) (sym inside) in (less, (mode, read_at ops place op less at ∙ ap Some is))
+
+-- it unlocks one, and so locks none
+pub unlock_found : (ops : List Op) (place : ℕ) (op : Op) (unlocked name : List ℕ) → true ≡ ltb place (length ops) → op ≡ get_or ops place op
+    → op ≡ Unlock unlocked → LocksAt ops place name → ⊥
+unlock_found ops place op unlocked name inside at is locks =
+    let there = read_at ops place op (ltb-true place (length ops) (sym inside)) at in
+    let clash : Unlock unlocked ≡ Lock name locks.0 = sym is ∙ same_Some op (Lock name locks.0) (sym there ∙ locks.1) in
+    cc
+
+-- there is none
+pub nothing_found : (ops : List Op) (place : ℕ) (name : List ℕ) → false ≡ ltb place (length ops) → LocksAt ops place name → ⊥
+nothing_found ops place name outside locks =
+    let past = ltb-false place (length ops) (sym outside) in
+    let less = slice_get_within ops place (Lock name locks.0) locks.1 in
+    omega (arith, past, less)

@@ -1,7 +1,7 @@
 -- Steps that are left out, and runs that are made shorter.
-use Rattle.std.proofs.Common.{◌≡◌, ◌⊎◌, ℕ, zero, suc, ◌<◌, ◌≤◌, Bool, true, false, Option, Some, None, Result, Ok, Err, IfOk, List, [], ◌∷◌, ◌++◌, length, take, drop, get_or, refl, sym, ap, ◌∙◌, subst, arith, inl, inr}
+use Rattle.std.proofs.Common.{◌≡◌, ◌⊎◌, ℕ, zero, suc, ◌+◌, ◌<◌, ◌≤◌, Bool, true, false, Option, Some, None, Result, Ok, Err, IfOk, List, [], ◌∷◌, ◌++◌, length, take, drop, get_or, refl, sym, ap, ◌∙◌, subst, arith, inl, inr}
 use Rattle.std.specs.Prelude.{◌↔◌, if◌then◌else◌, IsTrue, OnOk, MatchOption}
-use Rattle.std.proofs.lemmas.Bool.{false≢true}
+use Rattle.std.proofs.lemmas.Bool.{cases_eq, false≢true}
 use Rattle.std.proofs.lemmas.List as lists
 use Rattle.ra_stamp.specs.Sequence.{Listed as Listing}
 use Rattle.ra_stamp.specs.declared.message.Message.{Message as Sent}
@@ -23,7 +23,7 @@ use Rattle.ra_schedule.specs.Listing.{AreChoicesBy}
 use Rattle.ra_schedule.specs.Progress.{recorded}
 use Rattle.ra_schedule.specs.Driving.{IsReady, Records}
 use Rattle.ra_schedule.specs.Shrinking.{are_of_one_client, others, without_first, cut, IsFor, Redone, Replays, IsOldest, GoesOnOldest, ComesOf, IsInVain, IsLeast, IsLeastOf, IsStuckRun}
-use Rattle.ra_schedule.specs.Replaying.{AreChoicesFor, IsReplay, IsStuckList, IsShorter, IsShorterRunOf}
+use Rattle.ra_schedule.specs.Replaying.{AreChoicesFor, AreInVain, IsReplay, IsStuckList, IsShorter, IsShorterRunOf}
 use Rattle.ra_schedule.proofs.ChoicesMade.{made_again}
 use Rattle.ra_schedule.proofs.Unrepeated.{IsNoRepeat, no_choice, of_each}
 use Rattle.ra_schedule.proofs.Replayed.{made_by_these}
@@ -304,3 +304,36 @@ next_told script given list next steps found same is told so_far =
 pub last_told : (script : ScriptState) (given : List Move) (list : Listed) (steps : List Step) → steps ≡ list.steps.items → IsLeast script steps
     → SoFar script given list → IsLeastOf script given list.choices
 last_told script given list steps same least so_far = last_one script given list so_far (subst (IsLeast script) same least)
+
+-- it has fewer steps
+pub next_fewer : (script : ScriptState) (list : Listed) (next : ShorterRun) (steps : List Step) (found : Option ShorterRun) → steps ≡ list.steps.items
+    → found ≡ Some next → MatchOption found (IsLeast script steps) (IsShorterRunOf script steps)
+    → length next.list.steps.items < length list.steps.items
+next_fewer script list next steps found same is told =
+    let some : IsShorterRunOf script steps next =
+    subst (λ (o : Option ShorterRun). MatchOption o (IsLeast script steps) (IsShorterRunOf script steps)) is told in
+    fewer script (cut list.steps.items next.place) (length list.steps.items) next.list (subst (λ (xs : List Step). IsShorterRunOf script xs next) same some)
+
+-- no shorter one was found
+pub none_left : (script : ScriptState) (steps : List Step) (found : Option ShorterRun) → ((next : ShorterRun) → found ≡ Some next → ⊥)
+    → MatchOption found (IsLeast script steps) (IsShorterRunOf script steps) → IsLeast script steps
+none_left script steps None not told = told
+none_left script steps (Some next) not told = absurd (not next refl)
+
+-- one more step cannot be left out
+pub in_vain_more : (script : ScriptState) (steps : List Step) (from place : ℕ) (found : Option Listed) → ((list : Listed) → found ≡ Some list → ⊥)
+    → MatchOption found (IsInVain script (cut steps place) (length steps)) (IsShorter script (cut steps place) (length steps))
+    → AreInVain script steps from place → AreInVain script steps from (place + 1)
+in_vain_more script steps from place (Some list) not told so_far = absurd (not list refl)
+in_vain_more script steps from place None not told so_far = λ other first below.
+    elim (cases_eq other place) [
+      | inl same ↦ subst (λ (n : ℕ). IsInVain script (cut steps n) (length steps)) (sym same) told
+      | inr apart ↦ so_far other first (omega (arith, below, apart))
+    ]
+
+-- one more step is added
+pub taken_more : (steps before list new : List Step) (i : ℕ) (step : Step) → i < length steps → step ≡ get_or steps i step → list ≡ before ++ take i steps
+    → new ≡ list ++ step ∷ [] → new ≡ before ++ take (i + 1) steps
+taken_more steps before list new i step less at so_far pushed =
+    pushed ∙ ap (λ (xs : List Step). xs ++ step ∷ []) so_far ∙ lists.append_assoc before (take i steps) (step ∷ [])
+    ∙ ap (λ (xs : List Step). before ++ xs) (ap (λ (s : Step). take i steps ++ s ∷ []) at ∙ sym (lists.take_more steps i step less))

@@ -76,16 +76,13 @@ pub fn drive(
 ) -> Result<Recording, DriveError>
     ensures { Drives script.now policy.now limit (IsRecording script.now policy.now limit) result }
 {
-    let mut cluster = opened(alloc, script, policy, true)?;
-    let world = &mut cluster.world;
-    let driven = cluster.driver.finish(alloc, script, policy, world, limit);
     let Driven {
         steps,
         choices,
         report,
         finished,
         ..
-    } = ended(script, cluster, driven)?;
+    } = drive_through(alloc, script, policy, limit, true)?;
     Ok(Recording {
         steps,
         choices,
@@ -108,20 +105,37 @@ pub fn summarize(
 ) -> Result<Summary, DriveError>
     ensures { Drives script.now policy.now limit (IsSummary script.now policy.now limit) result }
 {
-    let mut cluster = opened(alloc, script, policy, false)?;
-    let world = &mut cluster.world;
-    let driven = cluster.driver.finish(alloc, script, policy, world, limit);
     let Driven {
         turns,
         report,
         finished,
         ..
-    } = ended(script, cluster, driven)?;
+    } = drive_through(alloc, script, policy, limit, false)?;
     Ok(Summary {
         turns,
         report,
         finished,
     })
+}
+
+/// Does as [`drive`], and records the steps and choices, or none.
+///
+/// # Errors
+///
+/// Those of `drive`.
+pub fn drive_through(
+    alloc: Global,
+    script: &Script,
+    policy: &Policy,
+    limit: u64,
+    records: bool,
+) -> Result<Driven, DriveError>
+    ensures { Drives script.now policy.now limit (Records script.now policy.now limit records) result }
+{
+    let mut cluster = opened(alloc, script, policy, records)?;
+    let world = &mut cluster.world;
+    let driven = cluster.driver.finish(alloc, script, policy, world, limit);
+    ended(script, cluster, driven)
 }
 
 /// Makes the cluster of a script, in which nothing has happened yet, and what drives it, which records the steps and choices, or

@@ -8,7 +8,7 @@ ghost use Rattle.ra_schedule.specs.Shrinking as spec;
 ghost use Rattle.ra_schedule.specs.Replaying.{IsStuckList, IsShorter, AreInVain, IsShorterRunOf};
 
 use crate::driver::Driver;
-use crate::driver::drive_script::{Driven, ended, opened};
+use crate::driver::drive_script::{Driven, drive_through};
 use crate::driver::replaying::replay;
 use crate::{Choices, DriveError, Policy, Script};
 use ra_stamp::Memory;
@@ -262,16 +262,13 @@ pub fn shrink(
 ) -> Result<Shrunk, DriveError>
     ensures { Drives script.now policy.now limit (IsShrunk script.now policy.now limit) result }
 {
-    let mut cluster = opened(alloc, script, policy, true)?;
-    let world = &mut cluster.world;
-    let driven = cluster.driver.finish(alloc, script, policy, world, limit);
     let Driven {
         steps,
         choices,
         finished,
         stuck,
         ..
-    } = ended(script, cluster, driven)?;
+    } = drive_through(alloc, script, policy, limit, true)?;
     if !stuck {
         return Ok(Shrunk {
             choices: None,

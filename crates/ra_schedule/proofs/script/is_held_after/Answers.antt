@@ -3,9 +3,9 @@ use Rattle.std.specs.Cmp.{unsigned_Decides}
 use Rattle.std.proofs.lemmas.Bool.{false≢true}
 use Rattle.std.proofs.lemmas.Slice.Eq.{slice_eq-Decides}
 use Rattle.ra_schedule.specs.declared.script.Op.{Op}
-use Rattle.ra_schedule.specs.declared.script.Op.TheVariants.{Unlock}
+use Rattle.ra_schedule.specs.declared.script.Op.TheVariants.{Lock, Unlock}
 use Rattle.ra_schedule.proofs.OpFaults.{one_kind, one_locked, one_unlocked}
-use Rattle.ra_schedule.proofs.Held.{says_nothing, unlocked_last}
+use Rattle.ra_schedule.proofs.Held.{says_nothing, unlocked_last, locked_last}
 use Rattle.ra_schedule.proofs.script.is_held_after.Goals as goal
 
 pub returns-in-Unlock : goal.returns-in-Unlock
@@ -32,3 +32,11 @@ loop-last-preserved c =
     let says = says_nothing c.loop-last.rest.now c.in-Some.before.now c.in-Some.last.now name c.in-Some.ensures.cases.0
     (λ mode is. one_kind _ _ _ _ is c.in-Unlock.is) (λ is. other (one_unlocked _ _ _ c.in-Unlock.is is)) in
     (λ held. says.0 (c.loop-last.invariant.0 held), λ held. c.loop-last.invariant.1 (says.1 held))
+
+pub returns-in-Lock : goal.returns-in-Lock
+returns-in-Lock c =
+    let name = c.args.name.now in
+    let same : c.in-Lock.locked ≡ name = (slice_eq-Decides unsigned_Decides _ _ _ c.if-eq.ensures).0 refl in
+    let last = c.in-Lock.is ∙ ap (λ (n : List ℕ). Lock n c.in-Lock.field-1) same in
+    let split = c.in-Some.ensures.cases.0 ∙ ap (λ (op : Op). c.in-Some.before.now ++ op ∷ []) last in
+    (λ yes. c.loop-last.invariant.1 (locked_last c.loop-last.rest.now c.in-Some.before.now name c.in-Lock.field-1 split), λ held. refl)

@@ -77,3 +77,9 @@ pub returns-clause-waiting_ends : goal.returns-clause-waiting_ends
 returns-clause-waiting_ends g c =
     seeds_finish endings_rest_on_runs schedules_rest_on_runs c.args.script.now c.is_within_its_limits.ensures c.args.faults c.args.limit
     c.args.seeds.first c.args.seeds.last c.with_outcome.result (returns-clause-ok g c)
+
+pub with_outcome-requires : goal.with_outcome-requires
+with_outcome-requires g c =
+    let (before, told) = c.loop-seed.invariant in
+    let so = at_last c.args.script.now c.args.faults c.args.limit c.args.seeds.first c.loop-seed.seed c.args.seeds.last c.loop-seed.survey before (omega (arith, c.loop-seed.auto.seed-end (omega arith))) in
+    (c.args.seeds.first, so.outcomes, so.tallies, so.seeds)

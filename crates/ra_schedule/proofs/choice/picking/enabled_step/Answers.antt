@@ -1,4 +1,6 @@
-use Rattle.ra_schedule.proofs.LookedAt.{no_client, no_op}
+use Rattle.std.proofs.Common.{sym, ◌∙◌}
+use Rattle.std.proofs.lemmas.Bool.{false≢true, true≢false}
+use Rattle.ra_schedule.proofs.LookedAt.{no_client, no_op, enables, refused}
 use Rattle.ra_schedule.proofs.choice.picking.enabled_step.Goals as goal
 
 pub returns-then-progress-clause-none : goal.returns-then-progress-clause-none
@@ -13,3 +15,24 @@ pub returns-in_err-op-clause-none : goal.returns-in_err-op-clause-none
 returns-in_err-op-clause-none c none enabled =
     let next = enabled.1.next in
     no_op c.args.script.now c.args.client c.args.progress.done _ next.0 next.1 c.in_err-op.ensures.value c.requires.progress.done next.2 next.3
+
+pub returns-in_err-node-clause-some : goal.returns-in_err-node-clause-some
+returns-in_err-node-clause-some c = rw c.from_residual.ensures tt
+
+pub returns-then-accepts-clause-some : goal.returns-then-accepts-clause-some
+returns-then-accepts-clause-some c =
+    enables c.args.script.now c.args.world.now c.args.client c.args.progress c.in_ok-node.node c.in_ok-op.op c.step_of-step.result
+    c.requires.count c.requires.start c.requires.progress
+    c.if-progress.false c.in_ok-node.ensures.value c.in_ok-op.ensures.value c.step_of-step.ensures (c.accepts.ensures.value.0 c.if-accepts.true)
+
+pub returns-then-accepts-clause-none : goal.returns-then-accepts-clause-none
+returns-then-accepts-clause-none c none enabled = true≢false none
+
+pub returns-else-accepts-clause-some : goal.returns-else-accepts-clause-some
+returns-else-accepts-clause-some c = tt
+
+pub returns-else-accepts-clause-none : goal.returns-else-accepts-clause-none
+returns-else-accepts-clause-none c none enabled =
+    refused c.args.script.now c.args.world.now c.args.client c.args.progress c.in_ok-node.node c.in_ok-op.op c.step_of-step.result
+    c.requires.count c.requires.start c.requires.progress c.in_ok-node.ensures.value c.in_ok-op.ensures.value c.step_of-step.ensures
+    (λ goes_on. false≢true (sym c.if-accepts.false ∙ c.accepts.ensures.value.1 goes_on)) enabled

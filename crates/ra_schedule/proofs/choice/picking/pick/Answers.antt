@@ -1,5 +1,6 @@
 use Rattle.std.proofs.Common.{◌≡◌, Option, Some, None, ◌+◌, refl, sym, ap, ◌∙◌, subst}
 use Rattle.std.specs.Option.{IfSome}
+use Rattle.std.proofs.lemmas.Bool.{true≢false}
 use Rattle.ra_schedule.specs.declared.choice.Choice.{Choice}
 use Rattle.ra_schedule.specs.declared.choice.random_state.RandomState.{RandomState}
 use Rattle.ra_schedule.specs.Schedule.{Picks}
@@ -39,7 +40,7 @@ returns-in-Some c =
     record {
       some = subst (Picks script policy moves) (sym picked.ensures.choice) c.in_ok-choice-2.ensures.some;
       meaning = subst (λ (x : Choice). IsMeaning script moves x picked.result.meaning) (sym picked.ensures.choice) picked.ensures.meaning;
-      none = λ e. absurd cc;
+      none = λ e. absurd (true≢false e);
       drawn = subst (λ (x : Choice). Some c.choose.new.generator ≡ generator_at policy (words_drawn policy moves + words_for policy x))
           (sym picked.ensures.choice) c.in_ok-choice-2.ensures.drawn;
       draws = record { node_clients = draws.node_clients; flags = draws.flags; count = draws.count };
@@ -81,7 +82,7 @@ returns c =
     record {
       some = subst (Picks script policy moves) (sym picked.ensures.choice) choice;
       meaning = subst (λ (x : Choice). IsMeaning script moves x picked.result.meaning) (sym picked.ensures.choice) picked.ensures.meaning;
-      none = λ e. absurd cc;
+      none = λ e. absurd (true≢false e);
       drawn = ap generator_in c.in_default-draws.is ∙ none_goes_on policy _ _ has;
       draws = c.requires.draws;
     }
@@ -110,7 +111,7 @@ returns-in-Listed c =
       some = subst (Picks script policy moves) (sym picked.ensures.choice)
           (listed_choice script policy c.in-Listed.choices moves c.steps.result c.in_ok-choice.choice c.in-Listed.is c.steps.ensures.value c.in_ok-choice.ensures);
       meaning = subst (λ (x : Choice). IsMeaning script moves x picked.result.meaning) (sym picked.ensures.choice) picked.ensures.meaning;
-      none = λ e. absurd cc;
+      none = λ e. absurd (true≢false e);
       drawn = c.requires.drawn ∙ listed_goes_on policy c.in-Listed.choices _ _ c.in-Listed.is;
       draws = c.requires.draws;
     }
@@ -136,7 +137,7 @@ returns-in-Some-first_enabled c =
     record {
       some = first_client c.args.script.now policy c.args.world.now.moves _ c.in-Some-first_enabled.found.client c.in_default.not-Listed has c.in-Some-first_enabled.ensures.first;
       meaning = record { ok = c.in-Some-first_enabled.ensures.step; err = tt };
-      none = λ e. absurd cc;
+      none = λ e. absurd (true≢false e);
       drawn = ap generator_in c.in_default-draws.is ∙ none_goes_on policy _ _ has;
       draws = c.requires.draws;
     }

@@ -1,4 +1,5 @@
 use Rattle.std.proofs.Common.{ℕ, refl, ap, ◌∙◌}
+use Rattle.std.proofs.lemmas.Bool.{true≢false}
 use Rattle.rand_pcg.specs.Lcg.{Lcg}
 use Rattle.ra_schedule.specs.declared.choice.Choice.TheVariants.{Message}
 use Rattle.ra_schedule.specs.Schedule.{with_fault}
@@ -17,14 +18,14 @@ returns-in_default c =
     let told = c.in_ok-named.ensures in
     let (picks, drawn) = named_is_picked c.args.script.now c.args.policy.now c.args.world.now.moves c.args.generator.now c.draw.new.generator c.in_ok-named.named
     c.in_default.not-Faulty c.requires.drawn (told.drawn refl) told.some in
-    record { some = picks; none = λ e. absurd cc; drawn = drawn }
+    record { some = picks; none = λ e. absurd (true≢false e); drawn = drawn }
 
 pub returns-in_default-named : goal.returns-in_default-named
 returns-in_default-named c =
     let told = c.in_ok-named.ensures in
     let (picks, drawn) = client_is_picked c.args.script.now c.args.policy.now c.in-Faulty.seed c.in-Faulty.faults c.args.world.now.moves c.args.generator.now
     c.draw.new.generator c.in_ok-named.named c.in-Faulty.is c.in_default-named.not-Message told.named c.requires.drawn (told.drawn refl) told.some in
-    record { some = picks; none = λ e. absurd cc; drawn = drawn }
+    record { some = picks; none = λ e. absurd (true≢false e); drawn = drawn }
 
 pub returns-clause-some : goal.returns-clause-some
 returns-clause-some c =

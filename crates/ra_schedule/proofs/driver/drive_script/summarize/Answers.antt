@@ -2,46 +2,23 @@ use Rattle.std.proofs.Common.{Err, false, ap, ◌∙◌}
 use Rattle.std.proofs.lemmas.Result.{err_from_is_err_and}
 use Rattle.ra_schedule.specs.Drive.{IsSummary}
 use Rattle.ra_schedule.specs.Driving.{Records}
-use Rattle.ra_schedule.proofs.Ended.{tracked, driven_through}
-use Rattle.ra_schedule.proofs.HandedOn.{memory_ran_out, refusal_on, value_on}
+use Rattle.ra_schedule.proofs.HandedOn.{refusal_on, value_on}
 use Rattle.ra_schedule.proofs.driver.drive_script.summarize.Goals as goal
-
-pub finish-driven-requires-clause-opened : goal.finish-driven-requires-clause-opened
-finish-driven-requires-clause-opened c = c.in_ok-cluster.ensures.opened
-
-pub finish-driven-requires-clause-ready : goal.finish-driven-requires-clause-ready
-finish-driven-requires-clause-ready c = c.in_ok-cluster.ensures.ready
-
-pub ended-requires : goal.ended-requires
-ended-requires c =
-    tracked c.args.script.now c.args.policy.now c.args.limit (record { world = c.finish-driven.new.world; driver = c.finish-driven.new.self }) c.finish-driven.result c.finish-driven.ensures.ok
 
 pub returns : goal.returns
 returns c =
     let script = c.args.script.now in
     let policy = c.args.policy.now in
     let limit = c.args.limit in
-    let began = c.in_ok-cluster.ensures in
-    let through = driven_through script began.fit policy limit false _ (record { world = c.finish-driven.new.world; driver = c.finish-driven.new.self }) c.finish-driven.result
-    c.finish-driven.ensures.ok c.finish-driven.ensures.records began.records_as c.finish-driven.ensures.err in
-    let drives = c.in_ok-turns.ensures.made policy limit false through in
-    let told = drives.ok in
-    value_on script policy limit (Records script policy limit false) (IsSummary script policy limit) _ _ drives
+    let told = c.in_ok-turns.ensures.ok in
+    value_on script policy limit (Records script policy limit false) (IsSummary script policy limit) _ _ c.in_ok-turns.ensures
     record { moves = told.moves; run = told.run; turns = told.turns }
-
-pub returns-in_err-cluster : goal.returns-in_err-cluster
-returns-in_err-cluster c =
-    let p = err_from_is_err_and c.from_residual.result c.from_residual.ensures.1 in
-    memory_ran_out c.args.script.now c.args.policy.now c.args.limit (IsSummary c.args.script.now c.args.policy.now c.args.limit) _ p.0 p.1 p.2
 
 pub returns-in_err-turns : goal.returns-in_err-turns
 returns-in_err-turns c =
-    let p = err_from_is_err_and c.from_residual-in_err-turns.result c.from_residual-in_err-turns.ensures.1 in
+    let p = err_from_is_err_and c.from_residual.result c.from_residual.ensures.1 in
     let script = c.args.script.now in
     let policy = c.args.policy.now in
     let limit = c.args.limit in
-    let began = c.in_ok-cluster.ensures in
-    let through = driven_through script began.fit policy limit false _ (record { world = c.finish-driven.new.world; driver = c.finish-driven.new.self }) c.finish-driven.result
-    c.finish-driven.ensures.ok c.finish-driven.ensures.records began.records_as c.finish-driven.ensures.err in
-    refusal_on script policy limit (Records script policy limit false) (IsSummary script policy limit) _ c.from_residual-in_err-turns.result (p.1 ∙ ap Err p.2)
-    (c.in_err-turns.ensures.made policy limit false through)
+    refusal_on script policy limit (Records script policy limit false) (IsSummary script policy limit) _ c.from_residual.result (p.1 ∙ ap Err p.2)
+    c.in_err-turns.ensures

@@ -1,6 +1,8 @@
-use Rattle.std.proofs.Common.{ℕ, List, string_bytes, subst}
+use Rattle.std.proofs.Common.{ℕ, List, string_bytes, sym, subst}
 use Rattle.std.proofs.lemmas.Result.{IfOk-weaker}
 use Rattle.ra_world.specs.StateLines.{IsStateText}
+use Rattle.ra_schedule.specs.declared.driver.client_progress.Progress.{Progress}
+use Rattle.ra_schedule.specs.Progress.{Tracks}
 use Rattle.ra_schedule.proofs.driver.showing.lines_of.Goals as goal
 
 pub returns : goal.returns
@@ -21,3 +23,7 @@ returns c =
           (subst (λ (ns : List (List ℕ)). IsStateText world.count world.start world.moves ns c.as_str.result.now (string_bytes t)) c.deref-2.ensures.value is)));
     })
     c.state_text.ensures.ok
+
+pub client_lines-requires-clause-tracked : goal.client_lines-requires-clause-tracked
+client_lines-requires-clause-tracked c =
+    subst (λ (list : List Progress). Tracks c.args.script.now c.args.cluster.now.world list) (sym c.deref.ensures.value) c.requires.tracked

@@ -38,3 +38,9 @@ returns c client node d is =
     c.loop-place.invariant.each client (node - 1) d
     (let end = c.nodes-place-end.ensures.value in let past = c.loop-place-test.false in omega arith)
     (is ∙ ap (λ (n : ℕ). Some n) number)
+
+pub loop-place-init : goal.loop-place-init
+loop-place-init c = record {
+  length_is = ap length c.in_ok-node_clients.ensures.items;
+  each = λ client k d less is. absurd (omega (arith, less));
+}

@@ -43,3 +43,12 @@ loop-place-preserved c =
           let made : c.one_if-count.result ≡ bit on = c.one_if-count.ensures in
           omega (arith, so_far.count_is, made, count_push 1 flags on, ap (λ (fs : List Bool). length (numbers_from 1 fs)) items);
     }
+
+pub loop-place-init : goal.loop-place-init
+loop-place-init c =
+    let none : c.in_ok-flags.flags.items ≡ [] = c.in_ok-flags.ensures.items in
+    record {
+      length_is = ap length none;
+      each = λ k d within. absurd (omega (arith, within, ap length none));
+      count_is = sym (ap (λ (fs : List Bool). length (numbers_from 1 fs)) none);
+    }
