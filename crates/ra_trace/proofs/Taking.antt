@@ -350,3 +350,10 @@ first_comes_again checker version nodes start =
                 subst IsFirst (sym same) tt,
           ));
     }
+
+-- a line of a step or of a mark is not the last one
+pub step_is_not_last : (step : Step) → Stepped step ≡ Last → ⊥
+step_is_not_last step e = cc
+
+pub mark_is_not_last : (mark : Mark) → Marked mark ≡ Last → ⊥
+mark_is_not_last mark e = cc

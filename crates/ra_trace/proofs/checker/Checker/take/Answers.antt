@@ -1,14 +1,25 @@
 use Rattle.std.proofs.Common.{◌≡◌, ◌≢◌, Err, true, refl, sym, ap, ◌∙◌}
 use Rattle.ra_world.specs.declared.step.Step.{Step}
+use Rattle.ra_world.specs.declared.error.NodeRefusal.{NodeRefusal}
 use Rattle.ra_world.specs.declared.error.StepError.TheVariants.{NoNode, NotUnderWay, Node, Memory}
 use Rattle.ra_trace.specs.declared.line.Line.TheVariants.{Stepped}
 use Rattle.ra_trace.specs.Forms.{allows_step}
-use Rattle.ra_trace.proofs.Taking.{step_not_allowed, step_is_taken, step_is_refused, step_is_not_under_way, step_may_come, no_node_is_of_client, node_is_of_client, not_under_way_is_of_message}
+use Rattle.ra_trace.proofs.Taking.{step_is_not_last, step_not_allowed, step_is_taken, step_is_refused, step_is_not_under_way, step_may_come, no_node_is_of_client, node_is_of_client, not_under_way_is_of_message}
 use Rattle.ra_trace.proofs.checker.Checker.take.Goals as goal
 
 -- two lines of steps are one only if the steps are
 same_step : (a b : Step) → Stepped a ≡ Stepped b → a ≡ b
 same_step a b e = cc
+
+-- none of these is that memory ran out
+not_under_way_is_no_memory : NotUnderWay ≡ Memory → ⊥
+not_under_way_is_no_memory e = cc
+
+no_node_is_no_memory : NoNode ≡ Memory → ⊥
+no_node_is_no_memory e = cc
+
+node_is_no_memory : (refusal : NodeRefusal) → Node refusal ≡ Memory → ⊥
+node_is_no_memory refusal e = cc
 
 pub returns-in-Stepped-clause-judged : goal.returns-in-Stepped-clause-judged
 returns-in-Stepped-clause-judged c =
@@ -20,7 +31,7 @@ returns-in-Ok-clause-judged c =
     let same : step ≡ c.in-Stepped.step = same_step _ _ (sym c.in-Stepped-3.is ∙ c.in-Stepped.is) in
     let allowed : allows_step c.args.self.now.version step ≡ true = ap (allows_step c.args.self.now.version) same ∙ sym c.allows_step.ensures ∙ c.if-not-allows_step.false in
     rw c.in-Stepped-3.is (
-      λ last. cc,
+      step_is_not_last step,
       step_is_taken c.args.self.now step c.in-Ok.outcome.sends.items c.in-Ok.outcome.marks c.step_near.new.self
           (c.has_due.ensures.none c.if-has_due.false) c.in-Ok.ensures.ok c.in-Ok.ensures.run allowed,
     )
@@ -32,7 +43,7 @@ returns-in-Err-NotUnderWay-clause-judged c =
     let allowed : allows_step c.args.self.now.version step ≡ true = ap (allows_step c.args.self.now.version) same ∙ sym c.allows_step.ensures ∙ c.if-not-allows_step.false in
     let w = c.args.self.now.world in
     let arm = c.in-Err-NotUnderWay in
-    let not_memory : NotUnderWay ≢ Memory = λ e. cc in
+    let not_memory : NotUnderWay ≢ Memory = not_under_way_is_no_memory in
     let because = (arm.ensures.refused NotUnderWay not_memory).0 (ap Err arm.field-0-is) in
     rw c.in-Stepped-3.is
     (step_is_not_under_way c.args.self.now step allowed (c.has_due.ensures.none c.if-has_due.false)
@@ -46,7 +57,7 @@ returns-in-Err-NoNode-clause-judged c =
     let allowed : allows_step c.args.self.now.version step ≡ true = ap (allows_step c.args.self.now.version) same ∙ sym c.allows_step.ensures ∙ c.if-not-allows_step.false in
     let w = c.args.self.now.world in
     let arm = c.in-Err-NoNode in
-    let not_memory : NoNode ≢ Memory = λ e. cc in
+    let not_memory : NoNode ≢ Memory = no_node_is_no_memory in
     let because = (arm.ensures.refused NoNode not_memory).0 (ap Err arm.field-0-is) in
     rw c.in-Stepped-3.is
     (step_is_refused c.args.self.now step allowed (c.has_due.ensures.none c.if-has_due.false)
@@ -60,7 +71,7 @@ returns-in-Err-Node-clause-judged c =
     let allowed : allows_step c.args.self.now.version step ≡ true = ap (allows_step c.args.self.now.version) same ∙ sym c.allows_step.ensures ∙ c.if-not-allows_step.false in
     let w = c.args.self.now.world in
     let arm = c.in-Err-Node in
-    let not_memory : Node arm.field-0-0 ≢ Memory = λ e. cc in
+    let not_memory : Node arm.field-0-0 ≢ Memory = node_is_no_memory arm.field-0-0 in
     let because = (arm.ensures.refused (Node arm.field-0-0) not_memory).0 (ap Err arm.field-0-is) in
     rw c.in-Stepped-3.is
     (step_is_refused c.args.self.now step allowed (c.has_due.ensures.none c.if-has_due.false)

@@ -2,7 +2,7 @@ use Rattle.std.proofs.Common.{sym, ◌∙◌, arith}
 use Rattle.std.proofs.lemmas.Result.{err_from_is_err_and}
 use Rattle.ra_trace.proofs.MarkRefusals.{refused_is_not_allowed}
 use Rattle.ra_trace.proofs.TraceLaws.{traces_rest_on_runs}
-use Rattle.ra_trace.proofs.Taking.{mark_not_allowed, mark_is_taken, table_refuses, wrong_mark, mark_may_come}
+use Rattle.ra_trace.proofs.Taking.{mark_not_allowed, mark_is_taken, mark_is_not_last, table_refuses, wrong_mark, mark_may_come}
 use Rattle.ra_trace.proofs.checker.Checker.take_mark.Goals as goal
 
 pub returns-then-not-allows_mark-clause-judged : goal.returns-then-not-allows_mark-clause-judged
@@ -32,7 +32,7 @@ overflow_add-self c = omega (arith, c.is_due.ensures.fits c.if-not-is_due.false)
 
 pub returns-in-None-clause-judged : goal.returns-in-None-clause-judged
 returns-in-None-clause-judged c = (
-  λ last. cc,
+  mark_is_not_last c.args.mark.now,
   mark_is_taken traces_rest_on_runs c.args.self.now c.args.mark.now c.try_mark.new.table
       (sym c.allows_mark.ensures ∙ c.if-not-allows_mark.false) (rw c.in-None.is at c.in_ok-try_mark.ensures.tries) (c.is_due.ensures.next c.if-not-is_due.false),
 )

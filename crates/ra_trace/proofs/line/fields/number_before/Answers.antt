@@ -59,3 +59,14 @@ loop-end-preserved c =
 
 pub returns-clause-value : goal.returns-clause-value
 returns-clause-value c = before_none c.args.low c.args.high c.args.text.now (λ k inside. c.loop-end.invariant.free k (omega arith))
+
+-- ---- No number is there
+
+pub returns-in_err-number-clause-within : goal.returns-in_err-number-clause-within
+returns-in_err-number-clause-within c = rw c.from_residual.ensures tt
+
+pub returns-in_err-tenfold-clause-within : goal.returns-in_err-tenfold-clause-within
+returns-in_err-tenfold-clause-within c = rw c.from_residual-in_err-tenfold.ensures tt
+
+pub returns-in_err-number-2-clause-within : goal.returns-in_err-number-2-clause-within
+returns-in_err-number-2-clause-within c = rw c.from_residual-in_err-number-2.ensures tt

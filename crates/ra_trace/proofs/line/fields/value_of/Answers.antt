@@ -34,3 +34,9 @@ pub returns-clause-some : goal.returns-clause-some
 returns-clause-some c =
     let whole = take_all c.loop-byte.byte-index c.args.digits.now (omega arith) in
     (rw whole at c.loop-byte.invariant.digits, rw whole at c.loop-byte.invariant.value)
+
+pub returns-in_err-tenfold-clause-some : goal.returns-in_err-tenfold-clause-some
+returns-in_err-tenfold-clause-some c = rw c.from_residual.ensures tt
+
+pub returns-in_err-value-clause-some : goal.returns-in_err-value-clause-some
+returns-in_err-value-clause-some c = rw c.from_residual-in_err-value.ensures tt

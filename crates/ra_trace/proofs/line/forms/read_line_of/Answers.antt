@@ -1,0 +1,26 @@
+use Rattle.std.proofs.Common.{drop, sym, ◌∙◌}
+use Rattle.ra_trace.specs.Forms.{forms}
+use Rattle.ra_trace.proofs.Deliveries.{form, by_form, by_others}
+use Rattle.ra_trace.proofs.line.forms.read_line_of.Goals as goal
+
+pub returns-in-Some : goal.returns-in-Some
+returns-in-Some c =
+    c.read.ensures
+    ∙ sym (by_form (form 0) (drop 1 forms) c.args.text.now c.in-Some.rest.now c.in-Some.ensures)
+
+pub returns-in-Some-rest_after : goal.returns-in-Some-rest_after
+returns-in-Some-rest_after c =
+    c.read-in-Some-rest_after.ensures
+    ∙ sym (by_others (form 0) (drop 1 forms) c.args.text.now c.in_default.ensures ∙ by_form (form 1) (drop 2 forms) c.args.text.now c.in-Some-rest_after.rest.now c.in-Some-rest_after.ensures)
+
+pub returns-in-Some-rest_after-2 : goal.returns-in-Some-rest_after-2
+returns-in-Some-rest_after-2 c =
+    c.read-in-Some-rest_after-2.ensures
+    ∙ sym (by_others (form 0) (drop 1 forms) c.args.text.now c.in_default.ensures ∙ by_others (form 1) (drop 2 forms) c.args.text.now c.in_default-rest_after.ensures ∙ by_form (form 2) (drop 3 forms) c.args.text.now c.in-Some-rest_after-2.rest.now c.in-Some-rest_after-2.ensures)
+
+pub returns : goal.returns
+returns c =
+    c.read_line_without_mark.ensures
+    ∙ sym (by_others (form 0) (drop 1 forms) c.args.text.now c.in_default.ensures
+    ∙ by_others (form 1) (drop 2 forms) c.args.text.now c.in_default-rest_after.ensures
+    ∙ by_others (form 2) (drop 3 forms) c.args.text.now c.in_default-rest_after-2.ensures)
