@@ -14,7 +14,7 @@ ghost use Rattle.ra_stamp.specs.NodeId.{IsNodeNumber};
 use crate::cluster::all_sites::{make_sites, stop_all};
 use crate::cluster::book_room::BookRoom;
 use crate::{Book, Gate, Grant, Inbox, NewPostError, Post, Site, SiteError, Stop};
-use ra_stamp::{Mode, Name, NodeId};
+use ra_stamp::{Memory, Mode, Name, NodeId};
 use std::alloc::Global;
 use std::marker::Model;
 use std::sync::{Mutex, Wait};
@@ -143,10 +143,7 @@ impl<G: Gate + Drop> Cluster<G> {
         ensures { MakesCluster nodes start audited result }
     {
         let (post, inboxes) = Post::new(alloc, nodes)?;
-        let Ok(sites) = make_sites(alloc, nodes, start, audited) else {
-            return Err(NewPostError::Memory);
-        };
-        let Ok(room) = BookRoom::new(alloc) else {
+        let Ok((sites, room)) = sites_and_room(alloc, nodes, start, audited) else {
             return Err(NewPostError::Memory);
         };
         Ok(Cluster {
@@ -414,4 +411,22 @@ impl<G: Gate + Drop> Cluster<G> {
         } = self;
         (sites, room.into_inner().into_books())
     }
+}
+
+/// Makes the sites of a cluster of this many nodes, in order, and room for their books.
+///
+/// # Errors
+///
+/// `Memory`: memory ran out, or there cannot be this many nodes.
+fn sites_and_room(
+    alloc: Global,
+    nodes: u16,
+    start: u64,
+    audited: bool,
+) -> Result<(Vec<Site>, BookRoom), Memory>
+    ensures { IfOk result (λ made. made.0.items ≡ range_with_len 1 nodes) }
+{
+    let room = BookRoom::new(alloc)?;
+    let sites = make_sites(alloc, nodes, start, audited)?;
+    Ok((sites, room))
 }

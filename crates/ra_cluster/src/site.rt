@@ -1,6 +1,7 @@
 pub mod closed_book;
 pub mod desk;
 pub mod refused_frames;
+pub mod request;
 pub mod sending;
 pub mod stop_causes;
 pub mod take_error;
@@ -12,7 +13,8 @@ ghost use Rattle.ra_frame.specs.Fits.{Fits};
 
 use crate::cluster::all_sites::{stop_after, stop_all};
 use crate::site::closed_book::{is_whole_of, stopped_book};
-use crate::site::desk::{Desk, Halt, Handed, Stepped};
+use crate::site::desk::{Batch, Desk, Halt, Handed, Stepped};
+use crate::site::request::Request;
 use crate::site::sending::Sending;
 use crate::site::ticket::{SharedTicket, Ticket};
 use crate::{Book, BookError, Gate, Grant, Inbox, NewError, Post, Stop, TakeError};
@@ -140,18 +142,11 @@ impl Site {
         requires { AreSitesWith self.now sites.now }
         ensures grant { IfOk result (IsGrantOf self.now client name mode) }
     {
+        let request = Request { client, name, mode };
         let ticket = Ticket::new(alloc);
-        let made = {
-            let _share = self.sending.share(rt);
-            let ticket = ticket.as_ref();
-            let asked = self
-                .desk
-                .lock(rt)
-                .ask(alloc, self.node, gate, client, name, mode, ticket);
-            self.finish(rt, alloc, asked, post)
-        };
+        let made = self.ask(rt, alloc, &request, ticket.as_ref(), post, gate);
         self.answer(rt, made, sites)?;
-        self.wait_for_grant(rt, ticket.as_ref(), client, name, mode)
+        self.wait_for_grant(rt, ticket.as_ref(), &request)
     }
 
     /// Gives back the name that a client holds. It waits for locks alone.
@@ -203,23 +198,11 @@ impl Site {
     )
         requires { AreSitesWith self.now sites.now }
     {
-        let (mut taken, mut stepped) = (Vec::new(alloc), Vec::new(alloc));
-        // Each way out ends the loop, so that the lists are dropped at one exit.
+        let mut batch = Batch::new(alloc);
         for _ in rt.forever() {
-            let (are_sent, received) = match inbox.take(rt, &mut taken) {
-                Ok(true) => self.carry(rt, alloc, taken.as_slice(), &mut stepped, post, gate),
-                Ok(false) => break,
-                Err(Memory) => (true, Err(Halt::Refused(BookError::Memory))),
-            };
-            if !are_sent {
-                stop_all(rt, sites, Stop::Send);
-            }
-            if let Err(halt) = received {
-                stop_after(rt, sites, self.halt(rt, halt, sites));
+            if !self.pump_once(rt, alloc, inbox, &mut batch, post, sites, gate) {
                 break;
             }
-            stepped.clear();
-            taken.clear();
         }
     }
 
@@ -333,14 +316,70 @@ impl Site {
         stopped_book(alloc, me, nodes, start, cause)
     }
 
-    /// Hands the book frames, and sends those of their events, with no round of an audit in between. Puts what came of each into
-    /// the list. Returns whether all were sent, and if one was not received, why; those before it were.
+    /// Asks the book for a name for a client, and sends the frames of the event, with no round of an audit in between. Returns
+    /// whether all were sent.
+    ///
+    /// # Errors
+    ///
+    /// Why nothing was asked.
+    fn ask<R: Wait, G: Gate>(
+        &self,
+        rt: &R,
+        alloc: Global,
+        request: &Request,
+        ticket: Option<&SharedTicket>,
+        post: &Post,
+        gate: &G,
+    ) -> Result<bool, Halt> {
+        let _share = self.sending.share(rt);
+        let asked = self
+            .desk
+            .lock(rt)
+            .ask(alloc, self.node, gate, request, ticket);
+        self.finish(rt, alloc, asked, post)
+    }
+
+    /// Waits for frames, and hands the book those that have come together. Returns whether to go on: each site is stopped if the
+    /// book or the gate refused a frame, or memory ran out.
+    fn pump_once<R: Wait, G: Gate>(
+        &self,
+        rt: &R,
+        alloc: Global,
+        inbox: &Inbox,
+        batch: &mut Batch,
+        post: &Post,
+        sites: &[Site],
+        gate: &G,
+    ) -> bool {
+        match inbox.take(rt, &mut batch.taken) {
+            Ok(true) => {}
+            Ok(false) => return false,
+            Err(Memory) => {
+                stop_all(rt, sites, Stop::Memory);
+                return false;
+            }
+        }
+        let (are_sent, received) = self.carry(rt, alloc, batch, post, gate);
+        batch.clear();
+        if !are_sent {
+            stop_all(rt, sites, Stop::Send);
+        }
+        match received {
+            Ok(()) => true,
+            Err(halt) => {
+                stop_after(rt, sites, self.halt(rt, halt, sites));
+                false
+            }
+        }
+    }
+
+    /// Hands the book the frames of a batch, and sends those of their events, with no round of an audit in between. Returns whether
+    /// all were sent, and if one was not received, why; those before it were.
     fn carry<R: Wait, G: Gate>(
         &self,
         rt: &R,
         alloc: Global,
-        taken: &[Vec<u8>],
-        stepped: &mut Vec<Stepped>,
+        batch: &mut Batch,
         post: &Post,
         gate: &G,
     ) -> (bool, Result<(), Halt>) {
@@ -348,9 +387,9 @@ impl Site {
         let received = self
             .desk
             .lock(rt)
-            .receive_all(alloc, self.node, gate, taken, stepped);
+            .receive_all(alloc, self.node, gate, batch);
         let mut are_sent = true;
-        for step in stepped.as_slice() {
+        for step in batch.stepped.as_slice() {
             if !self.tell_and_send(rt, alloc, step, post) {
                 are_sent = false;
             }
@@ -439,7 +478,7 @@ impl Site {
         are_sent
     }
 
-    /// Waits until a client is told that it holds a name in a mode.
+    /// Waits until a client is told that its request is granted.
     ///
     /// # Errors
     ///
@@ -451,37 +490,16 @@ impl Site {
         &self,
         rt: &R,
         ticket: Option<&SharedTicket>,
-        client: u32,
-        name: Name,
-        mode: Mode,
+        request: &Request,
     ) -> Result<Grant, SiteError>
-        ensures { IfOk result (IsGrantOf self.now client name mode) }
+        ensures { IfOk result (IsGrantOf self.now request.now.client request.now.name request.now.mode) }
     {
         let Some(ticket) = ticket else {
             return Err(SiteError::Refused(BookError::Memory));
         };
-        for _ in rt.forever() {
-            match ticket.wait(rt) {
-                Ok(grant) => {
-                    // It is always so, but no contract can say what another thread told.
-                    if self.is_grant_of(&grant, client, name, mode) {
-                        return Ok(grant);
-                    }
-                }
-                Err(stop) => return Err(SiteError::Stopped(stop)),
-            }
+        match ticket.wait(rt, self.node, request) {
+            Ok(grant) => Ok(grant),
+            Err(stop) => Err(SiteError::Stopped(stop)),
         }
-        unreachable!()
-    }
-
-    /// Returns whether this is a grant of a name in a mode to a client of this node.
-    fn is_grant_of(&self, grant: &Grant, client: u32, name: Name, mode: Mode) -> bool
-        ensures { IsTrue result → IsGrantOf self.now client name mode grant.now }
-    {
-        let entry = &grant.entry;
-        entry.stamp.node == self.node
-            && entry.client == client
-            && entry.name == name
-            && entry.mode == mode
     }
 }

@@ -7,10 +7,11 @@ ghost use Rattle.ra_cluster.specs.Handing.{IsAllLeft, OnlyTurnOrMemory};
 ghost use Rattle.ra_cluster.specs.Losses.{lost_frames};
 
 use crate::site::refused_frames::lost_of;
+use crate::site::request::Request;
 use crate::site::ticket::SharedTicket;
 use crate::{Book, BookError, Events, Frames, Gate, Grant, Posted, Sent, Stop, TakeError};
 use ra_frame::Frame;
-use ra_stamp::{Entry, Mark, Memory, Mode, Name, NodeId};
+use ra_stamp::{Entry, Mark, Memory, Name, NodeId};
 use std::alloc::Global;
 use std::mem;
 use std::sync::Arc;
@@ -48,6 +49,15 @@ pub struct Stepped {
     /// Whom to tell of a grant.
     pub told: Option<(SharedTicket, Grant)>,
     ghost fit: { All Fits frames.items },
+}
+
+/// Frames that came together, and what came of each that the book took.
+#[derive(Drop)]
+pub struct Batch {
+    /// The bytes of each frame.
+    pub taken: Vec<Vec<u8>>,
+    /// In the order of the frames, up to the first that was refused.
+    pub stepped: Vec<Stepped>,
 }
 
 /// A book, and the clients of its node whose requests are neither granted nor stopped.
@@ -88,6 +98,22 @@ impl Handed {
     }
 }
 
+impl Batch {
+    /// Makes one without a frame.
+    pub fn new(alloc: Global) -> Batch {
+        Batch {
+            taken: Vec::new(alloc),
+            stepped: Vec::new(alloc),
+        }
+    }
+
+    /// Drops its frames and what came of them, and keeps the room.
+    pub fn clear(&mut self) {
+        self.stepped.clear();
+        self.taken.clear();
+    }
+}
+
 impl Waiter {
     /// Returns whether this is the client whose request this is.
     fn is_of(&self, entry: &Entry) -> bool {
@@ -121,14 +147,13 @@ impl Desk {
         alloc: Global,
         node: NodeId,
         gate: &G,
-        client: u32,
-        name: Name,
-        mode: Mode,
+        request: &Request,
         ticket: Option<&SharedTicket>,
     ) -> Result<Stepped, Halt> {
         if !gate.step(node) {
             return Err(Halt::Gate);
         }
+        let Request { client, name, mode } = *request;
         let Some(waiter) = self.waiter(client, name, ticket) else {
             // Each other cause comes before `Memory`.
             return Err(Halt::Refused(self.book.ask_refusal(client, name, mode)));
@@ -197,7 +222,7 @@ impl Desk {
         Ok(self.stepped(posted))
     }
 
-    /// Hands the book frames, and asks the gate of this node before each. Puts what came of each into the list.
+    /// Hands the book the frames of a batch, and asks the gate of this node before each. Puts what came of each into the batch.
     ///
     /// # Errors
     ///
@@ -207,15 +232,14 @@ impl Desk {
         alloc: Global,
         node: NodeId,
         gate: &G,
-        taken: &[Vec<u8>],
-        stepped: &mut Vec<Stepped>,
+        batch: &mut Batch,
     ) -> Result<(), Halt> {
-        for bytes in taken {
-            if stepped.reserve(1).is_err() {
+        for bytes in batch.taken.as_slice() {
+            if batch.stepped.reserve(1).is_err() {
                 return Err(Halt::Refused(BookError::Memory));
             }
             let step = self.receive(alloc, node, gate, bytes.as_slice())?;
-            stepped.push_reserved(step);
+            batch.stepped.push_reserved(step);
         }
         Ok(())
     }

@@ -1,5 +1,10 @@
 //! Where a thread waits for what comes of its request.
+ghost use Rattle.std.specs.Prelude.{IfOk};
+ghost use Rattle.ra_cluster.specs.ClientGrant.{IsGrantOf};
+
+use crate::site::request::Request;
 use crate::{Grant, Stop};
+use ra_stamp::NodeId;
 use std::alloc::Global;
 use std::sync::{Arc, Mutex, Wait};
 use std::thread::Parker;
@@ -32,13 +37,23 @@ impl Ticket {
         self.waits.unpark();
     }
 
-    /// Waits until it is told what came of the request, and returns that.
-    pub fn wait<R: Wait>(&self, rt: &R) -> Result<Grant, Stop> {
+    /// Waits until it is told what came of this request, which was made at this node, and returns that.
+    pub fn wait<R: Wait>(&self, rt: &R, node: NodeId, request: &Request) -> Result<Grant, Stop>
+        ensures { IfOk result (IsGrantOf node request.now.client request.now.name request.now.mode) }
+    {
         for _ in rt.forever() {
-            if let Some(outcome) = self.outcome.lock(rt).take() {
-                return outcome;
+            // The lock is given back at once, so that nobody waits for it while this thread sleeps.
+            let outcome = self.outcome.lock(rt).take();
+            match outcome {
+                Some(Ok(grant)) => {
+                    // It is always so, but no contract can say what another thread told.
+                    if request.is_granted_by(node, &grant) {
+                        return Ok(grant);
+                    }
+                }
+                Some(Err(stop)) => return Err(stop),
+                None => self.waits.park(rt),
             }
-            self.waits.park(rt);
         }
         unreachable!()
     }
