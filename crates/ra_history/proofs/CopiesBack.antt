@@ -10,9 +10,8 @@ use Rattle.ra_world.specs.declared.step.Step.TheVariants.{Repeat}
 use Rattle.ra_history.specs.declared.book.event.BookKind.{BookKind}
 use Rattle.ra_history.specs.declared.book.event.BookKind.TheVariants.{Asked, Gave, Got}
 use Rattle.ra_history.specs.declared.settle_books.event_merge.PlacedEvent.{PlacedEvent}
-use Rattle.ra_history.specs.declared.settle_books.order_keys.FrameKey.{FrameKey}
 use Rattle.ra_history.specs.EventMerge.{placed_at, all_placed_at}
-use Rattle.ra_history.specs.Keys.{HasKeys, frame_key}
+use Rattle.ra_history.specs.Keys.{FrameKey, HasKeys, frame_key}
 use Rattle.ra_history.specs.Settled.{Placed, frames_in, step_at}
 use Rattle.ra_history.specs.Repeats.{ComesBy, AreWithCopies, frames_by}
 use Rattle.ra_history.specs.SettlingParts.{HasCome}

@@ -10,8 +10,7 @@ use Rattle.ra_stamp.specs.declared.entry.Mark.TheVariants.{Requested, Entered, L
 use Rattle.ra_history.specs.declared.error.SettleError.{SettleError}
 use Rattle.ra_history.specs.declared.error.SettleError.TheVariants.{NotSent, Twice, GrantMissing, GrantTwice, Memory}
 use Rattle.ra_history.specs.declared.book.grant.Grant.{Grant}
-use Rattle.ra_history.specs.declared.settle_books.order_keys.OrderKey.{OrderKey}
-use Rattle.ra_history.specs.Keys.{HasKeys, entered_in, entry_key}
+use Rattle.ra_history.specs.Keys.{OrderKey, HasKeys, entered_in, entry_key}
 use Rattle.ra_history.specs.Settled.{Repeats}
 use Rattle.ra_history.specs.SettlingParts.{RefusesGrants, RefusesRepeats}
 use Rattle.ra_history.proofs.KeyOrders.{key_cmp, key_total, key_exact, one_entry}

@@ -11,8 +11,7 @@ use Rattle.ra_frame.specs.declared.frame.Frame.{Frame}
 use Rattle.ra_history.specs.declared.book.event.BookKind.{BookKind}
 use Rattle.ra_history.specs.declared.book.event.BookKind.TheVariants.{Asked, Gave, Got}
 use Rattle.ra_history.specs.declared.book.event.BookEvent.{BookEvent}
-use Rattle.ra_history.specs.declared.settle_books.order_keys.OrderKey.{OrderKey}
-use Rattle.ra_history.specs.Keys.{HasEach, message_key, messages_among}
+use Rattle.ra_history.specs.Keys.{OrderKey, HasEach, message_key, messages_among}
 use Rattle.ra_history.specs.Book.{BookState}
 use Rattle.ra_history.specs.Settled.{frames_in, received_among, all_received, Repeats}
 use Rattle.ra_history.proofs.KeyOrders.{key_cmp, key_total, key_exact, one_message}

@@ -10,10 +10,17 @@ use Rattle.ra_stamp.specs.declared.entry.Mark.TheVariants.{Requested, Entered, L
 use Rattle.ra_stamp.specs.declared.message.Message.{Message}
 use Rattle.ra_stamp.specs.declared.message.Message.TheVariants.{Request, Reply}
 use Rattle.ra_frame.specs.declared.frame.Frame.{Frame}
-use Rattle.ra_history.specs.declared.settle_books.order_keys.OrderKey.{OrderKey}
-use Rattle.ra_history.specs.declared.settle_books.order_keys.FrameKey.{FrameKey}
 use Rattle.ra_history.specs.declared.book.event.BookEvent.{BookEvent}
 use Rattle.ra_history.specs.Settled.{received_among}
+
+-- All of a request or of a message: its number, the node that asks or sends, the client that asks or the node that it is for, the
+-- number of the mode, and the name.
+abbrev pub OrderKey : Type 0
+OrderKey = ℕ × ℕ × ℕ × ℕ × List ℕ
+
+-- all of a frame: its clock, and the key of its message
+abbrev pub FrameKey : Type 0
+FrameKey = ℕ × OrderKey
 
 -- the number of a mode in a key, 1 to 5
 abbrev pub mode_number : Mode → ℕ
@@ -25,22 +32,16 @@ mode_number SharedIntentExclusive = 5
 
 -- the key of a request
 abbrev pub entry_key : Entry → OrderKey
-entry_key entry = record {
-  seq = entry.stamp.seq;
-  node = entry.stamp.node;
-  other = entry.client;
-  mode = mode_number entry.mode;
-  name = entry.name;
-}
+entry_key entry = (entry.stamp.seq, entry.stamp.node, entry.client, mode_number entry.mode, entry.name)
 
 -- the key of a message, in which the mode of a REPLY is 0
 abbrev pub message_key : Message → OrderKey
-message_key (Request from to name mode seq) = record { seq = seq; node = from; other = to; mode = mode_number mode; name = name }
-message_key (Reply from to name seq) = record { seq = seq; node = from; other = to; mode = 0; name = name }
+message_key (Request from to name mode seq) = (seq, from, to, mode_number mode, name)
+message_key (Reply from to name seq) = (seq, from, to, 0, name)
 
 -- the key of a frame
 abbrev pub frame_key : Frame → FrameKey
-frame_key frame = record { clock = frame.clock; message = message_key frame.message }
+frame_key frame = (frame.clock, message_key frame.message)
 
 -- the set has the keys of the list, and no others
 abbrev pub HasKeys : {K : Type 0} → BTreeSet K → List K → Type 0

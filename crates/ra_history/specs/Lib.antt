@@ -2,6 +2,7 @@ pub mod History
 pub mod Book
 pub mod Departures
 pub mod Keeping
+pub mod LedgerSteps
 pub mod Refused
 pub mod EventChecks
 pub mod Settled

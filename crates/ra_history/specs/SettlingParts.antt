@@ -13,8 +13,7 @@ use Rattle.ra_world.specs.World.{Reports}
 use Rattle.ra_world.specs.MainTheorem.{MainTheorem}
 use Rattle.ra_history.specs.declared.error.SettleError.{SettleError}
 use Rattle.ra_history.specs.declared.error.SettleError.TheVariants.{NotSent, Twice, GrantMissing, GrantTwice, Memory}
-use Rattle.ra_history.specs.declared.settle_books.order_keys.FrameKey.{FrameKey}
-use Rattle.ra_history.specs.Keys.{HasKeys, frame_key}
+use Rattle.ra_history.specs.Keys.{FrameKey, HasKeys, frame_key}
 use Rattle.ra_history.specs.declared.book.grant.Grant.{Grant}
 use Rattle.ra_history.specs.declared.settle_books.settled.Settled.{Settled}
 use Rattle.ra_history.specs.Book.{BookState, HasHistory}

@@ -10,8 +10,6 @@ ghost use Rattle.ra_history.specs.declared.book.sent.Sent.{Sent};
 ghost use Rattle.ra_history.specs.History.{IsHistory, node_event, clock_after, clock_of, frames_at};
 ghost use Rattle.ra_history.specs.Book.{as_sent};
 
-use ra_node::{events_are_determined, events_go_on};
-
 /// A node that has met nothing has the empty history. A history goes on with each event of its node for which a clock
 /// is left; what the event sends comes after the frames so far.
 pub fn histories_go_on()
@@ -29,9 +27,7 @@ pub fn histories_go_on()
     ensures flags { (me n start : ℕ) (events : List BookEvent) (sent sent' : List Sent) (node : NodeState)
         → IsHistory me n start events sent node → map (λ s. s.frame) sent' ≡ map (λ s. s.frame) sent
         → IsHistory me n start events sent' node }
-{
-    events_go_on();
-}
+{}
 
 /// The events of a node determine what each of them sent and marked, the node after them, and so the frames.
 pub fn histories_are_determined()
@@ -43,6 +39,4 @@ pub fn histories_are_determined()
     ensures frames { (me n start : ℕ) (events : List BookEvent) (sent sent' : List Sent) (a b : NodeState)
         → IsHistory me n start events sent a → IsHistory me n start events sent' b
         → map (λ s. s.frame) sent ≡ map (λ s. s.frame) sent' }
-{
-    events_are_determined();
-}
+{}

@@ -20,9 +20,6 @@ use crate::settle_books::event_merge::steps_in_order;
 use crate::settle_books::flagged_losses::push_losses;
 use crate::settle_books::grant_checks::check_grants;
 use crate::settle_books::receipts::check_received;
-use crate::settled_laws::{
-    books_that_fit_together_settle, grants_of_settled_runs_are_in_the_books,
-};
 use crate::{Book, Grant, SettleError, Settled};
 use ra_world::{RunError, Steps, run};
 use std::alloc::Global;
@@ -122,7 +119,6 @@ fn settle_with(alloc: Global, books: &[Book], grants: &[Grant]) -> Result<Settle
     requires fit { BooksFit books.now }
     ensures { MatchResult result (Settles books.now grants.now) (Refuses books.now grants.now) }
 {
-    grants_of_settled_runs_are_in_the_books();
     let settled = settle_books(alloc, books)?;
     check_grants(alloc, grants, settled.report.marks.as_slice())?;
     Ok(settled)
@@ -138,7 +134,6 @@ fn settle_books(alloc: Global, books: &[Book]) -> Result<Settled, SettleError>
     requires fit { BooksFit books.now }
     ensures { MatchResult result (SettlesBooks books.now) (λ e. e ≡ SettleError.Memory) }
 {
-    books_that_fit_together_settle();
     let mut steps = steps_in_order(alloc, books)?;
     push_losses(&mut steps, books)?;
     run_steps(alloc, books, steps)

@@ -2,6 +2,7 @@ ghost use Rattle.std.specs.Prelude.{IfOk};
 ghost use Rattle.ra_history.specs.Departures.{IsDeparture};
 
 use crate::Frames;
+use crate::book::event_room::with_room;
 use ra_node::Outcome;
 use ra_stamp::Memory;
 use std::alloc::Global;
@@ -26,8 +27,7 @@ impl Departure {
         ensures { IfOk result (IsDeparture nodes) }
     {
         let outcome = Outcome::for_leave(alloc, nodes)?;
-        let mut frames = Frames::new(alloc);
-        frames.reserve(2 * u64::from(nodes))?;
+        let frames = with_room(alloc, 2 * u64::from(nodes))?;
         Ok(Departure { outcome, frames })
     }
 }

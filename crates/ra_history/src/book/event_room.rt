@@ -5,7 +5,7 @@ ghost use Rattle.ra_history.specs.Keeping as spec;
 
 use crate::book::departure::Departure;
 use crate::{Events, Frames, Sent};
-use ra_stamp::{Memory, Message};
+use ra_stamp::{Memory, Message, Sequence};
 use std::alloc::Global;
 
 /// Makes room for an ask at one of this many nodes, and for the leaves after it, among them that of the client that asks. Returns a list
@@ -81,7 +81,7 @@ pub fn make_room(
 {
     events.reserve(leaves as u64 + 1)?;
     sent.reserve(most_sent(nodes, sends, leaves)?)?;
-    frames_for(alloc, sends)
+    with_room(alloc, sends)
 }
 
 /// Returns how many messages a node sends at most when this one comes.
@@ -95,30 +95,17 @@ pub fn answers_to(message: &Message) -> u64
     }
 }
 
-/// Makes an empty list of frames, with room for this many.
+/// Makes an empty list with room for this many items.
 ///
 /// # Errors
 ///
 /// `Memory`: memory ran out.
-fn frames_for(alloc: Global, sends: u64) -> Result<Frames, Memory>
-    ensures { IfOk result (λ frames. (frames.items ≡ []) × (sends ≤ frames.spare)) }
+pub fn with_room<T: Copy>(alloc: Global, count: u64) -> Result<Sequence<T>, Memory>
+    ensures { IfOk result (λ list. (list.items ≡ []) × (count ≤ list.spare)) }
 {
-    let mut frames = Frames::new(alloc);
-    frames.reserve(sends)?;
-    Ok(frames)
-}
-
-/// Makes an empty list of events, with room for those of this many leaves.
-///
-/// # Errors
-///
-/// `Memory`: memory ran out.
-pub fn events_for(alloc: Global, leaves: usize) -> Result<Events, Memory>
-    ensures { IfOk result (λ events. (events.items ≡ []) × (leaves ≤ events.spare)) }
-{
-    let mut events = Events::new(alloc);
-    events.reserve(leaves as u64)?;
-    Ok(events)
+    let mut list = Sequence::new(alloc);
+    list.reserve(count)?;
+    Ok(list)
 }
 
 /// Makes an empty list of sent frames, with room for those of this many leaves at one of this many nodes.

@@ -13,7 +13,6 @@ use crate::settle_books::flagged_losses::push_losses;
 use crate::settle_books::order_keys::{FrameKey, frame_key};
 use crate::settle_books::receipts::were_sent;
 use crate::settle_books::run_steps;
-use crate::settled_laws::books_settle_with_copies;
 use crate::{Book, BookKind, SettleError, Settled};
 use ra_stamp::Memory;
 use ra_world::{Step, Steps};
@@ -92,7 +91,6 @@ fn run_with_copies(alloc: Global, books: &[Book]) -> Result<Settled, SettleError
     requires sent { HasUnsent books.now → ⊥ }
     ensures { MatchResult result (SettlesWithCopies books.now) (λ e. e ≡ SettleError.Memory) }
 {
-    books_settle_with_copies();
     let mut steps = steps_with_copies(alloc, books)?;
     // None is lost, so that this adds nothing.
     push_losses(&mut steps, books)?;

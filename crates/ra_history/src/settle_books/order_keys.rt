@@ -6,37 +6,24 @@ ghost use Rattle.ra_history.specs.Keys as spec;
 use ra_frame::Frame;
 use ra_stamp::{Entry, Message, Mode, Name, NodeId};
 
-/// All of a request or of a message.
-#[derive(Clone, Copy, PartialEq, Eq, PartialOrd, Ord)]
-pub struct OrderKey {
-    seq: u64,
-    /// The node that asks, or that the message is from.
-    node: NodeId,
-    /// The client that asks, or the node that the message is for.
-    other: u32,
-    /// The number of the mode. A REPLY has mode 0.
-    mode: u8,
-    name: Name,
-}
+/// All of a request or of a message, in this order: its number; the node that asks, or that the message is from; the client that
+/// asks, or the node that the message is for; the number of the mode, which is 0 for a REPLY; and the name.
+pub type OrderKey = (u64, NodeId, u32, u8, Name);
 
-/// All of a frame.
-#[derive(Clone, Copy, PartialEq, Eq, PartialOrd, Ord)]
-pub struct FrameKey {
-    clock: u64,
-    message: OrderKey,
-}
+/// All of a frame: its clock, and the key of its message.
+pub type FrameKey = (u64, OrderKey);
 
 /// Returns the key of a request.
 pub fn entry_key(entry: &Entry) -> OrderKey
     ensures { result ≡ spec.entry_key entry.now }
 {
-    OrderKey {
-        seq: entry.stamp.seq,
-        node: entry.stamp.node,
-        other: entry.client,
-        mode: mode_number(entry.mode),
-        name: entry.name,
-    }
+    (
+        entry.stamp.seq,
+        entry.stamp.node,
+        entry.client,
+        mode_number(entry.mode),
+        entry.name,
+    )
 }
 
 /// Returns the key of a message.
@@ -47,23 +34,20 @@ pub fn message_key(message: &Message) -> OrderKey
         Message::Request { mode, .. } => mode_number(mode),
         Message::Reply { .. } => 0,
     };
-    OrderKey {
-        seq: message.seq(),
-        node: message.from(),
-        other: u32::from(message.to().get()),
+    (
+        message.seq(),
+        message.from(),
+        u32::from(message.to().get()),
         mode,
-        name: message.name(),
-    }
+        message.name(),
+    )
 }
 
 /// Returns the key of a frame.
 pub fn frame_key(frame: &Frame) -> FrameKey
     ensures { result ≡ spec.frame_key frame.now }
 {
-    FrameKey {
-        clock: frame.clock,
-        message: message_key(&frame.message),
-    }
+    (frame.clock, message_key(&frame.message))
 }
 
 /// Returns a number of its own for each mode, 1 or more.

@@ -1,16 +1,17 @@
 use Rattle.std.proofs.Common.{sym, ap, ◌∙◌}
+use Rattle.ra_node.proofs.Determined.{event_one}
 use Rattle.ra_history.specs.History.{frames_of}
 use Rattle.ra_history.proofs.Histories.{determined}
 use Rattle.ra_history.proofs.laws.histories_are_determined.Goals as goal
 
 pub returns-clause-postings : goal.returns-clause-postings
 returns-clause-postings c = λ me n start events sent sent' a b left right.
-    (determined c.events_are_determined.ensures.event me n start events sent sent' a b left right).0
+    (determined event_one me n start events sent sent' a b left right).0
 
 pub returns-clause-node : goal.returns-clause-node
 returns-clause-node c = λ me n start events sent sent' a b left right.
-    (determined c.events_are_determined.ensures.event me n start events sent sent' a b left right).1
+    (determined event_one me n start events sent sent' a b left right).1
 
 pub returns-clause-frames : goal.returns-clause-frames
 returns-clause-frames c = λ me n start events sent sent' a b left right.
-    left.sent_are ∙ ap frames_of (determined c.events_are_determined.ensures.event me n start events sent sent' a b left right).0 ∙ sym right.sent_are
+    left.sent_are ∙ ap frames_of (determined event_one me n start events sent sent' a b left right).0 ∙ sym right.sent_are

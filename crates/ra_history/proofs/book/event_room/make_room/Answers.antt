@@ -41,5 +41,5 @@ returns c = record {
   sent = c.reserve-2.ensures.items;
   grown = record { events = c.reserve.ensures.grows; len_is = c.reserve-2.ensures.len; sent = c.reserve-2.ensures.capacity };
   room = room_made c.args.nodes c.args.sends c.args.leaves c.reserve.new.self.spare (vec_len c.reserve-2.new.self) c.in_ok-most_sent.field-0
-      (vec_capacity c.reserve-2.new.self) c.in_ok-reserve.ensures.ok c.in_ok-most_sent.ensures c.in_ok-reserve-2.ensures.ok c.frames_for.result c.frames_for.ensures;
+      (vec_capacity c.reserve-2.new.self) c.in_ok-reserve.ensures.ok c.in_ok-most_sent.ensures c.in_ok-reserve-2.ensures.ok c.with_room.result c.with_room.ensures;
 }

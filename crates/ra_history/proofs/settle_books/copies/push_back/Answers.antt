@@ -2,7 +2,7 @@ use Rattle.std.proofs.Common.{◌≡◌, true, false, List, [], ◌∷◌, ◌++
 use Rattle.std.specs.BTreeSet as sorted
 use Rattle.ra_world.specs.declared.step.Step.{Step}
 use Rattle.ra_world.specs.declared.step.Step.TheVariants.{Repeat}
-use Rattle.ra_history.specs.declared.settle_books.order_keys.FrameKey.{FrameKey}
+use Rattle.ra_history.specs.Keys.{FrameKey}
 use Rattle.ra_history.specs.EventMerge.{placed_at}
 use Rattle.ra_history.specs.Repeats.{AreWithCopies}
 use Rattle.ra_history.specs.Settled.{step_at}

@@ -5,6 +5,7 @@ use Rattle.ra_history.specs.Repeats.{AreWithCopies}
 use Rattle.ra_history.specs.SettlingParts.{HasRun, SettlesWithCopies}
 use Rattle.ra_history.proofs.SettledReport.{where_ok}
 use Rattle.ra_history.proofs.CopiesSettled.{no_losses, settles_with_copies}
+use Rattle.ra_history.proofs.SettlingLaws.{fitting_books_settle_with_copies}
 use Rattle.ra_history.proofs.settle_books.copies.run_with_copies.Goals as goal
 
 pub run_steps-requires : goal.run_steps-requires
@@ -12,7 +13,7 @@ run_steps-requires c =
     let books = c.args.books.now in
     let (placed, order, has) = c.in_ok-steps.ensures in
     let same = no_losses books c.in_ok-steps.steps.items c.push_losses.new.steps.items c.requires.lossless c.in_ok-push_losses.ensures.ok in
-    let runs = c.books_settle_with_copies.ensures.runs books placed c.in_ok-steps.steps.items c.requires.cluster c.in_ok-push_losses.ensures.histories order c.requires.sent has in
+    let runs = fitting_books_settle_with_copies.runs books placed c.in_ok-steps.steps.items c.requires.cluster c.in_ok-push_losses.ensures.histories order c.requires.sent has in
     record { cluster = c.requires.cluster; run = subst (WorldRun (length books) (start_of books)) (sym same) runs }
 
 pub returns : goal.returns
@@ -22,6 +23,6 @@ returns c =
     let steps = c.push_losses.new.steps.items in
     let same = no_losses books c.in_ok-steps.steps.items steps c.requires.lossless c.in_ok-push_losses.ensures.ok in
     where_ok (HasRun books steps) (SettlesWithCopies books)
-    (λ settled. settles_with_copies c.books_settle_with_copies.ensures books c.requires.cluster c.in_ok-push_losses.ensures.histories placed steps settled order
+    (λ settled. settles_with_copies fitting_books_settle_with_copies books c.requires.cluster c.in_ok-push_losses.ensures.histories placed steps settled order
     (subst (AreWithCopies placed) (sym same) has))
     c.run_steps.result c.run_steps.ensures

@@ -4,8 +4,7 @@ use Rattle.std.specs.BTreeSet as sorted
 use Rattle.std.proofs.lemmas.List.Elements.{All-more}
 use Rattle.ra_history.specs.declared.error.SettleError.TheVariants.{Memory}
 use Rattle.ra_history.specs.declared.book.grant.Grant.{Grant}
-use Rattle.ra_history.specs.declared.settle_books.order_keys.OrderKey.{OrderKey}
-use Rattle.ra_history.specs.Keys.{entered_in}
+use Rattle.ra_history.specs.Keys.{OrderKey, entered_in}
 use Rattle.ra_history.specs.SettlingParts.{RefusesGrants}
 use Rattle.ra_history.proofs.KeyOrders.{key_cmp}
 use Rattle.ra_history.proofs.GrantMarks.{is_granted, is_not_granted, all_granted, grants_once}

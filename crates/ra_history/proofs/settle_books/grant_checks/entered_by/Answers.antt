@@ -2,8 +2,7 @@ use Rattle.std.proofs.Common.{◌+◌, true, List, map, take, sym, subst, BTreeS
 use Rattle.std.proofs.lemmas.List.{take_all}
 use Rattle.std.specs.BTreeSet as sorted
 use Rattle.ra_stamp.specs.declared.entry.Mark.{Mark}
-use Rattle.ra_history.specs.declared.settle_books.order_keys.OrderKey.{OrderKey}
-use Rattle.ra_history.specs.Keys.{HasKeys, entered_in, entry_key}
+use Rattle.ra_history.specs.Keys.{OrderKey, HasKeys, entered_in, entry_key}
 use Rattle.ra_history.proofs.KeyOrders.{key_cmp}
 use Rattle.ra_history.proofs.GrantMarks.{key_put, key_left_out}
 use Rattle.ra_history.proofs.settle_books.grant_checks.entered_by.Goals as goal

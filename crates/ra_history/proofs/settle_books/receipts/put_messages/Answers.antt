@@ -2,8 +2,7 @@ use Rattle.std.proofs.Common.{◌≡◌, ◌+◌, true, false, List, ◌++◌, t
 use Rattle.std.specs.BTreeSet as sorted
 use Rattle.std.proofs.lemmas.List.{take_all}
 use Rattle.ra_history.specs.declared.book.event.BookEvent.{BookEvent}
-use Rattle.ra_history.specs.declared.settle_books.order_keys.OrderKey.{OrderKey}
-use Rattle.ra_history.specs.Keys.{HasEach, messages_among}
+use Rattle.ra_history.specs.Keys.{OrderKey, HasEach, messages_among}
 use Rattle.ra_history.proofs.KeyOrders.{key_cmp}
 use Rattle.ra_history.proofs.KeySets.{when_new, when_old}
 use Rattle.ra_history.proofs.Received.{message_put, message_again, each_more, each_same, repeats_then}

@@ -3,11 +3,11 @@ use Rattle.std.specs.Prelude.{AllPairs}
 use Rattle.std.specs.BTreeSet as sorted
 use Rattle.std.proofs.lemmas.List.{take_all}
 use Rattle.ra_history.specs.declared.book.grant.Grant.{Grant}
-use Rattle.ra_history.specs.declared.settle_books.order_keys.OrderKey.{OrderKey}
+use Rattle.ra_history.specs.Keys.{OrderKey}
 use Rattle.ra_history.proofs.KeyOrders.{key_cmp}
 use Rattle.ra_history.proofs.GrantMarks.{next_grant, grant_again}
 use Rattle.ra_history.proofs.KeySets.{when_new, when_old}
-use Rattle.ra_history.proofs.settle_books.grant_checks.check_once.Goals as goal
+use Rattle.ra_history.proofs.settle_books.grant_checks.put_once.Goals as goal
 
 pub returns-then-not-is_new : goal.returns-then-not-is_new
 returns-then-not-is_new c =
