@@ -73,14 +73,14 @@ pub const AT_MARKS: &[Hint] = &[
 /// The hints for a later line of a trace.
 pub const AT_LATER: &[Hint] = &[("deliver ", KINDS), ("lose ", KINDS), ("repeat ", KINDS)];
 
-/// Returns the text of the first hint of these lists whose prefix the line begins with, or `None`.
-pub fn hint_at(lists: &[&[Hint]], line: &[u8]) -> Option<&'static str> {
+/// Returns the text of the first hint of these lists whose prefix the line begins with, or `otherwise` if there is none.
+pub fn hint_at<'a>(lists: &[&[Hint]], line: &[u8], otherwise: &'a str) -> &'a str {
     for hints in lists {
         for (prefix, text) in *hints {
             if line.starts_with(prefix.as_bytes()) {
-                return Some(text);
+                return text;
             }
         }
     }
-    None
+    otherwise
 }

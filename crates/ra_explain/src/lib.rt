@@ -4,11 +4,13 @@
 
 mod frame_notes;
 mod hint;
+mod note_parts;
 mod trace_notes;
 
 pub use frame_notes::frame_fault::{frame_note, push_frame_fault};
 pub use frame_notes::hexadecimal::{digits_note, push_digits_fault};
 pub use frame_notes::unanswered::{Unanswered, unanswered_note};
+pub use note_parts::{push_name_and_mode, push_number_in, push_numbered};
 pub use trace_notes::blockers::{MAX_CLIENTS, TellsBlocker, push_blockers, want_text};
 pub use trace_notes::line_cause::{LineCause, line_note};
 pub use trace_notes::open_request::{OpenRequest, Stage};

@@ -2,6 +2,7 @@
 use crate::frame_notes::digits::{no_name_byte, part};
 use crate::frame_notes::frame_field::{NAME, extent_of, index_of, name_of, range_of};
 use crate::frame_notes::hexadecimal::first_line;
+use crate::note_parts::{push_number_in, push_numbered};
 use ra_frame::FrameError;
 use ra_stamp::Memory;
 use ra_world::Note;
@@ -12,15 +13,13 @@ fn push_offsets(note: &mut Note, name: &str, extent: (usize, usize)) {
     let (place, width) = extent;
     note.push(name);
     let last = place.saturating_add(width).saturating_sub(1);
-    if place < last {
-        note.push(" at offsets ");
-        note.number(place as u64);
-        note.push(" to ");
+    let joint = if place < last {
+        push_numbered(note, " at offsets ", place);
+        " to "
     } else {
-        note.push(" at offset ");
-    }
-    note.number(last as u64);
-    note.push(" ");
+        " at offset "
+    };
+    push_number_in(note, joint, last, " ");
 }
 
 /// Adds the name of a field, the offsets of its bytes, and what they are.
@@ -44,38 +43,41 @@ fn short_index(digits: &[u8]) -> usize {
 /// Adds the field at which a frame ends, this text, and the number of bytes in the frame.
 fn push_end(note: &mut Note, digits: &[u8], index: usize, text: &str) {
     push_offsets(note, name_of(index), extent_of(digits, index));
-    note.push(text);
-    let bytes = (digits.len() / 2) as u64;
-    note.number(bytes);
-    note.push(if bytes == 1 { " byte" } else { " bytes" });
+    let bytes = digits.len() / 2;
+    let unit = if bytes == 1 { " byte" } else { " bytes" };
+    push_number_in(note, text, bytes, unit);
 }
 
-/// Adds the description of a frame's fault: which field of these hexadecimal digits it is, where its bytes are, what they are, and
-/// what is allowed there.
-pub fn push_frame_fault(note: &mut Note, digits: &[u8], fault: FrameError) {
+/// Adds which field has a value that is not allowed, or which byte of the name, and what is allowed there.
+fn push_value_fault(note: &mut Note, digits: &[u8], fault: FrameError) {
     let index = index_of(fault);
-    let (place, width) = extent_of(digits, index);
-    match fault {
-        FrameError::Short => {
-            let text = "is missing or incomplete: the frame has ";
-            push_end(note, digits, short_index(digits), text);
-            return;
-        }
-        FrameError::Trailing => {
-            push_end(note, digits, index, "is the last field, but the frame has ");
-            return;
-        }
-        FrameError::NameByte => {
-            let wrong = no_name_byte(digits, place, width);
-            push_field(note, digits, "the name byte", (wrong, 1));
-        }
-        _ => push_field(note, digits, name_of(index), (place, width)),
+    let extent = extent_of(digits, index);
+    if let FrameError::NameByte = fault {
+        let wrong = no_name_byte(digits, extent.0, extent.1);
+        push_field(note, digits, "the name byte", (wrong, 1));
+    } else {
+        push_field(note, digits, name_of(index), extent);
     }
     if let FrameError::SameNode = fault {
         note.push(", the same as the sender: a node sends no message to itself");
     } else {
         note.push(": ");
         note.push(range_of(digits, index));
+    }
+}
+
+/// Adds the description of a frame's fault: which field of these hexadecimal digits it is, where its bytes are, what they are, and
+/// what is allowed there.
+pub fn push_frame_fault(note: &mut Note, digits: &[u8], fault: FrameError) {
+    match fault {
+        FrameError::Short => {
+            let text = "is missing or incomplete: the frame has ";
+            push_end(note, digits, short_index(digits), text);
+        }
+        FrameError::Trailing => {
+            push_end(note, digits, NAME, "is the last field, but the frame has ");
+        }
+        _ => push_value_fault(note, digits, fault),
     }
 }
 

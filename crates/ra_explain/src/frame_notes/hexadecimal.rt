@@ -1,4 +1,5 @@
 //! Why an input is not a line of hexadecimal digits.
+use crate::note_parts::{push_number_in, push_numbered};
 use ra_stamp::Memory;
 use ra_world::{Note, cut};
 use std::alloc::Global;
@@ -14,9 +15,12 @@ pub fn first_line(input: &[u8]) -> (&[u8], bool) {
 
 /// Adds which byte of a line is not a hexadecimal digit, by its place in the digits, before which this many other bytes come.
 fn push_no_digit(note: &mut Note, before: usize, place: usize, byte: u8) {
-    note.push("not a hexadecimal digit at offset ");
-    note.number(place.saturating_add(before) as u64);
-    note.push(" of the line: ");
+    push_number_in(
+        note,
+        "not a hexadecimal digit at offset ",
+        place.saturating_add(before),
+        " of the line: ",
+    );
     match byte {
         // A line that has the digits alone may be the last one of its text without a line feed.
         b'\r' if before == 0 => {
@@ -25,10 +29,7 @@ fn push_no_digit(note: &mut Note, before: usize, place: usize, byte: u8) {
         b'\r' => note.push("a carriage return (end the line with a line feed alone)"),
         b'\t' => note.push("a tab"),
         b' '..=b'~' => note.quoted(&[byte]),
-        _ => {
-            note.push("the byte value ");
-            note.number(u64::from(byte));
-        }
+        _ => push_numbered(note, "the byte value ", byte),
     }
 }
 
@@ -42,9 +43,12 @@ pub fn push_digits_fault(note: &mut Note, digits: &[u8], before: usize) {
         }
     }
     if digits.len() % 2 == 1 {
-        note.push("the line has ");
-        note.number(digits.len() as u64);
-        note.push(" hexadecimal digits, an odd number: each byte of a frame takes two");
+        push_number_in(
+            note,
+            "the line has ",
+            digits.len(),
+            " hexadecimal digits, an odd number: each byte of a frame takes two",
+        );
     }
 }
 
@@ -61,9 +65,12 @@ pub fn digits_note(alloc: Global, input: &[u8]) -> Result<Option<String>, Memory
     if line.len() > MAX_LINE {
         note.push("the line has more than 256 bytes: a frame has at most 56 bytes, or 112 digits");
     } else if !is_alone {
-        note.push("there is more input after the first line, whose length is ");
-        note.number(line.len() as u64);
-        note.push(": only one frame is read at a time");
+        push_number_in(
+            &mut note,
+            "there is more input after the first line, whose length is ",
+            line.len(),
+            ": only one frame is read at a time",
+        );
     } else {
         push_digits_fault(&mut note, line, 0);
     }

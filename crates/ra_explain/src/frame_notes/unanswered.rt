@@ -3,6 +3,7 @@ use crate::frame_notes::digits::byte_at;
 use crate::frame_notes::frame_fault::push_field;
 use crate::frame_notes::frame_field::{extent_of, index_of, name_of};
 use crate::frame_notes::hexadecimal::first_line;
+use crate::note_parts::push_number_in;
 use ra_frame::FrameError;
 use ra_stamp::Memory;
 use ra_world::Note;
@@ -19,14 +20,8 @@ pub enum Unanswered {
     ClockFull,
 }
 
-/// Adds the number that some bytes of a frame are, between two texts, and what is expected.
-fn push_number(
-    note: &mut Note,
-    digits: &[u8],
-    extent: (usize, usize),
-    texts: (&str, &str),
-    expected: &str,
-) {
+/// Returns the number that these bytes of a frame are.
+fn number_at(digits: &[u8], extent: (usize, usize)) -> u64 {
     let (place, width) = extent;
     let mut number: u64 = 0;
     for place in place..place.saturating_add(width) {
@@ -34,10 +29,7 @@ fn push_number(
             .wrapping_mul(256)
             .wrapping_add(u64::from(byte_at(digits, place)));
     }
-    note.push(texts.0);
-    note.number(number);
-    note.push(texts.1);
-    note.push(expected);
+    number
 }
 
 /// Returns a note on why a node does not answer the frame in an input of hexadecimal digits. It says which field is the
@@ -63,16 +55,27 @@ pub fn unanswered_note(
     });
     let extent = extent_of(digits, index);
     push_field(&mut note, digits, name_of(index), extent);
+    let number = number_at(digits, extent);
     match why {
         Unanswered::WrongNode => {
-            let texts = (": the frame is for node ", ", but --node is ");
-            push_number(&mut note, digits, extent, texts, node);
+            push_number_in(
+                &mut note,
+                ": the frame is for node ",
+                number,
+                ", but --node is ",
+            );
+            note.push(node);
         }
         // The sender is not this node: a frame from its own receiver is faulty, and one for another node is not
         // answered.
         Unanswered::Stranger => {
-            let texts = (": the frame is from node ", ", but --nodes is ");
-            push_number(&mut note, digits, extent, texts, nodes);
+            push_number_in(
+                &mut note,
+                ": the frame is from node ",
+                number,
+                ", but --nodes is ",
+            );
+            note.push(nodes);
         }
         Unanswered::ClockFull => note.push(", the greatest: no clock is left for an answer"),
     }

@@ -1,4 +1,5 @@
 //! What is in the first wrong line of a trace or of a mark log.
+use crate::note_parts::push_numbered;
 use crate::trace_notes::due_mark::push_due;
 use crate::trace_notes::line_text::{push_mark_text, push_trace_text};
 use crate::trace_notes::not_under_way::push_not_under_way;
@@ -19,15 +20,28 @@ pub enum LineCause {
     Marks(MarkCause),
 }
 
+/// Adds why a line of a trace is wrong, which is `other` if nothing more precise is found.
+fn push_trace_cause(
+    alloc: Global,
+    note: &mut Note,
+    line: &TextLine<'_>,
+    cause: Cause,
+    other: &str,
+) {
+    match cause {
+        Cause::Line => push_trace_text(note, line, other),
+        Cause::Marks => note.push(other),
+        Cause::Refused => push_refused(alloc, note, line, other),
+        Cause::NotUnderWay => push_not_under_way(alloc, note, line, other),
+        Cause::Table => push_obstacle(alloc, note, line, None, other),
+    }
+}
+
 /// Adds why a line is wrong, which is `other` if nothing more precise is found.
 fn push_cause(alloc: Global, note: &mut Note, line: &TextLine<'_>, cause: LineCause, other: &str) {
     match cause {
-        LineCause::Trace(Cause::Line) => push_trace_text(note, line, other),
-        LineCause::Trace(Cause::Marks) => note.push(other),
+        LineCause::Trace(cause) => push_trace_cause(alloc, note, line, cause, other),
         LineCause::Due(due) => push_due(alloc, note, line, &due),
-        LineCause::Trace(Cause::Refused) => push_refused(alloc, note, line, other),
-        LineCause::Trace(Cause::NotUnderWay) => push_not_under_way(alloc, note, line, other),
-        LineCause::Trace(Cause::Table) => push_obstacle(alloc, note, line, None, other),
         LineCause::Marks(MarkCause::Line) => push_mark_text(note, line, other),
         LineCause::Marks(why) => push_obstacle(alloc, note, line, Some(why), other),
     }
@@ -51,8 +65,7 @@ pub fn line_note(
 ) -> Result<Option<String>, Memory> {
     let mut note = Note::new(alloc);
     let line = TextLine::at(text, line);
-    note.push("line ");
-    note.number(line.number);
+    push_numbered(&mut note, "line ", line.number);
     if line.has_feed || !line.bytes.is_empty() {
         note.push(", ");
         note.quoted(line.bytes);

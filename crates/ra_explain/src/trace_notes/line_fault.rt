@@ -5,6 +5,13 @@ use crate::trace_notes::line_form::{kind_of, push_form};
 use ra_trace::{Field, LineKind, Version};
 use ra_world::{Note, cut};
 
+/// Adds what is wrong with a line of this kind, and how one is made.
+fn push_expected(note: &mut Note, wrong: &str, kind: LineKind) {
+    note.push(wrong);
+    note.push(": expected ");
+    push_form(note, kind);
+}
+
 /// Adds what a field contains and what it must be, or that a tab does not separate fields.
 fn push_wrong(note: &mut Note, field: Field, text: &[u8], version: Option<Version>) {
     if text.contains(&b'\t') {
@@ -23,7 +30,7 @@ fn push_wrong(note: &mut Note, field: Field, text: &[u8], version: Option<Versio
 }
 
 /// Adds what is wrong with the fields of a line of this kind, and returns whether anything is.
-pub fn push_fields(
+fn push_fields(
     note: &mut Note,
     kind: LineKind,
     fields: Option<&[u8]>,
@@ -33,8 +40,7 @@ pub fn push_fields(
     for field in kind.fields() {
         let Some(left) = rest else {
             note.push(field_name(*field));
-            note.push(" is missing: expected ");
-            push_form(note, kind);
+            push_expected(note, " is missing", kind);
             return true;
         };
         let (text, after) = cut(left, b' ');
@@ -45,8 +51,7 @@ pub fn push_fields(
         rest = after;
     }
     if rest.is_some() {
-        note.push("too many fields: expected ");
-        push_form(note, kind);
+        push_expected(note, "too many fields", kind);
     }
     rest.is_some()
 }

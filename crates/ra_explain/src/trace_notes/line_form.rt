@@ -16,8 +16,11 @@ pub const FIRST_LINES: &[LineKind] = &[
     LineKind::First(Version::Two),
 ];
 
-/// The steps, and the last line.
+/// The lines after the first one: marks, steps, and the last line.
 pub const LATER_LINES: &[LineKind] = &[
+    LineKind::Mark(Change::Requested),
+    LineKind::Mark(Change::Entered),
+    LineKind::Mark(Change::Left),
     LineKind::Ask,
     LineKind::Leave,
     LineKind::Request(Fate::Delivered),
@@ -38,9 +41,9 @@ fn words_of(kind: LineKind) -> &'static str {
 /// Returns the fields of a line of this kind, or `None` inside if nothing follows its words. Returns `None` if the line has other
 /// words.
 fn fields_in<'a>(kind: LineKind, line: &'a [u8]) -> Option<Option<&'a [u8]>> {
-    match line.strip_prefix(words_of(kind).as_bytes())? {
-        [] => Some(None),
-        [b' ', fields @ ..] => Some(Some(fields)),
+    match line.strip_prefix(words_of(kind).as_bytes()) {
+        Some([]) => Some(None),
+        Some([b' ', fields @ ..]) => Some(Some(fields)),
         _ => None,
     }
 }

@@ -1,6 +1,6 @@
 //! The texts for lines that do not belong in a trace or mark log, or that are out of place.
 use crate::hint::{AT_BOTH, AT_FIRST, AT_LATER, AT_MARKS, TAB, hint_at};
-use crate::trace_notes::line_fault::{push_fields, push_line_fault};
+use crate::trace_notes::line_fault::push_line_fault;
 use crate::trace_notes::line_form::{FIRST_LINES, LATER_LINES, MARKS, kind_of, version_of};
 use crate::trace_notes::text_line::TextLine;
 use ra_trace::{MAX_LINE, Version};
@@ -45,23 +45,32 @@ fn unless_tab<'a>(line: &[u8], text: &'a str) -> &'a str {
     if line.contains(&b'\t') { TAB } else { text }
 }
 
+/// Returns the text for a line that has the words of no later line of a trace of this version, or `None` if it has them.
+fn words_text(text: &[u8], version: Option<Version>) -> Option<&'static str> {
+    if kind_of(FIRST_LINES, text).is_some() {
+        Some(FIRST_AGAIN)
+    } else if matches!(version, Some(Version::One)) && text.starts_with(b"repeat ") {
+        Some(NO_REPEATS)
+    } else if kind_of(LATER_LINES, text).is_none() {
+        Some(unless_tab(text, hint_at(&[AT_LATER], text, WORDS)))
+    } else {
+        None
+    }
+}
+
 /// Adds the text for a later line of a trace, or `other` if nothing is found.
 fn push_later_line(note: &mut Note, text: &[u8], version: Option<Version>, other: &str) {
-    if kind_of(FIRST_LINES, text).is_some() {
-        note.push(FIRST_AGAIN);
-        return;
+    if let Some(words) = words_text(text, version) {
+        note.push(words);
+    } else if !push_line_fault(note, LATER_LINES, text, version) {
+        note.push(other);
     }
-    if matches!(version, Some(Version::One)) && text.starts_with(b"repeat ") {
-        note.push(NO_REPEATS);
-        return;
-    }
-    match kind_of(MARKS, text).or(kind_of(LATER_LINES, text)) {
-        Some((kind, fields)) => {
-            if !push_fields(note, kind, fields, version) {
-                note.push(other);
-            }
-        }
-        None => note.push(unless_tab(text, hint_at(&[AT_LATER], text).unwrap_or(WORDS))),
+}
+
+/// Adds the text for the first line of a trace.
+fn push_first_line(note: &mut Note, text: &[u8]) {
+    if !push_line_fault(note, FIRST_LINES, text, version_of(text)) {
+        note.push(hint_at(&[AT_BOTH, AT_FIRST], text, NOT_FIRST));
     }
 }
 
@@ -72,10 +81,7 @@ pub fn push_trace_text(note: &mut Note, line: &TextLine<'_>, other: &str) {
     } else if let Some(text) = end_text(line) {
         note.push(text);
     } else if line.number == 1 {
-        let text = line.bytes;
-        if !push_line_fault(note, FIRST_LINES, text, version_of(text)) {
-            note.push(hint_at(&[AT_BOTH, AT_FIRST], text).unwrap_or(NOT_FIRST));
-        }
+        push_first_line(note, line.bytes);
     } else {
         push_later_line(note, line.bytes, version_of(line.before), other);
     }
@@ -86,7 +92,7 @@ pub fn push_mark_text(note: &mut Note, line: &TextLine<'_>, other: &str) {
     if let Some(text) = end_text(line) {
         note.push(text);
     } else if !push_line_fault(note, MARKS, line.bytes, Some(Version::Two)) {
-        let hint = hint_at(&[AT_BOTH, AT_MARKS], line.bytes);
-        note.push(hint.unwrap_or(unless_tab(line.bytes, other)));
+        let otherwise = unless_tab(line.bytes, other);
+        note.push(hint_at(&[AT_BOTH, AT_MARKS], line.bytes, otherwise));
     }
 }

@@ -1,4 +1,5 @@
 //! Why a message is not under way at a line of a trace.
+use crate::note_parts::{push_number_in, push_numbered};
 use crate::trace_notes::line_form::version_of;
 use crate::trace_notes::open_request::OpenRequest;
 use crate::trace_notes::open_text::Sought;
@@ -14,13 +15,12 @@ const NEVER_SENT: &str = "it was never sent";
 
 /// Returns the request at the node that gets a REPLY, if it waits or holds and is the one that the REPLY answers.
 fn answered_by<'a>(replay: &'a Replay, reply: &Message) -> Option<&'a OpenRequest> {
-    let request = replay
-        .open
-        .next_of(0, &Sought::AtNode(reply.to(), reply.name()))?;
-    if matches!(reply, Message::Reply { .. }) && request.entry.stamp.seq == reply.seq() {
+    let sought = Sought::AtNode(reply.to(), reply.name());
+    match replay.open.next_of(0, &sought) {
         Some(request)
-    } else {
-        None
+            if matches!(reply, Message::Reply { .. }) && request.entry.stamp.seq == reply.seq() =>
+            Some(request),
+        _ => None,
     }
 }
 
@@ -31,20 +31,54 @@ fn push_awaited(note: &mut Note, replay: &Replay, reply: &Message, answered: &Op
     match (replay.came, own) {
         // Its own request is earlier, or holds.
         (Some(line), Some(own)) if own.blocks(&answered.entry) => {
-            note.push("node ");
-            note.number(from.get());
-            note.push(" deferred it in line ");
-            note.number(line);
-            note.push(", as its own request ");
-            note.number(own.entry.stamp.seq);
-            note.push(" is earlier");
+            push_numbered(note, "node ", from.get());
+            push_numbered(note, " deferred it in line ", line);
+            push_number_in(
+                note,
+                ", as its own request ",
+                own.entry.stamp.seq,
+                " is earlier",
+            );
         }
         // Only another node of the trace sends it.
         (None, _) if from != to && from.get() <= replay.nodes => {
-            note.push("its request has not come to node ");
-            note.number(from.get());
+            push_numbered(note, "its request has not come to node ", from.get());
         }
         _ => note.push(NEVER_SENT),
+    }
+}
+
+/// Adds in which line the message was last taken that is not under way at this line, and whether it was lost there.
+fn push_taken(note: &mut Note, line: &TextLine<'_>, number: u64, is_lost: bool) {
+    if is_lost {
+        push_numbered(note, "it was lost in line ", number);
+        return;
+    }
+    push_numbered(note, "it was last delivered in line ", number);
+    // Version 1 has no repeats.
+    if !matches!(version_of(line.before), Some(Version::One)) {
+        note.push("; a copy needs a repeat line before that");
+    }
+}
+
+/// Adds why a message was never sent.
+fn push_never_sent(note: &mut Note, replay: &Replay, message: &Message) {
+    match answered_by(replay, message) {
+        Some(answered) => push_awaited(note, replay, message, answered),
+        None => note.push(NEVER_SENT),
+    }
+}
+
+/// Adds why a message is not under way at a line, given what the lines before say of it.
+fn push_reason(note: &mut Note, line: &TextLine<'_>, replay: &Replay, other: &str) {
+    let Some(message) = &replay.message else {
+        note.push(other);
+        return;
+    };
+    note.push("this message is not under way: ");
+    match replay.taken {
+        Some((number, is_lost)) => push_taken(note, line, number, is_lost),
+        None => push_never_sent(note, replay, message),
     }
 }
 
@@ -52,27 +86,5 @@ fn push_awaited(note: &mut Note, replay: &Replay, reply: &Message, answered: &Op
 /// Without memory for what waits, is queued and holds before it, it only adds of a REPLY that it was never sent. The cost is linear
 /// in the lines before.
 pub fn push_not_under_way(alloc: Global, note: &mut Note, line: &TextLine<'_>, other: &str) {
-    let replay = Replay::before(alloc, line);
-    let (found, taken) = (replay.message, replay.taken);
-    let Some(message) = &found else {
-        note.push(other);
-        return;
-    };
-    note.push("this message is not under way: ");
-    if let Some((number, is_lost)) = taken {
-        note.push(if is_lost {
-            "it was lost in line "
-        } else {
-            "it was last delivered in line "
-        });
-        note.number(number);
-        // Version 1 has no repeats.
-        if !is_lost && !matches!(version_of(line.before), Some(Version::One)) {
-            note.push("; a copy needs a repeat line before that");
-        }
-    } else if let Some(answered) = answered_by(&replay, message) {
-        push_awaited(note, &replay, message, answered);
-    } else {
-        note.push(NEVER_SENT);
-    }
+    push_reason(note, line, &Replay::before(alloc, line), other);
 }

@@ -1,10 +1,11 @@
 //! What is in the way of a mark that a lock table does not allow.
+use crate::note_parts::{push_number_in, push_numbered};
 use crate::trace_notes::open_request::{OpenRequest, Stage};
 use crate::trace_notes::open_text::{OpenText, Sought};
 use crate::trace_notes::replay::Replay;
 use crate::trace_notes::table_steps::refusal_after;
 use crate::trace_notes::text_line::TextLine;
-use ra_stamp::Entry;
+use ra_stamp::{Entry, Mark};
 use ra_trace::{Line, MarkCause};
 use ra_world::Note;
 use std::alloc::Global;
@@ -31,49 +32,39 @@ fn cause_text(cause: MarkCause) -> &'static str {
     }
 }
 
-/// Adds a request that is in the way of another one, if there is one, and its number if that is told, too.
-fn push_other(note: &mut Note, joint: &str, request: Option<&OpenRequest>, has_number: bool) {
+/// Adds a request that is in the way of another one, with its number, if there is one. Returns whether there is.
+fn push_other(note: &mut Note, joint: &str, request: Option<&OpenRequest>) -> bool {
     if let Some(request) = request {
         note.push(joint);
         request.push_in_the_way(note);
-        if has_number {
-            push_number(note, request);
-        }
+        push_numbered(note, ", with number ", request.entry.stamp.seq);
     }
+    request.is_some()
 }
 
-/// Adds the number of a request.
-fn push_number(note: &mut Note, request: &OpenRequest) {
-    note.push(", with number ");
-    note.number(request.entry.stamp.seq);
-}
-
-/// Adds that an entry was never requested and, if it should hold, who holds its name.
+/// Adds the last request that the node of an entry released, or if there is none, that the entry was never requested and, if it should
+/// hold, who holds its name.
 fn push_never(note: &mut Note, entry: &Entry, replay: &Replay, cause: MarkCause) {
+    if let Some(released) = &replay.released {
+        note.push(": ");
+        released.push(note, " last released ", " in line ");
+        push_numbered(note, ", with number ", released.entry.stamp.seq);
+        return;
+    }
     note.push(": it was never requested");
     if let MarkCause::NotHeld = cause {
-        let holder = replay
-            .open
-            .next_of(0, &Sought::On(Stage::Holds, entry.name));
-        push_other(note, "; ", holder, true);
+        let holds = Sought::On(Stage::Holds, entry.name);
+        push_other(note, "; ", replay.open.next_of(0, &holds));
     }
 }
 
 /// Adds what became of an entry that neither waits nor holds: it was released, or it was never requested. If it was not, a request
 /// like it is named in its place, or the last one that its node released. If none is, and it should hold, who holds its name.
 fn push_past(note: &mut Note, entry: &Entry, replay: &Replay, cause: MarkCause) {
-    match (&replay.released, nearest_of(&replay.open, entry)) {
-        (Some(released), _) if released.entry == *entry => {
-            note.push(": it was released in line ");
-            note.number(released.since);
-        }
-        (_, nearest @ Some(_)) => push_other(note, ": ", nearest, true),
-        (Some(released), None) => {
-            note.push(": ");
-            released.push(note, " last released ", " in line ");
-            push_number(note, released);
-        }
-        (None, None) => push_never(note, entry, replay, cause),
+    if let Some(released) = replay.release_of(entry) {
+        push_numbered(note, ": it was released in line ", released.since);
+    } else if !push_other(note, ": ", nearest_of(&replay.open, entry)) {
+        push_never(note, entry, replay, cause);
     }
 }
 
@@ -82,39 +73,77 @@ fn push_past(note: &mut Note, entry: &Entry, replay: &Replay, cause: MarkCause) 
 fn push_fate(note: &mut Note, entry: &Entry, replay: &Replay, cause: MarkCause) {
     match replay.open.request_of(entry) {
         Some(request) => {
-            note.push(if request.holds() {
+            let text = if request.holds() {
                 ": it was granted in line "
             } else {
                 ": it has waited since line "
-            });
-            note.number(request.since);
+            };
+            push_numbered(note, text, request.since);
         }
         None => push_past(note, entry, replay, cause),
     }
 }
 
+/// Adds the greatest number that was granted for the name of an entry, if the number of the entry is not above it.
+fn push_granted(note: &mut Note, entry: &Entry, replay: &Replay) {
+    if replay.granted >= entry.stamp.seq {
+        push_number_in(note, ": ", replay.granted, " was granted in line ");
+        note.number(replay.granted_at);
+    }
+}
+
+/// Adds the first of these requests, which are in the way of a mark, if there is one.
+fn push_first(note: &mut Note, replay: &Replay, sought: &Sought) {
+    if let Some(request) = replay.open.next_of(0, sought) {
+        note.push(": ");
+        request.push_in_the_way(note);
+    }
+}
+
 /// Adds what is in the way of the mark of an entry, for this cause.
 fn push_details(note: &mut Note, entry: &Entry, replay: &Replay, cause: MarkCause) {
-    let sought = match cause {
-        MarkCause::NotAbove => {
-            if replay.granted >= entry.stamp.seq {
-                note.push(": ");
-                note.number(replay.granted);
-                note.push(" was granted in line ");
-                note.number(replay.granted_at);
-            }
-            return;
+    match cause {
+        MarkCause::NotAbove => push_granted(note, entry, replay),
+        MarkCause::NodeBusy => {
+            push_first(note, replay, &Sought::AtNode(entry.stamp.node, entry.name));
         }
-        MarkCause::NodeBusy => Sought::AtNode(entry.stamp.node, entry.name),
-        MarkCause::Held => Sought::BlockingAt(Stage::Holds, *entry),
-        MarkCause::Earlier => Sought::BlockingAt(Stage::Waits, *entry),
-        MarkCause::NotWaiting | MarkCause::NotHeld => {
-            push_fate(note, entry, replay, cause);
-            return;
-        }
-        MarkCause::Line => return,
+        MarkCause::Held => push_first(note, replay, &Sought::BlockingAt(Stage::Holds, *entry)),
+        MarkCause::Earlier => push_first(note, replay, &Sought::BlockingAt(Stage::Waits, *entry)),
+        MarkCause::NotWaiting | MarkCause::NotHeld => push_fate(note, entry, replay, cause),
+        MarkCause::Line => {}
+    }
+}
+
+/// Adds `other`, which says why a mark of a log is wrong, and what is in its way for this cause, if that is known.
+fn push_in_log(note: &mut Note, entry: &Entry, replay: &Replay, cause: MarkCause, other: &str) {
+    note.push(other);
+    if replay.open.is_whole {
+        push_details(note, entry, replay, cause);
+    }
+}
+
+/// Adds why a lock table does not allow a mark of a trace and what is in its way, or `other` if that is not known.
+fn push_in_trace(
+    alloc: Global,
+    note: &mut Note,
+    line: &TextLine<'_>,
+    mark: &Mark,
+    replay: &Replay,
+    other: &str,
+) {
+    let cause = if replay.open.is_whole {
+        refusal_after(alloc, line.before, mark)
+    } else {
+        None
     };
-    push_other(note, ": ", replay.open.next_of(0, &sought), false);
+    match cause {
+        Some(cause) => {
+            note.push("the lock table does not allow this mark");
+            note.push(cause_text(cause));
+            push_details(note, mark.entry(), replay, cause);
+        }
+        None => note.push(other),
+    }
 }
 
 /// Adds why the mark in a line is wrong and what is in its way, or `other` if that is not known since there is no memory for what waits,
@@ -127,25 +156,13 @@ pub fn push_obstacle(
     log_cause: Option<MarkCause>,
     other: &str,
 ) {
-    let Some(Line::Marked(mark)) = &Line::parse(line.bytes) else {
-        note.push(other);
-        return;
-    };
-    let replay = Replay::before(alloc, line);
-    let cause = match log_cause {
-        _ if !replay.open.is_whole => None,
-        None => refusal_after(alloc, line.before, mark),
-        why => why,
-    };
-    let Some(cause) = cause else {
-        note.push(other);
-        return;
-    };
-    if log_cause.is_some() {
-        note.push(other);
+    if let Some(Line::Marked(mark)) = &Line::parse(line.bytes) {
+        let replay = Replay::before(alloc, line);
+        match log_cause {
+            Some(cause) => push_in_log(note, mark.entry(), &replay, cause, other),
+            None => push_in_trace(alloc, note, line, mark, &replay, other),
+        }
     } else {
-        note.push("the lock table does not allow this mark");
-        note.push(cause_text(cause));
+        note.push(other);
     }
-    push_details(note, mark.entry(), &replay, cause);
 }

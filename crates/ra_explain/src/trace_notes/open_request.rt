@@ -1,4 +1,5 @@
 //! A client that waits, is queued or holds, as a note says it.
+use crate::note_parts::{push_name_and_mode, push_numbered};
 use ra_stamp::{Entry, Mode, Name, NodeId, conflicts};
 use ra_world::Note;
 
@@ -61,13 +62,9 @@ impl OpenRequest {
     pub fn push(&self, note: &mut Note, does: &str, place: &str) {
         let entry = &self.entry;
         note.client(entry.client);
-        note.push(" at node ");
-        note.number(entry.stamp.node.get());
-        note.push(does);
-        note.name(&entry.name);
-        note.mode(entry.mode);
-        note.push(place);
-        note.number(self.since);
+        push_numbered(note, " at node ", entry.stamp.node.get());
+        push_name_and_mode(note, does, &entry.name, entry.mode);
+        push_numbered(note, place, self.since);
     }
 
     /// Adds that it is in the way of another one, since it holds or came first.

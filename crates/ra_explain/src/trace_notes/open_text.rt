@@ -13,7 +13,7 @@ fn key_of(entry: &Entry) -> ClientKey {
 }
 
 /// Which requests are looked for.
-#[derive(Drop)]
+#[derive(Clone, Copy)]
 pub enum Sought {
     /// Those at this stage.
     At(Stage),
@@ -83,11 +83,9 @@ impl OpenText {
 
     /// Returns the request of an entry, if that waits or holds.
     pub fn request_of(&self, entry: &Entry) -> Option<&OpenRequest> {
-        let request = self.clients.get(&key_of(entry))?;
-        if request.is_on(&entry.name) && request.entry == *entry {
-            Some(request)
-        } else {
-            None
+        match self.clients.get(&key_of(entry)) {
+            Some(request) if request.is_on(&entry.name) && request.entry == *entry => Some(request),
+            _ => None,
         }
     }
 

@@ -1,4 +1,5 @@
 //! Why a node refuses what a client wants at a line of a trace.
+use crate::note_parts::{push_name_and_mode, push_numbered};
 use crate::trace_notes::open_request::{OpenRequest, Stage};
 use crate::trace_notes::open_text::ClientKey;
 use crate::trace_notes::replay::Replay;
@@ -19,19 +20,15 @@ pub fn push_stage(
     since: u64,
 ) {
     note.client(client);
-    note.push(stage.done());
-    note.name(name);
-    note.mode(mode);
+    push_name_and_mode(note, stage.done(), name, mode);
     push_node(note, node);
-    note.push(" since line ");
-    note.number(since);
+    push_numbered(note, " since line ", since);
 }
 
 /// Adds at which node something is, if that is told.
 fn push_node(note: &mut Note, node: Option<NodeId>) {
     if let Some(node) = node {
-        note.push(" at node ");
-        note.number(node.get());
+        push_numbered(note, " at node ", node.get());
     }
 }
 
@@ -52,10 +49,8 @@ pub fn push_exhausted(note: &mut Note, name: &Name) {
 
 /// Adds that a trace of this many nodes has no such node.
 fn push_no_node(note: &mut Note, node: NodeId, nodes: u16) {
-    note.push("there is no node ");
-    note.number(node.get());
-    note.push(": the highest node of the trace is ");
-    note.number(nodes);
+    push_numbered(note, "there is no node ", node.get());
+    push_numbered(note, ": the highest node of the trace is ", nodes);
 }
 
 /// Adds what the client of a key does with the name, so that it may not ask for it again, or does not hold it.
@@ -78,17 +73,9 @@ fn push_open(note: &mut Note, key: &ClientKey, open: &OpenRequest, is_ask: bool)
     });
 }
 
-/// Adds why a node refuses what the client of a key wants, which is to ask for the name or to leave it, or `other` if that is not known.
-fn push_refusal(note: &mut Note, replay: &Replay, key: &ClientKey, is_ask: bool, other: &str) {
+/// Adds why a node that there is refuses what the client of a key wants, which is to ask for the name or to leave it.
+fn push_client(note: &mut Note, replay: &Replay, key: &ClientKey, is_ask: bool) {
     let (node, client, name) = key;
-    if node.get() > replay.nodes && replay.nodes > 0 {
-        push_no_node(note, *node, replay.nodes);
-        return;
-    }
-    if replay.nodes == 0 || !replay.open.is_whole {
-        note.push(other);
-        return;
-    }
     match replay.open.clients.get(key) {
         Some(open) => push_open(note, key, open, is_ask),
         None if is_ask => push_exhausted(note, name),
@@ -96,11 +83,21 @@ fn push_refusal(note: &mut Note, replay: &Replay, key: &ClientKey, is_ask: bool,
     }
 }
 
-/// Adds why the step in a line of a trace is refused, or `other` if that is not known since there is no memory for what waits, is
-/// queued and holds before it. The cost is linear in the lines before.
-pub fn push_refused(alloc: Global, note: &mut Note, line: &TextLine<'_>, other: &str) {
-    let replay = Replay::before(alloc, line);
-    match &Line::parse(line.bytes) {
+/// Adds why a node refuses what the client of a key wants, which is to ask for the name or to leave it, or `other` if that is not known.
+fn push_refusal(note: &mut Note, replay: &Replay, key: &ClientKey, is_ask: bool, other: &str) {
+    let (node, _, _) = key;
+    if node.get() > replay.nodes && replay.nodes > 0 {
+        push_no_node(note, *node, replay.nodes);
+    } else if replay.nodes > 0 && replay.open.is_whole {
+        push_client(note, replay, key, is_ask);
+    } else {
+        note.push(other);
+    }
+}
+
+/// Returns the key of the client that asks or leaves by a line of a trace, and whether it asks, or `None` if it is another line.
+fn want_of(line: &[u8]) -> Option<(ClientKey, bool)> {
+    match &Line::parse(line) {
         Some(
             Line::Stepped(
                 Step::Ask {
@@ -110,10 +107,21 @@ pub fn push_refused(alloc: Global, note: &mut Note, line: &TextLine<'_>, other: 
                     ..
                 },
             ),
-        ) => push_refusal(note, &replay, &(*node, *client, *name), true, other),
+        ) => Some(((*node, *client, *name), true)),
         Some(Line::Stepped(Step::Leave { node, client, name })) => {
-            push_refusal(note, &replay, &(*node, *client, *name), false, other);
+            Some(((*node, *client, *name), false))
         }
-        _ => note.push(other),
+        _ => None,
+    }
+}
+
+/// Adds why the step in a line of a trace is refused, or `other` if that is not known since there is no memory for what waits, is
+/// queued and holds before it. The cost is linear in the lines before.
+pub fn push_refused(alloc: Global, note: &mut Note, line: &TextLine<'_>, other: &str) {
+    match want_of(line.bytes) {
+        Some((key, is_ask)) => {
+            push_refusal(note, &Replay::before(alloc, line), &key, is_ask, other);
+        }
+        None => note.push(other),
     }
 }

@@ -35,17 +35,38 @@ pub struct Replay {
     pub came: Option<u64>,
 }
 
+/// Returns whether a message is the REQUEST that this REPLY answers.
+fn is_answered_by(request: &Message, reply: &Message) -> bool {
+    matches!(request, Message::Request { .. })
+        && request.from() == reply.to()
+        && request.to() == reply.from()
+        && request.name() == reply.name()
+        && request.seq() == reply.seq()
+}
+
+/// Returns whether a message is a REPLY to the request of an entry.
+fn is_reply_to(reply: &Message, entry: &Entry) -> bool {
+    matches!(reply, Message::Reply { .. })
+        && reply.to() == entry.stamp.node
+        && reply.name() == entry.name
+        && reply.seq() == entry.stamp.seq
+}
+
+/// Returns the entry of the mark that a line is, and the message that it delivers, loses or repeats, if it is or does that.
+fn subjects_of(line: &[u8]) -> (Option<Entry>, Option<Message>) {
+    match &Line::parse(line) {
+        Some(Line::Marked(mark)) => (Some(*mark.entry()), None),
+        Some(Line::Stepped(Step::Deliver(sent) | Step::Lose(sent) | Step::Repeat(sent))) => {
+            (None, Some(*sent))
+        }
+        _ => (None, None),
+    }
+}
+
 impl Replay {
     /// Makes that of a line before which no line was taken yet.
-    fn new(alloc: Global, line: &TextLine<'_>) -> Replay {
-        let (mut entry, mut message) = (None, None);
-        match &Line::parse(line.bytes) {
-            Some(Line::Marked(mark)) => entry = Some(*mark.entry()),
-            Some(Line::Stepped(Step::Deliver(sent) | Step::Lose(sent) | Step::Repeat(sent))) => {
-                message = Some(*sent);
-            }
-            _ => {}
-        }
+    fn new(alloc: Global, line: &[u8]) -> Replay {
+        let (entry, message) = subjects_of(line);
         Replay {
             nodes: 0,
             open: OpenText::new(alloc),
@@ -62,16 +83,28 @@ impl Replay {
 
     /// Goes through the lines before this one. The cost is linear in them.
     pub fn before(alloc: Global, line: &TextLine<'_>) -> Replay {
-        let mut replay = Replay::new(alloc, line);
-        let mut rest = line.before;
+        let mut replay = Replay::new(alloc, line.bytes);
+        replay.take_lines(line.before);
+        replay
+    }
+
+    /// Goes through all lines of a text. The cost is linear in it.
+    pub fn after(alloc: Global, text: &[u8]) -> Replay {
+        let mut replay = Replay::new(alloc, b"");
+        replay.take_lines(text);
+        replay
+    }
+
+    /// Takes the lines of a text.
+    fn take_lines(&mut self, text: &[u8]) {
+        let mut rest = text;
         for number in 1..u64::MAX {
             let (line, Some(after)) = cut(rest, b'\n') else {
                 break;
             };
-            replay.take(line, number);
+            self.take(line, number);
             rest = after;
         }
-        replay
     }
 
     /// Takes the line with this number.
@@ -89,70 +122,50 @@ impl Replay {
 
     /// Takes the step in the line with this number. Until its request is made, a client that asks is queued.
     fn take_step(&mut self, step: &Step, number: u64) {
-        if let Step::Ask {
-            node,
-            client,
-            name,
-            mode,
-        } = step
-        {
-            let queued = Entry {
-                name: *name,
-                stamp: Stamp {
+        match step {
+            Step::Ask {
+                node,
+                client,
+                name,
+                mode,
+            } => {
+                let stamp = Stamp {
                     seq: 1,
                     node: *node,
-                },
-                client: *client,
-                mode: *mode,
-            };
-            self.open.keep(&queued, Stage::Queued, number);
-        }
-        if let Step::Deliver(message) = step {
-            self.take_message(message, number, false);
-            self.take_reply(message);
-        }
-        if let Step::Lose(message) = step {
-            self.take_message(message, number, true);
+                };
+                let queued = Entry {
+                    name: *name,
+                    stamp,
+                    client: *client,
+                    mode: *mode,
+                };
+                self.open.keep(&queued, Stage::Queued, number);
+            }
+            Step::Deliver(message) => {
+                self.take_message(message, number, false);
+                self.take_reply(message);
+            }
+            Step::Lose(message) => self.take_message(message, number, true),
+            Step::Repeat(_) | Step::Leave { .. } => {}
         }
     }
 
     /// Takes that a message is delivered or lost in the line with this number.
     fn take_message(&mut self, message: &Message, number: u64, is_lost: bool) {
-        let Some(sought) = &self.message else {
-            return;
-        };
-        if *message == *sought {
-            self.taken = Some((number, is_lost));
-        } else if let Message::Request {
-            from,
-            to,
-            name,
-            seq,
-            ..
-        } = message
-            && !is_lost
-            && *from == sought.to()
-            && *to == sought.from()
-            && *name == sought.name()
-            && *seq == sought.seq()
-        {
-            self.came = Some(number);
+        if let Some(sought) = &self.message {
+            if *message == *sought {
+                self.taken = Some((number, is_lost));
+            } else if !is_lost && is_answered_by(message, sought) {
+                self.came = Some(number);
+            }
         }
     }
 
     /// Takes that a message is delivered, which may be a REPLY to the request of the entry.
     fn take_reply(&mut self, message: &Message) {
-        if let Message::Reply {
-            from,
-            to,
-            name,
-            seq,
-        } = message
-            && let Some(entry) = &self.entry
-            && *to == entry.stamp.node
-            && *name == entry.name
-            && *seq == entry.stamp.seq
-            && let Some(has) = self.replied.get_mut(usize::from(from.get()))
+        if let Some(entry) = &self.entry
+            && is_reply_to(message, entry)
+            && let Some(has) = self.replied.get_mut(usize::from(message.from().get()))
         {
             *has = true;
         }
@@ -160,43 +173,59 @@ impl Replay {
 
     /// Takes the mark in the line with this number, for what is over on the name of the entry.
     fn take_mark(&mut self, mark: &Mark, number: u64) {
-        let Some(entry) = self.entry else {
-            return;
-        };
-        match mark {
-            Mark::Entered(granted)
-                if granted.name == entry.name && granted.stamp.seq > self.granted => {
-                self.granted = granted.stamp.seq;
-                self.granted_at = number;
+        if let Some(entry) = self.entry {
+            match mark {
+                Mark::Requested(_) => {}
+                Mark::Entered(granted) => self.take_grant(granted, &entry, number),
+                Mark::Left(released) => self.take_release(released, &entry, number),
             }
-            Mark::Left(released)
-                if released.name == entry.name && released.stamp.node == entry.stamp.node => {
-                // It says more than those before, but for the entry.
-                let is_known = matches!(&self.released, Some(known) if known.entry == entry);
-                if *released == entry || !is_known {
-                    self.released = Some(OpenRequest {
-                        entry: *released,
-                        stage: Stage::Queued,
-                        since: number,
-                    });
-                }
-            }
-            _ => {}
         }
+    }
+
+    /// Takes a grant in the line with this number, if it is of the name of the entry.
+    fn take_grant(&mut self, granted: &Entry, entry: &Entry, number: u64) {
+        if granted.name == entry.name && granted.stamp.seq > self.granted {
+            self.granted = granted.stamp.seq;
+            self.granted_at = number;
+        }
+    }
+
+    /// Returns the request of the entry, if it was released.
+    pub fn release_of(&self, entry: &Entry) -> Option<&OpenRequest> {
+        match &self.released {
+            Some(released) if released.entry == *entry => Some(released),
+            _ => None,
+        }
+    }
+
+    /// Takes a release in the line with this number, if it is by the node of the entry and of its name. It says more than those
+    /// before, but for the entry.
+    fn take_release(&mut self, released: &Entry, entry: &Entry, number: u64) {
+        if released.name == entry.name
+            && released.stamp.node == entry.stamp.node
+            && (*released == *entry || self.release_of(entry).is_none())
+        {
+            self.released = Some(OpenRequest {
+                entry: *released,
+                stage: Stage::Queued,
+                since: number,
+            });
+        }
+    }
+
+    /// Returns whether a node is another one than that of an entry, and has no REPLY to its request delivered.
+    fn is_missing(&self, node: u16, entry: &Entry) -> bool {
+        node != entry.stamp.node.get() && matches!(self.replied.get(usize::from(node)), Some(false))
     }
 
     /// Returns the first node, other than that of an entry, that has no REPLY to its request delivered, and how many such nodes there
     /// are. If there is none, both are 0.
-    pub fn missing(&self, entry: &Entry) -> (u64, u64) {
-        let own = entry.stamp.node.get();
-        let (mut first, mut count) = (0, 0u64);
+    pub fn missing(&self, entry: &Entry) -> (u16, u16) {
+        let (mut first, mut count) = (0, 0);
         for before in 0..self.nodes {
-            let node = before + 1;
-            if node != own && self.replied.get(usize::from(node)) == Some(&false) {
-                if count == 0 {
-                    first = u64::from(node);
-                }
-                count = count.saturating_add(1);
+            if self.is_missing(before + 1, entry) {
+                first = if count == 0 { before + 1 } else { first };
+                count = u16::saturating_add(count, 1);
             }
         }
         (first, count)

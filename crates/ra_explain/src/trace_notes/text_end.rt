@@ -1,12 +1,12 @@
 //! What is left at the end of a trace or of a mark log.
 ghost use Rattle.std.specs.Prelude.{◌≤◌, length};
 
+use crate::note_parts::push_number_in;
 use crate::trace_notes::blockers::{ByLine, MAX_CLIENTS, push_blockers, want_text};
 use crate::trace_notes::line_form::version_of;
 use crate::trace_notes::open_request::{OpenRequest, Stage};
 use crate::trace_notes::open_text::{OpenText, Sought};
 use crate::trace_notes::replay::Replay;
-use crate::trace_notes::text_line::TextLine;
 use memchr::memchr;
 use ra_stamp::Memory;
 use ra_world::Note;
@@ -170,29 +170,51 @@ fn push_clients(note: &mut Note, open: &OpenText, stage: Stage, before: u64, wan
     named
 }
 
+/// Adds how many things are left and what they do, after this text, if there are any. Returns the text after which more things are
+/// added.
+fn push_count<'a>(
+    note: &mut Note,
+    joint: &'a str,
+    count: u128,
+    thing: &str,
+    does: &str,
+) -> &'a str {
+    if count == 0 {
+        return joint;
+    }
+    push_number_in(note, joint, count, thing);
+    note.push(if count == 1 { " " } else { "s " });
+    note.push(does);
+    ", "
+}
+
 /// Adds how much is left, which is not nothing. A mark log has neither messages nor clients that are queued.
 fn push_counts(note: &mut Note, left: &LeftOver, is_trace: bool) {
-    note.push(if is_trace {
+    let mut joint = if is_trace {
         "the trace ends with "
     } else {
         "the log ends with "
-    });
-    let mut is_next = false;
-    for &(count, thing, what) in &[
+    };
+    for &(count, thing, does) in &[
         (left.under_way, " message", "under way"),
         (left.lost, " message", "lost"),
         (u128::from(left.waiting), " request", "waiting"),
         (u128::from(left.queued), " client", "queued"),
         (u128::from(left.holding), " request", "holding"),
     ] {
-        if count > 0 {
-            note.push(if is_next { ", " } else { "" });
-            note.number(count);
-            note.push(thing);
-            note.push(if count == 1 { " " } else { "s " });
-            note.push(what);
-            is_next = true;
-        }
+        joint = push_count(note, joint, count, thing, does);
+    }
+}
+
+/// Adds the first clients at each stage, or that there was no memory for them.
+fn push_stages(note: &mut Note, open: &OpenText, want: &str) {
+    if !open.is_whole {
+        note.push("; there was no room to name them");
+        return;
+    }
+    let mut named = 0;
+    for stage in [Stage::Waits, Stage::Queued, Stage::Holds] {
+        named = push_clients(note, open, stage, named, want);
     }
 }
 
@@ -205,22 +227,7 @@ fn push_end(alloc: Global, note: &mut Note, text: &[u8], left: &LeftOver) {
     } else {
         ": no client blocks it"
     };
-    let end = TextLine {
-        number: 0,
-        before: text,
-        bytes: b"",
-        has_feed: false,
-        is_after_end: false,
-    };
-    let open = &Replay::before(alloc, &end).open;
-    if open.is_whole {
-        let mut named = 0;
-        for stage in [Stage::Waits, Stage::Queued, Stage::Holds] {
-            named = push_clients(note, open, stage, named, want);
-        }
-    } else {
-        note.push("; there was no room to name them");
-    }
+    push_stages(note, &Replay::after(alloc, text).open, want);
 }
 
 /// Returns a note on what is left at the end of a text, which is a mark log, or a trace in which this many messages were sent. The note
