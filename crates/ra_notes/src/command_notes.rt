@@ -5,7 +5,7 @@ use crate::note_texts::{
 };
 use crate::seen::seen_writer::OutputFault;
 use ra_draw::DrawError;
-use ra_explain::end_note;
+use ra_explain::{end_note, push_number_in, push_numbered};
 use ra_schedule::DriveError;
 use ra_script::{ChoicesError, PerformError};
 use ra_task::{Command, CommandFault, NO_MEMORY, Notice, is_choice, usage_note, write_line};
@@ -58,10 +58,8 @@ pub fn of_command(alloc: Global, arguments: &[String], why: CommandFault) -> Not
 pub fn range_note(alloc: Global, option: &str, number: u16, most: u16) -> Notice {
     let mut note = Note::new(alloc);
     note.push(option);
-    note.push(" is ");
-    note.number(u64::from(number));
-    note.push(": must be 1 to ");
-    note.number(u64::from(most));
+    push_number_in(&mut note, " is ", number, ": must be 1 to ");
+    note.number(most);
     Notice::of(note)
 }
 
@@ -121,12 +119,10 @@ fn no_lines_note(alloc: Global, from: u64, lines: u64) -> Notice {
     if lines == 0 {
         note.push("there is nothing to draw");
     } else {
-        note.push("--from is ");
-        note.number(from);
+        push_numbered(&mut note, "--from is ", from);
     }
-    note.push(": standard input has ");
-    note.number(lines);
-    note.push(if lines == 1 { " line" } else { " lines" });
+    let unit = if lines == 1 { " line" } else { " lines" };
+    push_number_in(&mut note, ": standard input has ", lines, unit);
     Notice::of(note)
 }
 

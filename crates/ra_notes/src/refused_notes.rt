@@ -2,7 +2,8 @@
 use crate::refused_event::Standing;
 use ra_book::{FirstLine, Refusal};
 use ra_explain::{
-    Stage, push_digits_fault, push_exhausted, push_frame_fault, push_not_held, push_stage,
+    Stage, push_digits_fault, push_exhausted, push_frame_fault, push_not_held, push_numbered,
+    push_stage,
 };
 use ra_frame::Frame;
 use ra_history::BookError;
@@ -18,51 +19,70 @@ const NO_CLOCK: &str =
 /// Adds for which node a frame is, and for which it should be, if that is why the node of a book with this first line does not take it.
 /// Otherwise it adds from which node the frame is, and which nodes there are.
 fn push_frame_node(note: &mut Note, first: &FirstLine, frame: &Frame, is_for_another: bool) {
-    let (text, node, expected, number) = if is_for_another {
-        let to = frame.message.to();
-        (
-            "for node ",
-            to,
-            ": expected one for node ",
-            first.member.node().get(),
-        )
+    if is_for_another {
+        push_numbered(note, "the frame is for node ", frame.message.to().get());
+        push_numbered(note, ": expected one for node ", first.member.node().get());
     } else {
-        let from = frame.message.from();
-        (
-            "from node ",
-            from,
-            ": the nodes are 1 to ",
-            first.member.nodes(),
-        )
-    };
-    note.push("the frame is ");
-    note.push(text);
-    note.number(node.get());
-    note.push(expected);
-    note.number(number);
+        push_numbered(note, "the frame is from node ", frame.message.from().get());
+        push_numbered(note, ": the nodes are 1 to ", first.member.nodes());
+    }
+}
+
+/// Returns what is expected before a client that is so far asks again, or before one leaves that is so far.
+fn expectation(asks: bool, stage: Option<Stage>) -> &'static str {
+    match stage {
+        Some(Stage::Holds) if asks => " and may not ask for it again: expected its release first",
+        _ if asks => " and may not ask for it again: expected its grant and its release first",
+        Some(_) => " and does not hold it: expected its grant first",
+        None => ": expected a client that does",
+    }
+}
+
+/// Adds how far a client is.
+fn push_standing(note: &mut Note, standing: &Standing) {
+    let (client, name) = (standing.client, &standing.name);
+    match standing.stage {
+        Some(stage) => {
+            push_stage(
+                note,
+                client,
+                stage,
+                name,
+                standing.mode,
+                None,
+                standing.since,
+            );
+        }
+        None => push_not_held(note, client, name, None),
+    }
 }
 
 /// Adds why a client may not do what it does at the line.
 fn push_client(note: &mut Note, why: BookError, standing: &Standing) {
-    let (client, name, mode) = (standing.client, &standing.name, standing.mode);
-    if !matches!(why, BookError::Busy | BookError::NotHeld) {
-        push_exhausted(note, name);
-        return;
+    if let BookError::Busy | BookError::NotHeld = why {
+        push_standing(note, standing);
+        note.push(expectation(matches!(why, BookError::Busy), standing.stage));
+    } else {
+        push_exhausted(note, &standing.name);
     }
-    match standing.stage {
-        Some(stage) => push_stage(note, client, stage, name, mode, None, standing.since),
-        None => push_not_held(note, client, name, None),
+}
+
+/// Adds why the node of a book with this first line does not take the event of a line: for its frame, if one comes by it, or for what
+/// its client does, if one asks or leaves by it.
+fn push_untaken(
+    note: &mut Note,
+    frame: &Option<Frame>,
+    first: &FirstLine,
+    cause: BookError,
+    standing: &Option<Standing>,
+) {
+    if let BookError::WrongNode | BookError::Stranger = cause {
+        if let Some(frame) = frame {
+            push_frame_node(note, first, frame, matches!(cause, BookError::WrongNode));
+        }
+    } else if let Some(standing) = standing {
+        push_client(note, cause, standing);
     }
-    note.push(match (why, standing.stage) {
-        (BookError::Busy, Some(Stage::Holds)) => {
-            " and may not ask for it again: expected its release first"
-        }
-        (BookError::Busy, _) => {
-            " and may not ask for it again: expected its grant and its release first"
-        }
-        (_, Some(_)) => " and does not hold it: expected its grant first",
-        (_, None) => ": expected a client that does",
-    });
 }
 
 /// Adds why the node of a book with this first line does not take a line, and what would be right. The frame comes by the line, if one
@@ -76,18 +96,11 @@ pub fn push_refused(
     standing: &Option<Standing>,
 ) {
     let digits = line.get(RECEIVE.len()..).unwrap_or(b"");
-    match (why, frame, standing) {
-        (Refusal::Hex, _, _) => push_digits_fault(note, digits, RECEIVE.len()),
-        (Refusal::Frame(fault), _, _) => push_frame_fault(note, digits, fault),
-        (Refusal::Event(BookError::WrongNode), Some(frame), _) => {
-            push_frame_node(note, first, frame, true)
-        }
-        (Refusal::Event(BookError::Stranger), Some(frame), _) => {
-            push_frame_node(note, first, frame, false)
-        }
-        (Refusal::Event(BookError::ClockFull), _, _) => note.push(NO_CLOCK),
-        (Refusal::Event(cause), _, Some(standing)) => push_client(note, cause, standing),
-        // An event that no client makes is refused for one of the causes above.
-        _ => {}
+    match why {
+        Refusal::Line => {}
+        Refusal::Hex => push_digits_fault(note, digits, RECEIVE.len()),
+        Refusal::Frame(fault) => push_frame_fault(note, digits, fault),
+        Refusal::Event(BookError::ClockFull) => note.push(NO_CLOCK),
+        Refusal::Event(cause) => push_untaken(note, frame, first, cause, standing),
     }
 }

@@ -1,54 +1,82 @@
 //! What is said of the line at which a text of books is wrong.
-use crate::book_openings::Openings;
+use crate::book_openings::{Opening, Openings};
 use crate::input_places::PlaceNote;
 use crate::note_texts::text_cause_text;
 use crate::refused_event::refused_event;
 use crate::refused_notes::push_refused;
 use ra_book::{FirstLine, TextCause, event_of};
+use ra_explain::{push_number_in, push_numbered};
 use ra_frame::Frame;
 use ra_history::BookKind;
 use ra_world::{Note, cut};
 use std::alloc::Global;
 
-/// Adds which book is missing, of as many as the first one says, if one is and that is the cause.
-fn push_end(note: &mut Note, openings: &Openings<'_>, cause: TextCause) {
-    note.push(": ");
-    if let (TextCause::Books, Some(opening)) = (cause, &openings.first) {
-        let nodes = opening.first.member.nodes();
-        for node in 1..=nodes {
-            if openings.line_of(node) == 0 {
-                note.push("the book of node ");
-                note.number(node);
-                note.push(" is missing: expected one book of each of ");
-                note.number(nodes);
-                note.push(" nodes");
-                return;
-            }
+/// Returns the first of this many nodes that has no book, if one has none.
+fn missing_node(openings: &Openings<'_>, nodes: u16) -> Option<u16> {
+    for node in 1..=nodes {
+        if openings.line_of(node) == 0 {
+            return Some(node);
         }
     }
+    None
+}
+
+/// Adds which book is missing, of this many, if one is. Returns whether one is.
+fn push_missing(note: &mut Note, openings: &Openings<'_>, nodes: u16) -> bool {
+    let Some(node) = missing_node(openings, nodes) else {
+        return false;
+    };
+    push_numbered(note, ": the book of node ", node);
+    push_number_in(
+        note,
+        " is missing: expected one book of each of ",
+        nodes,
+        " nodes",
+    );
+    true
+}
+
+/// Adds which book is missing, of as many as the first one says, if one is and that is the cause.
+fn push_end(note: &mut Note, openings: &Openings<'_>, cause: TextCause) {
+    let is_missing = match &openings.first {
+        Some(opening) if matches!(cause, TextCause::Books) => {
+            push_missing(note, openings, opening.first.member.nodes())
+        }
+        _ => false,
+    };
+    if !is_missing {
+        push_cause(note, cause);
+    }
+}
+
+/// Adds the text of a cause.
+fn push_cause(note: &mut Note, cause: TextCause) {
+    note.push(": ");
     note.push(text_cause_text(cause));
+}
+
+/// Adds what the first line of a book is to say, as this first one does.
+fn push_expected(note: &mut Note, opening: &Opening<'_>) {
+    let first = &opening.first;
+    push_numbered(note, ": expected NODES ", first.member.nodes());
+    push_numbered(note, " and START ", first.start);
+    push_numbered(note, ", as at line ", opening.line);
 }
 
 /// Adds why a line cannot be the first one of a book after these: its node has a book already, or it has another number of nodes or
 /// another start.
 fn push_first(note: &mut Note, openings: &Openings<'_>, first: &FirstLine, cause: TextCause) {
-    note.push(": ");
     let again = openings.line_of(first.member.node().get());
-    match (cause, &openings.first) {
-        (TextCause::Books, _) if again > 0 => {
-            note.push("this node has a book already, which begins at line ");
-            note.number(again);
-            note.push(": expected one book of each node");
+    match &openings.first {
+        Some(opening) if matches!(cause, TextCause::Books) => {
+            if again > 0 {
+                let text = ": this node has a book already, which begins at line ";
+                push_number_in(note, text, again, ": expected one book of each node");
+            } else {
+                push_expected(note, opening);
+            }
         }
-        (TextCause::Books, Some(opening)) => {
-            note.push("expected NODES ");
-            note.number(opening.first.member.nodes());
-            note.push(" and START ");
-            note.number(opening.first.start);
-            note.push(", as at line ");
-            note.number(opening.line);
-        }
-        _ => note.push(text_cause_text(cause)),
+        _ => push_cause(note, cause),
     }
 }
 
@@ -57,6 +85,21 @@ fn frame_in(line: &[u8]) -> Option<Frame> {
     match event_of(line) {
         Ok(BookKind::Got(frame)) => Some(frame),
         _ => None,
+    }
+}
+
+/// Adds in which book a line is, and which frame comes by it, if one does.
+fn push_place(note: &mut Note, openings: &Openings<'_>, frame: &Option<Frame>) {
+    if let Some(opening) = &openings.last {
+        push_numbered(
+            note,
+            ", in the book of node ",
+            opening.first.member.node().get(),
+        );
+    }
+    if let Some(frame) = frame {
+        push_numbered(note, ", a frame of node ", frame.message.from().get());
+        push_numbered(note, " with clock ", frame.clock);
     }
 }
 
@@ -69,24 +112,16 @@ fn push_event(
     number: u64,
     cause: TextCause,
 ) {
-    if let Some(opening) = &openings.last {
-        note.push(", in the book of node ");
-        note.number(opening.first.member.node().get());
-    }
     let frame = frame_in(line);
-    if let Some(frame) = &frame {
-        note.push(", a frame of node ");
-        note.number(frame.message.from().get());
-        note.push(" with clock ");
-        note.number(frame.clock);
-    }
-    note.push(": ");
-    if let (TextCause::Refused, Some(opening)) = (cause, &openings.last)
+    push_place(note, openings, &frame);
+    if let TextCause::Refused = cause
+        && let Some(opening) = &openings.last
         && let Some((why, standing)) = &refused_event(alloc, opening, line, number)
     {
+        note.push(": ");
         push_refused(note, line, &frame, &opening.first, *why, standing);
     } else {
-        note.push(text_cause_text(cause));
+        push_cause(note, cause);
     }
 }
 
@@ -100,8 +135,7 @@ fn push_event(
 pub fn unsettled_note(alloc: Global, text: &[u8], number: u64, cause: TextCause) -> PlaceNote {
     let (openings, rest) = Openings::before(text, number);
     let mut note = Note::new(alloc);
-    note.push("line ");
-    note.number(number);
+    push_numbered(&mut note, "line ", number);
     let (line, Some(_)) = cut(rest, b'\n') else {
         push_end(&mut note, &openings, cause);
         return note.finish();

@@ -1,5 +1,5 @@
 //! The states of the clients of a script when a run of it ends.
-use ra_explain::{OpenRequest, OpenText, Stage, TellsBlocker};
+use ra_explain::{OpenRequest, OpenText, Stage, TellsBlocker, push_name_and_mode, push_numbered};
 use ra_schedule::{Choice, Op, Policy, Script};
 use ra_stamp::{Entry, Mark, Mode, Name};
 use ra_world::{Note, Report};
@@ -29,24 +29,32 @@ pub enum ClientEnd {
 }
 
 impl ClientEnd {
+    /// Returns whether the client has something left to do, and waits or is queued if `waits`, and otherwise does not.
+    pub fn is_left(&self, waits: bool) -> bool {
+        match self {
+            ClientEnd::Done => false,
+            ClientEnd::Waits(_) | ClientEnd::Queued { .. } => waits,
+            ClientEnd::Idle(_) => !waits,
+        }
+    }
+
     /// Adds the state of the client.
     pub fn push(&self, note: &mut Note) {
         match self {
             ClientEnd::Done => note.push(" has done all its operations"),
-            ClientEnd::Waits(entry) => {
-                note.push(" waits for ");
-                note.name(&entry.name);
-                note.mode(entry.mode);
-            }
-            ClientEnd::Queued { name, mode } => {
-                note.push(" is queued for ");
-                note.name(name);
-                note.mode(*mode);
-            }
-            ClientEnd::Idle(op) => {
-                note.push(" has not begun operation ");
-                note.number(*op);
-            }
+            ClientEnd::Waits(entry) => push_name_and_mode(
+                note,
+                " waits for ",
+                &entry.name,
+                entry.mode,
+            ),
+            ClientEnd::Queued { name, mode } => push_name_and_mode(
+                note,
+                " is queued for ",
+                name,
+                *mode,
+            ),
+            ClientEnd::Idle(op) => push_numbered(note, " has not begun operation ", *op),
         }
     }
 }
@@ -88,10 +96,8 @@ impl<'a> RunEnd<'a> {
     fn done_by(&self, client: u32) -> u64 {
         let mut done = 0;
         for mark in self.report.marks.as_slice() {
-            if let Mark::Entered(entry) | Mark::Left(entry) = mark {
-                if entry.client == client {
-                    done = u64::saturating_add(done, 1);
-                }
+            if mark.entry().client == client && !matches!(mark, Mark::Requested(_)) {
+                done = u64::saturating_add(done, 1);
             }
         }
         done
@@ -112,34 +118,35 @@ impl<'a> RunEnd<'a> {
         begun > done
     }
 
-    /// Returns the entry of a client that waits for the name of this operation, if it does.
-    fn waiting_for(&self, client: u32, op: &Op) -> Option<Entry> {
-        let Op::Lock(name, _) = op else {
+    /// Returns the entry of a client that waits for a name, if it does.
+    fn waiting_for(&self, client: u32, name: &Name) -> Option<Entry> {
+        let Some(node) = self.script.node_of(client) else {
             return None;
         };
-        let node = self.script.node_of(client)?;
-        let request = self.requests.clients.get(&(node, client, *name))?;
-        if request.stage.is(Stage::Waits) {
-            Some(request.entry)
+        match self.requests.clients.get(&(node, client, *name)) {
+            Some(request) if request.stage.is(Stage::Waits) => Some(request.entry),
+            _ => None,
+        }
+    }
+
+    /// Returns the state of a client that has done this many operations, and whose next one locks a name.
+    fn locking(&self, client: u32, done: u64, name: &Name, mode: Mode) -> ClientEnd {
+        if let Some(entry) = self.waiting_for(client, name) {
+            ClientEnd::Waits(entry)
+        } else if self.has_begun(client, done) {
+            ClientEnd::Queued { name: *name, mode }
         } else {
-            None
+            ClientEnd::Idle(done.saturating_add(1))
         }
     }
 
     /// Returns the state of a client.
     pub fn client_end(&self, client: u32) -> ClientEnd {
         let done = self.done_by(client);
-        let Some(op) = self.script.op(client, done) else {
-            return ClientEnd::Done;
-        };
-        if let Some(entry) = self.waiting_for(client, &op) {
-            return ClientEnd::Waits(entry);
-        }
-        match op {
-            Op::Lock(name, mode) if self.has_begun(client, done) => {
-                ClientEnd::Queued { name, mode }
-            }
-            _ => ClientEnd::Idle(done.saturating_add(1)),
+        match &self.script.op(client, done) {
+            None => ClientEnd::Done,
+            Some(Op::Lock(name, mode)) => self.locking(client, done, name, *mode),
+            Some(_) => ClientEnd::Idle(done.saturating_add(1)),
         }
     }
 }

@@ -1,6 +1,7 @@
 //! What is said of a run that was shrunk.
 use crate::run_notes::unfinished::push_run;
 use crate::script_notes::script_text::{run_of, script_in};
+use ra_explain::push_number_in;
 use ra_schedule::{Choices, DriveError, Policy, Script, Shrunk, shrink};
 use ra_script::MAX_TURNS;
 use ra_stamp::Memory;
@@ -19,13 +20,9 @@ pub struct ShrunkNotes {
 /// Adds how many choices a run had, and how many the shorter one has.
 fn push_counts(note: &mut Note, before: u64, after: u64) {
     if before == after {
-        note.push("none of the ");
-        note.number(before);
-        note.push(" choices can be left out");
+        push_number_in(note, "none of the ", before, " choices can be left out");
     } else {
-        note.push("shrunk from ");
-        note.number(before);
-        note.push(" choices to ");
+        push_number_in(note, "shrunk from ", before, " choices to ");
         note.number(after);
     }
 }
@@ -42,6 +39,13 @@ fn shorter(alloc: Global, note: &mut Note, script: &Script, policy: &Policy) -> 
     }
 }
 
+/// Adds by how much a policy's run of a script is shrunk, to this many choices.
+fn push_shorter(alloc: Global, note: &mut Note, script: &Script, policy: &Policy, choices: u64) {
+    if let Some(summary) = &run_of(alloc, note, script, policy) {
+        push_counts(note, summary.turns, choices);
+    }
+}
+
 /// Adds by how much a policy's run of a script is shrunk, and what is left to do then.
 fn push_shrunk(
     alloc: Global,
@@ -52,13 +56,22 @@ fn push_shrunk(
 ) {
     match shorter(alloc, counts, script, policy) {
         Some(choices) => {
-            if let Some(summary) = run_of(alloc, counts, script, policy) {
-                push_counts(counts, summary.turns, choices.len());
-            }
+            push_shorter(alloc, counts, script, policy, choices.len());
             push_run(alloc, left, script, &Policy::Listed(choices));
         }
         None => push_run(alloc, left, script, policy),
     }
+}
+
+/// Returns two notes that are made.
+///
+/// # Errors
+///
+/// `Memory`: memory ran out for one of them.
+fn finish(counts: Note, left: Note) -> Result<ShrunkNotes, Memory> {
+    let counts = counts.finish()?;
+    let left = left.finish()?;
+    Ok(ShrunkNotes { counts, left })
 }
 
 /// Returns what is said of a policy's run of the script in a text, which is shrunk if it is stuck: by how much, and, as
@@ -73,9 +86,5 @@ pub fn shrunk_notes(alloc: Global, script: &[u8], policy: &Policy) -> Result<Shr
     if let Some(script) = script_in(alloc, &mut left, script) {
         push_shrunk(alloc, &mut counts, &mut left, &script, policy);
     }
-    let counts = counts.finish()?;
-    Ok(ShrunkNotes {
-        counts,
-        left: left.finish()?,
-    })
+    finish(counts, left)
 }

@@ -1,7 +1,7 @@
 //! Which clients wait for which others at the end of a run.
 use crate::run_notes::client_end::{ClientEnd, RunEnd};
 use crate::script_notes::script_text::{run_of, script_in};
-use ra_explain::{MAX_CLIENTS, OpenText, Sought, push_blockers, want_text};
+use ra_explain::{MAX_CLIENTS, OpenText, Sought, push_blockers, push_numbered, want_text};
 use ra_schedule::{Policy, Script};
 use ra_stamp::{Memory, Name, NodeId};
 use ra_world::Note;
@@ -9,28 +9,19 @@ use std::alloc::Global;
 
 /// Adds the client that is ahead of the clients of this node queued for a name.
 fn push_first(note: &mut Note, requests: &OpenText, node: NodeId, name: &Name) {
-    let Some(first) = requests.next_of(0, &Sought::AtNode(node, *name)) else {
-        return;
-    };
-    note.push(" after ");
-    note.client(first.entry.client);
-    note.push(if first.holds() {
-        ", which holds it"
-    } else {
-        ", which waits for it"
-    });
-    note.mode(first.entry.mode);
+    if let Some(first) = requests.next_of(0, &Sought::AtNode(node, *name)) {
+        push_numbered(note, " after client ", first.entry.client);
+        note.push(if first.holds() {
+            ", which holds it"
+        } else {
+            ", which waits for it"
+        });
+        note.mode(first.entry.mode);
+    }
 }
 
-/// Adds the state of a client that has something left to do.
-fn push_client(note: &mut Note, ending: &RunEnd<'_>, client: u32, client_end: &ClientEnd) {
-    let Some(node) = ending.script.node_of(client) else {
-        return;
-    };
-    note.client(client);
-    note.push(" at node ");
-    note.number(u64::from(node.get()));
-    client_end.push(note);
+/// Adds what is in the way of a client of a node that has something left to do, if it waits or is queued.
+fn push_reason(note: &mut Note, ending: &RunEnd<'_>, node: NodeId, client_end: &ClientEnd) {
     match client_end {
         ClientEnd::Waits(entry) => {
             if !push_blockers(note, &ending.requests, &Sought::Blocking(*entry), ending) {
@@ -42,22 +33,35 @@ fn push_client(note: &mut Note, ending: &RunEnd<'_>, client: u32, client_end: &C
     }
 }
 
+/// Adds the state of a client that has something left to do, after this many others.
+fn push_client(
+    note: &mut Note,
+    ending: &RunEnd<'_>,
+    client: u32,
+    client_end: &ClientEnd,
+    before: u64,
+) {
+    if let Some(node) = ending.script.node_of(client)
+        && before < MAX_CLIENTS
+    {
+        note.push(if before == 0 { "" } else { "; " });
+        note.client(client);
+        push_numbered(note, " at node ", node.get());
+        client_end.push(note);
+        push_reason(note, ending, node, client_end);
+    }
+}
+
 /// Adds the clients with something left to do that wait or are queued, or those that do not, after this many others. Returns how many
 /// clients have something left to do so far.
 fn push_clients(note: &mut Note, ending: &RunEnd<'_>, waits: bool, before: u64) -> u64 {
     let mut count = before;
     for place in 0..ending.script.clients() {
-        let client = place + 1;
-        let client_end = ending.client_end(client);
-        let is_waiting = matches!(client_end, ClientEnd::Waits(_) | ClientEnd::Queued { .. });
-        if is_waiting != waits || matches!(client_end, ClientEnd::Done) {
-            continue;
+        let client_end = &ending.client_end(place + 1);
+        if client_end.is_left(waits) {
+            push_client(note, ending, place + 1, client_end, count);
+            count = u64::saturating_add(count, 1);
         }
-        if count < MAX_CLIENTS {
-            note.push(if count == 0 { "" } else { "; " });
-            push_client(note, ending, client, &client_end);
-        }
-        count = u64::saturating_add(count, 1);
     }
     count
 }
@@ -75,10 +79,9 @@ fn push_ending(note: &mut Note, ending: &RunEnd<'_>) {
 
 /// Adds what is left to do when a policy has driven a script.
 pub fn push_run(alloc: Global, note: &mut Note, script: &Script, policy: &Policy) {
-    let Some(summary) = run_of(alloc, note, script, policy) else {
-        return;
-    };
-    if !summary.finished {
+    if let Some(summary) = &run_of(alloc, note, script, policy)
+        && !summary.finished
+    {
         let ending = RunEnd::new(alloc, note, script, policy, &summary.report);
         push_ending(note, &ending);
     }

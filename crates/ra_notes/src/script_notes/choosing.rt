@@ -1,6 +1,7 @@
 //! Which choice of a list can't be made in a script.
 use crate::run_notes::client_end::RunEnd;
 use crate::script_notes::script_text::{run_of, script_in};
+use ra_explain::{push_number_in, push_numbered};
 use ra_schedule::{Choice, Choices, Policy, Script};
 use ra_script::{ChoicesError, read_choices};
 use ra_stamp::Memory;
@@ -47,26 +48,28 @@ fn push_client(note: &mut Note, ending: &RunEnd<'_>, client: u32) {
     } else if clients == 1 {
         note.push("the script has only client 1");
     } else {
-        note.push("the script has clients 1 to ");
-        note.number(u64::from(clients));
+        push_numbered(note, "the script has clients 1 to ", clients);
     }
 }
 
 /// Adds how many messages are under way, and which places they have.
-fn push_messages(note: &mut Note, count: u64) {
+fn push_messages(note: &mut Note, count: u128) {
     match count {
         0 => note.push("no message is under way at that point"),
         1 => note.push("one message is under way at that point, at place 0"),
         _ => {
-            note.number(count);
-            note.push(" messages are under way at that point, at places 0 to ");
-            note.number(count - 1);
-            note.push(" in the order of sending");
+            push_number_in(
+                note,
+                "",
+                count,
+                " messages are under way at that point, at places 0 to ",
+            );
+            push_number_in(note, "", count - 1, " in the order of sending");
         }
     }
 }
 
-/// Adds the choice at a place, as it is written.
+/// Adds that the choice at a place is not possible, as it is written.
 fn push_choice(note: &mut Note, choice: Choice, place: u64) {
     let (letter, number) = match choice {
         Choice::Client(client) => ("c", u64::from(client)),
@@ -74,46 +77,49 @@ fn push_choice(note: &mut Note, choice: Choice, place: u64) {
         Choice::Lost(number) => ("l", number),
         Choice::Repeated(number) => ("r", number),
     };
-    note.push("choice ");
-    note.number(place.saturating_add(1));
-    note.push(" of --choices, ");
-    note.push(letter);
-    note.number(number);
+    push_number_in(note, "choice ", place.saturating_add(1), " of --choices, ");
+    push_number_in(note, letter, number, ", is not possible: ");
 }
 
 /// Adds why a choice can't be made at the end of a run.
 fn push_reason(note: &mut Note, ending: &RunEnd<'_>, choice: Choice) {
     match choice {
         Choice::Client(client) => push_client(note, ending, client),
-        _ => push_messages(
-            note,
-            u64::try_from(ending.report.under_way).unwrap_or(u64::MAX),
-        ),
+        _ => push_messages(note, ending.report.under_way),
+    }
+}
+
+/// Adds why a choice can't be made after a policy's run of a script.
+fn push_reason_after(
+    alloc: Global,
+    note: &mut Note,
+    script: &Script,
+    policy: &Policy,
+    choice: Choice,
+) {
+    if let Some(summary) = &run_of(alloc, note, script, policy) {
+        let ending = RunEnd::new(alloc, note, script, policy, &summary.report);
+        push_reason(note, &ending, choice);
     }
 }
 
 /// Adds which choice can't be made, and why.
 fn push_choice_at(alloc: Global, note: &mut Note, script: &Script, choices: &Choices, place: u64) {
-    let Some(choice) = choices.at(place) else {
-        return;
-    };
-    push_choice(note, choice, place);
-    note.push(", is not possible: ");
-    let policy = first_of(alloc, note, choices, place);
-    if let Some(summary) = run_of(alloc, note, script, &policy) {
-        let ending = RunEnd::new(alloc, note, script, &policy, &summary.report);
-        push_reason(note, &ending, choice);
+    if let Some(choice) = choices.at(place) {
+        push_choice(note, choice, place);
+        let policy = first_of(alloc, note, choices, place);
+        push_reason_after(alloc, note, script, &policy, choice);
     }
 }
 
 /// Adds what is said about the choices of a text.
 fn push_choices(alloc: Global, note: &mut Note, script: &Script, choices: &str) {
-    match read_choices(alloc, choices) {
+    match &read_choices(alloc, choices) {
         Ok(choices) => {
-            let place = makeable(alloc, note, script, &choices);
-            push_choice_at(alloc, note, script, &choices, place);
+            let place = makeable(alloc, note, script, choices);
+            push_choice_at(alloc, note, script, choices, place);
         }
-        Err(fault) => note.refuse_if(fault == ChoicesError::Memory),
+        Err(fault) => note.refuse_if(*fault == ChoicesError::Memory),
     }
 }
 

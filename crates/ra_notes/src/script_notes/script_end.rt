@@ -1,5 +1,6 @@
 //! Which names a script leaves locked.
 use crate::script_notes::script_text::script_in;
+use ra_explain::push_name_and_mode;
 use ra_schedule::{Op, Script, is_unreleased};
 use ra_stamp::Memory;
 use ra_world::Note;
@@ -13,13 +14,12 @@ const MOST: u64 = 4;
 fn push_kept(note: &mut Note, script: &Script, client: u32, clients: u64) -> u64 {
     let mut names = 0;
     for place in 0..script.ops_of(client).unwrap_or(0) {
-        if !is_unreleased(script, client, place) {
-            continue;
+        if is_unreleased(script, client, place) {
+            if clients < MOST && names < MOST {
+                push_lock(note, client, &script.op(client, place), clients, names);
+            }
+            names = u64::saturating_add(names, 1);
         }
-        if clients < MOST && names < MOST {
-            push_lock(note, client, &script.op(client, place), clients, names);
-        }
-        names = u64::saturating_add(names, 1);
     }
     if clients < MOST {
         note.push_more(" and ", names, MOST);
@@ -32,19 +32,23 @@ fn push_lock(note: &mut Note, client: u32, op: &Option<Op>, clients: u64, names:
     let Some(Op::Lock(name, mode)) = op else {
         return;
     };
-    if names > 0 {
-        note.push(", ");
+    let joint = if names > 0 {
+        ", "
     } else {
-        note.push(if clients > 0 {
-            "; "
-        } else {
-            "the run finished with names still locked: "
-        });
-        note.client(client);
-        note.push(" holds ");
-    }
-    note.name(name);
-    note.mode(*mode);
+        push_holder(note, client, clients);
+        " holds "
+    };
+    push_name_and_mode(note, joint, name, *mode);
+}
+
+/// Adds a client that holds a name, after this many others.
+fn push_holder(note: &mut Note, client: u32, clients: u64) {
+    note.push(if clients > 0 {
+        "; "
+    } else {
+        "the run finished with names still locked: "
+    });
+    note.client(client);
 }
 
 /// Adds which clients hold names at their ends.
