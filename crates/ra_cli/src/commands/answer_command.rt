@@ -182,8 +182,8 @@ fn answer_to(alloc: Global, me: Member, input: &[u8]) -> Result<Vec<u8>, AnswerE
 
 /// Reads one line, a frame of version 1 or 2 in hexadecimal digits, and writes the frames that an idle node sends when it
 /// receives that frame, in version 2, in lower case, a line each. The node is number `node` of `nodes`, it has met no
-/// number before, and its clock was 0. It takes at most 258 bytes from the reader, and no read or write that failed is
-/// tried again.
+/// number before, and its clock was 0. It takes at most two bytes more than [`MAX_LINE`] from the reader, and no read or
+/// write that failed is tried again.
 ///
 /// # Errors
 ///
@@ -191,8 +191,8 @@ fn answer_to(alloc: Global, me: Member, input: &[u8]) -> Result<Vec<u8>, AnswerE
 ///
 /// 1. `BadCount`: there are not 1 to 64 nodes.
 /// 2. `BadNode`: the node is not 1 to `nodes`.
-/// 3. `Read`: the reader failed, before its end and before it gave 258 bytes.
-/// 4. `Line`: more than 256 bytes come before a line feed, or bytes after it.
+/// 3. `Read`: the reader failed, before its end and before it gave so many bytes.
+/// 4. `Line`: more than [`MAX_LINE`] bytes come before a line feed, or bytes after it.
 /// 5. `Hex`: the line is no even number of hexadecimal digits.
 /// 6. `Frame`: the bytes are no frame.
 /// 7. `WrongNode`: the message is for another node.

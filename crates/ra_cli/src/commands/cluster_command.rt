@@ -11,13 +11,13 @@ ghost use Rattle.ra_cli.specs.InputOutput.{ReadsInput, WritesOutput};
 
 use crate::error::RunScriptError;
 use ra_book::push_book;
-use ra_cluster::{Book, ClusterError, OpenGate, Recorded, Settled, record_cluster};
+use ra_cluster::{Book, ClusterError, OpenGate, Recorded, record_cluster};
 use ra_schedule::Script;
 use ra_script::{MAX_SCRIPT, read_script};
 use ra_stamp::Memory;
 use ra_task::ClusterOutput;
 use ra_trace::trace_text;
-use ra_world::{read_up_to, report_text, runs_are_determined, write_out};
+use ra_world::{Steps, read_up_to, report_text, runs_are_determined, write_out};
 use std::alloc::Global;
 use std::io::{Read, Write};
 use std::sync::Wait;
@@ -42,18 +42,23 @@ pub fn script_from<R: Read>(alloc: Global, reader: &mut R) -> Result<Script, Run
     Ok(script)
 }
 
-/// Returns the trace of the run into which the books of this many nodes settled. The steps are made once more for it.
+/// Returns the trace of a run of this many nodes, all of whose numbers begin at `start`, by its steps. They are made once
+/// more for it.
 ///
 /// # Errors
 ///
 /// `Memory`: memory ran out.
-fn trace_of(alloc: Global, nodes: u16, settled: &Settled) -> Result<String, Memory>
-    ensures { IfOk result (λ text. (moves : List Move) → map (λ move. move.step) moves ≡ settled.now.steps.items
-        → IsRun nodes 0 moves → IsTrace nodes 0 moves (string_bytes text)) }
+pub fn trace_of_steps(
+    alloc: Global,
+    nodes: u16,
+    start: u64,
+    steps: &Steps,
+) -> Result<String, Memory>
+    ensures { IfOk result (λ text. (moves : List Move) × (map (λ move. move.step) moves ≡ steps.now.items)
+        × IsTrace nodes start moves (string_bytes text)) }
 {
-    runs_are_determined();
     // The steps are a run, so only `Memory` can come.
-    match trace_text(alloc, nodes, 0, &settled.steps) {
+    match trace_text(alloc, nodes, start, steps) {
         Ok(text) => Ok(text),
         Err(_) => Err(Memory),
     }
@@ -92,9 +97,10 @@ fn recorded_text(
         → IsRun nodes 0 moves
         → SaysRun printed nodes recorded.now.books.items moves recorded.now.settled.report (string_bytes text)) }
 {
+    runs_are_determined();
     match printed {
         ClusterOutput::Lines => report_text(alloc, &recorded.settled.report),
-        ClusterOutput::Trace => trace_of(alloc, nodes, &recorded.settled),
+        ClusterOutput::Trace => trace_of_steps(alloc, nodes, 0, &recorded.settled.steps),
         ClusterOutput::Books => books_text(alloc, &recorded.books),
     }
 }
@@ -115,8 +121,7 @@ fn text_of_run<T: Threads + Wait + Sync>(
     ensures err { IfErr result (λ why. (input : List ℕ) → script_of input ≡ Ok script.now → RefusesRun input (of_cluster why)) }
 {
     let recorded = record_cluster(rt, alloc, script, &OpenGate)?;
-    let text = recorded_text(alloc, printed, script.nodes(), &recorded)?;
-    Ok(text)
+    recorded_text(alloc, printed, script.nodes(), &recorded).or(Err(ClusterError::Memory))
 }
 
 /// Reads the text of a script, runs it by threads, and writes what is printed of the one run into which the books of the nodes

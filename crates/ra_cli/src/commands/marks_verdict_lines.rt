@@ -1,8 +1,8 @@
 //! The lines of a verdict on a mark log.
-ghost use Rattle.std.specs.Prelude.{◌≡◌, ◌++◌, string_bytes, IfOk, OnOk};
+ghost use Rattle.std.specs.Prelude.{◌≡◌, string_bytes, IfOk};
 ghost use Rattle.ra_cli.specs.Checks as spec;
 
-use crate::commands::verdict_lines::{push_invalid, push_valid};
+use crate::commands::verdict_lines::{invalid_text, valid_text};
 use ra_stamp::Memory;
 use ra_trace::{MarkCause, MarksVerdict};
 use std::alloc::Global;
@@ -22,22 +22,6 @@ fn word_of(cause: MarkCause) -> &'static str
     }
 }
 
-/// Adds the lines of a verdict.
-///
-/// # Errors
-///
-/// `Memory`: there is none for them. A prefix of them may have been added.
-fn push_verdict(text: &mut String, verdict: &MarksVerdict) -> Result<(), Memory>
-    ensures { OnOk result (string_bytes text.new ≡ string_bytes text.old ++ spec.marks_verdict_text verdict.now) }
-{
-    match *verdict {
-        MarksVerdict::Valid { requests, grants } => {
-            push_valid(text, u128::from(requests), "grants", u128::from(grants))
-        }
-        MarksVerdict::Invalid { line, cause } => push_invalid(text, line, word_of(cause)),
-    }
-}
-
 /// Returns the lines of a verdict on a mark log: that its marks are a run of the lock table, and how many requests and grants there
 /// are, or its first wrong line and why.
 ///
@@ -47,7 +31,10 @@ fn push_verdict(text: &mut String, verdict: &MarksVerdict) -> Result<(), Memory>
 pub fn marks_verdict_text(alloc: Global, verdict: &MarksVerdict) -> Result<String, Memory>
     ensures { IfOk result (λ text. string_bytes text ≡ spec.marks_verdict_text verdict.now) }
 {
-    let mut text = String::new(alloc);
-    push_verdict(&mut text, verdict)?;
-    Ok(text)
+    match *verdict {
+        MarksVerdict::Valid { requests, grants } => {
+            valid_text(alloc, u128::from(requests), "grants", u128::from(grants))
+        }
+        MarksVerdict::Invalid { line, cause } => invalid_text(alloc, line, word_of(cause)),
+    }
 }

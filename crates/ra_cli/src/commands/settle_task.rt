@@ -1,19 +1,19 @@
 //! The command `settle`.
 ghost use Rattle.std.specs.Prelude.{◌≡◌, List, ℕ, string_bytes, IfOk};
 ghost use Rattle.ra_book.specs.Verdicts.{IsSettledText, IsUnsettled};
-ghost use Rattle.ra_task.specs.declared.settle_arguments.SettleOutput.{SettleOutput};
 ghost use Rattle.ra_task.specs.declared.settle_arguments.SettleTask.{SettleTask};
 ghost use Rattle.ra_cli.specs.SettleRun as spec;
-ghost use Rattle.ra_cli.specs.SettleRun.{Prints, RefusesInput, ServesSettle, TellsSettled, unsettled_line};
+ghost use Rattle.ra_cli.specs.SettleRun.{Prints, RefusesInput, ServesSettle, TellsSettled};
 
 use crate::command_outcome::{CommandOutcome, Remark, UNFINISHED};
-use crate::commands::verdict_lines::push_invalid;
+use crate::commands::cluster_command::trace_of_steps;
+use crate::commands::verdict_lines::invalid_text;
 use crate::refusal_lines::CommandRefusal;
 use crate::serving::{DONE, refuse, written};
 use ra_book::{SettleTextError, SettledText, TextCause, settle_text};
 use ra_stamp::Memory;
 use ra_task::{SettleOutput, SettleTask};
-use ra_trace::{TraceError, trace_text};
+use ra_trace::TraceError;
 use ra_world::{ReadFault, read_up_to, report_text};
 use std::alloc::Global;
 use std::io::{Read, Write};
@@ -34,34 +34,6 @@ fn word_of(cause: TextCause) -> &'static str
     }
 }
 
-/// Returns the line for a text that does not settle.
-///
-/// # Errors
-///
-/// `Memory`: there is none for it.
-fn unsettled_text(alloc: Global, line: u64, cause: TextCause) -> Result<String, Memory>
-    ensures { IfOk result (λ text. string_bytes text ≡ unsettled_line line cause) }
-{
-    let mut text = String::new(alloc);
-    push_invalid(&mut text, line, word_of(cause))?;
-    Ok(text)
-}
-
-/// Returns the trace of a settled run. The steps are made once more for it.
-///
-/// # Errors
-///
-/// `Memory`: memory ran out.
-fn trace_of(alloc: Global, text: &SettledText) -> Result<String, Memory>
-    ensures { IfOk result (λ output. Prints SettleOutput.Trace text.now (string_bytes output)) }
-{
-    // The steps are a run, so only `Memory` can come.
-    match trace_text(alloc, text.nodes, text.start, &text.settled.steps) {
-        Ok(output) => Ok(output),
-        Err(_) => Err(Memory),
-    }
-}
-
 /// Returns the lines of the report of a settled run, or its trace.
 ///
 /// # Errors
@@ -72,7 +44,7 @@ fn run_text(alloc: Global, printed: SettleOutput, text: &SettledText) -> Result<
 {
     match printed {
         SettleOutput::Lines => report_text(alloc, &text.settled.report),
-        SettleOutput::Trace => trace_of(alloc, text),
+        SettleOutput::Trace => trace_of_steps(alloc, text.nodes, text.start, &text.settled.steps),
     }
 }
 
@@ -108,7 +80,7 @@ fn contradict<W: Write>(alloc: Global, refused: SettleTextError, writer: &mut W)
     let SettleTextError::Invalid { line, cause } = refused else {
         return refuse_memory(writer);
     };
-    match unsettled_text(alloc, line, cause) {
+    match invalid_text(alloc, line, word_of(cause)) {
         Ok(text) => {
             let status = written(writer, text.as_bytes(), UNFINISHED);
             CommandOutcome::judged(status, Some(Remark::Unsettled { line, cause }))

@@ -9,7 +9,7 @@ returns-in-Ok g c asked input unsettled =
     let after = g.W.Write.contents c.written-status.new.writer in
     subst (λ (status : ℕ). TellsSettled asked input before after status) (sym c.judged.ensures)
     (contradicted asked input c.as_bytes.result.now before after c.written-status.result
-    (c.in-Invalid.line, c.in-Invalid.cause, rw c.in-Invalid.is at unsettled, c.as_bytes.ensures.value ∙ c.in-Ok.ensures) c.written-status.ensures)
+    (c.in-Invalid.line, c.in-Invalid.cause, rw c.in-Invalid.is at unsettled, c.as_bytes.ensures.value ∙ rw c.word_of.ensures at c.in-Ok.ensures) c.written-status.ensures)
 
 pub returns-in-Err : goal.returns-in-Err
 returns-in-Err g c asked input unsettled = c.refuse_memory-in-Err.ensures asked input
