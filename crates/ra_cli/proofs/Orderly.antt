@@ -16,12 +16,12 @@ use Rattle.ra_schedule.specs.Schedule.{RepeatsNothing}
 use Rattle.ra_schedule.specs.Script.{ScriptState, IsScript}
 use Rattle.ra_schedule.specs.Survey.{chance, is_finished, IsOutcome, IsSurvey, NoneIsLost, NoneIsRepeated, SeedsFinish}
 use Rattle.ra_script.specs.declared.error.PerformError.{PerformError}
-use Rattle.ra_script.specs.declared.error.ChoicesError.{ChoicesError}
-use Rattle.ra_script.specs.declared.error.ChoicesError.TheVariants.{Choice, Memory}
+use Rattle.ra_schedule.specs.declared.error.ChoicesError.{ChoicesError}
+use Rattle.ra_schedule.specs.declared.error.ChoicesError.TheVariants.{Choice, Memory}
 use Rattle.ra_script.specs.declared.error.PerformError.TheVariants.{Drive}
 use Rattle.ra_script.specs.declared.error.PerformError.TheVariants as perform
-use Rattle.ra_script.specs.declared.performing.output_kind.OutputKind.{OutputKind}
-use Rattle.ra_script.specs.ChoicesText.{choices_of}
+use Rattle.ra_schedule.specs.declared.driver.output_kind.OutputKind.{OutputKind}
+use Rattle.ra_schedule.specs.ChoicesText.{choices_of}
 use Rattle.ra_script.specs.declared.error.ScriptError.{ScriptError}
 use Rattle.ra_script.specs.Finding.{NoneEndsSo}
 use Rattle.ra_script.specs.Performed.{RefusesAs, IsPerformedAs, IsOrderly, Unwritten}

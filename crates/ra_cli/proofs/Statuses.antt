@@ -4,9 +4,9 @@ use Rattle.std.specs.Prelude.{IfSome}
 use Rattle.std.specs.Io.KnownBytes.{Appends}
 use Rattle.ra_schedule.specs.declared.choice.Policy.{Policy}
 use Rattle.ra_schedule.specs.Faults.{FaultRates}
-use Rattle.ra_script.specs.declared.performing.output_kind.OutputKind.{OutputKind}
+use Rattle.ra_schedule.specs.declared.driver.output_kind.OutputKind.{OutputKind}
 use Rattle.ra_script.specs.Performed.{IsPerformedAs}
-use Rattle.ra_script.specs.declared.error.ChoicesError.{ChoicesError}
+use Rattle.ra_schedule.specs.declared.error.ChoicesError.{ChoicesError}
 use Rattle.ra_script.specs.declared.error.PerformError.{PerformError}
 use Rattle.ra_script.specs.declared.error.PerformError.TheVariants as perform
 use Rattle.ra_draw.specs.declared.error.DrawError.{DrawError}

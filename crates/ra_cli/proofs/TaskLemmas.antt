@@ -2,16 +2,16 @@
 use Rattle.std.proofs.Common.{◌≡◌, ℕ, List, Option, Some, None, refl, subst, inl, inr}
 use Rattle.std.specs.Prelude.{◌⊎◌, IfSome, Any}
 use Rattle.std.specs.Io.KnownBytes.{Appends}
-use Rattle.ra_script.specs.ChoicesText.{choices_of}
-use Rattle.ra_script.specs.declared.error.ChoicesError.{ChoicesError}
-use Rattle.ra_script.specs.declared.error.ChoicesError.TheVariants.{Choice, Memory}
+use Rattle.ra_schedule.specs.ChoicesText.{choices_of}
+use Rattle.ra_schedule.specs.declared.error.ChoicesError.{ChoicesError}
+use Rattle.ra_schedule.specs.declared.error.ChoicesError.TheVariants.{Choice, Memory}
 use Rattle.ra_script.specs.declared.error.PerformError.{PerformError}
-use Rattle.ra_script.specs.declared.performing.output_kind.OutputKind.{OutputKind}
+use Rattle.ra_schedule.specs.declared.driver.output_kind.OutputKind.{OutputKind}
 use Rattle.ra_script.specs.Performed.{RefusesAs}
 use Rattle.ra_schedule.specs.declared.choice.Policy.{Policy}
 use Rattle.ra_trace.specs.declared.error.TraceError.{TraceError}
 use Rattle.ra_draw.specs.declared.error.DrawError.{DrawError}
-use Rattle.ra_draw.specs.declared.drawn_part.Part.{Part}
+use Rattle.ra_world.specs.declared.text.drawn_part.Part.{Part}
 use Rattle.ra_draw.specs.Drawing.{IsInput, IsOfPart, IsUnfit}
 use Rattle.ra_cli.specs.ClusterRun.{RunsBy}
 use Rattle.ra_task.specs.Named.{IsNamed}

@@ -9,8 +9,8 @@ use Rattle.ra_world.specs.Lines.{report_text}
 use Rattle.ra_world.specs.Traffic.{Move}
 use Rattle.ra_schedule.specs.Script.{ScriptState}
 use Rattle.ra_trace.specs.TraceText.{IsTrace}
-use Rattle.ra_script.specs.declared.error.ChoicesError.{ChoicesError}
-use Rattle.ra_script.specs.declared.error.ChoicesError.TheVariants as choices
+use Rattle.ra_schedule.specs.declared.error.ChoicesError.{ChoicesError}
+use Rattle.ra_schedule.specs.declared.error.ChoicesError.TheVariants as choices
 use Rattle.ra_script.specs.declared.error.ScriptError.{ScriptError}
 use Rattle.ra_script.specs.declared.error.ScriptError.TheVariants as text
 use Rattle.ra_script.specs.ScriptText.{script_of}

@@ -6,7 +6,8 @@ ghost use Rattle.ra_world.specs.declared.error.ReadFault.{ReadFault};
 
 use ra_cluster::ClusterError;
 use ra_frame::FrameError;
-use ra_script::{ChoicesError, ScriptError};
+use ra_schedule::ChoicesError;
+use ra_script::ScriptError;
 use ra_stamp::Memory;
 use ra_world::{ReadFault, WriteFault};
 use std::fmt;

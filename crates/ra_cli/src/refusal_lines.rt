@@ -7,8 +7,8 @@ use crate::AnswerError;
 use crate::error::RunScriptError;
 use ra_cluster::ClusterError;
 use ra_draw::DrawError;
-use ra_schedule::DriveError;
-use ra_script::{ChoicesError, PerformError, ScriptError};
+use ra_schedule::{ChoicesError, DriveError};
+use ra_script::{PerformError, ScriptError};
 use ra_task::CommandFault;
 use ra_trace::TraceError;
 

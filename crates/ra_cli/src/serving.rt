@@ -4,7 +4,7 @@ ghost use Rattle.ra_cli.specs.Checks.{is_run, is_valid};
 ghost use Rattle.ra_cli.specs.Statuses.{PrintsRefusal, Serves, Writes};
 ghost use Rattle.ra_cli.specs.Tasks.{Does};
 ghost use Rattle.ra_task.specs.Asked.{Asks};
-ghost use Rattle.ra_script.specs.ChoicesText.{choices_of};
+ghost use Rattle.ra_schedule.specs.ChoicesText.{choices_of};
 ghost use Rattle.ra_cli.specs.Refusals.{IsOfReader, IsOfWriter, command_word, refused_line};
 
 use crate::command_outcome::{CommandOutcome, Remark, UNFINISHED, marks_remark_of, remark_of};
@@ -20,8 +20,8 @@ use crate::laws::orderly_scripts_are_finished;
 use crate::refusal_lines::{CommandRefusal, line_of};
 use crate::{AnswerError, answer};
 use ra_draw::{DrawError, Part};
-use ra_schedule::{Ending, Faults, Observer};
-use ra_script::{OutputKind, PerformError, perform_as};
+use ra_schedule::{Ending, Faults, Observer, OutputKind};
+use ra_script::{PerformError, perform_as};
 use ra_task::{
     ClusterOutput, Command, CommandFault, InputKind, PolicyName, Search, Task, command_of,
     policy_of,

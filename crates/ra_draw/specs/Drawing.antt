@@ -12,8 +12,9 @@ use Rattle.ra_trace.specs.Marks.{IsMarksVerdict}
 use Rattle.ra_trace.specs.Verdict.{IsVerdict}
 use Rattle.ra_draw.specs.declared.error.DrawError.{DrawError}
 use Rattle.ra_draw.specs.declared.error.DrawError.TheVariants.{Read, Limit, NoLines, TooLong, Memory, Write}
-use Rattle.ra_draw.specs.declared.drawn_part.Part.{Part}
-use Rattle.ra_draw.specs.Lines.{line_count, lines_between}
+use Rattle.ra_world.specs.declared.text.drawn_part.Part.{Part}
+use Rattle.ra_draw.specs.Lines.{line_count}
+use Rattle.ra_world.specs.DrawnPart.{lines_between}
 
 -- the refusal that one of a check becomes
 abbrev pub of_trace : TraceError → DrawError

@@ -2,10 +2,9 @@
 ghost use Rattle.std.specs.Prelude.{◌≡◌};
 ghost use Rattle.ra_draw.specs.Drawing.{DrawsLog};
 
-use crate::DrawError;
 use crate::draw_text::{read_text, write_picture};
-use crate::drawn_part::Part;
 use crate::svg::Totals;
+use crate::{DrawError, Part};
 use ra_trace::{MAX_TEXT, MarksVerdict, check_marks_within};
 use std::alloc::Global;
 use std::io::{Read, Write};

@@ -5,9 +5,8 @@ ghost use Rattle.ra_draw.specs.Drawing.{DrawsPicture, IsInput};
 ghost use Rattle.ra_draw.specs.PictureSteps.{IsUnread, IsUnwritten};
 ghost use Rattle.ra_draw.specs.Lines as spec;
 
-use crate::DrawError;
-use crate::drawn_part::Part;
 use crate::svg::{Totals, picture_of};
+use crate::{DrawError, Part};
 use ra_trace::MAX_TEXT;
 use ra_world::{ReadFault, read_up_to, write_out};
 use std::alloc::Global;

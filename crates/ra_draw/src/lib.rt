@@ -7,7 +7,6 @@
 mod draw_log;
 mod draw_text;
 mod draw_trace;
-mod drawn_part;
 mod error;
 mod layout;
 mod svg;
@@ -15,5 +14,5 @@ mod timeline;
 
 pub use draw_log::draw_marks;
 pub use draw_trace::draw;
-pub use drawn_part::Part;
 pub use error::DrawError;
+pub use ra_world::Part;

@@ -10,7 +10,7 @@ mod message_shapes;
 mod svg_writer;
 mod wording;
 
-use crate::drawn_part::Part;
+use crate::Part;
 use crate::layout::Layout;
 use crate::timeline::Timeline;
 use layers::Layers;

@@ -5,7 +5,7 @@ mod lock_span;
 mod message_path;
 mod moment;
 
-use crate::drawn_part::Part;
+use crate::Part;
 pub use deferral::{Deferral, DeferralSpans};
 pub use lock_span::{LockKey, LockSpan, LockSpans};
 pub use message_path::{MessageEnd, MessagePath, MessagePaths};

@@ -6,8 +6,8 @@ use crate::note_texts::{
 use crate::seen::seen_writer::OutputFault;
 use ra_draw::DrawError;
 use ra_explain::{end_note, push_number_in, push_numbered};
-use ra_schedule::DriveError;
-use ra_script::{ChoicesError, PerformError};
+use ra_schedule::{ChoicesError, DriveError};
+use ra_script::PerformError;
 use ra_task::{Command, CommandFault, NO_MEMORY, Notice, is_choice, usage_note, write_line};
 use ra_trace::TraceError;
 use ra_world::Note;

@@ -53,3 +53,6 @@ mod ClientLines
 mod ToldStates
 pub mod ScheduleLaws
 mod Ended
+mod Numbers
+mod Spelled
+mod Words

@@ -20,3 +20,4 @@ pub mod Finding
 pub mod Shrinking
 pub mod Replaying
 pub mod StateText
+pub mod ChoicesText

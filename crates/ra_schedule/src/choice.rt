@@ -1,3 +1,5 @@
+pub mod choices_reading;
+pub mod choices_spelling;
 pub mod enabled;
 pub mod faults;
 pub mod picking;

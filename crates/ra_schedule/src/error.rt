@@ -1,6 +1,7 @@
 ghost use Rattle.std.specs.Prelude.{◌≡◌};
 ghost use Rattle.ra_schedule.specs.declared.error.AddClientError.TheVariants as add_client;
 ghost use Rattle.ra_schedule.specs.declared.error.AddOpError.TheVariants as add_op;
+ghost use Rattle.ra_schedule.specs.declared.error.ChoicesError.TheVariants as choices;
 ghost use Rattle.ra_schedule.specs.declared.error.DriveError.TheVariants as drive;
 
 use ra_stamp::Memory;
@@ -76,6 +77,29 @@ pub enum DriveError {
 impl fmt::Display for DriveError {
     fn fmt<W: fmt::Write>(&self, f: &mut fmt::Formatter<W>) -> fmt::Result {
         fmt::Debug::fmt(self, f)
+    }
+}
+
+/// Why a text is not a list of choices.
+#[derive(Clone, Copy, Debug, PartialEq, Eq, Error)]
+pub enum ChoicesError {
+    /// A word is no choice, or there is not one space between two.
+    Choice,
+    /// Memory ran out.
+    Memory,
+}
+
+impl fmt::Display for ChoicesError {
+    fn fmt<W: fmt::Write>(&self, f: &mut fmt::Formatter<W>) -> fmt::Result {
+        fmt::Debug::fmt(self, f)
+    }
+}
+
+impl From<Memory> for ChoicesError {
+    ghost from_gives = { λ _ e. e ≡ choices.Memory };
+
+    fn from(_refused: Memory) -> ChoicesError {
+        ChoicesError::Memory
     }
 }
 

@@ -9,12 +9,15 @@ mod laws;
 mod script;
 mod surveys;
 
+pub use choice::choices_reading::read_choices;
+pub use choice::choices_spelling::choices_text;
 pub use choice::faults::Faults;
 pub use choice::{Choice, Choices, Policy};
 pub use driver::drive_script::{Recording, Summary, drive, summarize};
+pub use driver::output_kind::OutputKind;
 pub use driver::showing::{Shown, show};
 pub use driver::shrinking::{Shrunk, shrink};
-pub use error::{AddClientError, AddOpError, DriveError, NewScriptError};
+pub use error::{AddClientError, AddOpError, ChoicesError, DriveError, NewScriptError};
 pub use finishing::{
     clients_in_order_never_deadlock, ordered_scripts_finish, policies_bring_scripts_to_rest,
     scripts_come_to_rest, seeds_finish_ordered_scripts,

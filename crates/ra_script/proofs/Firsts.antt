@@ -1,8 +1,8 @@
 -- What is said of the first run that comes to an end when it is not written.
 use Rattle.std.proofs.Common.{◌≡◌, Result, Ok, Err, sym, ◌∙◌}
 use Rattle.std.specs.Prelude.{IsErrOf}
-use Rattle.ra_script.specs.declared.error.ChoicesError.{ChoicesError}
-use Rattle.ra_script.specs.declared.error.ChoicesError.TheVariants.{Choice, Memory}
+use Rattle.ra_schedule.specs.declared.error.ChoicesError.{ChoicesError}
+use Rattle.ra_schedule.specs.declared.error.ChoicesError.TheVariants.{Choice, Memory}
 
 pub not_a_choice : {T P : Type 0} (result : Result T ChoicesError) (fault : ChoicesError) → result ≡ Err fault → fault ≡ Memory → IsErrOf result Choice → P
 not_a_choice result fault is memory of =

@@ -11,8 +11,8 @@ use Rattle.ra_world.specs.declared.error.ReadFault.{ReadFault}
 use Rattle.ra_world.specs.declared.error.ReadFault.TheVariants as read
 use Rattle.ra_schedule.specs.declared.choice.Policy.{Policy}
 use Rattle.ra_schedule.specs.Script.{ScriptState}
-use Rattle.ra_script.specs.declared.performing.output_kind.OutputKind.{OutputKind}
-use Rattle.ra_script.specs.declared.performing.output_kind.OutputKind.TheVariants.{Lines, Trace, Choices, Shrunk, State}
+use Rattle.ra_schedule.specs.declared.driver.output_kind.OutputKind.{OutputKind}
+use Rattle.ra_schedule.specs.declared.driver.output_kind.OutputKind.TheVariants.{Lines, Trace, Choices, Shrunk, State}
 use Rattle.ra_script.specs.declared.error.ScriptError.{ScriptError}
 use Rattle.ra_script.specs.declared.error.ScriptError.TheVariants.{Limit, Toml, Shape}
 use Rattle.ra_script.specs.declared.error.ScriptError.TheVariants as script

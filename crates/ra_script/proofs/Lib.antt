@@ -2,15 +2,12 @@ mod Cuts
 mod Names
 mod Trees
 mod Held
-mod Numbers
 mod Texts
 mod Adding
 mod Scripts
 mod ReadScripts
 mod Meanings
-mod Spelled
 mod Inputs
-mod Words
 mod BroughtToEnd
 mod Performs
 mod Wording

@@ -15,7 +15,7 @@ use Rattle.ra_schedule.specs.Listing.{AreChoicesBy}
 use Rattle.ra_schedule.specs.Performing.{Performs, IsAtRest, most_turns}
 use Rattle.ra_schedule.specs.Schedule.{StandsFor, Follows}
 use Rattle.ra_schedule.specs.Script.{ScriptClient, ScriptState, IsScript, client_at}
-use Rattle.ra_script.specs.ChoicesText.{HasText}
+use Rattle.ra_schedule.specs.ChoicesText.{HasText}
 
 -- ---- How many messages were put under way, taken and repeated
 

@@ -12,8 +12,8 @@ use Rattle.ra_world.specs.declared.error.ReadFault.{ReadFault}
 use Rattle.ra_world.specs.declared.error.ReadFault.TheVariants as read
 use Rattle.ra_schedule.specs.declared.error.DriveError.{DriveError}
 use Rattle.ra_schedule.specs.declared.error.DriveError.TheVariants as drive
-use Rattle.ra_script.specs.declared.error.ChoicesError.{ChoicesError}
-use Rattle.ra_script.specs.declared.error.ChoicesError.TheVariants as choices
+use Rattle.ra_schedule.specs.declared.error.ChoicesError.{ChoicesError}
+use Rattle.ra_schedule.specs.declared.error.ChoicesError.TheVariants as choices
 use Rattle.ra_script.specs.declared.error.PerformError.{PerformError}
 use Rattle.ra_script.specs.declared.error.PerformError.TheVariants as perform
 

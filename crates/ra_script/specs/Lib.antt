@@ -3,7 +3,6 @@ pub mod Document
 pub mod Operation
 pub mod ScriptText
 pub mod Meaning
-pub mod ChoicesText
 pub mod Performed
 pub mod Finding
 pub mod Printing

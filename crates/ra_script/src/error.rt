@@ -1,11 +1,10 @@
 ghost use Rattle.std.specs.Prelude.{◌≡◌};
 ghost use Rattle.ra_script.specs.Faults.{of_new, of_client, of_op};
 ghost use Rattle.ra_script.specs.declared.error.ScriptError.TheVariants as script;
-ghost use Rattle.ra_script.specs.declared.error.ChoicesError.TheVariants as choices;
 ghost use Rattle.ra_script.specs.declared.error.PerformError.TheVariants as perform;
 ghost use Rattle.ra_script.specs.Faults.{of_read, of_script, of_drive, of_choices};
 
-use ra_schedule::{AddClientError, AddOpError, DriveError, NewScriptError};
+use ra_schedule::{AddClientError, AddOpError, ChoicesError, DriveError, NewScriptError};
 use ra_stamp::Memory;
 use ra_world::{ReadFault, WriteFault};
 use std::alloc::AllocFailed;
@@ -41,16 +40,6 @@ impl fmt::Display for ScriptError {
     fn fmt<W: fmt::Write>(&self, f: &mut fmt::Formatter<W>) -> fmt::Result {
         fmt::Debug::fmt(self, f)
     }
-}
-
-/// Why a text is not a list of choices.
-#[derive(Clone, Copy, Debug, PartialEq, Eq, Error)]
-#[error("{:?}", self)]
-pub enum ChoicesError {
-    /// A word is no choice, or there is not one space between two.
-    Choice,
-    /// Memory ran out.
-    Memory,
 }
 
 /// Why a script was not performed, in the order in which the causes are looked for.
@@ -123,14 +112,6 @@ impl<T: Drop> From<AllocFailed<T>> for ScriptError {
 
     fn from(_refused: AllocFailed<T>) -> ScriptError {
         ScriptError::Memory
-    }
-}
-
-impl From<Memory> for ChoicesError {
-    ghost from_gives = { λ _ e. e ≡ choices.Memory };
-
-    fn from(_refused: Memory) -> ChoicesError {
-        ChoicesError::Memory
     }
 }
 

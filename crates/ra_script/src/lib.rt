@@ -1,19 +1,15 @@
-//! The texts of scripts and of lists of choices. A script is performed from its text to the lines of its report, to its
+//! The texts of scripts. A script is performed from its text to the lines of its report, to its
 //! trace or to its choices. It can also be performed by many seeds, up to the first run that ends as wanted.
 #![tactic(auto)]
 
-mod choices;
 mod error;
 mod laws;
 mod performing;
 mod script_reading;
 
-pub use choices::read_choices;
-pub use choices::spelling::choices_text;
-pub use error::{ChoicesError, PerformError, ScriptError};
+pub use error::{PerformError, ScriptError};
 pub use laws::{choices_have_words_unless_messages_are_repeated, read_scripts_come_to_rest};
 pub use performing::find_run::find_run;
-pub use performing::output_kind::OutputKind;
 pub use performing::printed::Printed;
 pub use performing::{MAX_TURNS, perform, perform_as, perform_trace};
 pub use script_reading::explaining::explain_script;

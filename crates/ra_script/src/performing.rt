@@ -1,19 +1,20 @@
 pub mod find_run;
-pub mod output_kind;
 pub mod printed;
 
 ghost use Rattle.std.specs.Prelude.{◌≡◌, ◌⊎◌, All, MatchOption, ◌++◌, string_bytes, codes, OnOk, IfOk, IfErr};
-ghost use Rattle.ra_script.specs.declared.performing.output_kind.OutputKind.{OutputKind};
-ghost use Rattle.ra_script.specs.ChoicesText.{HasText, Lists};
+ghost use Rattle.ra_schedule.specs.declared.driver.output_kind.OutputKind.{OutputKind};
+ghost use Rattle.ra_schedule.specs.ChoicesText.{HasText, Lists};
 ghost use Rattle.ra_script.specs.Performed.{PerformsScript};
 ghost use Rattle.ra_script.specs.Printing.{PrintsRun};
 
 use crate::laws::{choices_have_words_unless_messages_are_repeated, read_scripts_come_to_rest};
-use crate::performing::output_kind::OutputKind;
 use crate::performing::printed::Printed;
 use crate::script_reading::MAX_SCRIPT;
-use crate::{ChoicesError, PerformError, choices_text, read_script};
-use ra_schedule::{Choices, Policy, Script, Shown, drive, show, shrink, summarize};
+use crate::{PerformError, read_script};
+use ra_schedule::{
+    Choices, ChoicesError, OutputKind, Policy, Script, Shown, choices_text, drive, show, shrink,
+    summarize,
+};
 use ra_stamp::Memory;
 use ra_trace::trace_text;
 use ra_world::{read_up_to, report_text, runs_are_determined, write_out};

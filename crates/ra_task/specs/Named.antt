@@ -4,7 +4,7 @@ use Rattle.ra_stamp.specs.Sequence.{Listed as Listing}
 use Rattle.ra_schedule.specs.declared.choice.Choice.{Choice}
 use Rattle.ra_schedule.specs.declared.choice.Policy.{Policy}
 use Rattle.ra_schedule.specs.declared.choice.Policy.TheVariants as policies
-use Rattle.ra_script.specs.ChoicesText.{choices_of}
+use Rattle.ra_schedule.specs.ChoicesText.{choices_of}
 use Rattle.ra_task.specs.declared.command_line.PolicyName.{PolicyName}
 use Rattle.ra_task.specs.declared.command_line.PolicyName.TheVariants.{Oldest, Newest, Seeded, Faulty, Listed}
 

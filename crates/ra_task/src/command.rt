@@ -6,7 +6,7 @@ use crate::command_line::search::Search;
 use crate::command_line::{CommandFault, Task, parse};
 use crate::node_arguments::are_node_arguments;
 use crate::settle_arguments::{SettleTask, settle_arguments};
-use ra_script::OutputKind;
+use ra_schedule::OutputKind;
 use std::alloc::Global;
 
 /// What the arguments of a command line ask for.

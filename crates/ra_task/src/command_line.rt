@@ -18,9 +18,8 @@ use crate::command_line::input_kind::InputKind;
 use crate::command_line::search::Search;
 use clap::error::ErrorKind;
 use clap::{ArgMatches, Error as ParseError};
-use ra_draw::Part;
-use ra_schedule::{Ending, Faults};
-use ra_script::OutputKind;
+use ra_schedule::{Ending, Faults, OutputKind};
+use ra_world::Part;
 use std::alloc::Global;
 
 /// Which policy the arguments name.

@@ -1,11 +1,10 @@
 //! The policy that arguments name.
 ghost use Rattle.std.specs.Prelude.{◌≡◌, ◌⊎◌, None, IsErr, IfOk, IfErr};
-ghost use Rattle.ra_script.specs.ChoicesText.{choices_of};
+ghost use Rattle.ra_schedule.specs.ChoicesText.{choices_of};
 ghost use Rattle.ra_task.specs.Named.{IsNamed};
 
 use crate::command_line::PolicyName;
-use ra_schedule::Policy;
-use ra_script::{ChoicesError, read_choices};
+use ra_schedule::{ChoicesError, Policy, read_choices};
 use std::alloc::Global;
 
 /// Returns the policy of a name. The choices are read whatever the name, so that a user is told of a wrong word.

@@ -16,3 +16,4 @@ pub mod Lines
 pub mod StateLines
 pub mod Drafting
 pub mod Input
+pub mod DrawnPart

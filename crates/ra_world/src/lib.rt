@@ -25,6 +25,7 @@ pub use laws::{
 };
 pub use step::{Step, Steps};
 pub use text::cutting::cut;
+pub use text::drawn_part::Part;
 pub use text::lines::{mark_line, push_field, push_mark_line, push_number, report_text};
 pub use text::note::Note;
 pub use text::report::Report;

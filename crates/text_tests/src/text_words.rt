@@ -1,8 +1,8 @@
 //! How refusals and the causes of wrong lines are printed.
 use crate::text_asserting::assert_prints;
 use ra_draw::DrawError;
-use ra_schedule::DriveError;
-use ra_script::{ChoicesError, PerformError, ScriptError};
+use ra_schedule::{ChoicesError, DriveError};
+use ra_script::{PerformError, ScriptError};
 use ra_trace::{Cause, MarkCause, TraceError, WriteTraceError};
 use ra_world::{NodeRefusal, RunError, StepError};
 use test_support::assert_words;

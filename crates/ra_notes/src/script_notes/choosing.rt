@@ -2,8 +2,7 @@
 use crate::run_notes::client_end::RunEnd;
 use crate::script_notes::script_text::{run_of, script_in};
 use ra_explain::{push_number_in, push_numbered};
-use ra_schedule::{Choice, Choices, Policy, Script};
-use ra_script::{ChoicesError, read_choices};
+use ra_schedule::{Choice, Choices, ChoicesError, Policy, Script, read_choices};
 use ra_stamp::Memory;
 use ra_world::Note;
 use std::alloc::Global;

@@ -6,11 +6,12 @@ ghost use Rattle.ra_script.specs.Finding.{IsFirstRun, IsFirstUnwritten, NoneEnds
 ghost use Rattle.ra_script.specs.Performed.{turn_limit};
 ghost use Rattle.ra_script.specs.ScriptText.{script_of};
 
-use crate::performing::output_kind::OutputKind;
+use crate::PerformError;
 use crate::performing::printed::Printed;
 use crate::performing::{MAX_TURNS, print_run};
-use crate::{ChoicesError, PerformError};
-use ra_schedule::{Ending, Faults, Observer, Script, SeedRange, chance, first_seed};
+use ra_schedule::{
+    ChoicesError, Ending, Faults, Observer, OutputKind, Script, SeedRange, chance, first_seed,
+};
 use std::alloc::Global;
 
 /// Returns what is written in a format of the run of a script by the least seed of a range by which it comes to an end by chance, with

@@ -1,5 +1,4 @@
-use ra_schedule::Ending;
-use ra_script::OutputKind;
+use ra_schedule::{Ending, OutputKind};
 
 /// What is looked for among the runs of many seeds.
 #[derive(Clone, Copy)]

@@ -1,7 +1,6 @@
 //! How lists of choices are read.
 use crate::text_asserting::assert_same;
-use ra_schedule::{Choice, Choices};
-use ra_script::{ChoicesError, read_choices};
+use ra_schedule::{Choice, Choices, ChoicesError, read_choices};
 use std::alloc::Global;
 use test_support::part;
 

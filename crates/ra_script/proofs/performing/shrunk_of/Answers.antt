@@ -10,10 +10,10 @@ use Rattle.ra_schedule.specs.Listing.{AreChoicesBy}
 use Rattle.ra_schedule.specs.Schedule.{Follows}
 use Rattle.ra_schedule.specs.Script.{ScriptState, IsScript}
 use Rattle.ra_schedule.specs.Shrinking.{IsStuckRun, IsLeastOf}
-use Rattle.ra_script.specs.declared.error.ChoicesError.{ChoicesError}
-use Rattle.ra_script.specs.declared.error.ChoicesError.TheVariants as choices
-use Rattle.ra_script.specs.declared.performing.output_kind.OutputKind.TheVariants.{Shrunk}
-use Rattle.ra_script.specs.ChoicesText.{HasText, Lists}
+use Rattle.ra_schedule.specs.declared.error.ChoicesError.{ChoicesError}
+use Rattle.ra_schedule.specs.declared.error.ChoicesError.TheVariants as choices
+use Rattle.ra_schedule.specs.declared.driver.output_kind.OutputKind.TheVariants.{Shrunk}
+use Rattle.ra_schedule.specs.ChoicesText.{HasText, Lists}
 use Rattle.ra_script.specs.Faults.{of_choices}
 use Rattle.ra_script.specs.Performed.{HasNoWords, RefusesAs, SaysShrunk}
 use Rattle.ra_script.specs.ScriptText.{script_of}

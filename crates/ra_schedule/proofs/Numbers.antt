@@ -1,0 +1,69 @@
+-- Decimals, and the choices of words.
+use Rattle.std.proofs.Common.{lit<, if◌then◌else◌, ◌≡◌, ℕ, ◌+◌, ◌*◌, ◌^◌, ◌<◌, ◌≤◌, Bool, true, ◌&&◌, ◌||◌, ◌==◌, not, nat_le, List, [], ◌∷◌, ◌++◌, length, get_or, drop, Option, Some, None, option_map, refl, sym, ap, ◌∙◌, arith, append_assoc}
+use Rattle.std.proofs.Math.Nat.{pow-le-pow_right}
+use Rattle.std.proofs.lemmas.Bool.{and_parts, leb-true}
+use Rattle.std.proofs.lemmas.Grind.{pow_more}
+use Rattle.std.proofs.lemmas.List.{append-nil, drop_all, at_drop_more}
+use Rattle.std.proofs.lemmas.List.Sums.{AllPass-from_list_all}
+use Rattle.std.specs.Char.{is_ascii_digit}
+use Rattle.std.specs.List.{AllPass, list_all, slice_split}
+use Rattle.ra_schedule.specs.declared.choice.Choice.{Choice}
+use Rattle.ra_schedule.specs.ChoicesText.{is_decimal, decimal_value, choice_with, choice_of, choices_in, choices_of}
+
+-- a number of eight digits or fewer
+pub small_power : (value place : ℕ) → value < 10 ^ place → place < 9 → value < 100000000
+small_power value place small few =
+    let at_most : 10 ^ place ≤ 10 ^ 8 = pow-le-pow_right {n = 10} (lit< tt) {i = place} {j = 8} (omega arith) in omega arith
+
+-- one more digit
+pub small_more : (value place digit : ℕ) → value < 10 ^ place → digit < 10 → 10 * value + digit < 10 ^ (place + 1)
+small_more value place digit small one = let more = pow_more 10 place in omega (arith, more)
+
+-- a decimal is at most nine digits
+pub decimal_parts : (digits : List ℕ) → is_decimal digits ≡ true → (length digits ≤ 9) × AllPass is_ascii_digit digits
+decimal_parts digits h =
+    let (most, first) = and_parts ((nat_le 1 (length digits) && nat_le (length digits) 9) && list_all is_ascii_digit digits) (length digits == 1 || not (get_or digits 0 0 == 48)) h in
+    let (lengths, each) = and_parts (nat_le 1 (length digits) && nat_le (length digits) 9) (list_all is_ascii_digit digits) most in
+    let (some, few) = and_parts (nat_le 1 (length digits)) (nat_le (length digits) 9) lengths in
+    (leb-true (length digits) 9 few, AllPass-from_list_all is_ascii_digit digits each)
+
+-- a word of a letter and more
+pub choice_of-parts : (word : List ℕ) → 1 ≤ length word → (b : Bool) → is_decimal (drop 1 word) ≡ b
+    → choice_of word ≡ (if b then choice_with (get_or word 0 0) (decimal_value (drop 1 word)) else None)
+choice_of-parts [] some b is = absurd (omega arith)
+choice_of-parts (letter ∷ digits) some b is = rw (sym is)
+
+-- the words up to a place were read as these
+pub record IsChosenTo (words : List (List ℕ)) (place : ℕ) (done : List Choice) : Type 0 where
+  pub same : choices_in words ≡ option_map (λ rest. done ++ rest) (choices_in (drop place words))
+
+none_done : (o : Option (List Choice)) → o ≡ option_map (λ rest. [] ++ rest) o
+none_done None = refl
+none_done (Some rest) = refl
+
+pub IsChosenTo-none : (words : List (List ℕ)) → IsChosenTo words 0 []
+IsChosenTo-none words = record { same = none_done (choices_in words) }
+
+one_done : (done : List Choice) (x : Choice) (o : Option (List Choice)) → option_map (λ rest. done ++ rest) (option_map (λ others. x ∷ others) o) ≡ option_map (λ rest. (done ++ x ∷ []) ++ rest) o
+one_done done x None = refl
+one_done done x (Some rest) = ap Some (sym (append_assoc done (x ∷ []) rest))
+
+pub IsChosenTo-more : (words : List (List ℕ)) (place : ℕ) (done : List Choice) (word : List ℕ) (x : Choice) → place < length words → word ≡ get_or words place word → choice_of word ≡ Some x
+    → IsChosenTo words place done → IsChosenTo words (place + 1) (done ++ x ∷ [])
+IsChosenTo-more words place done word x lt is seen h =
+    let step = at_drop_more choices_in words place word lt in
+    record { same = h.same ∙ rw (step, sym is, seen) (one_done done x (choices_in (drop (place + 1) words))) }
+
+pub IsChosenTo-all : (words : List (List ℕ)) (place : ℕ) (done : List Choice) → length words ≤ place → IsChosenTo words place done → choices_in words ≡ Some done
+IsChosenTo-all words place done past h = h.same ∙ rw (drop_all place words past) (ap Some (append-nil done))
+
+-- a word that is no choice
+pub IsChosenTo-refused : (words : List (List ℕ)) (place : ℕ) (done : List Choice) (word : List ℕ) → place < length words → word ≡ get_or words place word → choice_of word ≡ None
+    → IsChosenTo words place done → choices_in words ≡ None
+IsChosenTo-refused words place done word lt is unread h =
+    let step = at_drop_more choices_in words place word lt in rw (h.same, step, sym is, unread)
+
+-- a text with some bytes is the words between its spaces
+pub choices_of-some : (text : List ℕ) → 0 < length text → choices_of text ≡ choices_in (slice_split (λ b. b == 32) text)
+choices_of-some [] some = absurd (omega arith)
+choices_of-some (b ∷ text) some = refl

@@ -1,0 +1,101 @@
+//! How lists of choices are written.
+ghost use Rattle.std.specs.Prelude.{◌≡◌, ◌⊎◌, ◌↔◌, ◌++◌, ◌∷◌, ◌<◌, List, [], All, length, IsTrue, OnOk, IfOk, IfErr, string_bytes, decimal};
+ghost use Rattle.ra_schedule.specs.declared.choice.Choice.{Choice};
+ghost use Rattle.ra_schedule.specs.ChoicesText as spec;
+ghost use Rattle.ra_schedule.specs.ChoicesText.{HasText, Lists};
+
+use crate::{Choice, Choices, ChoicesError};
+use ra_stamp::Memory;
+use std::alloc::Global;
+
+/// One more than the greatest number that a word may have.
+const TOO_MUCH: u64 = 1_000_000_000;
+
+/// Returns whether a word stands for a choice. It does not allocate.
+fn has_word(choice: &Choice) -> bool
+    ensures { IsTrue result ↔ HasText choice.now }
+{
+    match *choice {
+        Choice::Client(client) => u64::from(client) < TOO_MUCH,
+        Choice::Message(place) | Choice::Lost(place) => place < TOO_MUCH,
+        Choice::Repeated(_) => false,
+    }
+}
+
+/// Returns whether a word stands for each choice. It does not allocate.
+fn have_words(choices: &[Choice]) -> bool
+    ensures { IsTrue result ↔ All HasText choices.now }
+{
+    for place in 0..choices.len() {
+        if !has_word(&choices[place]) {
+            return false;
+        }
+    }
+    true
+}
+
+/// Adds a letter and a number.
+fn push_lettered(alloc: Global, text: &mut String, letter: &str, number: u64) -> Result<(), Memory>
+    ensures { OnOk result (string_bytes text.new ≡ string_bytes text.old ++ letter.now ++ decimal number) }
+{
+    let digits = format!(in alloc; "{number}")?;
+    text.push_str(letter)?;
+    text.push_str(digits.as_str())?;
+    Ok(())
+}
+
+/// Adds the word of a choice, or nothing if it is a repeat.
+fn push_word(alloc: Global, text: &mut String, choice: &Choice) -> Result<(), Memory>
+    ensures { OnOk result (string_bytes text.new ≡ string_bytes text.old ++ spec.spelled choice.now) }
+{
+    match *choice {
+        Choice::Client(client) => push_lettered(alloc, text, "c", u64::from(client)),
+        Choice::Message(place) => push_lettered(alloc, text, "m", place),
+        Choice::Lost(place) => push_lettered(alloc, text, "l", place),
+        Choice::Repeated(_) => Ok(()),
+    }
+}
+
+/// Adds the word of the choice at this place to those of the choices before, after a space if there are any.
+fn push_next(alloc: Global, text: &mut String, place: usize, choice: &Choice) -> Result<(), Memory>
+    ensures { (before : List Choice) → length before ≡ place → string_bytes text.old ≡ spec.spelled_all before
+        → OnOk result (string_bytes text.new ≡ spec.spelled_all (before ++ choice.now ∷ [])) }
+{
+    if place == 0 {
+        return push_word(alloc, text, choice);
+    }
+    text.push_str(" ")?;
+    push_word(alloc, text, choice)
+}
+
+/// Returns the words of choices, with one space between two.
+fn words_of(alloc: Global, choices: &Choices) -> Result<String, Memory>
+    ensures { IfOk result (λ text. string_bytes text ≡ spec.spelled_all choices.now.items) }
+{
+    let mut text = String::new(alloc);
+    for (place, choice) in choices.as_slice().iter().enumerate() {
+        push_next(alloc, &mut text, place, choice)?;
+    }
+    Ok(text)
+}
+
+/// Returns a list of choices as it is written, so that [`read_choices`](crate::read_choices) gives it back. The cost is linear in the
+/// text.
+///
+/// # Errors
+///
+/// The first that holds:
+///
+/// 1. `Choice`: no word stands for a choice, which is a repeat, or has a number of more than nine digits.
+/// 2. `Memory`: memory ran out.
+pub fn choices_text(alloc: Global, choices: &Choices) -> Result<String, ChoicesError>
+    ensures ok { IfOk result (λ text. Lists (string_bytes text) choices.now.items) }
+    ensures err { IfErr result (λ fault. ((fault ≡ ChoicesError.Choice) × (All HasText choices.now.items → ⊥))
+        ⊎ ((fault ≡ ChoicesError.Memory) × All HasText choices.now.items)) }
+{
+    if !have_words(choices.as_slice()) {
+        return Err(ChoicesError::Choice);
+    }
+    let text = words_of(alloc, choices)?;
+    Ok(text)
+}

@@ -1,7 +1,0 @@
-use Rattle.std.proofs.Common.{◌==◌, length}
-use Rattle.std.specs.List.{slice_split}
-use Rattle.ra_script.proofs.Numbers.{IsChosenTo}
-use Rattle.ra_script.proofs.choices.push_choices.Given as goal
-
-abbrev pub invariant-loop-word : goal.invariant-loop-word
-invariant-loop-word l = IsChosenTo (slice_split (λ b. b == 32) l.text) (length l.yielded) l.choices.items

@@ -1,7 +1,0 @@
-use Rattle.std.proofs.Common.{◌≡◌, take, string_bytes}
-use Rattle.ra_script.specs.ChoicesText.{spelled_all}
-use Rattle.ra_script.proofs.choices.spelling.words_of.Given as goal
-
--- the words of the choices so far
-abbrev pub invariant-loop-place : goal.invariant-loop-place
-invariant-loop-place l = string_bytes l.text ≡ spelled_all (take l.place l.choice-items)
