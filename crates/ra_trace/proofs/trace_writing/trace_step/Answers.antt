@@ -1,10 +1,17 @@
-use Rattle.std.proofs.Common.{string_bytes, refl, ap, ◌∙◌, inl, inr}
+use Rattle.std.proofs.Common.{◌≡◌, Result, Err, string_bytes, refl, ap, ◌∙◌, inl, inr}
+use Rattle.ra_world.specs.declared.error.RunError.{RunError}
+use Rattle.ra_trace.specs.declared.error.WriteTraceError.{WriteTraceError}
+use Rattle.ra_trace.specs.declared.error.WriteTraceError.TheVariants.{Run, Memory}
 use Rattle.ra_trace.specs.Writing.{refusal_of_run}
 use Rattle.ra_world.proofs.Refusing.{memory_or_not}
 use Rattle.ra_world.proofs.Runs.{prefix_of_steps, steps_go_on}
 use Rattle.ra_world.proofs.WorldLaws.{laws_below}
 use Rattle.ra_trace.proofs.Traced.{traced_more, stops_by}
 use Rattle.ra_trace.proofs.trace_writing.trace_step.Goals as goal
+
+-- that a run is refused is not that memory ran out
+run_is_no_memory : (refusal : WriteTraceError) (why : RunError) → refusal ≡ Run why → ◌≡◌ {A = Result (Unit {0}) WriteTraceError} (Err refusal) (Err Memory) → ⊥
+run_is_no_memory refusal why is e = cc
 
 pub returns-in-Ok-push_move-clause-traced : goal.returns-in-Ok-push_move-clause-traced
 returns-in-Ok-push_move-clause-traced c n start steps inside is traced =
@@ -25,5 +32,5 @@ pub returns-in-Err-clause-memory : goal.returns-in-Err-clause-memory
 returns-in-Err-clause-memory c is =
     elim (memory_or_not c.in-Err.cause) [
       | inl memory ↦ c.in-Err.ensures.allowed.0 memory
-      | inr other ↦ let refused = c.refusal_of.ensures ∙ ap refusal_of_run (c.at.ensures.refused other) in absurd cc
+      | inr other ↦ absurd (run_is_no_memory c.refusal_of.result _ (c.refusal_of.ensures ∙ ap refusal_of_run (c.at.ensures.refused other)) is)
     ]

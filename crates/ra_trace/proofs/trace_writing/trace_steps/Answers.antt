@@ -1,4 +1,4 @@
-use Rattle.std.proofs.Common.{◌≡◌, ◌<◌, ◌+◌, ℕ, List, Err, length, take, ap, subst}
+use Rattle.std.proofs.Common.{◌≡◌, ◌<◌, ◌+◌, ℕ, List, Err, length, take, take_all, ap, subst, ◌∙◌}
 use Rattle.std.proofs.lemmas.Result.{err_from_is_err_and}
 use Rattle.ra_world.specs.declared.step.Step.{Step}
 use Rattle.ra_world.specs.Run.{WorldRun}
@@ -6,6 +6,7 @@ use Rattle.ra_trace.specs.declared.error.WriteTraceError.TheVariants.{Memory}
 use Rattle.std.proofs.Common.{string_bytes}
 use Rattle.ra_world.proofs.Runs.{steps_go_on}
 use Rattle.ra_world.proofs.WorldLaws.{laws_below}
+use Rattle.ra_trace.specs.Writing.{HasTraced}
 use Rattle.ra_trace.proofs.Traced.{goes_there}
 use Rattle.ra_trace.proofs.trace_writing.trace_steps.Goals as goal
 
@@ -21,3 +22,13 @@ returns-in_err-trace_step-clause-memory c n start opened is =
     (c.loop-place.invariant n start opened) c.loop-place-test.true c.step-item.is (c.in_err-trace_step.ensures.memory (ap Err why)) in
     subst (λ (steps : List Step). (k : ℕ) × (k < length steps) × WorldRun n start (take (k + 1) steps)) c.as_slice-step-items.ensures
     (place, c.loop-place-test.true, run)
+
+pub loop-place-preserved : goal.loop-place-preserved
+loop-place-preserved c n start opened =
+    c.in_ok-trace_step.ensures.traced n start c.as_slice-step-items.result.now c.loop-place-test.true c.step-item.is (c.loop-place.invariant n start opened)
+
+pub returns-clause-traced : goal.returns-clause-traced
+returns-clause-traced c n start opened =
+    let items = c.as_slice-step-items.result.now in
+    subst (λ (steps : List Step). HasTraced n start steps c.loop-place.world (string_bytes c.loop-place.text))
+    (take_all c.loop-place.place items c.loop-place-test.false ∙ c.as_slice-step-items.ensures) (c.loop-place.invariant n start opened)

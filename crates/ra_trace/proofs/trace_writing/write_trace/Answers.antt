@@ -1,4 +1,4 @@
-use Rattle.std.proofs.Common.{◌≡◌, ◌≢◌, Result, Err, refl, sym, ap, ◌∙◌, subst, inl}
+use Rattle.std.proofs.Common.{◌≡◌, ◌≢◌, Result, Ok, Err, refl, sym, ap, ◌∙◌, subst, inl}
 use Rattle.std.specs.Io.KnownBytes.{Appends}
 use Rattle.std.proofs.lemmas.Result.{err_from_is_err_and, IfOk-from_err, MatchResult-from_err, IfErr-weaker, IfErr-at_err}
 use Rattle.ra_trace.specs.declared.error.WriteTraceError.{WriteTraceError}
@@ -53,6 +53,9 @@ returns g c =
 
 -- ---- It is written
 
+written_is_no_fault : {done : Unit {0}} → ◌≡◌ {A = Result (Unit {0}) WriteTraceError} (Ok done) (Err Write) → ⊥
+written_is_no_fault e = cc
+
 pub returns-in-Ok : goal.returns-in-Ok
 returns-in-Ok g c =
     let (moves, made, trace) = c.in_ok-text.ensures.ok in
@@ -71,5 +74,5 @@ returns-in-Ok g c =
       memory = tells.memory;
       allowed = λ number steps. tt;
       unwritten = tt;
-      prefix = λ is. absurd cc;
+      prefix = λ is. absurd (written_is_no_fault is);
     }

@@ -4,7 +4,7 @@ use Rattle.ra_world.specs.declared.error.NodeRefusal.{NodeRefusal}
 use Rattle.ra_world.specs.declared.error.StepError.TheVariants.{NoNode, NotUnderWay, Node, Memory}
 use Rattle.ra_trace.specs.declared.line.Line.TheVariants.{Stepped}
 use Rattle.ra_trace.specs.Forms.{allows_step}
-use Rattle.ra_trace.proofs.Taking.{step_is_not_last, step_not_allowed, step_is_taken, step_is_refused, step_is_not_under_way, step_may_come, no_node_is_of_client, node_is_of_client, not_under_way_is_of_message}
+use Rattle.ra_trace.proofs.Taking.{step_is_not_last, step_not_allowed, step_comes_early, first_comes_again, step_is_taken, step_is_refused, step_is_not_under_way, step_may_come, no_node_is_of_client, node_is_of_client, not_under_way_is_of_message}
 use Rattle.ra_trace.proofs.checker.Checker.take.Goals as goal
 
 -- two lines of steps are one only if the steps are
@@ -88,3 +88,13 @@ returns-in-Err-Memory-clause-judged c =
       refl,
       step_may_come c.args.self.now step allowed (c.has_due.ensures.none c.if-has_due.false) (arm.ensures.allowed.0 arm.field-0-is),
     )
+
+pub returns-in-First-clause-judged : goal.returns-in-First-clause-judged
+returns-in-First-clause-judged c = rw c.in-First.is (first_comes_again c.args.self.now _ _ _)
+
+pub returns-in-Stepped-2-clause-judged : goal.returns-in-Stepped-2-clause-judged
+returns-in-Stepped-2-clause-judged c =
+    let step = c.in-Stepped-2.field-0 in
+    let same : step ≡ c.in-Stepped.step = same_step _ _ (sym c.in-Stepped-2.is ∙ c.in-Stepped.is) in
+    let allowed : allows_step c.args.self.now.version step ≡ true = ap (allows_step c.args.self.now.version) same ∙ sym c.allows_step.ensures ∙ c.if-not-allows_step.false in
+    rw c.in-Stepped-2.is (step_comes_early c.args.self.now step allowed (c.has_due.ensures.some c.if-has_due.true))
