@@ -1,5 +1,5 @@
 -- Which names a client has after its operations.
-use Rattle.std.proofs.Common.{◌≡◌, ◌≢◌, ℕ, List, [], ◌∷◌, ◌++◌, length, All, refl, sym, ap, ◌∙◌, subst, inl, inr, append_assoc}
+use Rattle.std.proofs.Common.{◌≡◌, ◌≢◌, ℕ, List, [], ◌∷◌, ◌++◌, length, All, refl, sym, ap, ◌∙◌, subst, arith, inl, inr, append_assoc}
 use Rattle.std.specs.Prelude.{◌⊎◌, ◌↔◌}
 use Rattle.std.proofs.lemmas.List.{same_from_push, take_at}
 use Rattle.std.proofs.lemmas.List.Elements.{All-nil, All-push, All-take, All-same, All-contains, Contains-push}
@@ -80,3 +80,9 @@ unlocked_last ops before name is held =
 -- a name that the last operation locks is held
 pub locked_last : (ops before : List Op) (name : List ℕ) (mode : Mode) → ops ≡ before ++ Lock name mode ∷ [] → IsHeldAfter ops name
 locked_last ops before name mode is = (before, [], mode, is, All-nil (λ op. op ≢ Unlock name))
+
+-- nothing is held after no operation
+pub none_held : (ops : List Op) (name : List ℕ) → length ops ≡ 0 → IsHeldAfter ops name → ⊥
+none_held [] name none ([], after, mode, is, kept) = cc
+none_held [] name none (op ∷ before, after, mode, is, kept) = cc
+none_held (op ∷ ops) name none held = absurd (omega (arith, none))

@@ -1,5 +1,5 @@
 -- A client that moves on by one operation.
-use Rattle.std.proofs.Common.{◌≡◌, ◌≢◌, ◌<◌, ◌≤◌, ◌+◌, ◌-◌, ◌||◌, ℕ, Bool, List, length, get_or, set, sym, ap, ◌∙◌, arith}
+use Rattle.std.proofs.Common.{◌≡◌, ◌≢◌, ◌<◌, ◌≤◌, ◌+◌, ◌-◌, ◌||◌, ℕ, Bool, false, List, length, get_or, set, sym, ap, ◌∙◌, arith}
 use Rattle.std.proofs.lemmas.List.{get_or-set_other, get_or_default}
 use Rattle.std.proofs.lemmas.Grind.{get_or-set_at}
 use Rattle.ra_schedule.specs.declared.driver.client_progress.Progress.{Progress}
@@ -24,3 +24,13 @@ nobody_there list client k within at above = omega (arith, within, at, above)
 
 pub no_number : (client k : ℕ) → k + 1 ≡ client → client < 1 → ⊥
 no_number client k at below = omega (arith, at, below)
+
+-- it waits no longer
+pub stopped : (list : List Progress) (client k : ℕ) (d idle : Progress) → 1 ≤ client → k < length list → k + 1 ≡ client
+    → ◌≡◌ {A = Progress} (get_or (set list (client - 1) (record { done = (get_or list (client - 1) idle).done; waiting = false })) k d)
+    (record { done = (get_or list k d).done; waiting = false })
+stopped list client k d idle first within at =
+    let place : client - 1 ≡ k = omega (arith, at) in
+    let here : get_or list (client - 1) idle ≡ get_or list k d = ap (λ (i : ℕ). get_or list i idle) place ∙ get_or_default list k idle d within in
+    get_or-set_at list (client - 1) k (record { done = (get_or list (client - 1) idle).done; waiting = false }) d (sym place) (omega (arith, place, within))
+    ∙ (λ i. record { done = (here i).done; waiting = false })

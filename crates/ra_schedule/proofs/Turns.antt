@@ -1,6 +1,7 @@
 -- What the driver keeps from turn to turn, and how its end is read off.
 use Rattle.std.proofs.Common.{◌≡◌, ℕ, zero, suc, ◌+◌, ◌<◌, ◌≤◌, ◌^◌, Bool, true, false, Option, Some, None, List, [], ◌∷◌, ◌++◌, All, length, take, replicate, slice_get, slice_index_or, refl, sym, ap, ◌∙◌, subst, arith, inl, inr}
-use Rattle.std.specs.Prelude.{◌↔◌, IsTrue, IfSome, ◌==◌, if◌then◌else◌, option_map, option_and_then, Contains}
+use Rattle.std.specs.Prelude.{◌↔◌, ◌⊎◌, IsTrue, IfSome, ◌==◌, if◌then◌else◌, option_map, option_and_then, Contains}
+use Rattle.std.proofs.lemmas.Bool.{cases_eq, false≢true}
 use Rattle.std.proofs.lemmas.List as lists
 use Rattle.std.proofs.lemmas.List.Elements.{All-replicate}
 use Rattle.std.proofs.lemmas.Option.{IfSome_then}
@@ -357,3 +358,16 @@ whole xs ys n e = ap (λ (k : ℕ). take k (xs ++ ys)) e ∙ prefix_of xs ys
     prefix_of : {X : Type 0} (xs ys : List X) → take (length xs) (xs ++ ys) ≡ xs
     prefix_of [] ys = refl
     prefix_of (x ∷ xs) ys = ap (λ zs. x ∷ zs) (prefix_of xs ys)
+
+-- one more client is not free
+pub stuck_more : (script : ScriptState) (clients : List Progress) (place : ℕ) (e : Progress) (free : Bool) → AreStuck script clients place
+    → IsTrue free ⊎ IsStuck script (place + 1) (slice_index_or clients place e) → free ≡ false → AreStuck script clients (place + 1)
+stuck_more script clients place e free so_far says not = λ k d below within.
+    elim (cases_eq k place) [
+      | inl same ↦
+          let here : slice_index_or clients place e ≡ slice_index_or clients place d =
+          lists.get_or_default clients place e d (subst (λ (i : ℕ). i < length clients) same within) in
+          subst (λ (i : ℕ). IsStuck script (i + 1) (slice_index_or clients i d)) (sym same)
+          (subst (IsStuck script (place + 1)) here (elim says [ inl is_free ↦ absurd (false≢true (sym not ∙ is_free)) | inr stuck ↦ stuck ]))
+      | inr apart ↦ so_far k d (omega (arith, below, apart)) within
+    ]

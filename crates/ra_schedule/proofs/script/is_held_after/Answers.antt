@@ -5,7 +5,7 @@ use Rattle.std.proofs.lemmas.Slice.Eq.{slice_eq-Decides}
 use Rattle.ra_schedule.specs.declared.script.Op.{Op}
 use Rattle.ra_schedule.specs.declared.script.Op.TheVariants.{Lock, Unlock}
 use Rattle.ra_schedule.proofs.OpFaults.{one_kind, one_locked, one_unlocked}
-use Rattle.ra_schedule.proofs.Held.{says_nothing, unlocked_last, locked_last}
+use Rattle.ra_schedule.proofs.Held.{says_nothing, unlocked_last, locked_last, none_held}
 use Rattle.ra_schedule.proofs.script.is_held_after.Goals as goal
 
 pub returns-in-Unlock : goal.returns-in-Unlock
@@ -40,3 +40,9 @@ returns-in-Lock c =
     let last = c.in-Lock.is ∙ ap (λ (n : List ℕ). Lock n c.in-Lock.field-1) same in
     let split = c.in-Some.ensures.cases.0 ∙ ap (λ (op : Op). c.in-Some.before.now ++ op ∷ []) last in
     (λ yes. c.loop-last.invariant.1 (locked_last c.loop-last.rest.now c.in-Some.before.now name c.in-Lock.field-1 split), λ held. refl)
+
+pub returns : goal.returns
+returns c = (
+  λ yes. absurd (false≢true yes),
+  λ held. absurd (none_held c.loop-last.rest.now c.args.name.now c.in_default.ensures.cases (c.loop-last.invariant.0 held)),
+)
