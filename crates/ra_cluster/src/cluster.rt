@@ -187,20 +187,14 @@ impl<G: Gate + Drop> Cluster<G> {
         self.sites.get(node.place())
     }
 
-    /// Returns the site of a node, and all sites.
-    ///
-    /// # Errors
-    ///
-    /// `NoNode`: the cluster has no such node.
-    fn site_among_all(&self, node: NodeId) -> Result<(&Site, &[Site]), CallError>
-        ensures found { IfOk result (λ found. found.0.now ≡ node) }
-        ensures all { IfOk result (λ found. AreSitesWith found.0.now found.1.now) }
-        ensures no_node { IsErrOf result CallError.NoNode ↔ self.now.nodes < node }
+    /// Returns the site of a node, and all sites, or `None` if there is no such node.
+    fn site_among_all(&self, node: NodeId) -> Option<(&Site, &[Site])>
+        ensures found { IfSome result (λ found. found.0.now ≡ node) }
+        ensures all { IfSome result (λ found. AreSitesWith found.0.now found.1.now) }
+        ensures absent { IsNone result ↔ self.now.nodes < node }
     {
-        match self.site(node) {
-            Some(site) => Ok((site, self.sites.as_slice())),
-            None => Err(CallError::NoNode),
-        }
+        let site = self.site(node)?;
+        Some((site, self.sites.as_slice()))
     }
 
     /// Returns the gate that is asked before each step.
@@ -270,8 +264,13 @@ impl<G: Gate + Drop> Cluster<G> {
         ensures grant { IfOk result (IsGrantOf node client name mode) }
         ensures no_node { IsErrOf result CallError.NoNode ↔ self.now.nodes < node }
     {
-        let (site, sites) = self.site_among_all(node)?;
-        Ok(site.lock(rt, alloc, client, name, mode, &self.post, sites, &self.gate)?)
+        let Some((site, sites)) = self.site_among_all(node) else {
+            return Err(CallError::NoNode);
+        };
+        match site.lock(rt, alloc, client, name, mode, &self.post, sites, &self.gate) {
+            Ok(grant) => Ok(grant),
+            Err(refused) => Err(CallError::Site(refused)),
+        }
     }
 
     /// Gives back the name that a client of a node holds, as [`Site::unlock`] does.
@@ -292,9 +291,13 @@ impl<G: Gate + Drop> Cluster<G> {
     ) -> Result<(), CallError>
         ensures no_node { IsErrOf result CallError.NoNode ↔ self.now.nodes < node }
     {
-        let (site, sites) = self.site_among_all(node)?;
-        site.unlock(rt, alloc, client, name, &self.post, sites, &self.gate)?;
-        Ok(())
+        let Some((site, sites)) = self.site_among_all(node) else {
+            return Err(CallError::NoNode);
+        };
+        match site.unlock(rt, alloc, client, name, &self.post, sites, &self.gate) {
+            Ok(()) => Ok(()),
+            Err(refused) => Err(CallError::Site(refused)),
+        }
     }
 
     /// Locks a name as [`Cluster::lock`] does, calls the closure while the client holds it, and then unlocks it,
@@ -320,8 +323,13 @@ impl<G: Gate + Drop> Cluster<G> {
         ensures done { IfOk result (λ held. F.post does held.grant held.value) }
         ensures no_node { IsErrOf result CallError.NoNode ↔ self.now.nodes < node }
     {
-        let (site, sites) = self.site_among_all(node)?;
-        let grant = site.lock(rt, alloc, client, name, mode, &self.post, sites, &self.gate)?;
+        let Some((site, sites)) = self.site_among_all(node) else {
+            return Err(CallError::NoNode);
+        };
+        let grant = match site.lock(rt, alloc, client, name, mode, &self.post, sites, &self.gate) {
+            Ok(grant) => grant,
+            Err(refused) => return Err(CallError::Site(refused)),
+        };
         // The closure has a copy of its own.
         let given = grant;
         let value = does(given);
@@ -339,7 +347,7 @@ impl<G: Gate + Drop> Cluster<G> {
         let Some(inbox) = self.inboxes.get(node.place()) else {
             return;
         };
-        if let Ok((site, sites)) = self.site_among_all(node) {
+        if let Some((site, sites)) = self.site_among_all(node) {
             site.pump(rt, alloc, inbox, &self.post, sites, &self.gate);
         }
     }

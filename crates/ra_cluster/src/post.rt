@@ -74,9 +74,9 @@ impl Post {
         ensures inboxes { IfOk result (λ made. vec_len made.1 ≡ nodes) }
         ensures count { ChecksCount nodes result }
     {
-        if NodeCount::new(nodes).is_none() {
+        let Some(_count) = NodeCount::new(nodes) else {
             return Err(NewPostError::BadCount);
-        }
+        };
         let mut senders = Vec::new(alloc);
         let mut inboxes = Vec::new(alloc);
         for _node in 0..nodes {
@@ -100,19 +100,16 @@ impl Post {
     pub fn send<R: Wait>(&self, rt: &R, alloc: Global, frame: &Frame) -> Result<(), SendError>
         requires { Fits frame.now }
     {
-        // They are made before the lock is taken, so that nobody waits for the allocator, and looked at after.
-        let bytes = encode(alloc, frame);
         let senders = self.senders.read(rt);
-        let Some(senders) = senders.as_ref() else {
-            return Err(SendError::Closed);
-        };
-        let Ok(bytes) = bytes else {
-            return Err(SendError::Refused);
-        };
-        if send_to(rt, senders, frame.message.to(), bytes) {
-            Ok(())
-        } else {
-            Err(SendError::Refused)
+        match senders.as_ref() {
+            Some(senders) => {
+                if send_frame(rt, alloc, senders, frame) {
+                    Ok(())
+                } else {
+                    Err(SendError::Refused)
+                }
+            }
+            None => Err(SendError::Closed),
         }
     }
 
@@ -148,10 +145,7 @@ fn first_and_rest(frames: &[Frame]) -> Option<(&Frame, &[Frame])>
     ensures fewer { IfSome result (λ left. length left.1.now < length frames.now) }
     ensures fit { IfSome result (λ left. All Fits left.1.now) }
 {
-    if frames.is_empty() {
-        return None;
-    }
-    Some((&frames[0], &frames[1..]))
+    frames.split_first()
 }
 
 /// Sends frames one after the other, up to the first that is refused. Returns that one and those after it, or `None` if all

@@ -72,10 +72,10 @@ impl Model for Site {
 
 impl Site {
     ghost use Rattle.ra_automaton.specs.Members.{ChecksMember};
-    ghost use Rattle.ra_history.specs.Book.{HasHistory, IsWhole};
+    ghost use Rattle.ra_history.specs.Book.{HasHistory};
     ghost use Rattle.ra_cluster.specs.ClientGrant.{IsGrantOf};
     ghost use Rattle.ra_cluster.specs.Handing.{IsHandedOver, OnlyTurnOrMemory};
-    ghost use Rattle.ra_cluster.specs.Sites.{AreSitesWith};
+    ghost use Rattle.ra_cluster.specs.Sites.{AreSitesWith, IsWholeBookOf};
 
     /// Makes the site of node `me` of `nodes`, with a book in which nothing has happened yet. The highest number of each
     /// resource begins at `start`, 0 to 2^64-1, which is to be the same at all nodes. It does not allocate.
@@ -301,11 +301,7 @@ impl Site {
     pub(crate) fn close_as(self, alloc: Global, nodes: u16, start: u64) -> Book
         requires count { IsNodeNumber nodes }
         requires member { self ≤ nodes }
-        ensures me { result.me ≡ self }
-        ensures nodes { result.nodes ≡ nodes }
-        ensures start { result.start ≡ start }
-        ensures whole { IsWhole result }
-        ensures history { HasHistory result }
+        ensures { IsWholeBookOf self nodes start result }
     {
         let me = self.node;
         let book = self.close();

@@ -63,18 +63,20 @@ fn run_client<R: Wait, G: Gate + Drop>(rt: &R, alloc: Global, run: &ScriptRun<'_
             return;
         };
         if let Err(refused) = do_op(rt, alloc, run, node, client, op) {
-            stop_after(rt, run.cluster, refused);
+            if let Some(stop) = stop_for(refused) {
+                run.cluster.stop(rt, stop);
+            }
             return;
         }
     }
 }
 
-/// Stops the cluster after a client's call was refused, unless the client's node is stopped already or does not exist.
-fn stop_after<R: Wait, G: Gate + Drop>(rt: &R, cluster: &Cluster<G>, refused: CallError) {
-    if let CallError::Site(refused) = refused {
-        if let Some(stop) = stop_of(refused) {
-            cluster.stop(rt, stop);
-        }
+/// Returns the cause for which the cluster is stopped after a client's call was refused, or `None` if the client's node is
+/// stopped already or does not exist.
+fn stop_for(refused: CallError) -> Option<Stop> {
+    match refused {
+        CallError::Site(refused) => stop_of(refused),
+        CallError::NoNode => None,
     }
 }
 
@@ -94,7 +96,7 @@ fn do_op<R: Wait, G: Gate + Drop>(
     match op {
         Op::Lock(name, mode) => {
             let grant = run.cluster.lock(rt, alloc, node, client, name, mode)?;
-            if let Some(stop) = keep_grant(rt, grant, run) {
+            if let Some(stop) = keep_grant(rt, grant, run.grants, run.cluster.gate()) {
                 run.cluster.stop(rt, stop);
                 return Err(CallError::Site(SiteError::Stopped(stop)));
             }
@@ -105,15 +107,16 @@ fn do_op<R: Wait, G: Gate + Drop>(
 }
 
 /// Keeps a grant, and shows it to the gate. Returns why the cluster is to be stopped, or `None` if it goes on.
-fn keep_grant<R: Wait, G: Gate + Drop>(
+fn keep_grant<R: Wait, G: Gate>(
     rt: &R,
     grant: Grant,
-    run: &ScriptRun<'_, G>,
+    grants: &Mutex<Vec<Grant>>,
+    gate: &G,
 ) -> Option<Stop> {
-    if push_grant(&mut *run.grants.lock(rt), grant).is_err() {
+    if push_grant(&mut *grants.lock(rt), grant).is_err() {
         return Some(Stop::Memory);
     }
-    if run.cluster.gate().inside(&grant.entry) {
+    if gate.inside(&grant.entry) {
         None
     } else {
         Some(Stop::Gate)

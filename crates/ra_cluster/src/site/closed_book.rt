@@ -1,7 +1,7 @@
 //! What is returned for the book of a site that is closed.
-ghost use Rattle.std.specs.Prelude.{◌≡◌, ◌≤◌, IsTrue};
+ghost use Rattle.std.specs.Prelude.{◌≤◌, IsTrue};
 ghost use Rattle.ra_stamp.specs.NodeId.{IsNodeNumber};
-ghost use Rattle.ra_history.specs.Book.{HasHistory, IsWhole};
+ghost use Rattle.ra_cluster.specs.Sites.{IsWholeBookOf};
 
 use crate::{Book, Stop};
 use ra_stamp::NodeId;
@@ -9,7 +9,7 @@ use std::alloc::Global;
 
 /// Returns whether a book is whole, and that of this node, of this many nodes, from this start.
 pub fn is_whole_of(book: &Book, me: NodeId, nodes: u16, start: u64) -> bool
-    ensures { IsTrue result → (book.now.me ≡ me) × (book.now.nodes ≡ nodes) × (book.now.start ≡ start) × IsWhole book.now }
+    ensures { IsTrue result → IsWholeBookOf me nodes start book.now }
 {
     book.me() == me && book.nodes() == nodes && book.start() == start && book.is_whole()
 }
@@ -18,11 +18,7 @@ pub fn is_whole_of(book: &Book, me: NodeId, nodes: u16, start: u64) -> bool
 pub fn stopped_book(alloc: Global, me: NodeId, nodes: u16, start: u64, cause: Stop) -> Book
     requires count { IsNodeNumber nodes }
     requires member { me ≤ nodes }
-    ensures me { result.me ≡ me }
-    ensures nodes { result.nodes ≡ nodes }
-    ensures start { result.start ≡ start }
-    ensures whole { IsWhole result }
-    ensures history { HasHistory result }
+    ensures { IsWholeBookOf me nodes start result }
 {
     let Ok(mut empty) = Book::new(alloc, me, nodes, start) else {
         unreachable!()

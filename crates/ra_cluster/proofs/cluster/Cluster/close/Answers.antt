@@ -31,9 +31,9 @@ loop-site-preserved g c =
           (into_iter_items c.next.new.self)
           c.close_as.result
           (rw steps.0 at c.loop-site.invariant.closes)
-          c.close_as.ensures.me
-          c.close_as.ensures.nodes
-          c.close_as.ensures.start
+          c.close_as.ensures.me_is
+          c.close_as.ensures.nodes_are
+          c.close_as.ensures.start_is
           c.close_as.ensures.whole
           c.close_as.ensures.history);
       counted = omega (arith, steps.1, more, c.loop-site.invariant.counted);
@@ -62,3 +62,14 @@ returns-clause-start g c =
     (omega (arith, c.in-None.ensures.steps, c.loop-site.invariant.counted))
     c.loop-site.invariant.closes).start_is
     ∙ ap (λ (s : ClusterState). s.start) c.self.view_is
+
+pub returns-clause-histories : goal.returns-clause-histories
+returns-clause-histories g c =
+    (closes_all
+    c.nodes-nodes.result
+    c.self.inside.start
+    c.loop-site.books.items
+    (into_iter_items c.loop-site.site-iterator)
+    (omega (arith, c.nodes-nodes.ensures, c.into_sites-sites.ensures.count.0))
+    (omega (arith, c.in-None.ensures.steps, c.loop-site.invariant.counted))
+    c.loop-site.invariant.closes).histories
