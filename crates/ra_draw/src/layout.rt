@@ -3,7 +3,7 @@ mod name_cut;
 mod node_lane;
 pub mod sizes;
 
-use crate::timeline::{LockSpan, Timeline};
+use crate::timeline::{LockSpan, MessagePath, Timeline};
 use itoa::Buffer;
 pub use name_cut::NameCut;
 use name_cut::name_cut_of;
@@ -53,29 +53,39 @@ pub struct Layout {
     pub bars: Vec<LockBar>,
 }
 
+/// Returns the greatest number of these messages, and whether one of them is a copy.
+fn most_and_copies(paths: &[MessagePath]) -> (u64, bool) {
+    let (mut most, mut has_copies) = (0, false);
+    for path in paths {
+        most = u64::max(most, path.message.seq());
+        has_copies = has_copies || path.copied;
+    }
+    (most, has_copies)
+}
+
+/// Returns about how wide a label is at most, with this number and the longest name: letters have different widths.
+fn label_width(number: u64, cut: &NameCut) -> u64 {
+    let letters = Buffer::new()
+        .format(number)
+        .len()
+        .saturating_add(cut.letters_of(cut.longest))
+        .saturating_add(LABEL_LETTERS);
+    (letters as u64).saturating_mul(MEAN_LETTER)
+}
+
 impl Layout {
     /// Makes an empty one for what is drawn of a run.
     pub fn new(alloc: Global, timeline: &Timeline) -> Layout {
         let steps = short(timeline.rows.len());
         let left = timeline.paths.still_under_way.min(UNDER_WAY_ROWS);
         let cut = name_cut_of(timeline);
-        let (mut most, mut has_copies) = (0, false);
-        for path in &timeline.paths.drawn {
-            most = u64::max(most, path.message.seq());
-            has_copies = has_copies || path.copied;
-        }
-        // A label is about as wide as this at most: letters have different widths.
-        let letters = Buffer::new()
-            .format(most)
-            .len()
-            .saturating_add(cut.letters_of(cut.longest))
-            .saturating_add(LABEL_LETTERS);
+        let (most, has_copies) = most_and_copies(&timeline.paths.drawn);
         Layout {
             nodes: timeline.nodes,
             steps,
             end: steps.saturating_add(left).saturating_add(1),
             cut,
-            label: (letters as u64).saturating_mul(MEAN_LETTER),
+            label: label_width(most, &cut),
             has_copies,
             lanes: Vec::new(alloc),
             bars: Vec::new(alloc),

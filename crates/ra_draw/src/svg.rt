@@ -22,7 +22,7 @@ use svg_writer::SvgWriter;
 use wording::ending_of;
 
 /// What the headline counts of the whole run.
-#[derive(Drop)]
+#[derive(Clone, Copy)]
 pub struct Totals {
     pub requests: u128,
     /// What else is counted: messages of a trace, or grants of a mark log.
@@ -40,25 +40,21 @@ fn put_part(svg: &mut SvgWriter, part: Part) {
     }
 }
 
+/// Adds how many things there are.
+fn put_count(svg: &mut SvgWriter, count: u64, thing: &str) {
+    svg.write(
+        "$ $$",
+        &[Number(count), Text(thing), Text(ending_of(count))],
+    );
+}
+
 /// Adds what is drawn: how many nodes there are, the totals, and which lines if they are not all.
 fn put_headline(svg: &mut SvgWriter, nodes: u16, totals: &Totals, part: Part) {
-    let (nodes, requests, count) = (
-        u64::from(nodes),
-        short(totals.requests),
-        short(totals.count),
-    );
-    svg.write(
-        "$ node$, $ request$, $ $$",
-        &[
-            Number(nodes),
-            Text(ending_of(nodes)),
-            Number(requests),
-            Text(ending_of(requests)),
-            Number(count),
-            Text(totals.counted),
-            Text(ending_of(count)),
-        ],
-    );
+    put_count(svg, u64::from(nodes), "node");
+    svg.put(b", ");
+    put_count(svg, short(totals.requests), "request");
+    svg.put(b", ");
+    put_count(svg, short(totals.count), totals.counted);
     put_part(svg, part);
 }
 

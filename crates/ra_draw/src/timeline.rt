@@ -19,7 +19,7 @@ use std::alloc::Global;
 const MOST_MARKS: u32 = 3;
 
 /// What a client does by a step: it asks for a name in a mode, or leaves it.
-#[derive(Drop)]
+#[derive(Clone, Copy)]
 pub struct ClientAct {
     pub key: LockKey,
     /// The mode in which it asks.
@@ -27,7 +27,7 @@ pub struct ClientAct {
 }
 
 /// The line of a step, and what a client does by it, if anything.
-#[derive(Drop)]
+#[derive(Clone, Copy)]
 pub struct Row {
     pub line: u64,
     pub act: Option<ClientAct>,
@@ -182,6 +182,14 @@ impl Timeline {
         }
     }
 
+    /// Takes the mark of a line of a log.
+    fn take_mark(&mut self, number: u64, mark: &Mark, is_drawn: bool) -> Result<(), Memory> {
+        self.begin(number, act_of_mark(mark), is_drawn)?;
+        self.nodes = self.nodes.max(mark.entry().stamp.node.get());
+        self.spans.take(mark, self.now);
+        Ok(())
+    }
+
     /// Takes a line, which is drawn or comes before the lines that are. Only in a mark log, which has no world, a mark has a row.
     fn take(
         &mut self,
@@ -192,21 +200,21 @@ impl Timeline {
         is_drawn: bool,
     ) -> Result<(), Memory> {
         match line {
-            Line::First { nodes, .. } => self.nodes = nodes.get(),
+            Line::First { nodes, .. } => {
+                self.nodes = nodes.get();
+                Ok(())
+            }
             Line::Stepped(step) => {
                 self.begin(number, act_of(step), is_drawn)?;
-                self.make_step(alloc, world, step)?;
+                self.make_step(alloc, world, step)
             }
+            Line::Marked(mark) if world.is_none() => self.take_mark(number, mark, is_drawn),
             Line::Marked(mark) => {
-                if world.is_none() {
-                    self.begin(number, act_of_mark(mark), is_drawn)?;
-                    self.nodes = self.nodes.max(mark.entry().stamp.node.get());
-                }
                 self.spans.take(mark, self.now);
+                Ok(())
             }
-            Line::Last => {}
+            Line::Last => Ok(()),
         }
-        Ok(())
     }
 
     /// Takes the marks at the start of what follows the part of a trace: they are of its last step, which has at most this many.

@@ -22,7 +22,7 @@ pub struct NameCut {
 }
 
 /// What names have in common.
-#[derive(Drop)]
+#[derive(Clone, Copy)]
 struct CommonLetters {
     first: Option<Name>,
     before: usize,
@@ -79,8 +79,8 @@ impl CommonLetters {
     }
 }
 
-/// Returns how the names of what is drawn are shortened. It is linear in what is drawn.
-pub fn name_cut_of(timeline: &Timeline) -> NameCut {
+/// Returns what the names of what is drawn have in common. It is linear in what is drawn.
+fn common_in(timeline: &Timeline) -> CommonLetters {
     let mut common = CommonLetters {
         first: None,
         before: 0,
@@ -96,6 +96,12 @@ pub fn name_cut_of(timeline: &Timeline) -> NameCut {
             common.take(&act.key.name);
         }
     }
+    common
+}
+
+/// Returns how the names of what is drawn are shortened. It is linear in what is drawn.
+pub fn name_cut_of(timeline: &Timeline) -> NameCut {
+    let common = common_in(timeline);
     let longest = common.longest;
     if longest <= WHOLE {
         return NameCut {

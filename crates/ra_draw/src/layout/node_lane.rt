@@ -5,7 +5,7 @@ use ra_stamp::Memory;
 use std::alloc::Global;
 
 /// A column of bars, all of one client.
-#[derive(Drop)]
+#[derive(Clone, Copy)]
 pub struct Column {
     pub client: u32,
     /// The row down to which there are bars.
@@ -64,26 +64,30 @@ impl NodeLane {
         Ok(())
     }
 
-    /// Takes a column for a bar of this client over these rows, and returns which.
-    pub fn take(&mut self, client: u32, first: u32, last: u32) -> Result<u32, Memory> {
-        let before = match self.find(client, first) {
-            Some((place, true)) => {
-                if let Some(column) = self.columns.get_mut(place as usize) {
-                    column.end = last;
-                }
-                return Ok(place);
-            }
-            Some((place, false)) => Some(place),
-            None => None,
-        };
+    /// Adds a column for a client, after this one if it had any, with a bar down to this row. Returns which.
+    fn add(&mut self, client: u32, before: Option<u32>, end: u32) -> Result<u32, Memory> {
         let place = short(self.columns.len());
         self.columns.push(Column {
             client,
-            end: last,
+            end,
             next: None,
         })?;
         self.note_place(client, before, place)?;
         Ok(place)
+    }
+
+    /// Takes a column for a bar of this client over these rows, and returns which.
+    pub fn take(&mut self, client: u32, first: u32, last: u32) -> Result<u32, Memory> {
+        match self.find(client, first) {
+            Some((place, true)) => {
+                if let Some(column) = self.columns.get_mut(place as usize) {
+                    column.end = last;
+                }
+                Ok(place)
+            }
+            Some((place, false)) => self.add(client, Some(place), last),
+            None => self.add(client, None, last),
+        }
     }
 
     /// Returns how wide its bars are, with what is between them and it.

@@ -1,14 +1,13 @@
 //! The lines of deferrals beside the lanes.
-use crate::layout::Layout;
 use crate::layout::sizes::{DEFERRAL_STEP, FARTHEST_DEFERRAL, NEAREST_DEFERRAL};
+use crate::layout::{Layout, Point};
 use crate::svg::layers::Layers;
 use crate::svg::svg_writer::PatternValue::{Node, Number, Text, Whole};
-use crate::timeline::Deferral;
+use crate::timeline::{Deferral, Moment};
 
 impl Layers {
-    /// Draws the line of a deferral, this far to the left of the lane, from where the REQUEST came to where the REPLY is sent, and says
-    /// what it is.
-    fn draw_deferral(&mut self, layout: &Layout, deferral: &Deferral, beside: u64) {
+    /// Begins the shape of a deferral: what it is.
+    fn name_deferral(&mut self, deferral: &Deferral) {
         let request = &deferral.request;
         let name = request.name();
         self.shapes.write(
@@ -21,32 +20,44 @@ impl Layers {
                 Number(deferral.came.line),
             ],
         );
-        let from = layout.at(request.to(), deferral.came.row);
-        let (down, back) = match deferral.ended {
-            Some(ended) => {
-                self.shapes.write(" to line $", &[Number(ended.line)]);
-                (layout.y(ended.row), beside)
-            }
-            None => {
-                self.shapes.put(b" on");
-                (layout.bottom(), 0)
-            }
+        self.end_title(deferral.ended);
+    }
+
+    /// Draws the line of a deferral from a point, this far to the left of the lane, with this look.
+    fn draw_deferral_line(
+        &mut self,
+        layout: &Layout,
+        ended: Option<Moment>,
+        from: Point,
+        beside: u64,
+        look: &str,
+    ) {
+        let (down, back) = match ended {
+            Some(ended) => (layout.y(ended.row), beside),
+            None => (layout.bottom(), 0),
         };
-        self.shapes.put(b"</title>");
-        for &look in &["hit", "deferral"] {
-            self.shapes.write(
-                "<path class=\"$\" d=\"M$ $h-$V$h$\"/>",
-                &[
-                    Text(look),
-                    Number(from.x),
-                    Number(from.y),
-                    Number(beside),
-                    Number(down),
-                    Number(back),
-                ],
-            );
-        }
-        if deferral.came.row > 0 {
+        self.shapes.write(
+            "<path class=\"$\" d=\"M$ $h-$V$h$\"/>",
+            &[
+                Text(look),
+                Number(from.x),
+                Number(from.y),
+                Number(beside),
+                Number(down),
+                Number(back),
+            ],
+        );
+    }
+
+    /// Draws the line of a deferral, this far to the left of the lane, from where the REQUEST came to where the REPLY is sent, and says
+    /// what it is. Beneath it is one that is not seen, so that a pointer hits it easily.
+    fn draw_deferral(&mut self, layout: &Layout, deferral: &Deferral, beside: u64) {
+        let came = deferral.came.row;
+        let from = layout.at(deferral.request.to(), came);
+        self.name_deferral(deferral);
+        self.draw_deferral_line(layout, deferral.ended, from, beside, "hit");
+        self.draw_deferral_line(layout, deferral.ended, from, beside, "deferral");
+        if came > 0 {
             self.shapes.write(
                 "<path class=\"deferred\" d=\"M$ $m-3 -3h6v6h-6z\"/>",
                 &[Number(from.x.saturating_sub(beside)), Number(from.y)],

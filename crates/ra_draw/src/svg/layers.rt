@@ -4,8 +4,8 @@ use crate::layout::{Layout, Point};
 use crate::svg::svg_writer::PatternValue::{Node, Number, Short, Text, Whole};
 use crate::svg::svg_writer::SvgWriter;
 use crate::svg::wording::mode_text;
-use crate::timeline::{ClientAct, LockKey, Timeline};
-use ra_stamp::{Memory, NodeId};
+use crate::timeline::{ClientAct, LockKey, Moment, Timeline};
+use ra_stamp::{Memory, Mode, NodeId};
 use std::alloc::Global;
 
 /// The two layers of a picture: the shapes, and the labels, which are in front of them all.
@@ -49,6 +49,16 @@ impl Layers {
                 Whole(&key.name),
             ],
         );
+    }
+
+    /// Ends the title of a shape with the line to which it goes, or says that it goes on.
+    pub fn end_title(&mut self, last: Option<Moment>) {
+        match last {
+            Some(last) => self
+                .shapes
+                .write(" to line $</title>", &[Number(last.line)]),
+            None => self.shapes.put(b" on</title>"),
+        }
     }
 
     /// Draws the line of a lane, with this class.
@@ -107,37 +117,54 @@ impl Layers {
         }
     }
 
-    /// Draws a dot where a client asks or leaves, and labels it. Beneath it is a larger one that is not seen, so that a pointer hits it
-    /// easily.
-    fn draw_act(&mut self, layout: &Layout, act: &ClientAct, row: u32) {
-        let place = layout.at(act.key.node, row);
-        let (what, word, class) = match act.mode {
-            Some(_) => ("asks for", "asks", "ask"),
-            None => ("leaves", "leaves", "leave"),
-        };
-        self.begin_act(&act.key, what);
-        if let Some(mode) = act.mode {
-            self.shapes.write(", $", &[Text(mode_text(mode))]);
-        }
+    /// Begins the dot of what a client does, to its class: first a larger one that is not seen, so that a pointer hits it easily.
+    fn begin_dot(&mut self, place: Point) {
         self.shapes.write(
-            "</title><circle cx=\"$\" cy=\"$\" r=\"10\" class=\"touch\"/><circle cx=\"$\" cy=\"$\" r=\"4\" class=\"$\"/></g>\n",
+            "</title><circle cx=\"$\" cy=\"$\" r=\"10\" class=\"touch\"/><circle cx=\"$\" cy=\"$\" r=\"4\" class=\"",
             &[
                 Number(place.x),
                 Number(place.y),
                 Number(place.x),
                 Number(place.y),
-                Text(class),
             ],
         );
+    }
+
+    /// Begins the label of what a client does.
+    fn begin_act_label(&mut self, layout: &Layout, key: &LockKey, place: Point, word: &str) {
         self.begin_text(place.x.saturating_add(8), place.y.saturating_sub(4));
         self.labels.write(
             "label to-right\">$ $",
-            &[Text(word), Short(&act.key.name, layout.cut)],
+            &[Text(word), Short(&key.name, layout.cut)],
         );
-        if let Some(mode) = act.mode {
-            self.labels.write(" $", &[Text(mode.word())]);
-        }
+    }
+
+    /// Draws a dot where a client asks for a name in a mode, and labels it.
+    fn draw_ask(&mut self, layout: &Layout, key: &LockKey, mode: Mode, place: Point) {
+        self.begin_act(key, "asks for");
+        self.shapes.write(", $", &[Text(mode_text(mode))]);
+        self.begin_dot(place);
+        self.shapes.put(b"ask\"/></g>\n");
+        self.begin_act_label(layout, key, place, "asks");
+        self.labels.write(" $</text>\n", &[Text(mode.word())]);
+    }
+
+    /// Draws a dot where a client leaves a name, and labels it.
+    fn draw_leave(&mut self, layout: &Layout, key: &LockKey, place: Point) {
+        self.begin_act(key, "leaves");
+        self.begin_dot(place);
+        self.shapes.put(b"leave\"/></g>\n");
+        self.begin_act_label(layout, key, place, "leaves");
         self.labels.put(b"</text>\n");
+    }
+
+    /// Draws what a client does on a row.
+    fn draw_act(&mut self, layout: &Layout, act: &ClientAct, row: u32) {
+        let place = layout.at(act.key.node, row);
+        match act.mode {
+            Some(mode) => self.draw_ask(layout, &act.key, mode, place),
+            None => self.draw_leave(layout, &act.key, place),
+        }
     }
 
     /// Begins the label to the left of a row.

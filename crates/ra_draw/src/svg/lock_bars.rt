@@ -1,6 +1,6 @@
 //! The bars of clients beside the lanes, and their names.
 use crate::layout::sizes::COLUMN_WIDTH;
-use crate::layout::{Layout, LockBar};
+use crate::layout::{Layout, LockBar, Point};
 use crate::svg::layers::Layers;
 use crate::svg::svg_writer::PatternValue::{Number, Short, Text};
 use crate::svg::wording::mode_text;
@@ -51,35 +51,44 @@ impl Layers {
             Some(last) => last.row,
             None => bar.end,
         };
-        if end <= first.row {
-            return;
+        if first.row < end {
+            self.begin_act(&bar.span.key, phase.what);
+            self.shapes.write(
+                ", $, from line $",
+                &[Text(mode_text(bar.span.mode)), Number(first.line)],
+            );
+            self.end_title(last);
+            self.draw_bar(layout, bar, phase, first.row, end);
         }
-        let mode = bar.span.mode;
+    }
+
+    /// Draws the bar of a phase from one row to another.
+    fn draw_bar(&mut self, layout: &Layout, bar: &LockBar, phase: &BarPhase, first: u32, end: u32) {
         let x = layout.column_x(bar.span.key.node, bar.column);
-        let y = layout.y(first.row);
+        let y = layout.y(first);
         let height = layout.y(end).saturating_sub(y);
-        self.begin_act(&bar.span.key, phase.what);
+        self.begin_bar(Point { x, y }, COLUMN_WIDTH, height);
+        self.shapes.put(b"touch\"/>");
+        let inner = Point {
+            x: x.saturating_add(phase.inset),
+            y,
+        };
+        self.begin_bar(inner, phase.width, height);
         self.shapes.write(
-            ", $, from line $",
-            &[Text(mode_text(mode)), Number(first.line)],
+            "$ $\"/></g>\n",
+            &[Text(phase.look), Text(bar.span.mode.word())],
         );
-        match last {
-            Some(last) => self.shapes.write(" to line $", &[Number(last.line)]),
-            None => self.shapes.put(b" on"),
-        }
+    }
+
+    /// Begins a bar, to the quotation mark of its class.
+    fn begin_bar(&mut self, corner: Point, width: u64, height: u64) {
         self.shapes.write(
-            "</title><rect x=\"$\" y=\"$\" width=\"$\" height=\"$\" class=\"touch\"/><rect x=\"$\" y=\"$\" width=\"$\" height=\"$\" class=\"$ $\"/></g>\n",
+            "<rect x=\"$\" y=\"$\" width=\"$\" height=\"$\" class=\"",
             &[
-                Number(x),
-                Number(y),
-                Number(COLUMN_WIDTH),
+                Number(corner.x),
+                Number(corner.y),
+                Number(width),
                 Number(height),
-                Number(x.saturating_add(phase.inset)),
-                Number(y),
-                Number(phase.width),
-                Number(height),
-                Text(phase.look),
-                Text(mode.word()),
             ],
         );
     }

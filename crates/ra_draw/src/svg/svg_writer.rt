@@ -6,7 +6,7 @@ use ra_world::cut;
 use std::alloc::Global;
 
 /// What is put in a place of a pattern.
-#[derive(Drop)]
+#[derive(Clone, Copy)]
 pub enum PatternValue<'a> {
     Number(u64),
     Node(NodeId),

@@ -8,7 +8,7 @@ use std::alloc::Global;
 type OwedReply = (NodeId, NodeId, Name);
 
 /// A deferral: the REQUEST, when it came, and when the REPLY was sent or a later REQUEST took its place, as far as the run goes.
-#[derive(Drop)]
+#[derive(Clone, Copy)]
 pub struct Deferral {
     pub request: Message,
     pub came: Moment,

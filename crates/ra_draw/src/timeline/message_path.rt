@@ -5,7 +5,7 @@ use ra_stamp::{Memory, Message};
 use std::alloc::Global;
 
 /// What became of a message.
-#[derive(Drop)]
+#[derive(Clone, Copy)]
 pub enum MessageEnd {
     Delivered(Moment),
     Lost(Moment),
@@ -14,7 +14,7 @@ pub enum MessageEnd {
 }
 
 /// The path of a message.
-#[derive(Drop)]
+#[derive(Clone, Copy)]
 pub struct MessagePath {
     pub message: Message,
     /// When it came under way.
