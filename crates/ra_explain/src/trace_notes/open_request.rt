@@ -31,7 +31,7 @@ impl Stage {
 }
 
 /// A client that waits, is queued or holds, and its request.
-#[derive(Drop)]
+#[derive(Clone, Copy)]
 pub struct OpenRequest {
     /// If the client is queued it has no request yet, and the number in this one has no meaning.
     pub entry: Entry,

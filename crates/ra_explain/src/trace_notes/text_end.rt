@@ -14,7 +14,7 @@ use std::alloc::Global;
 use std::simd::prelude::*;
 
 /// How much is left at the end of a text.
-#[derive(Drop)]
+#[derive(Clone, Copy)]
 struct LeftOver {
     /// How many messages and copies are under way, and how many were lost.
     under_way: u128,
@@ -33,7 +33,7 @@ impl LeftOver {
 }
 
 /// How many lines came of those that change what is left.
-#[derive(Drop)]
+#[derive(Clone, Copy)]
 struct LineCounts {
     asks: u64,
     requests: u64,

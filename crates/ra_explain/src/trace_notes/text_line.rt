@@ -3,7 +3,7 @@ use ra_trace::{Line, MAX_LINE};
 use ra_world::cut;
 
 /// A line of a text.
-#[derive(Drop)]
+#[derive(Clone, Copy)]
 pub struct TextLine<'a> {
     /// Its number, counted from 1.
     pub number: u64,
