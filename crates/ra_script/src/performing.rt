@@ -1,11 +1,11 @@
 pub mod find_run;
 pub mod printed;
 
-ghost use Rattle.std.specs.Prelude.{◌≡◌, ◌⊎◌, All, MatchOption, ◌++◌, string_bytes, codes, OnOk, IfOk, IfErr};
+ghost use Rattle.std.specs.Prelude.{◌≡◌, ◌⊎◌, ℕ, List, All, MatchOption, ◌++◌, string_bytes, codes, OnOk, IfOk, IfErr};
 ghost use Rattle.ra_schedule.specs.declared.driver.output_kind.OutputKind.{OutputKind};
 ghost use Rattle.ra_schedule.specs.ChoicesText.{HasText, Lists};
 ghost use Rattle.ra_script.specs.Performed.{PerformsScript};
-ghost use Rattle.ra_script.specs.Printing.{PrintsRun};
+ghost use Rattle.ra_script.specs.Printing.{PrintsInput, PrintsRun};
 
 use crate::laws::{choices_have_words_unless_messages_are_repeated, read_scripts_come_to_rest};
 use crate::performing::printed::Printed;
@@ -56,14 +56,15 @@ fn trace_of(alloc: Global, policy: &Policy, script: &Script) -> Result<Printed, 
 {
     runs_are_determined();
     let recording = drive(alloc, script, policy, MAX_TURNS)?;
-    // The steps are a run, so only `Memory` can come.
-    let Ok(text) = trace_text(alloc, script.nodes(), 0, &recording.steps) else {
-        return Err(PerformError::Memory);
-    };
-    Ok(Printed {
-        text,
-        finished: recording.finished,
-    })
+    let text = trace_text(alloc, script.nodes(), 0, &recording.steps);
+    let finished = recording.finished;
+    // By a call, and before any exit, since to drop each of its parts there is long to prove.
+    drop(recording);
+    match text {
+        Ok(text) => Ok(Printed { text, finished }),
+        // The steps are a run, so only `Memory` can come.
+        Err(_) => Err(PerformError::Memory),
+    }
 }
 
 /// Adds a line feed.
@@ -72,6 +73,21 @@ fn end_line(text: &mut String) -> Result<(), Memory>
 {
     text.push_str("\n")?;
     Ok(())
+}
+
+/// Returns the line of choices: their words, and a line feed.
+///
+/// # Errors
+///
+/// Those of `choices_text`.
+fn choices_line(alloc: Global, choices: &Choices) -> Result<String, ChoicesError>
+    ensures ok { IfOk result (λ line. (text : List ℕ) × Lists text choices.now.items × (string_bytes line ≡ text ++ codes "\n")) }
+    ensures err { IfErr result (λ fault. ((fault ≡ ChoicesError.Choice) × (All HasText choices.now.items → ⊥))
+        ⊎ (fault ≡ ChoicesError.Memory)) }
+{
+    let mut text = choices_text(alloc, choices)?;
+    end_line(&mut text)?;
+    Ok(text)
 }
 
 /// Drives a cluster through a script by a policy, and returns the line of its choices, by which the run is made again.
@@ -88,27 +104,28 @@ fn choices_of(alloc: Global, policy: &Policy, script: &Script) -> Result<Printed
 {
     choices_have_words_unless_messages_are_repeated();
     let recording = drive(alloc, script, policy, MAX_TURNS)?;
-    let mut text = choices_text(alloc, &recording.choices)?;
-    end_line(&mut text)?;
-    Ok(Printed {
-        text,
-        finished: recording.finished,
-    })
+    let line = choices_line(alloc, &recording.choices);
+    let finished = recording.finished;
+    // By a call, and before any exit, since to drop each of its parts there is long to prove.
+    drop(recording);
+    let text = line?;
+    Ok(Printed { text, finished })
 }
 
-/// Returns the words of choices, or `none` if there are none.
+/// Returns the line of choices, or `none` and a line feed if there are none.
 ///
 /// # Errors
 ///
 /// Those of `choices_text`.
-fn text_or_none(alloc: Global, choices: &Option<Choices>) -> Result<String, ChoicesError>
-    ensures ok { IfOk result (λ text. MatchOption choices.now (string_bytes text ≡ codes "none") (λ list. Lists (string_bytes text) list.items)) }
+fn line_or_none(alloc: Global, choices: &Option<Choices>) -> Result<String, ChoicesError>
+    ensures ok { IfOk result (λ line. MatchOption choices.now (string_bytes line ≡ codes "none\n")
+        (λ list. (text : List ℕ) × Lists text list.items × (string_bytes line ≡ text ++ codes "\n"))) }
     ensures err { IfErr result (λ fault. ((fault ≡ ChoicesError.Choice)
         × MatchOption choices.now ⊥ (λ list. All HasText list.items → ⊥)) ⊎ (fault ≡ ChoicesError.Memory)) }
 {
     match choices {
-        Some(choices) => choices_text(alloc, choices),
-        None => match String::from_str(alloc, "none") {
+        Some(choices) => choices_line(alloc, choices),
+        None => match String::from_str(alloc, "none\n") {
             Ok(text) => Ok(text),
             Err(_) => Err(ChoicesError::Memory),
         },
@@ -130,12 +147,12 @@ fn shrunk_of(alloc: Global, policy: &Policy, script: &Script) -> Result<Printed,
 {
     choices_have_words_unless_messages_are_repeated();
     let shrunk = shrink(alloc, script, policy, MAX_TURNS)?;
-    let mut text = text_or_none(alloc, &shrunk.choices)?;
-    end_line(&mut text)?;
-    Ok(Printed {
-        text,
-        finished: shrunk.finished,
-    })
+    let line = line_or_none(alloc, &shrunk.choices);
+    let finished = shrunk.finished;
+    // By a call, and before any exit, since to drop each of its parts there is long to prove.
+    drop(shrunk);
+    let text = line?;
+    Ok(Printed { text, finished })
 }
 
 /// Drives a cluster through a script by a policy, and returns the lines of the state at the end of its run.
@@ -179,6 +196,26 @@ pub fn print_run(
     }
 }
 
+/// Reads the text of a script, drives a cluster through it by a policy, and returns what is written of the run in a format.
+///
+/// # Errors
+///
+/// The first that holds, except that `Memory` may come before any:
+///
+/// 1. `Script`: the text is no script.
+/// 2. Those of `print_run`.
+fn print_input(
+    alloc: Global,
+    text: &[u8],
+    format: OutputKind,
+    policy: &Policy,
+) -> Result<Printed, PerformError>
+    ensures { PrintsInput format policy.now text.now result }
+{
+    let script = read_script(alloc, text)?;
+    print_run(alloc, format, policy, &script)
+}
+
 /// Does as [`perform`], and writes what came of it in a format. This is the lines of the report, or the trace, as [`perform_trace`]
 /// does, or the policy's choices, in their words on one line. So `--policy listed --choices` with these words makes the same run
 /// again, whatever policy made it first. To write the choices costs about what `perform` does, plus time and memory linear in the
@@ -208,8 +245,10 @@ pub fn perform_as<R: Read, W: Write>(
 {
     read_scripts_come_to_rest();
     let input = read_up_to(alloc, reader, MAX_SCRIPT + 1)?;
-    let script = read_script(alloc, &input)?;
-    let printed = print_run(alloc, format, policy, &script)?;
+    let made = print_input(alloc, &input, format, policy);
+    // Before any exit, so that it is not to be dropped at each.
+    drop(input);
+    let printed = made?;
     write_out(writer, printed.text.as_bytes())?;
     Ok(printed.finished)
 }

@@ -12,11 +12,16 @@ const SCRIPT: &str = "a script has nodes (an integer) and client (an array of ta
 /// What the table of a client has.
 const CLIENT: &str = "a client has node (an integer) and ops (an array of strings)";
 
+/// Returns whether a key is neither of two. It does not allocate.
+fn is_neither(key: &str, first: &str, second: &str) -> bool {
+    key != first && key != second
+}
+
 /// Returns the first key of a table that is neither of these two, if there is one. It does not allocate.
 fn unknown_key<'a>(table: &'a Table, first: &str, second: &str) -> Option<&'a str> {
     for key in table.keys() {
         let key = key.as_str();
-        if key != first && key != second {
+        if is_neither(key, first, second) {
             return Some(key);
         }
     }

@@ -1,4 +1,4 @@
-use Rattle.std.proofs.Common.{◌≡◌, ◌⊎◌, ℕ, List, Ok, All, string_bytes, sym, subst, inl, inr}
+use Rattle.std.proofs.Common.{◌≡◌, ◌⊎◌, ℕ, List, Ok, All, sym, subst, inl, inr}
 use Rattle.std.proofs.lemmas.Result.{err_from_is_err_and}
 use Rattle.ra_schedule.specs.declared.choice.Policy.{Policy}
 use Rattle.ra_schedule.specs.declared.error.ChoicesError.{ChoicesError}
@@ -9,14 +9,14 @@ use Rattle.ra_script.specs.Faults.{of_choices}
 use Rattle.ra_script.specs.Performed.{HasNoWords, RefusesAs}
 use Rattle.ra_script.specs.ScriptText.{script_of}
 use Rattle.ra_script.proofs.ReadScripts.{read_scripts}
-use Rattle.ra_script.proofs.Printing.{written, no_memory, undriven, wordless}
+use Rattle.ra_script.proofs.Printing.{written, undriven, wordless}
 use Rattle.ra_script.proofs.performing.choices_of.Goals as goal
 
 -- why choices are not written
-of_fault : (policy : Policy) (input : List ℕ) (fault : ChoicesError) (P Q : Type 0) → (P → HasNoWords policy input)
-    → ((fault ≡ choices.Choice) × P) ⊎ ((fault ≡ choices.Memory) × Q) → RefusesAs Choices policy input (of_choices fault)
-of_fault policy input fault P Q none (inl (is, holds)) = subst (λ (why : ChoicesError). RefusesAs Choices policy input (of_choices why)) (sym is) (none holds)
-of_fault policy input fault P Q none (inr (is, holds)) = subst (λ (why : ChoicesError). RefusesAs Choices policy input (of_choices why)) (sym is) tt
+of_fault : (policy : Policy) (input : List ℕ) (fault : ChoicesError) (P : Type 0) → (P → HasNoWords policy input)
+    → ((fault ≡ choices.Choice) × P) ⊎ (fault ≡ choices.Memory) → RefusesAs Choices policy input (of_choices fault)
+of_fault policy input fault P none (inl (is, holds)) = subst (λ (why : ChoicesError). RefusesAs Choices policy input (of_choices why)) (sym is) (none holds)
+of_fault policy input fault P none (inr is) = subst (λ (why : ChoicesError). RefusesAs Choices policy input (of_choices why)) (sym is) tt
 
 pub returns : goal.returns
 returns c =
@@ -31,9 +31,9 @@ returns c =
         choices = c.in_ok-recording.recording.choices;
         by = recording.choices;
         are = recording.again;
-        text = string_bytes c.in_ok-text.text;
-        lists = c.in_ok-text.ensures.ok;
-        line = c.in_ok-end_line.ensures;
+        text = c.in_ok-text.ensures.ok.0;
+        lists = c.in_ok-text.ensures.ok.1;
+        line = c.in_ok-text.ensures.ok.2;
       };
     })
 
@@ -52,14 +52,9 @@ returns-in_err-text c =
           (read_scripts input c.args.script.now script_is) recording.run.follows recording.choices unrepeated);
     } in
     rw (p.1, p.2) (wordless Choices c.args.policy.now c.args.script.now c.in_err-text.field-0.0
-    (λ input is. of_fault c.args.policy.now input c.in_err-text.field-0.0 (All HasText items → ⊥) _ (none_have input is) c.in_err-text.ensures.err))
+    (λ input is. of_fault c.args.policy.now input c.in_err-text.field-0.0 (All HasText items → ⊥) (none_have input is) c.in_err-text.ensures.err))
 
 pub returns-in_err-recording : goal.returns-in_err-recording
 returns-in_err-recording c =
     let p = err_from_is_err_and c.from_residual.result c.from_residual.ensures.1 in
     rw (p.1, p.2) (undriven Choices c.args.policy.now c.args.script.now c.in_err-recording.field-0.0 c.in_err-recording.ensures.answers)
-
-pub returns-in_err-end_line : goal.returns-in_err-end_line
-returns-in_err-end_line c =
-    let p = err_from_is_err_and c.from_residual-in_err-end_line.result c.from_residual-in_err-end_line.ensures.1 in
-    rw (p.1, p.2) (no_memory Choices c.args.policy.now c.args.script.now)

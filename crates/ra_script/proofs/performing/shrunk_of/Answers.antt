@@ -1,4 +1,4 @@
-use Rattle.std.proofs.Common.{◌≡◌, ◌⊎◌, ℕ, List, [], ◌++◌, All, Option, Some, None, Ok, codes, string_bytes, sym, ap, ◌∙◌, subst, inl, inr}
+use Rattle.std.proofs.Common.{◌≡◌, ◌⊎◌, ℕ, List, [], ◌++◌, All, Option, Some, None, Ok, codes, sym, subst, inl, inr}
 use Rattle.std.specs.Prelude.{MatchOption}
 use Rattle.std.proofs.lemmas.Result.{err_from_is_err_and}
 use Rattle.ra_stamp.specs.Sequence.{Listed as Listing}
@@ -18,14 +18,15 @@ use Rattle.ra_script.specs.Faults.{of_choices}
 use Rattle.ra_script.specs.Performed.{HasNoWords, RefusesAs, SaysShrunk}
 use Rattle.ra_script.specs.ScriptText.{script_of}
 use Rattle.ra_script.proofs.ReadScripts.{read_scripts}
-use Rattle.ra_script.proofs.Printing.{written, no_memory, undriven, wordless}
+use Rattle.ra_script.proofs.Printing.{written, undriven, wordless}
 use Rattle.ra_script.proofs.performing.shrunk_of.Goals as goal
 
-says : (script : ScriptState) (moves : List Move) (found : Option (Listing Choice)) (text output : List ℕ)
+says : (script : ScriptState) (moves : List Move) (found : Option (Listing Choice)) (output : List ℕ)
     → MatchOption found (IsStuckRun script moves → ⊥) (λ list. IsStuckRun script moves × IsLeastOf script moves list)
-    → MatchOption found (text ≡ codes "none") (λ list. Lists text list.items) → output ≡ text ++ codes "\n" → SaysShrunk script moves output
-says script moves None text output none is line = inr (none, line ∙ ap (λ (t : List ℕ). t ++ codes "\n") is)
-says script moves (Some list) text output (stuck, least) lists line = inl (list, text, stuck, least, lists, line)
+    → MatchOption found (output ≡ codes "none\n") (λ list. (text : List ℕ) × Lists text list.items × (output ≡ text ++ codes "\n"))
+    → SaysShrunk script moves output
+says script moves None output none is = inr (none, is)
+says script moves (Some list) output (stuck, least) (text, lists, line) = inl (list, text, stuck, least, lists, line)
 
 -- choices without a word repeat a message, and so does the run that was shrunk to them
 has_no_words : (script : ScriptState) (moves : List Move) (found : Option (Listing Choice)) → IsScript script
@@ -52,7 +53,7 @@ returns c =
       moves = told.moves;
       report = told.report;
       run = told.run;
-      says = says c.args.script.now told.moves c.in_ok-shrunk.shrunk.choices (string_bytes c.in_ok-text.text) _ told.choices c.in_ok-text.ensures.ok c.in_ok-end_line.ensures;
+      says = says c.args.script.now told.moves c.in_ok-shrunk.shrunk.choices _ told.choices c.in_ok-text.ensures.ok;
     })
 
 pub returns-in_err-text : goal.returns-in_err-text
@@ -79,8 +80,3 @@ pub returns-in_err-shrunk : goal.returns-in_err-shrunk
 returns-in_err-shrunk c =
     let p = err_from_is_err_and c.from_residual.result c.from_residual.ensures.1 in
     rw (p.1, p.2) (undriven Shrunk c.args.policy.now c.args.script.now c.in_err-shrunk.field-0.0 c.in_err-shrunk.ensures.answers)
-
-pub returns-in_err-end_line : goal.returns-in_err-end_line
-returns-in_err-end_line c =
-    let p = err_from_is_err_and c.from_residual-in_err-end_line.result c.from_residual-in_err-end_line.ensures.1 in
-    rw (p.1, p.2) (no_memory Shrunk c.args.policy.now c.args.script.now)

@@ -7,8 +7,8 @@ use Rattle.ra_schedule.specs.declared.driver.output_kind.OutputKind.TheVariants.
 use Rattle.ra_script.proofs.Printing.{written, no_memory, undriven}
 use Rattle.ra_script.proofs.performing.trace_of.Goals as goal
 
-pub returns : goal.returns
-returns c =
+pub returns-in-Ok : goal.returns-in-Ok
+returns-in-Ok c =
     let script = c.args.script.now in
     let recording = c.in_ok-recording.ensures.ok in
     let moves = recording.moves in
@@ -31,5 +31,5 @@ returns-in_err-recording c =
     let p = err_from_is_err_and c.from_residual.result c.from_residual.ensures.1 in
     rw (p.1, p.2) (undriven Trace c.args.policy.now c.args.script.now c.in_err-recording.field-0.0 c.in_err-recording.ensures.answers)
 
-pub returns-in_default : goal.returns-in_default
-returns-in_default c = no_memory Trace c.args.policy.now c.args.script.now
+pub returns-in-Err : goal.returns-in-Err
+returns-in-Err c = no_memory Trace c.args.policy.now c.args.script.now
