@@ -144,7 +144,10 @@ impl Filled {
         let mut next = slot;
         for message in messages {
             self.add(next, &Some(*message))?;
-            next = next.checked_add(1).ok_or(Memory)?;
+            let Some(after) = next.checked_add(1) else {
+                return Err(Memory);
+            };
+            next = after;
         }
         Ok(())
     }
@@ -158,7 +161,9 @@ impl Filled {
         ensures { OnOk result ((slots : List (Option Message)) → length slots ≡ slot
             → IsShown self.old slots → IsShown self.new (slots ++ kept.now ∷ [])) }
     {
-        let bit = self.gone.checked_add(slot).ok_or(Memory)?;
+        let Some(bit) = self.gone.checked_add(slot) else {
+            return Err(Memory);
+        };
         let added = u64::from(kept.is_some()) << (bit % 64);
         if let Some(word) = self.words.get_mut(bit / 64) {
             *word = word.wrapping_add(added);

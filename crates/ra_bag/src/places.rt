@@ -158,10 +158,15 @@ impl Places {
             → Tells ⟦<Message as PartialEq>⟧.eq self.old slots
             → Tells ⟦<Message as PartialEq>⟧.eq self.new (slots ++ map Some messages.now)) }
     {
-        let mut number = self.first.checked_add(slot as u64).ok_or(Memory)?;
+        let Some(mut number) = self.first.checked_add(slot as u64) else {
+            return Err(Memory);
+        };
         for message in messages {
             self.add(number, message)?;
-            number = number.checked_add(1).ok_or(Memory)?;
+            let Some(next) = number.checked_add(1) else {
+                return Err(Memory);
+            };
+            number = next;
         }
         Ok(())
     }

@@ -11,7 +11,7 @@ loop-message-preserved c =
     let i = c.loop-message.message-index in
     let lt : i < length ms = search rules in
     let held = c.loop-message.invariant in
-    let next : c.in_ok-next.next ≡ c.loop-message.next + 1 = search rules in
+    let next : c.in-Some.after ≡ c.loop-message.next + 1 = search rules in
     record {
       next = omega (arith, held.next, next);
       shown = λ slots len shown.

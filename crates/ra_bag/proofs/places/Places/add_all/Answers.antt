@@ -11,7 +11,7 @@ loop-message-preserved c =
     let lt : i < length ms = search rules in
     let held = c.loop-message.invariant in
     let learns = c.in_ok-add.ensures in
-    let next : c.in_ok-number-2.number ≡ c.loop-message.number + 1 = search rules in
+    let next : c.in-Some-checked_add.next ≡ c.loop-message.number + 1 = search rules in
     record {
       first = learns.0 ∙ held.first;
       number = omega (arith, held.number, next);
