@@ -5,7 +5,7 @@ ghost use Rattle.ra_stamp.specs.declared.entry.Mark.{Mark};
 ghost use Rattle.ra_node.specs.Carried.{replies_at_most, entries_at_most};
 
 use crate::Step;
-use crate::world::step_log::StepLog;
+use crate::world::step_log::{StepLog, append};
 use ra_bag::{Bag, Found};
 use ra_node::{Node, Outcome};
 use ra_stamp::{Marks, Memory, Message, Messages};
@@ -143,8 +143,6 @@ pub fn copy_of(alloc: Global, marks: &Marks) -> Result<Marks, Memory>
 {
     let mut copy = Marks::new(alloc);
     copy.reserve(marks.len())?;
-    for mark in marks.as_slice() {
-        copy.push(*mark)?;
-    }
+    append(&mut copy, marks.as_slice());
     Ok(copy)
 }

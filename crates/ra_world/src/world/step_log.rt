@@ -196,7 +196,7 @@ fn keep_marks<const KEEPS_MARKS: u8>(kept: &mut Marks, marks: &[Mark])
 }
 
 /// Adds items to a list that has room for them.
-fn append<T: Copy>(list: &mut Sequence<T>, items: &[T])
+pub fn append<T: Copy>(list: &mut Sequence<T>, items: &[T])
     requires { length items.now ≤ list.old.spare }
     ensures { list.new.items ≡ list.old.items ++ items.now }
 {
