@@ -1,6 +1,7 @@
 -- What a choice stands for, or why it can't be made.
-use Rattle.std.proofs.Common.{◌≡◌, ◌≢◌, ℕ, zero, suc, ◌+◌, ◌-◌, ◌<◌, ◌≤◌, Option, Some, None, Result, Ok, Err, List, [], length, slice_get, get_or, refl, sym, ap, ◌∙◌, subst, arith, inl, inr}
-use Rattle.std.specs.Prelude.{IfOk, IfErr, IfSome, IsNone}
+use Rattle.std.proofs.Common.{◌≡◌, ◌≢◌, ℕ, zero, suc, ◌+◌, ◌-◌, ◌<◌, ◌≤◌, ltb, Bor, Option, Some, None, Result, Ok, Err, List, [], length, slice_get, get_or, refl, sym, ap, ◌∙◌, subst, arith, inl, inr}
+use Rattle.std.specs.Prelude.{IfOk, IfErr, IfSome, IsNone, is_some, option_copied}
+use Rattle.std.proofs.lemmas.Bool.{ltb-true, ltb-false}
 use Rattle.std.specs.Option.{ok_or}
 use Rattle.std.proofs.lemmas.Option.{slice_get_past, slice_get-get_or}
 use Rattle.ra_stamp.specs.declared.message.Message.{Message as Sent}
@@ -125,3 +126,14 @@ not_memory script moves choice (Err e) fault is bad memory =
       | inl place ↦ let why = place.0 in absurd cc
       | inr enabled ↦ let why = enabled.0 in absurd cc
     ]
+
+-- ---- What is looked up in a list
+
+pub looked_up : {X : Type 0} (xs : List X) (i : ℕ) (found : Option (Bor X)) → is_some found ≡ ltb i (length xs)
+    → IfSome found (λ x. x.now ≡ get_or xs i x.now) → option_copied found ≡ slice_get xs i
+looked_up xs i (Some x) inside at = ap Some at ∙ sym (slice_get-get_or xs i x.now (ltb-true i (length xs) (sym inside)))
+looked_up xs i None outside at = sym (slice_get_past xs i (ltb-false i (length xs) (sym outside)))
+
+pub at_number : (script : ScriptState) (client : ℕ) → (client ≡ 0 → ⊥) → client_at script client ≡ slice_get script.clients (client - 1)
+at_number script zero not = absurd (not refl)
+at_number script (suc place) not = ap (slice_get script.clients) (omega arith)

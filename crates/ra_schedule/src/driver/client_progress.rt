@@ -26,13 +26,11 @@ pub struct Progress {
 pub fn opening_progress(alloc: Global, clients: u32) -> Result<Vec<Progress>, Memory>
     ensures { IfOk result (λ list. list.items ≡ replicate clients (record { done = 0; waiting = false })) }
 {
-    let mut list = Vec::with_capacity(alloc, clients as usize)?;
-    for _client in 0..clients {
-        list.push(Progress {
-            done: 0,
-            waiting: false,
-        })?;
-    }
+    let idle = Progress {
+        done: 0,
+        waiting: false,
+    };
+    let list = vec![in alloc; idle; clients as usize]?;
     Ok(list)
 }
 

@@ -103,10 +103,7 @@ fn shown_of(
         × (of : Driven) × (driven ≡ Ok of) × (shown.finished ≡ of.finished)) }
     ensures err { IfErr result (λ fault. (driven ≡ Err fault) ⊎ (text ≡ Err fault)) }
 {
-    let driven = driven?;
+    let finished = driven?.finished;
     let text = text?;
-    Ok(Shown {
-        text,
-        finished: driven.finished,
-    })
+    Ok(Shown { text, finished })
 }

@@ -1,4 +1,4 @@
-use Rattle.std.proofs.Common.{ap}
+use Rattle.std.proofs.Common.{ℕ, [], ap, ◌∙◌}
 use Rattle.ra_world.specs.World.{WorldState}
 use Rattle.ra_schedule.proofs.driver.drive_script.opened.Goals as goal
 
@@ -9,3 +9,8 @@ returns-in-Ok-open c = record {
   ready = c.in-Ok-open.ensures.ready;
   records_as = c.in-Ok-open.ensures.records;
 }
+
+pub open-requires-clause-opened : goal.open-requires-clause-opened
+open-requires-clause-opened c =
+    let opened : ℕ → WorldState = λ n. record { count = n; start = 0; moves = [] } in
+    c.in-Ok.ensures.ok ∙ ap opened c.nodes.ensures.value

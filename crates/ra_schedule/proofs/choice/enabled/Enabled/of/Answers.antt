@@ -52,3 +52,11 @@ loop-place-init c =
       each = λ k d within. absurd (omega (arith, within, ap length none));
       count_is = sym (ap (λ (fs : List Bool). length (numbers_from 1 fs)) none);
     }
+
+pub returns-clause-flags : goal.returns-clause-flags
+returns-clause-flags c =
+    let so_far = c.loop-place.invariant in
+    let end = c.clients-place-end.ensures.value in
+    let past = c.loop-place-test.false in
+    let within = c.loop-place.auto.place-end in
+    record { length_is = omega (arith, so_far.length_is, past, within, end); each = so_far.each }
