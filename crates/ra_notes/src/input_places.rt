@@ -5,12 +5,20 @@ use ra_explain::{LineCause, Unanswered, unanswered_note};
 use ra_schedule::{Policy, chance};
 use ra_script::{PerformError, explain_script};
 use ra_stamp::{Mark, Memory};
-use ra_task::{Command, Task, policy_of, text_of};
+use ra_task::{Command, Task, policy_of, text_of, write_line};
 use ra_trace::{Cause, check_buffered_with_due};
 use std::alloc::Global;
+use std::io::Write;
 
 /// What is said of a place, or nothing, if there is nothing to say or no memory for it: then the cause alone is named.
 pub type PlaceNote = Result<Option<String>, Memory>;
+
+/// Writes what is said as a line, if there is something. It ignores a failure of the writer.
+pub fn write_told<N: Write>(told: &PlaceNote, notes: &mut N) {
+    if let Ok(Some(text)) = told {
+        write_line(notes, text.as_str());
+    }
+}
 
 /// Returns what is said of a script that is not performed.
 pub fn perform_place(alloc: Global, choices: &str, script: &[u8], why: PerformError) -> PlaceNote {
@@ -35,16 +43,24 @@ pub fn unanswered_place(
 
 /// Returns the policy by which a run was made, of many seeds by the last one that was tried, or `None` if none was.
 pub fn policy_by(alloc: Global, asked: &Command<'_>, last_seed: Option<u64>) -> Option<Policy> {
-    let Command::Task(task) = asked else {
-        return None;
-    };
+    match asked {
+        Command::Task(task) => policy_of_task(alloc, task, last_seed),
+        _ => None,
+    }
+}
+
+/// Returns the policy by which the run of a task was made, of many seeds by the last one that was tried, or `None` if none was.
+fn policy_of_task(alloc: Global, task: &Task<'_>, last_seed: Option<u64>) -> Option<Policy> {
     match *task {
         Task::Sim {
             policy,
             choices,
             ..
         } => policy_of(alloc, policy, choices).ok(),
-        Task::Survey { faults, .. } => Some(chance(faults, last_seed?)),
+        Task::Survey { faults, .. } => match last_seed {
+            Some(seed) => Some(chance(faults, seed)),
+            None => None,
+        },
         _ => None,
     }
 }
@@ -56,8 +72,8 @@ pub fn unfinished_place(
     script: &[u8],
     last_seed: Option<u64>,
 ) -> PlaceNote {
-    match policy_by(alloc, asked, last_seed) {
-        Some(policy) => unfinished_note(alloc, script, &policy),
+    match &policy_by(alloc, asked, last_seed) {
+        Some(policy) => unfinished_note(alloc, script, policy),
         None => Ok(None),
     }
 }

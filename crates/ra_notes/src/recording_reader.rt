@@ -1,7 +1,4 @@
 //! A reader that remembers what was read of it, so that it can be said where something is wrong.
-pub mod end_reader;
-pub mod seen_writer;
-
 ghost use Rattle.std.specs.Prelude.{◌≡◌};
 
 use ra_script::MAX_SCRIPT;

@@ -10,7 +10,7 @@ use ra_world::cut;
 use std::alloc::Global;
 
 /// A client of a node with a name, and how far it is.
-#[derive(Drop)]
+#[derive(Clone, Copy)]
 pub struct Standing {
     pub client: u32,
     pub name: Name,
@@ -52,17 +52,21 @@ impl Standing {
         }
         for mark in marks {
             let entry = mark.entry();
-            if self.client != entry.client || self.name != entry.name {
-                continue;
+            if self.client == entry.client && self.name == entry.name {
+                self.take_mark(line, mark);
             }
-            match mark {
-                Mark::Requested(_) => self.stage = Some(Stage::Waits),
-                Mark::Entered(_) => {
-                    self.stage = Some(Stage::Holds);
-                    self.since = line;
-                }
-                Mark::Left(_) => self.stage = None,
+        }
+    }
+
+    /// Notes a mark of the client at a line.
+    fn take_mark(&mut self, line: u64, mark: &Mark) {
+        match mark {
+            Mark::Requested(_) => self.stage = Some(Stage::Waits),
+            Mark::Entered(_) => {
+                self.stage = Some(Stage::Holds);
+                self.since = line;
             }
+            Mark::Left(_) => self.stage = None,
         }
     }
 }
@@ -81,14 +85,14 @@ fn take_event(
 ) -> Result<(), Refusal>
     requires { CanCome kind.now }
 {
-    match node.take(alloc, kind) {
+    match &node.take(alloc, kind) {
         Ok(outcome) => {
             if let Some(client) = standing {
                 client.take(line, kind, outcome.marks.as_slice());
             }
             Ok(())
         }
-        Err(cause) => Err(Refusal::Event(cause)),
+        Err(cause) => Err(Refusal::Event(*cause)),
     }
 }
 
@@ -110,6 +114,28 @@ fn take_line(
     }
 }
 
+/// Has a node take the lines of its book to the one of this number, and notes what they did to a client. Returns why it does not take
+/// one of them, or `None` if it takes them all.
+fn first_refusal(
+    alloc: Global,
+    node: &mut TimedNode,
+    standing: &mut Option<Standing>,
+    opening: &Opening<'_>,
+    number: u64,
+) -> Option<Refusal> {
+    let mut rest = opening.after;
+    for place in opening.line.saturating_add(1)..number.saturating_add(1) {
+        let (shown, Some(after)) = cut(rest, b'\n') else {
+            break;
+        };
+        if let Err(why) = take_line(alloc, node, standing, place, shown) {
+            return Some(why);
+        }
+        rest = after;
+    }
+    None
+}
+
 /// Returns why the node of a book refuses the line of this number, after the lines of the book before it, and the client that asks or
 /// leaves by it, before the line, if one does. Returns `None` if there is no memory to tell. The cost is that of the lines at a node.
 pub fn refused_event(
@@ -121,16 +147,8 @@ pub fn refused_event(
     let first = &opening.first;
     let mut node = TimedNode::new(alloc, first.member, first.start);
     let mut standing = Standing::of_line(line);
-    let mut rest = opening.after;
-    for place in opening.line.saturating_add(1)..number.saturating_add(1) {
-        let (shown, Some(after)) = cut(rest, b'\n') else {
-            return None;
-        };
-        match take_line(alloc, &mut node, &mut standing, place, shown) {
-            Ok(()) => rest = after,
-            Err(Refusal::Event(BookError::Memory)) => return None,
-            Err(why) => return Some((why, standing)),
-        }
+    match first_refusal(alloc, &mut node, &mut standing, opening, number) {
+        None | Some(Refusal::Event(BookError::Memory)) => None,
+        Some(why) => Some((why, standing)),
     }
-    None
 }

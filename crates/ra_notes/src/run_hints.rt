@@ -1,17 +1,18 @@
 //! Hints for the user when nothing was refused but something may surprise: options that have no effect, names that stay
 //! locked, and which seed was found.
+use crate::input_places::write_told;
 use crate::script_notes::script_end::script_end_note;
+use ra_explain::{push_number_in, push_numbered};
 use ra_schedule::Ending;
-use ra_task::{Command, Search, Task, write_line, write_unused_options};
+use ra_task::{Command, Search, Task, write_unused_options};
+use ra_world::Note;
 use std::alloc::Global;
 use std::io::Write;
 
 /// Writes which names the script leaves locked, if any, unless memory runs out. It ignores a failure of the writer.
 fn write_end<N: Write>(alloc: Global, script: Option<&[u8]>, notes: &mut N) {
-    if let Some(script) = script
-        && let Ok(Some(text)) = script_end_note(alloc, script)
-    {
-        write_line(notes, text.as_str());
+    if let Some(script) = script {
+        write_told(&script_end_note(alloc, script), notes);
     }
 }
 
@@ -34,16 +35,23 @@ fn is_found(find: Option<Search>, is_done: bool) -> bool {
 /// the writer.
 fn write_seed<N: Write>(alloc: Global, shrinks: bool, seed: u64, notes: &mut N) {
     let (run, options) = if shrinks {
-        ("the run that was shrunk", "--seeds, --find and --shrink")
+        (
+            "the run that was shrunk has seed ",
+            "--seeds, --find and --shrink",
+        )
     } else {
-        ("this run", "--seeds and --find")
+        ("this run has seed ", "--seeds and --find")
     };
-    let text = format!(in alloc;
-        "{run} has seed {seed}: to make it again, use --seed {seed} in place of {options}"
+    let mut note = Note::new(alloc);
+    push_numbered(&mut note, run, seed);
+    push_number_in(
+        &mut note,
+        ": to make it again, use --seed ",
+        seed,
+        " in place of ",
     );
-    if let Ok(text) = text {
-        write_line(notes, text.as_str());
-    }
+    note.push(options);
+    write_told(&note.finish(), notes);
 }
 
 /// Writes the hints on a command that was done, or ended with something left to do. With many seeds, `last_seed` is the

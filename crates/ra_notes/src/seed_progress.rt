@@ -1,6 +1,8 @@
 //! What the user is told while many seeds take long.
+use crate::input_places::write_told;
+use ra_explain::push_number_in;
 use ra_schedule::{Observer, RunCost, SeedOutcome};
-use ra_task::write_line;
+use ra_world::Note;
 use std::alloc::Global;
 use std::io::Write;
 
@@ -43,13 +45,11 @@ impl<'a, N: Write> SeedProgress<'a, N> {
 
     /// Writes the progress so far, unless memory runs out. It ignores a failure of the writer.
     fn write(&mut self, seed: u64) {
-        let SeedProgress { done, finished, .. } = self;
-        let text = format!(in self.alloc;
-            "{done} seeds done, up to seed {seed}: {finished} finished"
-        );
-        if let Ok(text) = text {
-            write_line(self.notes, text.as_str());
-        }
+        let mut note = Note::new(self.alloc);
+        push_number_in(&mut note, "", self.done, " seeds done, up to seed ");
+        push_number_in(&mut note, "", seed, ": ");
+        push_number_in(&mut note, "", self.finished, " finished");
+        write_told(&note.finish(), self.notes);
     }
 }
 

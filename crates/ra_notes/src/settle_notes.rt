@@ -125,6 +125,23 @@ fn push_event(
     }
 }
 
+/// Adds a line, and what is wrong with it.
+fn push_line(
+    alloc: Global,
+    note: &mut Note,
+    openings: &Openings<'_>,
+    line: &[u8],
+    number: u64,
+    cause: TextCause,
+) {
+    note.push(", ");
+    note.quoted(line);
+    match FirstLine::parse(line) {
+        Some(first) => push_first(note, openings, &first, cause),
+        None => push_event(alloc, note, openings, line, number, cause),
+    }
+}
+
 /// Returns what is said of the wrong line of this number of a text of books: its text, its book, its frame, and what would be
 /// right. It allocates, beside the note, only for a line that a node refuses: then the node takes the lines of its book once more.
 /// Otherwise the cost is linear in the text up to there.
@@ -133,18 +150,12 @@ fn push_event(
 ///
 /// `Memory`: memory ran out.
 pub fn unsettled_note(alloc: Global, text: &[u8], number: u64, cause: TextCause) -> PlaceNote {
-    let (openings, rest) = Openings::before(text, number);
     let mut note = Note::new(alloc);
     push_numbered(&mut note, "line ", number);
-    let (line, Some(_)) = cut(rest, b'\n') else {
-        push_end(&mut note, &openings, cause);
-        return note.finish();
-    };
-    note.push(", ");
-    note.quoted(line);
-    match FirstLine::parse(line) {
-        Some(first) => push_first(&mut note, &openings, &first, cause),
-        None => push_event(alloc, &mut note, &openings, line, number, cause),
+    let (openings, rest) = Openings::before(text, number);
+    match cut(rest, b'\n') {
+        (line, Some(_)) => push_line(alloc, &mut note, &openings, line, number, cause),
+        _ => push_end(&mut note, &openings, cause),
     }
     note.finish()
 }

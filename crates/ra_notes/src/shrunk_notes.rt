@@ -13,8 +13,11 @@ fn notes_on(
     script: Option<&[u8]>,
     last_seed: Option<u64>,
 ) -> Option<ShrunkNotes> {
-    let policy = policy_by(alloc, asked, last_seed)?;
-    shrunk_notes(alloc, script?, &policy).ok()
+    let script = script?;
+    match &policy_by(alloc, asked, last_seed) {
+        Some(policy) => shrunk_notes(alloc, script, policy).ok(),
+        None => None,
+    }
 }
 
 /// Writes a text as a line, if there is one. It ignores a failure of the writer.
@@ -33,7 +36,7 @@ pub fn write_shrunk_notes<N: Write>(
     last_seed: Option<u64>,
     notes: &mut N,
 ) {
-    match notes_on(alloc, asked, script, last_seed) {
+    match &notes_on(alloc, asked, script, last_seed) {
         Some(said) => {
             write_if(notes, &said.counts);
             write_if(notes, &said.left);

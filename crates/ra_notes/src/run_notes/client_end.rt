@@ -16,7 +16,7 @@ pub struct RunEnd<'a> {
 }
 
 /// The state of a client.
-#[derive(Drop)]
+#[derive(Clone, Copy)]
 pub enum ClientEnd {
     /// It has done all its operations.
     Done,
@@ -153,15 +153,15 @@ impl<'a> RunEnd<'a> {
 
 impl TellsBlocker for RunEnd<'_> {
     fn push_blocker(&self, note: &mut Note, request: &OpenRequest) {
-        note.client(request.entry.client);
-        if request.holds() {
-            if let ClientEnd::Done = self.client_end(request.entry.client) {
-                note.push(", which has finished,");
-            }
-            note.push(" holds it");
+        let client = request.entry.client;
+        note.client(client);
+        note.push(if !request.holds() {
+            " asked earlier"
+        } else if let ClientEnd::Done = self.client_end(client) {
+            ", which has finished, holds it"
         } else {
-            note.push(" asked earlier");
-        }
+            " holds it"
+        });
         note.mode(request.entry.mode);
     }
 }

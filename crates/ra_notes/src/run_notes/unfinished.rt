@@ -1,21 +1,23 @@
 //! Which clients wait for which others at the end of a run.
 use crate::run_notes::client_end::{ClientEnd, RunEnd};
 use crate::script_notes::script_text::{run_of, script_in};
-use ra_explain::{MAX_CLIENTS, OpenText, Sought, push_blockers, push_numbered, want_text};
+use ra_explain::{
+    MAX_CLIENTS, OpenText, Sought, push_blockers, push_number_in, push_numbered, want_text,
+};
 use ra_schedule::{Policy, Script};
 use ra_stamp::{Memory, Name, NodeId};
-use ra_world::Note;
+use ra_world::{Note, Report};
 use std::alloc::Global;
 
 /// Adds the client that is ahead of the clients of this node queued for a name.
 fn push_first(note: &mut Note, requests: &OpenText, node: NodeId, name: &Name) {
     if let Some(first) = requests.next_of(0, &Sought::AtNode(node, *name)) {
-        push_numbered(note, " after client ", first.entry.client);
-        note.push(if first.holds() {
+        let does = if first.holds() {
             ", which holds it"
         } else {
             ", which waits for it"
-        });
+        };
+        push_number_in(note, " after client ", first.entry.client, does);
         note.mode(first.entry.mode);
     }
 }
@@ -66,8 +68,14 @@ fn push_clients(note: &mut Note, ending: &RunEnd<'_>, waits: bool, before: u64) 
     count
 }
 
+/// Adds what is left to do at the end of a policy's run of a script, of which this is the report.
+fn push_ending(alloc: Global, note: &mut Note, script: &Script, policy: &Policy, report: &Report) {
+    let ending = RunEnd::new(alloc, note, script, policy, report);
+    push_left(note, &ending);
+}
+
 /// Adds what is left to do at the end of a run, first for those that wait or are queued.
-fn push_ending(note: &mut Note, ending: &RunEnd<'_>) {
+fn push_left(note: &mut Note, ending: &RunEnd<'_>) {
     note.push("the run did not finish: ");
     let waiting = push_clients(note, ending, true, 0);
     let count = push_clients(note, ending, false, waiting);
@@ -82,8 +90,7 @@ pub fn push_run(alloc: Global, note: &mut Note, script: &Script, policy: &Policy
     if let Some(summary) = &run_of(alloc, note, script, policy)
         && !summary.finished
     {
-        let ending = RunEnd::new(alloc, note, script, policy, &summary.report);
-        push_ending(note, &ending);
+        push_ending(alloc, note, script, policy, &summary.report);
     }
 }
 

@@ -4,7 +4,7 @@ use crate::script_notes::script_text::{run_of, script_in};
 use ra_explain::{push_number_in, push_numbered};
 use ra_schedule::{Choice, Choices, ChoicesError, Policy, Script, read_choices};
 use ra_stamp::Memory;
-use ra_world::Note;
+use ra_world::{Note, Report};
 use std::alloc::Global;
 
 /// Returns the policy of the first `count` choices.
@@ -19,6 +19,18 @@ fn first_of(alloc: Global, note: &mut Note, choices: &Choices, count: u64) -> Po
     Policy::Listed(first)
 }
 
+/// Returns whether the first `count` choices can be made.
+fn is_makeable(
+    alloc: Global,
+    note: &mut Note,
+    script: &Script,
+    choices: &Choices,
+    count: u64,
+) -> bool {
+    let policy = first_of(alloc, note, choices, count);
+    run_of(alloc, note, script, &policy).is_some()
+}
+
 /// Returns how many of the first choices can be made. It searches by halves, so the number of runs of the script is
 /// logarithmic in the number of choices. To follow the choices step by step would be to write the driver twice.
 fn makeable(alloc: Global, note: &mut Note, script: &Script, choices: &Choices) -> u64 {
@@ -26,8 +38,7 @@ fn makeable(alloc: Global, note: &mut Note, script: &Script, choices: &Choices) 
     for _turn in 0..u64::BITS {
         if low < high {
             let middle = low + (high - low) / 2;
-            let policy = first_of(alloc, note, choices, middle + 1);
-            if run_of(alloc, note, script, &policy).is_some() {
+            if is_makeable(alloc, note, script, choices, middle + 1) {
                 low = middle + 1;
             } else {
                 high = middle;
@@ -70,14 +81,14 @@ fn push_messages(note: &mut Note, count: u128) {
 
 /// Adds that the choice at a place is not possible, as it is written.
 fn push_choice(note: &mut Note, choice: Choice, place: u64) {
-    let (letter, number) = match choice {
-        Choice::Client(client) => ("c", u64::from(client)),
-        Choice::Message(number) => ("m", number),
-        Choice::Lost(number) => ("l", number),
-        Choice::Repeated(number) => ("r", number),
-    };
     push_number_in(note, "choice ", place.saturating_add(1), " of --choices, ");
-    push_number_in(note, letter, number, ", is not possible: ");
+    match choice {
+        Choice::Client(client) => push_numbered(note, "c", client),
+        Choice::Message(number) => push_numbered(note, "m", number),
+        Choice::Lost(number) => push_numbered(note, "l", number),
+        Choice::Repeated(number) => push_numbered(note, "r", number),
+    }
+    note.push(", is not possible: ");
 }
 
 /// Adds why a choice can't be made at the end of a run.
@@ -86,6 +97,19 @@ fn push_reason(note: &mut Note, ending: &RunEnd<'_>, choice: Choice) {
         Choice::Client(client) => push_client(note, ending, client),
         _ => push_messages(note, ending.report.under_way),
     }
+}
+
+/// Adds why a choice can't be made after a policy's run of a script, of which this is the report.
+fn push_reason_in(
+    alloc: Global,
+    note: &mut Note,
+    script: &Script,
+    policy: &Policy,
+    report: &Report,
+    choice: Choice,
+) {
+    let ending = RunEnd::new(alloc, note, script, policy, report);
+    push_reason(note, &ending, choice);
 }
 
 /// Adds why a choice can't be made after a policy's run of a script.
@@ -97,8 +121,7 @@ fn push_reason_after(
     choice: Choice,
 ) {
     if let Some(summary) = &run_of(alloc, note, script, policy) {
-        let ending = RunEnd::new(alloc, note, script, policy, &summary.report);
-        push_reason(note, &ending, choice);
+        push_reason_in(alloc, note, script, policy, &summary.report, choice);
     }
 }
 
