@@ -1,5 +1,5 @@
-ghost use Rattle.std.specs.Prelude.{◌≡◌, ◌≢◌, ◌+◌, ◌*◌, ◌<◌, ◌≤◌, ◌⊎◌, ◌↔◌, [], max};
-ghost use Rattle.std.specs.Prelude.{IsTrue, IsErrOf, IfOk, OnOk, OnErr};
+ghost use Rattle.std.specs.Prelude.{◌≡◌, ◌≢◌, ◌+◌, ◌*◌, ◌<◌, ◌≤◌, ◌⊎◌, ◌↔◌, ◌++◌, [], map, max};
+ghost use Rattle.std.specs.Prelude.{IsTrue, IsErrOf, IsOk, IfOk, OnOk, OnErr};
 
 use crate::address::check_address;
 use crate::cases::{
@@ -49,7 +49,7 @@ impl Automaton {
     ghost use Rattle.ra_stamp.specs.Message.{name_of};
     ghost use Rattle.ra_automaton.specs.State.{opening, entered_phase};
     ghost use Rattle.ra_automaton.specs.State.{IsOther, IsAddressed, IsConsistent, IsInside, IsWaiting};
-    ghost use Rattle.ra_automaton.specs.Steps.{greatest_number, later_of, OwnGoesFirst, Awaits};
+    ghost use Rattle.ra_automaton.specs.Steps.{greatest_number, later_of, others_of, OwnGoesFirst, Awaits};
     ghost use Rattle.ra_automaton.specs.Steps.{Begins, Defers, RepliesAtOnce, TakesReply, LetsEnter};
     ghost use Rattle.ra_automaton.specs.Calls.{AnswersRequest, ChecksAddress, AnswersReceive};
     ghost use Rattle.ra_automaton.specs.Calls.{AnswersLeave, AnswersLeaveAndRequest};
@@ -240,12 +240,7 @@ impl Automaton {
         if !self.is_inside() {
             return Err(LeaveError::NotHeld);
         }
-        let me = self.member.node();
-        if self
-            .deferrals
-            .push_replies(&mut sends, me, self.name)
-            .is_err()
-        {
+        if self.push_replies(&mut sends).is_err() {
             return Err(LeaveError::Memory);
         }
         self.end(alloc);
@@ -293,16 +288,7 @@ impl Automaton {
         if !self.is_inside() {
             return Err(LeaveError::NotHeld);
         }
-        let next = self.highest + 1;
-        let me = self.member.node();
-        if self
-            .deferrals
-            .push_replies(&mut sends, me, self.name)
-            .is_err()
-        {
-            return Err(LeaveError::Memory);
-        }
-        if push_requests(&mut sends, self.member, self.name, mode, next).is_err() {
+        if self.push_turn(&mut sends, mode).is_err() {
             return Err(LeaveError::Memory);
         }
         let room = self.end(alloc);
@@ -396,9 +382,36 @@ impl Automaton {
 
     /// Returns whether the node is inside.
     fn is_inside(&self) -> bool
-        ensures { IsTrue result ↔ IsInside self.now.phase }
+        ensures value { IsTrue result ↔ IsInside self.now.phase }
+        ensures consistent { IsConsistent self.now }
     {
         matches!(self.phase, Phase::Inside { .. })
+    }
+
+    /// Adds the REPLYs that are deferred. After an error some may have been added. It does not allocate if there is room for
+    /// one to each node.
+    fn push_replies(&self, sends: &mut Messages) -> Result<(), Memory>
+        ensures ok { OnOk result (sends.new.items ≡ sends.old.items ++ map (λ deferred.
+            Message.Reply self.now.me deferred.0 self.now.name deferred.1) (finmap.entries self.now.deferred)) }
+        ensures succeeds { self.now.nodes ≤ sends.old.spare → IsOk result }
+        ensures spare { self.now.nodes ≤ sends.old.spare → sends.old.spare ≤ sends.new.spare + self.now.nodes }
+    {
+        let me = self.member.node();
+        self.deferrals.push_replies(sends, me, self.name)
+    }
+
+    /// Adds the REPLYs that are deferred and then the REQUESTs that a client makes next, in this mode. After an error some may
+    /// have been added. It does not allocate if there is room for two messages to each node.
+    fn push_turn(&self, sends: &mut Messages, mode: Mode) -> Result<(), Memory>
+        requires { self.now.highest < greatest_number }
+        ensures ok { OnOk result (sends.new.items ≡ (sends.old.items ++ map (λ deferred.
+            Message.Reply self.now.me deferred.0 self.now.name deferred.1) (finmap.entries self.now.deferred))
+            ++ map (λ other. Message.Request self.now.me other self.now.name mode (self.now.highest + 1))
+            (others_of self.now.me self.now.nodes)) }
+        ensures succeeds { 2 * self.now.nodes ≤ sends.old.spare → IsOk result }
+    {
+        self.push_replies(sends)?;
+        push_requests(sends, self.member, self.name, mode, self.highest + 1)
     }
 
     /// Begins a request, once its messages are made, with room for the nodes that will be deferred. Returns whether it is

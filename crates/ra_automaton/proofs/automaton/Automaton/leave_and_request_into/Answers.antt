@@ -1,43 +1,49 @@
-use Rattle.std.proofs.Common.{◌≡◌, ◌+◌, ◌++◌, map, subst, sym, refl, rules}
+use Rattle.std.proofs.Common.{rules, ◌≡◌, ◌+◌, ◌<◌, Bool, List, ◌++◌, map, refl, sym, ap, ◌∙◌, subst}
 use Rattle.std.specs.FinMap as finmap
+use Rattle.ra_stamp.specs.declared.mode.Mode.{Mode}
+use Rattle.ra_stamp.specs.declared.message.Message.{Message}
 use Rattle.ra_stamp.specs.declared.message.Message.TheVariants.{Request, Reply}
-use Rattle.ra_automaton.specs.Steps.{LeaveStep, others_of}
-use Rattle.ra_automaton.specs.State.{State, IsConsistent}
+use Rattle.ra_automaton.specs.declared.phase.Phase.TheVariants.{Idle}
+use Rattle.ra_automaton.specs.Steps.{LeaveAndRequestStep, Begins, greatest_number, others_of}
+use Rattle.ra_automaton.specs.State.{State, IsConsistent, IsInside}
 use Rattle.ra_automaton.proofs.Consistent.{consistent_end, consistent_begins, inside_is}
 use Rattle.ra_automaton.proofs.automaton.Automaton.leave_and_request_into.Goals as goal
 
+turn : (old between new : State) (mode : Mode) (sends : List Message) (entered : Bool) → IsInside old.phase → old.highest < greatest_number → between ≡ record old { phase = Idle; deferred = finmap.empty }
+    → sends ≡ map (λ entry. Reply old.me entry.0 old.name entry.1) (finmap.entries old.deferred) ++ map (λ other. Request old.me other old.name mode (old.highest + 1)) (others_of old.me old.nodes)
+    → Begins between mode entered new → LeaveAndRequestStep old mode sends entered new
+turn old between new mode sends entered inside left ended are begins =
+    let held = inside_is old.phase inside in
+    let replies = map (λ entry. Reply old.me entry.0 old.name entry.1) (finmap.entries old.deferred) in
+    let requests = λ (s : State). map (λ other. Request s.me other s.name mode (s.highest + 1)) (others_of s.me s.nodes) in
+    record {
+      between = between;
+      replies = replies;
+      requests = requests between;
+      leaves = record { seq = held.0; mode = held.1; inside = held.2; sends_are = refl; new_is = ended };
+      asks = record {
+        idle = ap (λ (s : State). s.phase) ended;
+        number_left = subst (λ (s : State). s.highest < greatest_number) (sym ended) left;
+        sends_are = refl;
+        begins = begins;
+      };
+      sends_are = are ∙ ap (λ (s : State). replies ++ requests s) (sym ended);
+    }
+
 pub returns-clause-left : goal.returns-clause-left
 returns-clause-left c =
-    let a = c.self.inside in
-    let replies = c.push_replies.new.sends.items in
-    let between = c.end-room.new.self in
-    let held = inside_is c.args.self.now.phase (c.is_inside.ensures.0 c.if-not-is_inside.false) in
-    let here : replies ≡ map (λ entry. Reply a.member.node entry.0 a.name entry.1) (finmap.entries a.deferrals.numbers) = search rules in
-    let leaves : LeaveStep c.args.self.now replies between =
+    let old = c.args.self.now in
+    let inside = c.is_inside.ensures.value.0 c.if-not-is_inside.false in
+    let are : c.push_turn.new.sends.items ≡ map (λ entry. Reply old.me entry.0 old.name entry.1) (finmap.entries old.deferred) ++ map (λ other. Request old.me other old.name c.args.mode (old.highest + 1)) (others_of old.me old.nodes) = search rules in
     record {
-      seq = held.0;
-      mode = held.1;
-      inside = held.2;
-      sends_are = subst (λ (s : State). replies ≡ map (λ entry. Reply s.me entry.0 s.name entry.1) (finmap.entries s.deferred)) c.self.view_is here;
-      new_is = c.end-room.ensures.ended;
-    } in
-    let more : c.push_requests.new.sends.items ≡ replies ++ map (λ other. Request a.member.node other a.name c.args.mode (a.highest + 1)) (others_of a.member.node a.member.nodes) = search rules in
-    let Adds = λ (s : State). c.push_requests.new.sends.items ≡ replies ++ map (λ other. Request s.me other s.name c.args.mode (s.highest + 1)) (others_of s.me s.nodes) in
-    record {
-      ok = record {
-        between = between;
-        replies = replies;
-        requests = map (λ other. Request between.me other between.name c.args.mode (between.highest + 1)) (others_of between.me between.nodes);
-        leaves = leaves;
-        asks = record { idle = search rules; number_left = search rules; sends_are = refl; begins = c.begin-entered.ensures };
-        sends_are = subst Adds (sym c.end-room.ensures.ended) (subst Adds c.self.view_is more);
-      };
+      ok = turn old c.end-room.new.self c.begin-entered.new.self c.args.mode c.push_turn.new.sends.items c.begin-entered.result inside c.requires.number_left c.end-room.ensures.ended are c.begin-entered.ensures;
       not_held = search rules;
       err = tt;
     }
 
 pub returns-clause-consistent : goal.returns-clause-consistent
 returns-clause-consistent c =
-    let old = subst IsConsistent c.self.view_is c.self.invariant.consistent in
-    let ended = subst IsConsistent (sym c.end-room.ensures.ended) (consistent_end c.args.self.now old (c.is_inside.ensures.0 c.if-not-is_inside.false)) in
-    consistent_begins c.end-room.new.self c.args.mode c.begin-entered.result c.begin-entered.new.self ended (search rules) c.begin-entered.ensures
+    let ended = c.end-room.ensures.ended in
+    let inside = c.is_inside.ensures.value.0 c.if-not-is_inside.false in
+    let between = subst IsConsistent (sym ended) (consistent_end c.args.self.now c.is_inside.ensures.consistent inside) in
+    consistent_begins c.end-room.new.self c.args.mode c.begin-entered.result c.begin-entered.new.self between (ap (λ (s : State). s.phase) ended) c.begin-entered.ensures

@@ -1,9 +1,20 @@
-use Rattle.std.proofs.Common.{sym, subst}
+use Rattle.std.proofs.Common.{rules, ◌≡◌, map, refl, sym, subst}
+use Rattle.std.specs.FinMap as finmap
+use Rattle.ra_stamp.specs.declared.message.Message.TheVariants.{Reply}
 use Rattle.ra_automaton.specs.State.{IsConsistent}
-use Rattle.ra_automaton.proofs.Consistent.{consistent_end}
+use Rattle.ra_automaton.proofs.Consistent.{consistent_end, inside_is}
 use Rattle.ra_automaton.proofs.automaton.Automaton.leave_into.Goals as goal
 
+pub returns-clause-left : goal.returns-clause-left
+returns-clause-left c =
+    let old = c.args.self.now in
+    let held = inside_is old.phase (c.is_inside.ensures.value.0 c.if-not-is_inside.false) in
+    let are : c.push_replies.new.sends.items ≡ map (λ entry. Reply old.me entry.0 old.name entry.1) (finmap.entries old.deferred) = search rules in
+    record {
+      ok = (record { seq = held.0; mode = held.1; inside = held.2; sends_are = are; new_is = c.end.ensures.ended }, refl);
+      not_held = search rules;
+      err = tt;
+    }
+
 pub returns-clause-consistent : goal.returns-clause-consistent
-returns-clause-consistent c =
-    let old = subst IsConsistent c.self.view_is c.self.invariant.consistent in
-    subst IsConsistent (sym c.end.ensures.ended) (consistent_end c.args.self.now old (c.is_inside.ensures.0 c.if-not-is_inside.false))
+returns-clause-consistent c = subst IsConsistent (sym c.end.ensures.ended) (consistent_end c.args.self.now c.is_inside.ensures.consistent (c.is_inside.ensures.value.0 c.if-not-is_inside.false))
