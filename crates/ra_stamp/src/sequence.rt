@@ -63,7 +63,9 @@ impl<T: Copy> Sequence<T> {
         ensures spare { 1 ≤ self.old.spare → self.new.spare + 1 ≡ self.old.spare }
     {
         if self.items.len() == self.items.capacity() {
-            self.items.reserve(1)?;
+            if self.items.reserve(1).is_err() {
+                return Err(Memory);
+            }
         }
         self.items.push_reserved(item);
         Ok(())
@@ -81,7 +83,9 @@ impl<T: Copy> Sequence<T> {
         ensures succeeds { more ≤ self.old.spare → IsOk result }
         ensures grows { self.old.spare ≤ self.new.spare }
     {
-        self.items.reserve(more as usize)?;
-        Ok(())
+        match self.items.reserve(more as usize) {
+            Ok(()) => Ok(()),
+            Err(_) => Err(Memory),
+        }
     }
 }
