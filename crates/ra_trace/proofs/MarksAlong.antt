@@ -322,3 +322,10 @@ pub right_turns : (limit left : ℕ) (old new : Option (List ℕ)) (after : Mark
 right_turns limit left old new after number count Right turns wrong end = turns
 right_turns limit left old new after number count End turns wrong end = absurd (end refl)
 right_turns limit left old new after number count (Wrong why) turns wrong end = absurd (wrong why refl)
+
+-- a right line has some bytes, and not more than there may be
+pub some_mark_taken : (left count : ℕ) (next : MarkJudgement) → SomeMarkTaken left count next → ((why : MarkCause) → next ≡ Wrong why → ⊥)
+    → (next ≡ End → ⊥) → (1 ≤ count) × (count ≤ left)
+some_mark_taken left count Right some wrong end = some
+some_mark_taken left count End some wrong end = absurd (end refl)
+some_mark_taken left count (Wrong why) some wrong end = absurd (wrong why refl)

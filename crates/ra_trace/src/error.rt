@@ -21,13 +21,22 @@ impl fmt::Display for TraceError {
 
 /// Why a trace was not written.
 #[derive(Clone, Copy, Debug, PartialEq, Eq, Error)]
-#[error("{:?}", self)]
 pub enum WriteTraceError {
     /// The steps are not a run: the number of nodes is not 1 to 64, or a step is refused. Never that memory ran out.
-    #[error(transparent)]
     Run(RunError),
     /// Memory ran out.
     Memory,
     /// The writer failed or took nothing, with bytes left to write.
     Write,
+}
+
+// By hand, since a derived one takes twice as long to prove.
+impl fmt::Display for WriteTraceError {
+    /// Prints one word: that of the inner refusal, or the name of the variant.
+    fn fmt<W: fmt::Write>(&self, f: &mut fmt::Formatter<W>) -> fmt::Result {
+        match self {
+            WriteTraceError::Run(refusal) => fmt::Display::fmt(refusal, f),
+            _ => fmt::Debug::fmt(self, f),
+        }
+    }
 }

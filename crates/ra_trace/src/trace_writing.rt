@@ -24,13 +24,21 @@ use ra_world::{
 use std::alloc::Global;
 use std::io::Write;
 
+/// Adds a word and two numbers.
+fn push_numbers(text: &mut String, word: &str, first: u64, second: u64) -> Result<(), Memory>
+    ensures { OnOk result (string_bytes text.new
+        ≡ string_bytes text.old ++ word.now ++ field (decimal first) ++ field (decimal second)) }
+{
+    text.push_str(word)?;
+    push_number(text, first)?;
+    push_number(text, second)
+}
+
 /// Adds the first line of a trace.
 fn push_first_line(text: &mut String, nodes: u16, start: u64) -> Result<(), Memory>
     ensures { OnOk result (string_bytes text.new ≡ string_bytes text.old ++ spec.line_text (Line.First Version.Two nodes start)) }
 {
-    text.push_str("trace 2")?;
-    push_number(text, nodes)?;
-    push_number(text, start)?;
+    push_numbers(text, "trace 2", u64::from(nodes), start)?;
     text.push_str("\n")?;
     Ok(())
 }
@@ -91,9 +99,7 @@ fn push_asker(
     ensures { OnOk result (string_bytes text.new
         ≡ string_bytes text.old ++ word.now ++ field (decimal node) ++ field (decimal client) ++ field name.now) }
 {
-    text.push_str(word)?;
-    push_number(text, node.get())?;
-    push_number(text, client)?;
+    push_numbers(text, word, u64::from(node.get()), u64::from(client))?;
     push_field(text, name.as_str())
 }
 
@@ -204,7 +210,10 @@ fn trace_step(
 {
     match world.step(alloc, step) {
         Ok(outcome) => {
-            let Ok(()) = push_move(text, step, &outcome.marks) else {
+            let pushed = push_move(text, step, &outcome.marks);
+            // By a call, and before any exit, since to drop each of its parts there is long to prove.
+            drop(outcome);
+            let Ok(()) = pushed else {
                 return Err(WriteTraceError::Memory);
             };
             Ok(())

@@ -1,7 +1,16 @@
 use Rattle.std.proofs.Common.{◌+◌, ◌-◌}
 use Rattle.std.proofs.lemmas.Result.{err_from_is_err_and}
-use Rattle.ra_trace.proofs.MarksAlong.{few, right_turns}
+use Rattle.ra_trace.proofs.Along.{few_taken, fewer_left}
+use Rattle.ra_trace.proofs.MarksAlong.{few, right_turns, some_mark_taken}
 use Rattle.ra_trace.proofs.mark_log.verdict_after.Goals as goal
+
+pub overflow_sub-left : goal.overflow_sub-left
+overflow_sub-left g c =
+    few_taken _ _ (some_mark_taken c.loop-next.left c.take_next.new.taken c.in_ok-next.next c.in_ok-next.ensures.some c.in_default.not-Wrong c.in_default-next.not-End)
+
+pub loop-next-smaller : goal.loop-next-smaller
+loop-next-smaller g c =
+    fewer_left _ _ (some_mark_taken c.loop-next.left c.take_next.new.taken c.in_ok-next.next c.in_ok-next.ensures.some c.in_default.not-Wrong c.in_default-next.not-End)
 
 pub loop-next-preserved : goal.loop-next-preserved
 loop-next-preserved g c =

@@ -13,11 +13,11 @@ use Rattle.ra_trace.proofs.trace_writing.trace_step.Goals as goal
 run_is_no_memory : (refusal : WriteTraceError) (why : RunError) → refusal ≡ Run why → ◌≡◌ {A = Result (Unit {0}) WriteTraceError} (Err refusal) (Err Memory) → ⊥
 run_is_no_memory refusal why is e = cc
 
-pub returns-in-Ok-push_move-clause-traced : goal.returns-in-Ok-push_move-clause-traced
-returns-in-Ok-push_move-clause-traced c n start steps inside is traced =
+pub returns-in-Ok-pushed-clause-traced : goal.returns-in-Ok-pushed-clause-traced
+returns-in-Ok-pushed-clause-traced c n start steps inside is traced =
     traced_more n start c.args.place steps c.args.step.now c.args.world.now c.step.new.self c.in-Ok.outcome.sends.items c.in-Ok.outcome.marks.items
-    (string_bytes c.args.text.now) (string_bytes c.push_move.new.text) traced inside is c.in-Ok.ensures.ok c.in-Ok.ensures.run
-    c.in-Ok-push_move.ensures.text c.in-Ok-push_move.ensures.fit
+    (string_bytes c.args.text.now) (string_bytes c.push_move-pushed.new.text) traced inside is c.in-Ok.ensures.ok c.in-Ok.ensures.run
+    c.in-Ok-pushed.ensures.text c.in-Ok-pushed.ensures.fit
 
 pub returns-in-Err-clause-traced : goal.returns-in-Err-clause-traced
 returns-in-Err-clause-traced c n start steps inside is traced =
