@@ -36,11 +36,12 @@ fn lines_of(alloc: Global, policy: &Policy, script: &Script) -> Result<Printed, 
     ensures { PrintsRun OutputKind.Lines policy.now script.now result }
 {
     let summary = summarize(alloc, script, policy, MAX_TURNS)?;
-    let text = report_text(alloc, &summary.report)?;
-    Ok(Printed {
-        text,
-        finished: summary.finished,
-    })
+    let lines = report_text(alloc, &summary.report);
+    let finished = summary.finished;
+    // By a call, and before any exit, since to drop each of its parts there is long to prove.
+    drop(summary);
+    let text = lines?;
+    Ok(Printed { text, finished })
 }
 
 /// Drives a cluster through a script by a policy, and returns the trace of its run.
