@@ -144,7 +144,14 @@ impl Site {
     {
         let request = Request { client, name, mode };
         let ticket = Ticket::new(alloc);
-        let made = self.ask(rt, alloc, &request, ticket.as_ref(), post, gate);
+        let made = {
+            let _share = self.sending.share(rt);
+            let asked = self
+                .desk
+                .lock(rt)
+                .ask(alloc, self.node, gate, &request, ticket.as_ref());
+            self.finish(rt, alloc, asked, post)
+        };
         self.answer(rt, made, sites)?;
         self.wait_for_grant(rt, ticket.as_ref(), &request)
     }
@@ -310,29 +317,6 @@ impl Site {
         }
         let cause = book.fault().unwrap_or(Stop::Refused);
         stopped_book(alloc, me, nodes, start, cause)
-    }
-
-    /// Asks the book for a name for a client, and sends the frames of the event, with no round of an audit in between. Returns
-    /// whether all were sent.
-    ///
-    /// # Errors
-    ///
-    /// Why nothing was asked.
-    fn ask<R: Wait, G: Gate>(
-        &self,
-        rt: &R,
-        alloc: Global,
-        request: &Request,
-        ticket: Option<&SharedTicket>,
-        post: &Post,
-        gate: &G,
-    ) -> Result<bool, Halt> {
-        let _share = self.sending.share(rt);
-        let asked = self
-            .desk
-            .lock(rt)
-            .ask(alloc, self.node, gate, request, ticket);
-        self.finish(rt, alloc, asked, post)
     }
 
     /// Waits for frames, and hands the book those that have come together. Returns whether to go on: each site is stopped if the
