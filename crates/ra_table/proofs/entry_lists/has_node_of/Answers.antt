@@ -1,0 +1,23 @@
+use Rattle.std.proofs.Common.{refl, sym, ◌∙◌}
+use Rattle.std.proofs.lemmas.Bool.{false≢true}
+use Rattle.ra_stamp.specs.declared.entry.Entry.{Entry}
+use Rattle.ra_table.specs.Refusals.{SharesNodeAndName}
+use Rattle.ra_table.proofs.Places.{no_more, not_any}
+use Rattle.ra_table.proofs.entry_lists.has_node_of.Goals as goal
+
+pub returns-then-shares_node : goal.returns-then-shares_node
+returns-then-shares_node c = (
+  λ _. (c.loop-other.other-index, c.other-item.result, c.loop-other-test.true, sym c.other-item.is, c.shares_node.ensures.0 c.if-shares_node.true),
+  λ _. refl,
+)
+
+pub loop-other-preserved : goal.loop-other-preserved
+loop-other-preserved c =
+    no_more (λ (x : Entry). SharesNodeAndName x c.args.entry.now) c.args.list.now c.loop-other.other-index c.other-item.result c.loop-other-test.true c.other-item.is
+    (λ there. false≢true (sym c.if-shares_node.false ∙ c.shares_node.ensures.1 there)) c.loop-other.invariant
+
+pub returns : goal.returns
+returns c = (
+  λ is. absurd (false≢true is),
+  λ any. absurd (not_any (λ (x : Entry). SharesNodeAndName x c.args.entry.now) c.args.list.now c.loop-other.other-index c.loop-other-test.false c.loop-other.invariant any),
+)
