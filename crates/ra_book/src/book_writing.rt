@@ -145,17 +145,6 @@ fn push_events(text: &mut String, events: &[BookEvent]) -> Result<(), WriteBookE
     Ok(())
 }
 
-/// Adds the fields of the first line of a book.
-fn push_numbers(text: &mut String, node: NodeId, nodes: u16, start: u64) -> Result<(), Memory>
-    ensures { OnOk result (string_bytes text.new
-        ≡ string_bytes text.old ++ (field (decimal node) ++ field (decimal nodes) ++ field (decimal start))) }
-{
-    push_number(text, node.get())?;
-    push_number(text, nodes)?;
-    push_number(text, start)?;
-    Ok(())
-}
-
 /// Adds the first line of a book.
 fn push_first(text: &mut String, node: NodeId, nodes: u16, start: u64) -> Result<(), Memory>
     ensures text { OnOk result (string_bytes text.new
@@ -163,7 +152,9 @@ fn push_first(text: &mut String, node: NodeId, nodes: u16, start: u64) -> Result
     ensures begins { start < 2 ^ 64 }
 {
     text.push_str("book 1")?;
-    push_numbers(text, node, nodes, start)?;
+    push_number(text, node.get())?;
+    push_number(text, nodes)?;
+    push_number(text, start)?;
     text.push_str("\n")?;
     Ok(())
 }

@@ -14,9 +14,7 @@ use Rattle.ra_history.specs.declared.book.event.BookEvent.{BookEvent}
 use Rattle.ra_history.specs.declared.book.sent.Sent.{Sent}
 use Rattle.ra_history.specs.History.{IsHistory}
 use Rattle.ra_history.specs.Book.{BookState, whole_events, whole_sent}
-use Rattle.ra_history.specs.Keeping.{Keeps, Ascends, KeptHistoriesGoOn, IsKept, book_of}
-use Rattle.ra_history.specs.LedgerSteps.{IsSound}
-use Rattle.ra_history.specs.declared.book.Book.TheInside.{Inside}
+use Rattle.ra_history.specs.Keeping.{Keeps, Ascends, KeptHistoriesGoOn}
 use Rattle.ra_history.proofs.Ascending.{history_ascends, ascends_last}
 use Rattle.ra_history.proofs.Histories.{opening, goes_on, flagged, determined}
 use Rattle.ra_history.proofs.Kept as kept
@@ -61,14 +59,3 @@ kept_histories_go_on = record {
   determined = kept.determined one_node;
   ascends = ascends;
 }
-
--- so the ledger of a book is sound
-pub is_sound : (b : Inside) → IsKept b → IsSound b.nodes b.ledger
-is_sound b kept =
-    let node = kept_histories_go_on.node (book_of b) b.ledger.node kept.keeps in
-    record {
-      consistent = node.2;
-      count = node.1;
-      few = λ new kind sends marks happens. kept_histories_go_on.few (book_of b) b.ledger.node new kind sends marks kept.keeps happens;
-      stocked = kept.reserved;
-    }

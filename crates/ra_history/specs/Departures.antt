@@ -1,11 +1,10 @@
 -- What a book keeps so that no leave needs memory. No public contract speaks of it.
-use Rattle.std.specs.Prelude.{◌≡◌, ℕ, ◌+◌, ◌*◌, ◌≤◌, List, [], length, All, vec_len, vec_capacity}
+use Rattle.std.specs.Prelude.{◌≡◌, ℕ, ◌+◌, ◌*◌, ◌≤◌, List, [], length, All}
 use Rattle.ra_stamp.specs.Sequence.{Listed}
 use Rattle.ra_frame.specs.declared.frame.Frame.{Frame}
 use Rattle.ra_node.specs.Node.{NodeState, clients_count}
 use Rattle.ra_node.specs.Room.{IsNothing, HasRoomToLeave}
 use Rattle.ra_history.specs.declared.book.departure.Departure.{Departure}
-use Rattle.ra_history.specs.declared.book.ledger.Ledger.{Ledger}
 
 -- the outcome and the list of frames are empty, with room for what a leave sends and marks at one of this many nodes
 pub record IsDeparture (nodes : ℕ) (departure : Departure) : Type 0 where
@@ -24,10 +23,6 @@ pub record IsReserved (nodes : ℕ) (node : NodeState) (spare len capacity : ℕ
   pub many : clients_count node ≤ length departures
   pub each : All (IsDeparture nodes) departures
   pub room : HasRoomFor nodes (length departures) spare len capacity
-
--- so it is in a ledger of one of this many nodes
-abbrev pub IsStocked : ℕ → Ledger → Type 0
-IsStocked nodes l = IsReserved nodes l.node l.events.spare (vec_len l.sent) (vec_capacity l.sent) l.departures.items
 
 -- ---- One more event
 

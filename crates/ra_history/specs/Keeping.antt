@@ -1,5 +1,5 @@
 -- How a book keeps its history: with the node to which the events lead. No public contract speaks of it.
-use Rattle.std.specs.Prelude.{◌≡◌, ◌≢◌, ◌↔◌, ◌⊎◌, ◌*◌, ◌≤◌, ◌<◌, ◌^◌, ℕ, true, false, List, [], ◌∷◌, ◌++◌, length, map, slice_index_or, All, Some, None, IsSome, Result, Err, IsErrOf, IsOk, IsOkUnless, IfOk, IfErr, OnOk, OnErr}
+use Rattle.std.specs.Prelude.{◌≡◌, ◌≢◌, ◌↔◌, ◌⊎◌, ◌*◌, ◌≤◌, ◌<◌, ◌^◌, ℕ, true, false, List, [], ◌∷◌, ◌++◌, length, map, slice_index_or, All, Some, None, IsSome, vec_len, vec_capacity, Result, Err, IsErrOf, IsOk, IsOkUnless, IfOk, IfErr, OnOk, OnErr}
 use Rattle.std.specs.List.Sorted.{IsNonDecreasingBy}
 use Rattle.ra_stamp.specs.NodeId.{IsNodeNumber}
 use Rattle.ra_stamp.specs.declared.entry.Entry.{Entry}
@@ -31,7 +31,7 @@ use Rattle.ra_history.specs.declared.book.event.BookKind.TheVariants.{Asked, Gav
 use Rattle.ra_history.specs.declared.book.event_effect.Posted.{Posted}
 use Rattle.ra_history.specs.declared.book.sent.Sent.{Sent}
 use Rattle.ra_history.specs.History.{node_event, clock_after, frames_at}
-use Rattle.ra_history.specs.Departures.{IsStocked}
+use Rattle.ra_history.specs.Departures.{IsReserved}
 use Rattle.ra_history.specs.Book.{BookState, opening_book, LeadsTo, HasHistory, HasClock, next_clock, with_event, as_sent, Runs, Hears, IsFirst, Loses}
 
 -- ---- What is kept
@@ -49,15 +49,15 @@ book_of b = record {
   nodes = b.nodes;
   start = b.start;
   taken = b.taken;
-  events = b.ledger.events.items;
-  sent = b.ledger.sent.items;
+  events = b.events.items;
+  sent = b.sent.items;
   fault = b.fault;
 }
 
 -- what holds of the fields: the events lead to the node that is kept with them, and what leaves need is there
 pub record IsKept (b : Inside) : Type 0 where
-  pub keeps : Keeps (book_of b) b.ledger.node
-  pub reserved : IsStocked b.nodes b.ledger
+  pub keeps : Keeps (book_of b) b.node
+  pub reserved : IsReserved b.nodes b.node b.events.spare (vec_len b.sent) (vec_capacity b.sent) b.departures.items
 
 -- ---- One more event
 

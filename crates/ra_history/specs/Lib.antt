@@ -2,7 +2,6 @@ pub mod History
 pub mod Book
 pub mod Departures
 pub mod Keeping
-pub mod LedgerSteps
 pub mod Refused
 pub mod EventChecks
 pub mod Settled

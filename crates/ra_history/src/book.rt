@@ -7,7 +7,6 @@ pub mod event_room;
 pub mod frame_search;
 pub mod grant;
 pub mod kept_events;
-pub mod ledger;
 pub mod sent;
 pub mod stop;
 pub mod taken;
@@ -19,13 +18,13 @@ ghost use Rattle.ra_node.specs.Resource.{Holds};
 ghost use Rattle.ra_node.specs.Node.{resource_at};
 
 use crate::book::accepted_frame::accept_frame;
+use crate::book::departure::Departure;
 use crate::book::event_check::{check_event, event_refusal};
-use crate::book::event_room::{sent_for, with_room};
+use crate::book::event_room::{answers_to, make_room, room_to_ask, sent_for, with_room};
 use crate::book::frame_search::is_kept;
-use crate::book::kept_events::{clock_after, flag_lost};
-use crate::book::ledger::Ledger;
+use crate::book::kept_events::{clock_after, flag_lost, keep};
 use crate::book::taken::{Taken, latest_of};
-use crate::{BookError, BookKind, Events, MarkLostError, NewError, Posted, Sent, Stop};
+use crate::{BookError, BookEvent, BookKind, Events, MarkLostError, NewError, Posted, Sent, Stop};
 use ra_frame::Frame;
 use ra_node::{Node, events_count_clients};
 use ra_stamp::{Entry, Memory, Mode, Name, NodeId};
@@ -45,9 +44,15 @@ pub struct Book {
     me: NodeId,
     nodes: u16,
     start: u64,
+    node: Node,
     taken: Taken,
-    /// The node, and its events and sent frames after those that were taken.
-    ledger: Ledger,
+    /// Those after the ones that were taken.
+    events: Events,
+    /// In order of sending, those after the ones that were taken.
+    sent: Vec<Sent>,
+    /// What the leaves of the clients that wait, are queued or hold will need. For each there is room among the events and
+    /// the sent frames.
+    departures: Vec<Departure>,
     fault: Option<Stop>,
 }
 
@@ -99,8 +104,11 @@ impl Book {
             me,
             nodes,
             start,
+            node,
             taken: Taken::nothing(),
-            ledger: Ledger::new(alloc, nodes, node),
+            events: Events::new(alloc),
+            sent: Vec::new(alloc),
+            departures: Vec::new(alloc),
             fault: None,
         })
     }
@@ -143,18 +151,26 @@ impl Book {
             × HasClock self.old (BookKind.Asked client name mode)) }
         ensures err { OnErr result (self.new ≡ self.old) }
     {
+        events_count_clients();
         let kind = BookKind::Asked { client, name, mode };
         let Some(clock) = self.next_clock(&kind) else {
             return Err(self.ask_refusal(client, name, mode));
         };
-        let asked = self
-            .ledger
-            .ask(alloc, self.nodes, clock, client, name, mode);
-        match asked {
-            Some(posted) => Ok(posted),
-            // Each other cause comes before `Memory`.
-            None => Err(self.ask_refusal(client, name, mode)),
-        }
+        let nodes = self.nodes;
+        let room = room_to_ask(
+            alloc,
+            nodes,
+            &mut self.events,
+            &mut self.sent,
+            &mut self.departures,
+        );
+        let Ok((frames, departure)) = room else {
+            return Err(self.ask_refusal(client, name, mode));
+        };
+        let outcome = self.node.ask(alloc, client, name, mode)?;
+        self.departures.push_reserved(departure);
+        let event = BookEvent { clock, kind };
+        Ok(keep(&mut self.events, &mut self.sent, frames, event, outcome))
     }
 
     /// The client that holds a name leaves it. The clock is one more than before, and the frames and marks are those of the
@@ -185,8 +201,20 @@ impl Book {
             × HasClock self.old (BookKind.Gave client name)) }
         ensures err { OnErr result (self.new ≡ self.old) }
     {
+        events_count_clients();
         let clock = self.check_leave(client, name)?;
-        Ok(self.ledger.leave(alloc, self.nodes, clock, client, name))
+        let Some(departure) = self.departures.pop() else {
+            // The client that holds is one for which there is a departure.
+            unreachable!()
+        };
+        let Departure { outcome, frames } = departure;
+        let Ok(outcome) = self.node.leave_into(alloc, client, name, outcome) else {
+            // The client holds, and the outcome has room.
+            unreachable!()
+        };
+        let kind = BookKind::Gave { client, name };
+        let event = BookEvent { clock, kind };
+        Ok(keep(&mut self.events, &mut self.sent, frames, event, outcome))
     }
 
     /// The bytes of a frame come, in version 1 or 2. The clock is one more than the greater of the clock before and the
@@ -224,20 +252,28 @@ impl Book {
             × HasClock self.old (BookKind.Got frame)) }
         ensures err { OnErr result (self.new ≡ self.old) }
     {
+        events_count_clients();
         let (frame, clock) = self.check_receive(bytes)?;
-        // Field by field, since the proof of a copy of the frame is not told of the type of its message.
-        let Frame {
-            clock: sent_at,
-            message,
-        } = frame;
-        let frame = Frame {
-            clock: sent_at,
-            message,
-        };
-        let Some(posted) = self.ledger.receive(alloc, self.nodes, clock, frame) else {
+        let sends = answers_to(&frame.message);
+        let leaves = self.departures.len();
+        let nodes = self.nodes;
+        let room = make_room(
+            alloc,
+            nodes,
+            &mut self.events,
+            &mut self.sent,
+            sends,
+            leaves,
+        );
+        let Ok(frames) = room else {
             return Err(BookError::Memory);
         };
-        Ok(posted)
+        let Ok(outcome) = self.node.receive(alloc, &frame.message) else {
+            return Err(BookError::Memory);
+        };
+        let kind = BookKind::Got(frame);
+        let event = BookEvent { clock, kind };
+        Ok(keep(&mut self.events, &mut self.sent, frames, event, outcome))
     }
 
     /// Flags the sent frame that is equal to this one as lost, or the first of several equal ones. It does not allocate. The
@@ -260,14 +296,14 @@ impl Book {
         ensures allowed { IsOk result ↔ IsFirst self.old.sent frame.now false }
         ensures err { OnErr result (self.new ≡ self.old) }
     {
-        flag_lost(self.ledger.sent.as_mut_slice(), frame)
+        flag_lost(self.sent.as_mut_slice(), frame)
     }
 
     /// Returns whether the node sent this frame and it is not flagged lost. The cost is that of `mark_lost`.
     pub(crate) fn has_kept(&self, frame: &Frame) -> bool
         ensures { IsTrue result ↔ Contains self.now.sent (record { frame = frame.now; lost = false }) }
     {
-        is_kept(self.ledger.sent.as_slice(), frame)
+        is_kept(self.sent.as_slice(), frame)
     }
 
     /// Gives the book a fault, if it has none. From then on `ask`, `leave` and `receive` answer `Failed`, and frames can still be flagged
@@ -310,7 +346,7 @@ impl Book {
         ensures value { result ≡ clock_of (whole_events self.now) }
         ensures history { HasHistory self.now }
     {
-        latest_of(self.taken.clock(), self.ledger.events.as_slice())
+        latest_of(self.taken.clock(), self.events.as_slice())
     }
 
     /// Returns the clock of the last event that was taken from the book, or 0 if none was. It does not allocate.
@@ -335,7 +371,7 @@ impl Book {
         ensures value { LeadsTo self.now result.now }
         ensures history { HasHistory self.now }
     {
-        &self.ledger.node
+        &self.node
     }
 
     /// Returns the events so far, in order. It does not allocate.
@@ -343,7 +379,7 @@ impl Book {
         ensures value { result.now.items ≡ self.now.events }
         ensures history { HasHistory self.now }
     {
-        &self.ledger.events
+        &self.events
     }
 
     /// Returns the sent frame at this place, counted from 0 in order of sending, with its flag, or `None` past the end. It
@@ -352,7 +388,7 @@ impl Book {
         ensures value { result ≡ slice_get self.now.sent place }
         ensures history { HasHistory self.now }
     {
-        self.ledger.sent.get(place as usize).copied()
+        self.sent.get(place as usize).copied()
     }
 
     /// Returns how many frames were sent. It does not allocate.
@@ -360,7 +396,7 @@ impl Book {
         ensures value { result ≡ length self.now.sent }
         ensures history { HasHistory self.now }
     {
-        self.ledger.sent.len() as u64
+        self.sent.len() as u64
     }
 
     /// Hands over the events and the sent frames that the book still has, and goes on without them. The book keeps the clock of
@@ -377,13 +413,13 @@ impl Book {
         ensures err { OnErr result (self.new ≡ self.old) }
         ensures history { HasHistory self.new }
     {
-        let leaves = self.ledger.departures.len();
+        let leaves = self.departures.len();
         let events = with_room(alloc, leaves as u64)?;
         let sent = sent_for(alloc, self.nodes, leaves)?;
-        self.taken.take_events(&self.ledger.events);
-        self.taken.take_sent(&self.ledger.sent);
-        let old_events = mem::replace(&mut self.ledger.events, events);
-        let old_sent = mem::replace(&mut self.ledger.sent, sent);
+        self.taken.take_events(&self.events);
+        self.taken.take_sent(&self.sent);
+        let old_events = mem::replace(&mut self.events, events);
+        let old_sent = mem::replace(&mut self.sent, sent);
         Ok((old_events, old_sent))
     }
 
@@ -401,7 +437,7 @@ impl Book {
             × (result ≡ holder_of (resource_at node name.now)) }
         ensures history { HasHistory self.now }
     {
-        self.ledger.node.holder(name)
+        self.node.holder(name)
     }
 
     /// Returns the clock of an event of this kind that comes next, or `None` if the book has a fault or the clock would pass 2^62.
@@ -424,7 +460,7 @@ impl Book {
             return BookError::Failed;
         }
         let kind = BookKind::Asked { client, name, mode };
-        event_refusal(&self.ledger.node, self.clock(), &kind)
+        event_refusal(&self.node, self.clock(), &kind)
     }
 
     /// Returns the clock that the leave of a client has.
@@ -440,7 +476,7 @@ impl Book {
             return Err(BookError::Failed);
         }
         let kind = BookKind::Gave { client, name };
-        check_event(&self.ledger.node, self.clock(), &kind)
+        check_event(&self.node, self.clock(), &kind)
     }
 
     /// Returns the frame that the bytes are the text of, and the clock that its coming has.
@@ -456,6 +492,6 @@ impl Book {
         if self.fault.is_some() {
             return Err(BookError::Failed);
         }
-        accept_frame(&self.ledger.node, self.clock(), bytes)
+        accept_frame(&self.node, self.clock(), bytes)
     }
 }

@@ -76,25 +76,6 @@ fn read_lines(alloc: Global, gathered: &mut Gathered, text: &[u8]) -> Result<u64
     Ok(text.len() as u64 + 2)
 }
 
-/// Reads a text of books that begins with this line, and then with this rest. Returns what [`read_books`] does.
-///
-/// # Errors
-///
-/// Those of `read_books`.
-fn read_from(alloc: Global, line: &[u8], rest: &[u8]) -> Result<(Gathered, u64), SettleTextError>
-    ensures { (whole : List ℕ) → Begins whole (line.now ∷ []) rest.now
-        → MatchResult result (λ read. HasGathered whole read.0 read.1) (IsUnsettled true whole) }
-{
-    let mut gathered = match begin(alloc, line) {
-        Ok(gathered) => gathered,
-        Err(fault) => return Err(fault),
-    };
-    match read_lines(alloc, &mut gathered, rest) {
-        Ok(next) => Ok((gathered, next)),
-        Err(fault) => Err(fault),
-    }
-}
-
 /// Reads a text of books. Returns what was gathered, and the number that the line after the last one would have. A last line
 /// without a line feed is passed over. The cost is that of the events at their nodes, and linear in the text.
 ///
@@ -115,5 +96,12 @@ pub fn read_books(alloc: Global, text: &[u8]) -> Result<(Gathered, u64), SettleT
             cause: TextCause::Line,
         });
     };
-    read_from(alloc, line, rest)
+    let mut gathered = match begin(alloc, line) {
+        Ok(gathered) => gathered,
+        Err(fault) => return Err(fault),
+    };
+    match read_lines(alloc, &mut gathered, rest) {
+        Ok(next) => Ok((gathered, next)),
+        Err(fault) => Err(fault),
+    }
 }

@@ -24,8 +24,7 @@ pub fn accept_frame(node: &Node, clock: u64, bytes: &[u8]) -> Result<(Frame, u64
         Ok(frame) => frame,
         Err(fault) => return Err(BookError::Frame(fault)),
     };
-    // The event has a copy of the frame. It is made through a borrow, since the prover finds no proof of a copy of the variable:
-    // this file does not name the type of the frame's message.
+    // The event's frame is copied through a borrow, since the proof of a copy of the variable is not told of the type of its message.
     let heard = &frame;
     let clock = check_event(node, clock, &BookKind::Got(*heard))?;
     Ok((frame, clock))

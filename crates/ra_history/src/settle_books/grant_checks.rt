@@ -1,5 +1,5 @@
 //! That each grant is of a request that was granted, and occurs once.
-ghost use Rattle.std.specs.Prelude.{◌≡◌, ◌≢◌, [], All, map, AllPairs, Contains, IfOk, MatchResult};
+ghost use Rattle.std.specs.Prelude.{◌≡◌, ◌≢◌, All, map, AllPairs, Contains, IfOk, MatchResult};
 ghost use Rattle.ra_stamp.specs.declared.entry.Mark.{Mark};
 ghost use Rattle.ra_history.specs.SettlingParts.{RefusesGrants, RefusesRepeats};
 ghost use Rattle.ra_history.specs.Keys.{HasKeys, entered_in};
@@ -53,21 +53,6 @@ fn check_once(alloc: Global, grants: &[Grant]) -> Result<(), SettleError>
     ensures { MatchResult result (λ _. AllPairs (λ a b. a ≢ b) grants.now) (RefusesRepeats grants.now) }
 {
     let mut seen = BTreeSet::new(alloc);
-    put_once(&mut seen, grants)
-}
-
-/// Puts the requests of grants into an empty set.
-///
-/// # Errors
-///
-/// Whichever comes first:
-///
-/// 1. `GrantTwice`: two grants are equal.
-/// 2. `Memory`: memory ran out.
-fn put_once(seen: &mut BTreeSet<OrderKey>, grants: &[Grant]) -> Result<(), SettleError>
-    requires { seen.old.keys ≡ [] }
-    ensures { MatchResult result (λ _. AllPairs (λ a b. a ≢ b) grants.now) (RefusesRepeats grants.now) }
-{
     for grant in grants {
         let Ok(is_new) = seen.insert(entry_key(&grant.entry)) else {
             return Err(SettleError::Memory);

@@ -1,5 +1,5 @@
 //! That what came was sent, and came once.
-ghost use Rattle.std.specs.Prelude.{◌≡◌, ◌≢◌, [], ◌↔◌, ◌++◌, List, All, AllPairs, map, IfOk, IsTrue, MatchBool, MatchResult};
+ghost use Rattle.std.specs.Prelude.{◌≢◌, ◌↔◌, ◌++◌, List, All, AllPairs, map, IfOk, IsTrue, MatchBool, MatchResult};
 ghost use Rattle.std.specs.List.{Any};
 ghost use Rattle.ra_stamp.specs.declared.message.Message.{Message};
 ghost use Rattle.ra_history.specs.Keys.{HasEach, messages_among};
@@ -85,18 +85,8 @@ fn has_no_duplicates(alloc: Global, books: &[Book]) -> Result<bool, Memory>
         (AllPairs (λ a b. a ≢ b) (map (λ f. f.message) (all_received books.now))) (HasTwice books.now)) }
 {
     let mut came = BTreeSet::new(alloc);
-    put_all(&mut came, books)
-}
-
-/// Puts the messages that came at all books into an empty set, up to the first that is there already. Returns whether there is no
-/// such message.
-fn put_all(came: &mut BTreeSet<OrderKey>, books: &[Book]) -> Result<bool, Memory>
-    requires { came.old.keys ≡ [] }
-    ensures { IfOk result (λ once. MatchBool once
-        (AllPairs (λ a b. a ≢ b) (map (λ f. f.message) (all_received books.now))) (HasTwice books.now)) }
-{
     for book in books {
-        if !put_messages(came, book.events().as_slice())? {
+        if !put_messages(&mut came, book.events().as_slice())? {
             return Ok(false);
         }
     }

@@ -12,8 +12,8 @@ returns-then-is_some-clause-history c = history_of c.args.self.now _ _ c.self.in
 
 pub returns-clause-refused : goal.returns-clause-refused
 returns-clause-refused c =
-    ask_refused c.args.self.now c.args.client c.args.name c.args.mode c.self.inside.ledger.node (no_fault c.self.view_is c.if-is_some.ensures)
-    (runs_is kept_histories_go_on.determined c.args.self.now (book_of c.self.inside) c.self.inside.ledger.node c.self.invariant.keeps c.self.view_is)
+    ask_refused c.args.self.now c.args.client c.args.name c.args.mode c.self.inside.node (no_fault c.self.view_is c.if-is_some.ensures)
+    (runs_is kept_histories_go_on.determined c.args.self.now (book_of c.self.inside) c.self.inside.node c.self.invariant.keeps c.self.view_is)
     c.clock.result c.clock.ensures.value c.event_refusal.result c.event_refusal.ensures
 
 pub returns-clause-history : goal.returns-clause-history

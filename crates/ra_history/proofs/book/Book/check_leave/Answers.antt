@@ -13,12 +13,12 @@ returns-then-is_some-clause-answers c = leave_failed c.args.self.now c.args.clie
 
 pub returns-clause-checked : goal.returns-clause-checked
 returns-clause-checked c =
-    event_checked c.args.self.now c.self.inside.ledger.node c.clock.result (Gave c.args.client c.args.name)
+    event_checked c.args.self.now c.self.inside.node c.clock.result (Gave c.args.client c.args.name)
     (history_of c.args.self.now _ _ c.self.invariant.keeps c.self.view_is) tt c.clock.ensures.value c.check_event.result c.check_event.ensures.no_memory
     c.check_event.ensures.checked
 
 pub returns-clause-answers : goal.returns-clause-answers
 returns-clause-answers c =
-    leave_checked c.args.self.now c.args.client c.args.name c.self.inside.ledger.node (no_fault c.self.view_is c.if-is_some.ensures)
-    (runs_is kept_histories_go_on.determined c.args.self.now (book_of c.self.inside) c.self.inside.ledger.node c.self.invariant.keeps c.self.view_is)
+    leave_checked c.args.self.now c.args.client c.args.name c.self.inside.node (no_fault c.self.view_is c.if-is_some.ensures)
+    (runs_is kept_histories_go_on.determined c.args.self.now (book_of c.self.inside) c.self.inside.node c.self.invariant.keeps c.self.view_is)
     c.clock.result c.clock.ensures.value c.check_event.result c.check_event.ensures.no_memory c.check_event.ensures.checked

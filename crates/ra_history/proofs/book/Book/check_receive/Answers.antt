@@ -15,7 +15,7 @@ pub returns-clause-checked : goal.returns-clause-checked
 returns-clause-checked c =
     let now = c.args.self.now in
     let book = book_of c.self.inside in
-    let node = c.self.inside.ledger.node in
+    let node = c.self.inside.node in
     let same = kept_histories_go_on.node book node c.self.invariant.keeps in
     receive_checked now c.args.bytes.now (no_fault c.self.view_is c.if-is_some.ensures) c.clock.result c.clock.ensures.value c.accept_frame.result
     (heard_by node book now c.clock.result c.args.bytes.now c.accept_frame.result same c.self.view_is c.accept_frame.ensures)
@@ -25,7 +25,7 @@ pub returns-clause-answers : goal.returns-clause-answers
 returns-clause-answers c =
     let now = c.args.self.now in
     let book = book_of c.self.inside in
-    let node = c.self.inside.ledger.node in
+    let node = c.self.inside.node in
     let same = kept_histories_go_on.node book node c.self.invariant.keeps in
     receive_answers now c.args.bytes.now (no_fault c.self.view_is c.if-is_some.ensures) c.clock.result c.clock.ensures.value c.accept_frame.result
     (heard_by node book now c.clock.result c.args.bytes.now c.accept_frame.result same c.self.view_is c.accept_frame.ensures)

@@ -9,7 +9,7 @@ pub returns-clause-value : goal.returns-clause-value
 returns-clause-value c =
     c.latest_of.ensures
     ∙ (λ i. clock_from (c.clock.ensures i) (c.as_slice.ensures i))
-    ∙ sym (clock_append 0 c.self.inside.taken.events c.self.inside.ledger.events.items)
+    ∙ sym (clock_append 0 c.self.inside.taken.events c.self.inside.events.items)
     ∙ ap (λ (b : BookState). clock_of (whole_events b)) c.self.view_is
 
 pub returns-clause-history : goal.returns-clause-history

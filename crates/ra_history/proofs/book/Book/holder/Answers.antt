@@ -8,7 +8,7 @@ returns-clause-history c = history_of c.args.self.now _ _ c.self.invariant.keeps
 
 pub returns-clause-value : goal.returns-clause-value
 returns-clause-value c = (
-  c.self.inside.ledger.node,
-  subst (λ (b : BookState). LeadsTo b c.self.inside.ledger.node) c.self.view_is c.self.invariant.keeps.leads,
+  c.self.inside.node,
+  subst (λ (b : BookState). LeadsTo b c.self.inside.node) c.self.view_is c.self.invariant.keeps.leads,
   c.holder.ensures.value,
 )

@@ -4,11 +4,9 @@ use Rattle.ra_node.specs.Node.{NodeState, clients_count}
 use Rattle.ra_history.specs.Book.{TakenState, HasHistory, opening_book}
 use Rattle.ra_history.specs.Keeping.{Keeps}
 use Rattle.ra_history.proofs.Adding.{same_kept, same_history}
+use Rattle.ra_history.proofs.Departing.{reserved_first}
 use Rattle.ra_history.proofs.KeptLaws.{kept_histories_go_on}
 use Rattle.ra_history.proofs.book.Book.new.Goals as goal
-
-pub new-requires-2 : goal.new-requires-2
-new-requires-2 c = ap clients_count c.in_ok-node.ensures.ok ∙ c.events_count_clients.ensures.opening c.args.me c.args.nodes c.args.start
 
 pub invariant_of-result : goal.invariant_of-result
 invariant_of-result c =
@@ -16,12 +14,12 @@ invariant_of-result c =
     let count : IsNodeNumber c.args.nodes = subst (λ (s : NodeState). IsNodeNumber s.nodes) c.in_ok-node.ensures.ok made.count in
     let member : (1 ≤ c.args.me) × (c.args.me ≤ c.args.nodes) = subst (λ (s : NodeState). (1 ≤ s.me) × (s.me ≤ s.nodes)) c.in_ok-node.ensures.ok made.member in
     let opened = opening_book c.args.me c.args.nodes c.args.start in
-    let ledger = c.new-2.ensures in
     record {
-      keeps = subst (λ (t : TakenState). Keeps (record opened { taken = t; events = c.new-2.result.events.items; sent = c.new-2.result.sent.items }) c.new-2.result.node) (sym c.nothing.ensures)
-          (same_kept opened _ _ c.new-2.result.events.items c.new-2.result.sent.items
-          (kept_histories_go_on.opened c.args.me c.args.nodes c.args.start count member) ledger.events ledger.sent (ledger.node ∙ c.in_ok-node.ensures.ok));
-      reserved = ledger.stocked;
+      keeps = subst (λ (t : TakenState). Keeps (record opened { taken = t; events = c.new-2.result.items; sent = c.new-3.result.items }) c.in_ok-node.node) (sym c.nothing.ensures)
+          (same_kept opened _ _ c.new-2.result.items c.new-3.result.items
+          (kept_histories_go_on.opened c.args.me c.args.nodes c.args.start count member) c.new-2.ensures c.new-3.ensures.items c.in_ok-node.ensures.ok);
+      reserved = reserved_first c.args.nodes c.in_ok-node.node _ _ _ c.new-4.result.items
+          (ap clients_count c.in_ok-node.ensures.ok ∙ c.events_count_clients.ensures.opening c.args.me c.args.nodes c.args.start) c.new-4.ensures.items c.new-3.ensures.len;
     }
 
 pub returns-clause-history : goal.returns-clause-history
@@ -30,7 +28,6 @@ returns-clause-history c =
     let count : IsNodeNumber c.args.nodes = subst (λ (s : NodeState). IsNodeNumber s.nodes) c.in_ok-node.ensures.ok made.count in
     let member : (1 ≤ c.args.me) × (c.args.me ≤ c.args.nodes) = subst (λ (s : NodeState). (1 ≤ s.me) × (s.me ≤ s.nodes)) c.in_ok-node.ensures.ok made.member in
     let opened = opening_book c.args.me c.args.nodes c.args.start in
-    let ledger = c.new-2.ensures in
-    subst (λ (t : TakenState). HasHistory (record opened { taken = t; events = c.new-2.result.events.items; sent = c.new-2.result.sent.items })) (sym c.nothing.ensures)
-    (same_history opened _ c.new-2.result.events.items c.new-2.result.sent.items
-    (kept_histories_go_on.opened c.args.me c.args.nodes c.args.start count member) ledger.events ledger.sent)
+    subst (λ (t : TakenState). HasHistory (record opened { taken = t; events = c.new-2.result.items; sent = c.new-3.result.items })) (sym c.nothing.ensures)
+    (same_history opened _ c.new-2.result.items c.new-3.result.items
+    (kept_histories_go_on.opened c.args.me c.args.nodes c.args.start count member) c.new-2.ensures c.new-3.ensures.items)

@@ -12,9 +12,9 @@ returns-in_err-sent-clause-history c = history_of c.args.self.now _ _ c.self.inv
 
 pub invariant_of-self : goal.invariant_of-self
 invariant_of-self c =
-    let departures = c.self.inside.ledger.departures in
+    let departures = c.self.inside.departures in
     let nodes = c.self.inside.nodes in
-    let node = c.self.inside.ledger.node in
+    let node = c.self.inside.node in
     let events = c.replace-old_events.new.dest in
     let sent = c.replace-old_sent.new.dest in
     let made = c.in_ok-sent.sent in
@@ -28,8 +28,8 @@ invariant_of-self c =
           c.take_events.ensures c.take_sent.ensures
           (ap (λ (e : _). e.items) c.replace-old_events.ensures.after ∙ c.in_ok-events.ensures.0)
           (ap (λ (s : _). s.items) c.replace-old_sent.ensures.after ∙ c.in_ok-sent.ensures.items);
-      reserved = sent_anew nodes node events.spare (vec_len c.self.inside.ledger.sent) (vec_len sent) (vec_capacity c.self.inside.ledger.sent) (vec_capacity sent) departures.items
-          (events_anew nodes node _ events.spare (vec_len c.self.inside.ledger.sent) (vec_capacity c.self.inside.ledger.sent) departures.items
+      reserved = sent_anew nodes node events.spare (vec_len c.self.inside.sent) (vec_len sent) (vec_capacity c.self.inside.sent) (vec_capacity sent) departures.items
+          (events_anew nodes node _ events.spare (vec_len c.self.inside.sent) (vec_capacity c.self.inside.sent) departures.items
           c.self.invariant.reserved (omega (arith, leaves, c.in_ok-events.ensures.1, spare)))
           none (subst (λ (k : ℕ). length departures.items * (2 * nodes) ≤ k) (sym capacity) room);
     }

@@ -1,7 +1,7 @@
 use Rattle.std.proofs.Common.{map, take}
 use Rattle.ra_history.specs.Keys.{HasEach}
 use Rattle.ra_history.specs.Settled.{all_received}
-use Rattle.ra_history.proofs.settle_books.receipts.put_all.Given as goal
+use Rattle.ra_history.proofs.settle_books.receipts.has_no_duplicates.Given as goal
 
 -- the messages that came at the books so far, which are all different
 abbrev pub invariant-loop-book : goal.invariant-loop-book

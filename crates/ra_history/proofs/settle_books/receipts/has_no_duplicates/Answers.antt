@@ -7,7 +7,7 @@ use Rattle.ra_history.specs.Book.{BookState}
 use Rattle.ra_history.specs.Settled.{Repeats, all_received}
 use Rattle.ra_history.proofs.KeySets.{at_true, at_false}
 use Rattle.ra_history.proofs.Received.{all_messages_more, all_repeat}
-use Rattle.ra_history.proofs.settle_books.receipts.put_all.Goals as goal
+use Rattle.ra_history.proofs.settle_books.receipts.has_no_duplicates.Goals as goal
 
 pub returns-then-not-branch : goal.returns-then-not-branch
 returns-then-not-branch c =

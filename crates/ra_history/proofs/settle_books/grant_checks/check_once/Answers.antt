@@ -7,7 +7,7 @@ use Rattle.ra_history.specs.Keys.{OrderKey}
 use Rattle.ra_history.proofs.KeyOrders.{key_cmp}
 use Rattle.ra_history.proofs.GrantMarks.{next_grant, grant_again}
 use Rattle.ra_history.proofs.KeySets.{when_new, when_old}
-use Rattle.ra_history.proofs.settle_books.grant_checks.put_once.Goals as goal
+use Rattle.ra_history.proofs.settle_books.grant_checks.check_once.Goals as goal
 
 pub returns-then-not-is_new : goal.returns-then-not-is_new
 returns-then-not-is_new c =

@@ -1,7 +1,7 @@
 use Rattle.std.proofs.Common.{◌≢◌, map, take}
 use Rattle.std.specs.Prelude.{AllPairs}
 use Rattle.ra_history.specs.Keys.{HasKeys, entry_key}
-use Rattle.ra_history.proofs.settle_books.grant_checks.put_once.Given as goal
+use Rattle.ra_history.proofs.settle_books.grant_checks.check_once.Given as goal
 
 -- the requests of the grants so far, which are all different
 abbrev pub invariant-loop-grant : goal.invariant-loop-grant
