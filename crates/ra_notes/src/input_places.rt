@@ -72,8 +72,8 @@ pub fn unfinished_place(
     script: &[u8],
     last_seed: Option<u64>,
 ) -> PlaceNote {
-    match &policy_by(alloc, asked, last_seed) {
-        Some(policy) => unfinished_note(alloc, script, policy),
+    match policy_by(alloc, asked, last_seed) {
+        Some(policy) => unfinished_note(alloc, script, &policy),
         None => Ok(None),
     }
 }

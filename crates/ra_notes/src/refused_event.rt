@@ -85,14 +85,14 @@ fn take_event(
 ) -> Result<(), Refusal>
     requires { CanCome kind.now }
 {
-    match &node.take(alloc, kind) {
+    match node.take(alloc, kind) {
         Ok(outcome) => {
             if let Some(client) = standing {
                 client.take(line, kind, outcome.marks.as_slice());
             }
             Ok(())
         }
-        Err(cause) => Err(Refusal::Event(*cause)),
+        Err(cause) => Err(Refusal::Event(cause)),
     }
 }
 

@@ -14,10 +14,8 @@ fn notes_on(
     last_seed: Option<u64>,
 ) -> Option<ShrunkNotes> {
     let script = script?;
-    match &policy_by(alloc, asked, last_seed) {
-        Some(policy) => shrunk_notes(alloc, script, policy).ok(),
-        None => None,
-    }
+    let policy = policy_by(alloc, asked, last_seed)?;
+    shrunk_notes(alloc, script, &policy).ok()
 }
 
 /// Writes a text as a line, if there is one. It ignores a failure of the writer.
@@ -36,7 +34,7 @@ pub fn write_shrunk_notes<N: Write>(
     last_seed: Option<u64>,
     notes: &mut N,
 ) {
-    match &notes_on(alloc, asked, script, last_seed) {
+    match notes_on(alloc, asked, script, last_seed) {
         Some(said) => {
             write_if(notes, &said.counts);
             write_if(notes, &said.left);

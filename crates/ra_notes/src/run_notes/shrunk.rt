@@ -41,7 +41,7 @@ fn shorter(alloc: Global, note: &mut Note, script: &Script, policy: &Policy) -> 
 
 /// Adds by how much a policy's run of a script is shrunk, to this many choices.
 fn push_shorter(alloc: Global, note: &mut Note, script: &Script, policy: &Policy, choices: u64) {
-    if let Some(summary) = &run_of(alloc, note, script, policy) {
+    if let Some(summary) = run_of(alloc, note, script, policy) {
         push_counts(note, summary.turns, choices);
     }
 }

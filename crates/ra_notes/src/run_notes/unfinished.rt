@@ -4,9 +4,9 @@ use crate::script_notes::script_text::{run_of, script_in};
 use ra_explain::{
     MAX_CLIENTS, OpenText, Sought, push_blockers, push_number_in, push_numbered, want_text,
 };
-use ra_schedule::{Policy, Script};
+use ra_schedule::{Policy, Script, Summary};
 use ra_stamp::{Memory, Name, NodeId};
-use ra_world::{Note, Report};
+use ra_world::Note;
 use std::alloc::Global;
 
 /// Adds the client that is ahead of the clients of this node queued for a name.
@@ -68,10 +68,18 @@ fn push_clients(note: &mut Note, ending: &RunEnd<'_>, waits: bool, before: u64) 
     count
 }
 
-/// Adds what is left to do at the end of a policy's run of a script, of which this is the report.
-fn push_ending(alloc: Global, note: &mut Note, script: &Script, policy: &Policy, report: &Report) {
-    let ending = RunEnd::new(alloc, note, script, policy, report);
-    push_left(note, &ending);
+/// Adds what is left to do at the end of a policy's run of a script, of which this is the summary.
+fn push_ending(
+    alloc: Global,
+    note: &mut Note,
+    script: &Script,
+    policy: &Policy,
+    summary: &Summary,
+) {
+    if !summary.finished {
+        let ending = RunEnd::new(alloc, note, script, policy, &summary.report);
+        push_left(note, &ending);
+    }
 }
 
 /// Adds what is left to do at the end of a run, first for those that wait or are queued.
@@ -87,10 +95,8 @@ fn push_left(note: &mut Note, ending: &RunEnd<'_>) {
 
 /// Adds what is left to do when a policy has driven a script.
 pub fn push_run(alloc: Global, note: &mut Note, script: &Script, policy: &Policy) {
-    if let Some(summary) = &run_of(alloc, note, script, policy)
-        && !summary.finished
-    {
-        push_ending(alloc, note, script, policy, &summary.report);
+    if let Some(summary) = run_of(alloc, note, script, policy) {
+        push_ending(alloc, note, script, policy, &summary);
     }
 }
 

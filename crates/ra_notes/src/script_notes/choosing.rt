@@ -68,13 +68,9 @@ fn push_messages(note: &mut Note, count: u128) {
         0 => note.push("no message is under way at that point"),
         1 => note.push("one message is under way at that point, at place 0"),
         _ => {
-            push_number_in(
-                note,
-                "",
-                count,
-                " messages are under way at that point, at places 0 to ",
-            );
-            push_number_in(note, "", count - 1, " in the order of sending");
+            note.number(count);
+            let text = " messages are under way at that point, at places 0 to ";
+            push_number_in(note, text, count - 1, " in the order of sending");
         }
     }
 }
@@ -120,7 +116,7 @@ fn push_reason_after(
     policy: &Policy,
     choice: Choice,
 ) {
-    if let Some(summary) = &run_of(alloc, note, script, policy) {
+    if let Some(summary) = run_of(alloc, note, script, policy) {
         push_reason_in(alloc, note, script, policy, &summary.report, choice);
     }
 }
@@ -136,12 +132,12 @@ fn push_choice_at(alloc: Global, note: &mut Note, script: &Script, choices: &Cho
 
 /// Adds what is said about the choices of a text.
 fn push_choices(alloc: Global, note: &mut Note, script: &Script, choices: &str) {
-    match &read_choices(alloc, choices) {
+    match read_choices(alloc, choices) {
         Ok(choices) => {
-            let place = makeable(alloc, note, script, choices);
-            push_choice_at(alloc, note, script, choices, place);
+            let place = makeable(alloc, note, script, &choices);
+            push_choice_at(alloc, note, script, &choices, place);
         }
-        Err(fault) => note.refuse_if(*fault == ChoicesError::Memory),
+        Err(fault) => note.refuse_if(fault == ChoicesError::Memory),
     }
 }
 
