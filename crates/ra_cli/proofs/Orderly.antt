@@ -1,7 +1,7 @@
 -- An orderly script is finished by `ra sim`.
 use Rattle.std.proofs.Common.{◌≡◌, ◌≢◌, ℕ, ◌≤◌, Bool, true, false, Option, Some, None, Result, Ok, inl, inr, List, [], refl, sym, ap, ◌∙◌, subst, arith}
 use Rattle.std.proofs.lemmas.Bool.{false≢true}
-use Rattle.std.specs.Prelude.{IfSome, IsTrue, codes}
+use Rattle.std.specs.Prelude.{IfSome, IsTrue, MatchOption, codes}
 use Rattle.std.specs.Io.KnownBytes.{Appends}
 use Rattle.ra_schedule.specs.declared.choice.Policy.{Policy}
 use Rattle.ra_schedule.specs.declared.error.DriveError.{DriveError}
@@ -23,7 +23,7 @@ use Rattle.ra_script.specs.declared.error.PerformError.TheVariants as perform
 use Rattle.ra_schedule.specs.declared.driver.output_kind.OutputKind.{OutputKind}
 use Rattle.ra_schedule.specs.ChoicesText.{choices_of}
 use Rattle.ra_script.specs.declared.error.ScriptError.{ScriptError}
-use Rattle.ra_script.specs.Finding.{NoneEndsSo}
+use Rattle.ra_script.specs.Finding.{IsFirstUnwritten, NoneEndsSo}
 use Rattle.ra_script.specs.Performed.{RefusesAs, IsPerformedAs, IsOrderly, Unwritten}
 use Rattle.ra_script.specs.ScriptText.{script_of}
 use Rattle.ra_task.specs.declared.command_line.PolicyName.{PolicyName}
@@ -31,12 +31,13 @@ use Rattle.ra_task.specs.declared.command_line.PolicyName.TheVariants.{Oldest, N
 use Rattle.ra_task.specs.declared.command_line.Task.{Task}
 use Rattle.ra_task.specs.declared.command_line.Task.TheVariants as task
 use Rattle.ra_task.specs.declared.command_line.search.Search.{Search}
+use Rattle.ra_task.specs.declared.command_line.search.SurveyTask.{SurveyTask}
 use Rattle.ra_cli.specs.declared.refusal_lines.CommandRefusal.{CommandRefusal}
 use Rattle.ra_cli.specs.declared.refusal_lines.CommandRefusal.TheVariants as refusal
 use Rattle.ra_task.specs.Finishing.{HasNoChoices, IsFaithful, RunsFaithfully}
 use Rattle.ra_task.specs.Named.{IsNamed}
 use Rattle.ra_cli.specs.Refusals.{IsOfReader, IsOfWriter, choices_word, perform_word, refused_line, run_word, word_of}
-use Rattle.ra_cli.specs.Surveyed.{FoundHasNoWords, IsTold, RefusesSurvey, none_found_is_success}
+use Rattle.ra_cli.specs.Surveyed.{IsFound, IsSurveyed, RefusesSurvey, none_found_is_success}
 use Rattle.ra_cli.specs.Tasks.{IsCauseFor, IsLeftBy, IsRefusedBy}
 use Rattle.ra_cli.specs.declared.error.RunScriptError.{RunScriptError}
 use Rattle.ra_cli.specs.declared.error.RunScriptError.TheVariants as run
@@ -87,8 +88,8 @@ ends_finished format policy input output finished performed unlost itself orderl
 
 -- ---- Many seeds
 
-module _ (laws : FinishingLaws) (faults : Option FaultRates) (first last : ℕ) (input : List ℕ) (orderly : IsOrderly input)
-    (lost : NoneIsLost faults) (repeated : NoneIsRepeated faults) (some : first ≤ last) where
+module _ (laws : FinishingLaws) (asked : SurveyTask) (input : List ℕ) (orderly : IsOrderly input)
+    (lost : NoneIsLost asked.faults) (repeated : NoneIsRepeated asked.faults) (some : asked.seeds.first ≤ asked.seeds.last) where
   few : (script : ScriptState) → script_of input ≡ Ok script → most_turns script ≤ 16777216
   few script is = omega (arith, laws.most script (laws.scripts input script is))
 
@@ -98,25 +99,26 @@ module _ (laws : FinishingLaws) (faults : Option FaultRates) (first last : ℕ) 
   released : (script : ScriptState) → script_of input ≡ Ok script → IsUnreleased script → ⊥
   released script is = subst (λ (s : ScriptState). IsUnreleased s → ⊥) (ok_same (sym orderly.script_is ∙ is)) orderly.released
 
-  none_ends : (ending : Ending) (finished : Bool) → NoneEndsSo faults ending first last input → finished ≡ none_found_is_success ending → finished ≡ true
+  none_ends : (ending : Ending) (finished : Bool) → NoneEndsSo asked.faults ending asked.seeds.first asked.seeds.last input → finished ≡ none_found_is_success ending → finished ≡ true
   none_ends endings.Finished finished none is =
-      let (outcome, came, missed) = none.none first (omega arith) (omega (arith, some)) in
-      let chosen = by_chance faults first lost repeated in
-      let came_to = laws.outcomes none.script faults 16777216 first outcome (laws.scripts input none.script none.script_is) (in_order none.script none.script_is) (released none.script none.script_is)
+      let (outcome, came, missed) = none.none asked.seeds.first (omega arith) (omega (arith, some)) in
+      let chosen = by_chance asked.faults asked.seeds.first lost repeated in
+      let came_to = laws.outcomes none.script asked.faults 16777216 asked.seeds.first outcome (laws.scripts input none.script none.script_is) (in_order none.script none.script_is) (released none.script none.script_is)
       chosen.unlost chosen.unrepeated (few none.script none.script_is) came in
       absurd (false≢true (sym missed ∙ came_to))
   none_ends endings.Stuck finished none is = is
 
-  told : (find : Option Search) (output : List ℕ) (finished : Bool) → IsTold faults find first last input output finished → finished ≡ true
+  told : (find : Option Search) (output : List ℕ) (finished : Bool)
+      → MatchOption find (IsSurveyed asked input output finished) (λ search. IsFound asked search input output finished) → finished ≡ true
   told None output finished is =
-      let ends = laws.surveys is.script faults 16777216 first last is.survey (laws.scripts input is.script is.script_is) is.survey_is in
+      let ends = laws.surveys is.script asked.faults 16777216 asked.seeds.first asked.seeds.last is.survey (laws.scripts input is.script is.script_is) is.survey_is in
       is.finished_is.1 (
         ends.none_stuck (in_order is.script is.script_is) (released is.script is.script_is) lost,
         ends.none_at_limit repeated (few is.script is.script_is),
       )
   told (Some search) output finished (inl found) =
-      let chosen = by_chance faults found.seed lost repeated in
-      ends_finished search.format (chance faults found.seed) input output finished found.performed chosen.unlost chosen.itself orderly
+      let chosen = by_chance asked.faults found.seed lost repeated in
+      ends_finished search.format (chance asked.faults found.seed) input output finished found.performed chosen.unlost chosen.itself orderly
   told (Some search) output finished (inr (none, line, is)) = none_ends search.ending finished none is
 
 -- ---- Every task
@@ -128,9 +130,9 @@ never_left laws (task.Sim name choices format) input new before after orderly fa
     let chosen = willing name choices.now policy faithful named in
     let (output, performed, consumes, appends) = by.0 in
     false≢true (ends_finished format policy input output false performed chosen.unlost chosen.itself orderly)
-never_left laws (task.Survey faults find first last) input new before after orderly faithful left =
+never_left laws (task.Survey survey) input new before after orderly faithful left =
     let (output, is, consumes, appends) = left.0 in
-    false≢true (told laws faults first last input orderly faithful.0 faithful.1 faithful.2 find output false is)
+    false≢true (told laws survey input orderly faithful.0 faithful.1 faithful.2 survey.find output false is)
 never_left laws task.Check input new before after orderly faithful left = faithful
 never_left laws task.CheckMarks input new before after orderly faithful left = faithful
 never_left laws (task.Draw kind part) input new before after orderly faithful left = faithful
@@ -144,7 +146,7 @@ always_driven laws (task.Sim name choices format) input cause faithful (inr (fau
     let chosen = willing name choices.now policy faithful named in
     let same : fault ≡ Drive cause = cc in
     laws.never_refused format policy input cause chosen.unrepeated chosen.itself (subst (RefusesAs format policy input) same refuses)
-always_driven laws (task.Survey faults find first last) input cause faithful (fault, is, refuses) = cc
+always_driven laws (task.Survey survey) input cause faithful (fault, is, refuses) = cc
 always_driven laws task.Check input cause faithful refuses = faithful
 always_driven laws task.CheckMarks input cause faithful refuses = faithful
 always_driven laws (task.Draw kind part) input cause faithful refuses = faithful
@@ -152,11 +154,11 @@ always_driven laws (task.Cluster printed) input cause faithful refuses = faithfu
 always_driven laws (task.Help text) input cause faithful refuses = faithful
 
 -- what is looked for has words
-none_wordless : FinishingLaws → (faults : Option FaultRates) (find : Option Search) (first last : ℕ) (input : List ℕ) → NoneIsLost faults → NoneIsRepeated faults
-    → FoundHasNoWords faults find first last input → ⊥
-none_wordless laws faults None first last input lost repeated h = h
-none_wordless laws faults (Some search) first last input lost repeated h =
-    laws.worded search.format (chance faults h.seed) input (by_chance faults h.seed lost repeated).unrepeated h.unwritten
+none_wordless : FinishingLaws → (asked : SurveyTask) (find : Option Search) (input : List ℕ) → NoneIsLost asked.faults → NoneIsRepeated asked.faults
+    → MatchOption find ⊥ (λ search. IsFirstUnwritten search.format asked.faults search.ending asked.seeds.first asked.seeds.last input) → ⊥
+none_wordless laws asked None input lost repeated h = h
+none_wordless laws asked (Some search) input lost repeated h =
+    laws.worded search.format (chance asked.faults h.seed) input (by_chance asked.faults h.seed lost repeated).unrepeated h.unwritten
 
 -- it is refused for want of memory only
 pub refused_for_memory : FinishingLaws → (asked : Task) (input : List ℕ) (why : CommandRefusal) → IsOrderly input → RunsFaithfully asked → HasNoChoices asked
@@ -180,14 +182,14 @@ refused_for_memory laws (task.Sim name choices format) input why orderly faithfu
     of_run perform.Choice is h = absurd (laws.worded format policy input (willing name choices.now policy faithful named).unrepeated h)
     of_run perform.Memory is h = refl
     of_run perform.Write is h = absurd (writer (inr (inl is)))
-refused_for_memory laws (task.Survey faults find first last) input why orderly faithful plain reader writer (fault, is, cause) =
+refused_for_memory laws (task.Survey survey) input why orderly faithful plain reader writer (fault, is, cause) =
     ap word_of is ∙ of_survey fault is cause
   where
-    of_survey : (fault : RunScriptError) → why ≡ refusal.Cluster fault → RefusesSurvey faults find first last input fault → run_word fault ≡ codes "Memory"
+    of_survey : (fault : RunScriptError) → why ≡ refusal.Cluster fault → RefusesSurvey survey input fault → run_word fault ≡ codes "Memory"
     of_survey run.Read is h = absurd (reader (inr (inr (inr (inl is)))))
     of_survey (run.Script wrong) is h = let read = orderly.script_is in absurd cc
     of_survey (run.Cluster wrong) is h = absurd h
-    of_survey run.Choice is h = absurd (none_wordless laws faults find first last input faithful.0 faithful.1 h)
+    of_survey run.Choice is h = absurd (none_wordless laws survey survey.find input faithful.0 faithful.1 h)
     of_survey run.Memory is h = refl
     of_survey run.Write is h = absurd (writer (inr (inr (inl is))))
 refused_for_memory laws task.Check input why orderly faithful plain reader writer cause = absurd faithful

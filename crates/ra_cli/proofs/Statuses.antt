@@ -3,7 +3,6 @@ use Rattle.std.proofs.Common.{◌≡◌, ◌≢◌, ◌⊎◌, ℕ, Bool, List, 
 use Rattle.std.specs.Prelude.{IfSome}
 use Rattle.std.specs.Io.KnownBytes.{Appends}
 use Rattle.ra_schedule.specs.declared.choice.Policy.{Policy}
-use Rattle.ra_schedule.specs.Faults.{FaultRates}
 use Rattle.ra_schedule.specs.declared.driver.output_kind.OutputKind.{OutputKind}
 use Rattle.ra_script.specs.Performed.{IsPerformedAs}
 use Rattle.ra_schedule.specs.declared.error.ChoicesError.{ChoicesError}
@@ -22,7 +21,7 @@ use Rattle.ra_cli.specs.declared.error.AnswerError.TheVariants as answer
 use Rattle.ra_task.specs.declared.cluster_output.ClusterOutput.{ClusterOutput}
 use Rattle.ra_cli.specs.declared.error.RunScriptError.{RunScriptError}
 use Rattle.ra_cli.specs.declared.error.RunScriptError.TheVariants as run
-use Rattle.ra_task.specs.declared.command_line.search.Search.{Search}
+use Rattle.ra_task.specs.declared.command_line.search.SurveyTask.{SurveyTask}
 use Rattle.ra_cli.specs.declared.refusal_lines.CommandRefusal.{CommandRefusal}
 use Rattle.ra_cli.specs.declared.refusal_lines.CommandRefusal.TheVariants.{Command, Answer, Choices, Perform, Check, Draw, Cluster}
 use Rattle.ra_cli.specs.Answer.{IsAnswered}
@@ -221,11 +220,11 @@ of_cluster_run arguments printed old before after by =
     (λ input. BreaksOff arguments input before after)
     (λ input (prefix, rest, runs, left, some). (prefix, rest, inr (inr (inr (inr (inl (printed, by, runs))))), left, some))
 
-pub of_surveyed : (arguments : List (List ℕ)) (faults : Option FaultRates) (find : Option Search) (first last : ℕ) (old before after : Option (List ℕ))
-    → IfSome old (λ input. (prefix rest : List ℕ) × MayBeTold faults find first last input (prefix ++ rest) × (rest ≢ []) × Appends before after prefix)
+pub of_surveyed : (arguments : List (List ℕ)) (asked : SurveyTask) (old before after : Option (List ℕ))
+    → IfSome old (λ input. (prefix rest : List ℕ) × MayBeTold asked input (prefix ++ rest) × (rest ≢ []) × Appends before after prefix)
     → IfSome old (λ input. BreaksOff arguments input before after)
-of_surveyed arguments faults find first last old before after =
-    of_known old (λ input. (prefix rest : List ℕ) × MayBeTold faults find first last input (prefix ++ rest) × (rest ≢ []) × Appends before after prefix)
+of_surveyed arguments asked old before after =
+    of_known old (λ input. (prefix rest : List ℕ) × MayBeTold asked input (prefix ++ rest) × (rest ≢ []) × Appends before after prefix)
     (λ input. BreaksOff arguments input before after)
     (λ input (prefix, rest, (finished, says), left, some).
-    (prefix, rest, inr (inr (inr (inr (inr (inr (inr (faults, find, first, last, finished, says))))))), left, some))
+    (prefix, rest, inr (inr (inr (inr (inr (inr (inr (asked, finished, says))))))), left, some))

@@ -3,7 +3,6 @@ use Rattle.std.proofs.Common.{◌≡◌, ◌↔◌, ◌≢◌, ℕ, Bool, List, 
 use Rattle.std.specs.Prelude.{IfSome}
 use Rattle.std.specs.Io.KnownBytes.{Consumes, Appends}
 use Rattle.ra_schedule.specs.declared.surveys.seed_outcomes.Survey.{Survey}
-use Rattle.ra_schedule.specs.Faults.{FaultRates}
 use Rattle.ra_schedule.specs.Script.{ScriptState}
 use Rattle.ra_schedule.specs.Survey.{IsSurvey}
 use Rattle.ra_schedule.specs.declared.error.ChoicesError.{ChoicesError}
@@ -13,16 +12,16 @@ use Rattle.ra_script.specs.ScriptText.{script_of}
 use Rattle.ra_cluster.specs.declared.cluster.cluster_run.ClusterError.{ClusterError}
 use Rattle.ra_cli.specs.declared.error.RunScriptError.{RunScriptError}
 use Rattle.ra_cli.specs.declared.error.RunScriptError.TheVariants as fault
-use Rattle.ra_task.specs.declared.command_line.search.Search.{Search}
+use Rattle.ra_task.specs.declared.command_line.search.SurveyTask.{SurveyTask}
 use Rattle.ra_cli.specs.ClusterRun.{RefusesRun, of_choices}
 use Rattle.ra_cli.specs.Surveyed.{AllFinished, FoundHasNoWords, IsSurveyed, IsTold, RefusesSurvey, SurveysBy, survey_text}
 use Rattle.ra_cli.proofs.ClusterRuns.{of_known}
 
 -- the lines of a survey of the script of a text
-pub surveyed : (faults : Option FaultRates) (first last : ℕ) (text : List ℕ) (script : ScriptState) (survey : Survey) (finished : Bool)
-    → script_of text ≡ Ok script → IsSurvey script faults turn_limit first last survey → IsTrue finished ↔ AllFinished survey
-    → IsSurveyed faults first last text (survey_text survey) finished
-surveyed faults first last text script survey finished is surveys all = record {
+pub surveyed : (asked : SurveyTask) (text : List ℕ) (script : ScriptState) (survey : Survey) (finished : Bool)
+    → script_of text ≡ Ok script → IsSurvey script asked.faults turn_limit asked.seeds.first asked.seeds.last survey → IsTrue finished ↔ AllFinished survey
+    → IsSurveyed asked text (survey_text survey) finished
+surveyed asked text script survey finished is surveys all = record {
   script = script;
   script_is = is;
   survey = survey;
@@ -32,29 +31,29 @@ surveyed faults first last text script survey finished is surveys all = record {
 }
 
 -- what is told of the script of a text
-pub surveys_by : (faults : Option FaultRates) (find : Option Search) (first last : ℕ) (old new before after : Option (List ℕ)) (script : ScriptState) (told : List ℕ) (finished : Bool)
+pub surveys_by : (asked : SurveyTask) (old new before after : Option (List ℕ)) (script : ScriptState) (told : List ℕ) (finished : Bool)
     → IfSome old (λ input. (script_of input ≡ Ok script) × Consumes old new input) → (text : List ℕ) × (script_of text ≡ Ok script)
-    → ((text : List ℕ) → script_of text ≡ Ok script → IsTold faults find first last text told finished) → Appends before after told
-    → SurveysBy faults find first last old new before after finished
-surveys_by faults find first last old new before after script told finished known some tells appends = (
+    → ((text : List ℕ) → script_of text ≡ Ok script → IsTold asked text told finished) → Appends before after told
+    → SurveysBy asked old new before after finished
+surveys_by asked old new before after script told finished known some tells appends = (
   of_known old (λ input. (script_of input ≡ Ok script) × Consumes old new input)
-      (λ input. (output : List ℕ) × IsTold faults find first last input output finished × Consumes old new input × Appends before after output)
+      (λ input. (output : List ℕ) × IsTold asked input output finished × Consumes old new input × Appends before after output)
       (λ input h. (told, tells input h.0, h.1, appends)) known,
   (some.0, told, tells some.0 some.1, appends),
 )
 
 -- what keeps a script from being read keeps it from being surveyed
-pub unread : (faults : Option FaultRates) (find : Option Search) (first last : ℕ) (input : List ℕ) (why : RunScriptError) → why ≢ fault.Write
-    → ((cause : ClusterError) → why ≢ fault.Cluster cause) → RefusesRun input why → RefusesSurvey faults find first last input why
-unread faults find first last input fault.Read write cluster h = tt
-unread faults find first last input (fault.Script why) write cluster h = h.1
-unread faults find first last input (fault.Cluster why) write cluster h = absurd (cluster why refl)
-unread faults find first last input fault.Choice write cluster h = absurd h
-unread faults find first last input fault.Memory write cluster h = tt
-unread faults find first last input fault.Write write cluster h = absurd (write refl)
+pub unread : (asked : SurveyTask) (input : List ℕ) (why : RunScriptError) → why ≢ fault.Write
+    → ((cause : ClusterError) → why ≢ fault.Cluster cause) → RefusesRun input why → RefusesSurvey asked input why
+unread asked input fault.Read write cluster h = tt
+unread asked input (fault.Script why) write cluster h = h.1
+unread asked input (fault.Cluster why) write cluster h = absurd (cluster why refl)
+unread asked input fault.Choice write cluster h = absurd h
+unread asked input fault.Memory write cluster h = tt
+unread asked input fault.Write write cluster h = absurd (write refl)
 
 -- why nothing is told of the seeds
-pub untold : (faults : Option FaultRates) (find : Option Search) (first last : ℕ) (input : List ℕ) (why : ChoicesError)
-    → (why ≡ choices.Choice → FoundHasNoWords faults find first last input) → RefusesSurvey faults find first last input (of_choices why)
-untold faults find first last input choices.Choice wordless = wordless refl
-untold faults find first last input choices.Memory wordless = tt
+pub untold : (asked : SurveyTask) (input : List ℕ) (why : ChoicesError)
+    → (why ≡ choices.Choice → FoundHasNoWords asked input) → RefusesSurvey asked input (of_choices why)
+untold asked input choices.Choice wordless = wordless refl
+untold asked input choices.Memory wordless = tt

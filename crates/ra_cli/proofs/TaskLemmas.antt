@@ -84,7 +84,7 @@ pub suits : (arguments : List (List ℕ)) (asked : Task) → OnHelp asked (Any I
     → OnAnswer asked (GivesNode arguments) → ChecksBy arguments asked → Suits arguments asked
 suits arguments (task.Answer node nodes) help numbers marks = (numbers, marks, tt)
 suits arguments (task.Sim policy choices format) help numbers marks = (tt, tt, tt)
-suits arguments (task.Survey faults find first last) help numbers marks = (tt, tt, tt)
+suits arguments (task.Survey survey) help numbers marks = (tt, tt, tt)
 suits arguments task.Check help numbers marks = (tt, marks, tt)
 suits arguments task.CheckMarks help numbers marks = (tt, marks, tt)
 suits arguments (task.Draw kind part) help numbers marks = (tt, marks, tt)
@@ -99,8 +99,8 @@ pub done : (arguments : List (List ℕ)) (asked : Task) (old new before after : 
     ⊎ IsDone arguments old new before after ⊎ RunsBy arguments old new before after
 done arguments (task.Answer node nodes) old new before after Untouched help fits h = inr (inl (inl (node, nodes, fits.0, h)))
 done arguments (task.Sim policy choices format) old new before after Untouched help fits (chosen, named, h) = inr (inl (inr (inl (chosen, format, h))))
-done arguments (task.Survey faults find first last) old new before after Untouched help fits h =
-    inr (inl (inr (inr (inr (inr (faults, find, first, last, h))))))
+done arguments (task.Survey survey) old new before after Untouched help fits h =
+    inr (inl (inr (inr (inr (inr (survey, h))))))
 done arguments task.Check old new before after Untouched help fits h = inr (inl (inr (inr (inl (inl (fits.1, h))))))
 done arguments task.CheckMarks old new before after Untouched help fits h = inr (inl (inr (inr (inl (inr (fits.1, h))))))
 done arguments (task.Draw kind part) old new before after Untouched help fits (input, read, (valid, few, picture, is, appends)) =
@@ -113,7 +113,7 @@ pub left : (arguments : List (List ℕ)) (asked : Task) (old new before after : 
     → IsLeftBy asked old new before after → IsUnfinished arguments old new before after
 left arguments (task.Answer node nodes) old new before after fits h = absurd h
 left arguments (task.Sim policy choices format) old new before after fits (chosen, named, h) = inl (chosen, format, h)
-left arguments (task.Survey faults find first last) old new before after fits h = inr (inr (inr (faults, find, first, last, h)))
+left arguments (task.Survey survey) old new before after fits h = inr (inr (inr (survey, h)))
 left arguments task.Check old new before after fits h = inr (inl (inl (fits.1, h)))
 left arguments task.CheckMarks old new before after fits h = inr (inl (inr (fits.1, h)))
 left arguments (task.Draw kind part) old new before after fits h = inr (inr (inl (kind, fits.1, h)))

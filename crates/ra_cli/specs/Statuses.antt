@@ -2,13 +2,12 @@
 use Rattle.std.specs.Prelude.{◌≡◌, ◌≢◌, ℕ, ◌≤◌, ◌⊎◌, List, [], ◌++◌, Bool, true, false, Option, IfSome, Any, codes}
 use Rattle.std.specs.Io.KnownBytes.{Consumes, Appends}
 use Rattle.ra_schedule.specs.declared.choice.Policy.{Policy}
-use Rattle.ra_schedule.specs.Faults.{FaultRates}
 use Rattle.ra_schedule.specs.declared.driver.output_kind.OutputKind.{OutputKind}
 use Rattle.ra_script.specs.Performed.{IsOrderly, IsPerformedAs}
 use Rattle.ra_task.specs.declared.cluster_output.ClusterOutput.{ClusterOutput}
 use Rattle.ra_task.specs.declared.settle_arguments.SettleTask.{SettleTask}
 use Rattle.ra_cli.specs.declared.refusal_lines.CommandRefusal.{CommandRefusal}
-use Rattle.ra_task.specs.declared.command_line.search.Search.{Search}
+use Rattle.ra_task.specs.declared.command_line.search.SurveyTask.{SurveyTask}
 use Rattle.ra_cli.specs.Answer.{IsAnswered}
 use Rattle.ra_task.specs.Arguments.{AreSimArguments, IsHelpArgument, GivesNoChoices, GivesNode, PrintsBy, SimsFaithfully}
 use Rattle.ra_cli.specs.Performs.{Performs}
@@ -77,7 +76,7 @@ IsPrinted arguments input text =
     ⊎ ((printed : ClusterOutput) × PrintsBy arguments printed × IsClusterRun printed input text)
     ⊎ Any IsHelpArgument arguments
     ⊎ IsDrawing arguments input text
-    ⊎ ((faults : Option FaultRates) × (find : Option Search) × (first last : ℕ) × (finished : Bool) × IsTold faults find first last input text finished)
+    ⊎ ((asked : SurveyTask) × (finished : Bool) × IsTold asked input text finished)
 
 -- a prefix of what is to be printed was written, but not all of it
 abbrev pub BreaksOff : (arguments : List (List ℕ)) → (input : List ℕ) → (before after : Option (List ℕ)) → Type 0

@@ -1,5 +1,5 @@
 -- What `ra sim --seeds` does.
-use Rattle.std.specs.Prelude.{◌≡◌, ◌≢◌, ◌↔◌, ◌⊎◌, ℕ, List, [], ◌++◌, Bool, true, false, IsTrue, Option, Some, None, IfSome, Ok, Err, codes, decimal}
+use Rattle.std.specs.Prelude.{◌≡◌, ◌≢◌, ◌↔◌, ◌⊎◌, ℕ, List, [], ◌++◌, Bool, true, false, IsTrue, Option, Some, None, IfSome, MatchOption, Ok, Err, codes, decimal}
 use Rattle.std.specs.Io.KnownBytes.{Consumes, Appends}
 use Rattle.ra_world.specs.Lines.{field}
 use Rattle.ra_schedule.specs.declared.surveys.seed_outcomes.Spread.{Spread}
@@ -7,7 +7,6 @@ use Rattle.ra_schedule.specs.declared.surveys.seed_outcomes.Survey.{Survey}
 use Rattle.ra_schedule.specs.declared.surveys.seed_outcomes.Tally.{Tally}
 use Rattle.ra_schedule.specs.declared.surveys.first_seed.Ending.{Ending}
 use Rattle.ra_schedule.specs.declared.surveys.first_seed.Ending.TheVariants.{Finished, Stuck}
-use Rattle.ra_schedule.specs.Faults.{FaultRates}
 use Rattle.ra_schedule.specs.Script.{ScriptState}
 use Rattle.ra_schedule.specs.Survey.{IsSurvey}
 use Rattle.ra_script.specs.Finding.{IsFirstRun, IsFirstUnwritten, NoneEndsSo}
@@ -16,6 +15,7 @@ use Rattle.ra_script.specs.ScriptText.{script_of}
 use Rattle.ra_cli.specs.declared.error.RunScriptError.{RunScriptError}
 use Rattle.ra_cli.specs.declared.error.RunScriptError.TheVariants as fault
 use Rattle.ra_task.specs.declared.command_line.search.Search.{Search}
+use Rattle.ra_task.specs.declared.command_line.search.SurveyTask.{SurveyTask}
 
 -- the line of an end: how many seeds came to it, and the first of them; no line if no seed did
 abbrev pub tally_line : List ℕ → Option Tally → List ℕ
@@ -41,12 +41,12 @@ abbrev pub AllFinished : Survey → Type 0
 AllFinished survey = (survey.stuck ≡ None) × (survey.limit ≡ None)
 
 -- the input is the text of a script, and the output says what came of its random runs, with or without faults, under
--- the seeds from the first to the last
-pub record IsSurveyed (faults : Option FaultRates) (first last : ℕ) (input output : List ℕ) (finished : Bool) : Type 0 where
+-- the seeds that are asked for
+pub record IsSurveyed (asked : SurveyTask) (input output : List ℕ) (finished : Bool) : Type 0 where
   pub script : ScriptState
   pub script_is : script_of input ≡ Ok script
   pub survey : Survey
-  pub survey_is : IsSurvey script faults turn_limit first last survey
+  pub survey_is : IsSurvey script asked.faults turn_limit asked.seeds.first asked.seeds.last survey
   pub finished_is : IsTrue finished ↔ AllFinished survey
   pub output_is : output ≡ survey_text survey
 
@@ -57,49 +57,48 @@ abbrev pub none_found_is_success : Ending → Bool
 none_found_is_success Finished = false
 none_found_is_success Stuck = true
 
--- The output says, in the format of the search, what came of the input's script by the first of these seeds that brings
+-- The output says, in the format of the search, what came of the input's script by the first of the seeds that brings
 -- it to the end that is looked for, and `finished` says whether that run finished. Or no seed does, and the output is the
 -- line `none`.
-abbrev pub IsFound : Option FaultRates → Search → (first last : ℕ) → (input output : List ℕ) → (finished : Bool) → Type 0
-IsFound faults search first last input output finished =
-    IsFirstRun search.format faults search.ending first last input output finished
-    ⊎ (NoneEndsSo faults search.ending first last input × (output ≡ codes "none\n") × (finished ≡ none_found_is_success search.ending))
+abbrev pub IsFound : SurveyTask → Search → (input output : List ℕ) → (finished : Bool) → Type 0
+IsFound asked search input output finished =
+    IsFirstRun search.format asked.faults search.ending asked.seeds.first asked.seeds.last input output finished
+    ⊎ (NoneEndsSo asked.faults search.ending asked.seeds.first asked.seeds.last input × (output ≡ codes "none\n")
+    × (finished ≡ none_found_is_success search.ending))
 
 -- the output says what came of the seeds: it counts them or, if an end is looked for, it tells of the first run that came
 -- to that end
-abbrev pub IsTold : Option FaultRates → Option Search → (first last : ℕ) → (input output : List ℕ) → (finished : Bool) → Type 0
-IsTold faults None first last input output finished = IsSurveyed faults first last input output finished
-IsTold faults (Some search) first last input output finished = IsFound faults search first last input output finished
+abbrev pub IsTold : SurveyTask → (input output : List ℕ) → (finished : Bool) → Type 0
+IsTold asked input output finished =
+    MatchOption asked.find (IsSurveyed asked input output finished) (λ search. IsFound asked search input output finished)
 
 -- the same, whether each run is finished or not
-abbrev pub MayBeTold : Option FaultRates → Option Search → (first last : ℕ) → (input output : List ℕ) → Type 0
-MayBeTold faults find first last input output = (finished : Bool) × IsTold faults find first last input output finished
+abbrev pub MayBeTold : SurveyTask → (input output : List ℕ) → Type 0
+MayBeTold asked input output = (finished : Bool) × IsTold asked input output finished
 
 -- the choices of the run that is looked for are to be printed, and no word stands for one of them
-abbrev pub FoundHasNoWords : Option FaultRates → Option Search → (first last : ℕ) → (input : List ℕ) → Type 0
-FoundHasNoWords faults None first last input = ⊥
-FoundHasNoWords faults (Some search) first last input = IsFirstUnwritten search.format faults search.ending first last input
+abbrev pub FoundHasNoWords : SurveyTask → (input : List ℕ) → Type 0
+FoundHasNoWords asked input = MatchOption asked.find ⊥
+    (λ search. IsFirstUnwritten search.format asked.faults search.ending asked.seeds.first asked.seeds.last input)
 
 -- ---- What is read and written
 
 -- If the input is known, the output is what `IsTold` says of it. The input was read to its end, and exactly the output
 -- was written. If the input is not known, such an input still exists.
-abbrev pub SurveysBy : Option FaultRates → Option Search → (first last : ℕ) → (old new before after : Option (List ℕ)) → Bool → Type 0
-SurveysBy faults find first last old new before after finished =
-    IfSome old (λ input. (output : List ℕ) × IsTold faults find first last input output finished × Consumes old new input × Appends before after output)
-    × ((input output : List ℕ) × IsTold faults find first last input output finished × Appends before after output)
+abbrev pub SurveysBy : SurveyTask → (old new before after : Option (List ℕ)) → Bool → Type 0
+SurveysBy asked old new before after finished =
+    IfSome old (λ input. (output : List ℕ) × IsTold asked input output finished × Consumes old new input × Appends before after output)
+    × ((input output : List ℕ) × IsTold asked input output finished × Appends before after output)
 
 -- `SurveysBy` holds for some faults, some end and some seeds
 abbrev pub Surveys : (old new before after : Option (List ℕ)) → Bool → Type 0
-Surveys old new before after finished =
-    (faults : Option FaultRates) × (find : Option Search) × (first last : ℕ) × SurveysBy faults find first last old new before after finished
+Surveys old new before after finished = (asked : SurveyTask) × SurveysBy asked old new before after finished
 
 -- when each refusal may come: its cause applies. `Cluster` may not come, since no threads are used.
-abbrev pub RefusesSurvey : Option FaultRates → Option Search → (first last : ℕ) → List ℕ → RunScriptError → Type 0
-RefusesSurvey faults find first last input fault.Read = Unit {0}
-RefusesSurvey faults find first last input (fault.Script why) = script_of input ≡ Err why
-RefusesSurvey faults find first last input (fault.Cluster why) = ⊥
-RefusesSurvey faults find first last input fault.Choice = FoundHasNoWords faults find first last input
-RefusesSurvey faults find first last input fault.Memory = Unit {0}
-RefusesSurvey faults find first last input fault.Write =
-    (output : List ℕ) × (finished : Bool) × IsTold faults find first last input output finished × (output ≢ [])
+abbrev pub RefusesSurvey : SurveyTask → List ℕ → RunScriptError → Type 0
+RefusesSurvey asked input fault.Read = Unit {0}
+RefusesSurvey asked input (fault.Script why) = script_of input ≡ Err why
+RefusesSurvey asked input (fault.Cluster why) = ⊥
+RefusesSurvey asked input fault.Choice = FoundHasNoWords asked input
+RefusesSurvey asked input fault.Memory = Unit {0}
+RefusesSurvey asked input fault.Write = (output : List ℕ) × (finished : Bool) × IsTold asked input output finished × (output ≢ [])

@@ -57,8 +57,8 @@ abbrev pub IsDoneBy : Task → (old new before after : Option (List ℕ)) → (U
 IsDoneBy (task.Answer node nodes) old new before after Untouched = AnswersAs node nodes old new before after
 IsDoneBy (task.Sim policy choices format) old new before after Untouched =
     PerformsNamed policy choices.now format old new before after true
-IsDoneBy (task.Survey faults find first last) old new before after Untouched =
-    SurveysBy faults find first last old new before after true
+IsDoneBy (task.Survey survey) old new before after Untouched =
+    SurveysBy survey old new before after true
 IsDoneBy task.Check old new before after Untouched = Checks old new before after true
 IsDoneBy task.CheckMarks old new before after Untouched = ChecksMarks old new before after true
 IsDoneBy (task.Draw kind part) old new before after Untouched = DrawsPart kind part old new before after
@@ -70,8 +70,8 @@ abbrev pub IsLeftBy : Task → (old new before after : Option (List ℕ)) → Ty
 IsLeftBy (task.Answer node nodes) old new before after = ⊥
 IsLeftBy (task.Sim policy choices format) old new before after =
     PerformsNamed policy choices.now format old new before after false
-IsLeftBy (task.Survey faults find first last) old new before after =
-    SurveysBy faults find first last old new before after false
+IsLeftBy (task.Survey survey) old new before after =
+    SurveysBy survey old new before after false
 IsLeftBy task.Check old new before after = Checks old new before after false
 IsLeftBy task.CheckMarks old new before after = ChecksMarks old new before after false
 IsLeftBy (task.Draw kind part) old new before after = IsNotDrawn kind old new before after
@@ -97,8 +97,8 @@ abbrev pub IsCauseFor : Task → (input : List ℕ) → CommandRefusal → Type 
 IsCauseFor (task.Answer node nodes) input why =
     (fault : AnswerError) × (why ≡ refusal.Answer fault) × Refuses node nodes input fault
 IsCauseFor (task.Sim policy choices format) input why = RefusesNamed policy choices.now format input why
-IsCauseFor (task.Survey faults find first last) input why =
-    (fault : RunScriptError) × (why ≡ refusal.Cluster fault) × RefusesSurvey faults find first last input fault
+IsCauseFor (task.Survey survey) input why =
+    (fault : RunScriptError) × (why ≡ refusal.Cluster fault) × RefusesSurvey survey input fault
 IsCauseFor task.Check input why = (fault : TraceError) × (why ≡ refusal.Check fault)
 IsCauseFor task.CheckMarks input why = (fault : TraceError) × (why ≡ refusal.Check fault)
 IsCauseFor (task.Draw kind part) input why =

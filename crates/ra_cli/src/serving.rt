@@ -20,11 +20,11 @@ use crate::laws::orderly_scripts_are_finished;
 use crate::refusal_lines::{CommandRefusal, line_of};
 use crate::{AnswerError, answer};
 use ra_draw::{DrawError, Part};
-use ra_schedule::{Ending, Faults, Observer, OutputKind};
+use ra_schedule::{Ending, Observer, OutputKind};
 use ra_script::{PerformError, perform_as};
 use ra_task::{
-    ClusterOutput, Command, CommandFault, InputKind, PolicyName, Search, Task, command_of,
-    policy_of,
+    ClusterOutput, Command, CommandFault, InputKind, PolicyName, Search, SurveyTask, Task,
+    command_of, policy_of,
 };
 use ra_trace::{MarksVerdict, TraceError, Verdict, check_buffered_with_due, check_marks_buffered};
 use ra_world::write_out;
@@ -164,20 +164,17 @@ fn remark_on(find: Option<Search>) -> Remark {
 /// them, or what is to be printed of the first run that comes to an end.
 fn survey_seeds<R: Read, W: Write, O: Observer>(
     alloc: Global,
-    faults: Option<Faults>,
-    find: Option<Search>,
-    first: u64,
-    last: u64,
+    asked: &SurveyTask,
     reader: &mut R,
     writer: &mut W,
     observer: &mut O,
 ) -> CommandOutcome
-    ensures { Does (Task.Survey faults find first last) (R.remaining reader.old) (R.remaining reader.new)
+    ensures { Does (Task.Survey asked.now) (R.remaining reader.old) (R.remaining reader.new)
         (W.contents writer.old) (W.contents writer.new) (reader.new ≡ reader.old) result.status }
 {
-    match survey_script(alloc, faults, find, first, last, reader, writer, observer) {
+    match survey_script(alloc, asked, reader, writer, observer) {
         Ok(true) => CommandOutcome::new(DONE, None),
-        Ok(false) => CommandOutcome::new(UNFINISHED, Some(remark_on(find))),
+        Ok(false) => CommandOutcome::new(UNFINISHED, Some(remark_on(asked.find))),
         Err(fault) => refuse(writer, CommandRefusal::Cluster(fault)),
     }
 }
@@ -310,12 +307,7 @@ fn do_task<T: Threads + Wait + Sync, R: BufRead, W: Write, O: Observer>(
             choices,
             format,
         } => simulate(alloc, policy, choices, format, reader, writer),
-        Task::Survey {
-            faults,
-            find,
-            first,
-            last,
-        } => survey_seeds(alloc, faults, find, first, last, reader, writer, observer),
+        Task::Survey(ref survey) => survey_seeds(alloc, survey, reader, writer, observer),
         Task::Check => judge(alloc, reader, writer),
         Task::CheckMarks => judge_marks(alloc, reader, writer),
         Task::Draw { kind, part } => draw_part(alloc, kind, part, reader, writer, text),

@@ -57,8 +57,8 @@ fn policy_of_task(alloc: Global, task: &Task<'_>, last_seed: Option<u64>) -> Opt
             choices,
             ..
         } => policy_of(alloc, policy, choices).ok(),
-        Task::Survey { faults, .. } => match last_seed {
-            Some(seed) => Some(chance(faults, seed)),
+        Task::Survey(ref survey) => match last_seed {
+            Some(seed) => Some(chance(survey.faults, seed)),
             None => None,
         },
         _ => None,

@@ -75,10 +75,10 @@ pub fn write_hints<N: Write>(
                 write_end(alloc, script, notes);
             }
         }
-        Task::Survey { find, .. } => {
+        Task::Survey(ref survey) => {
             write_unused_options(arguments, notes);
             if let Some(seed) = last_seed
-                && is_found(find, is_done)
+                && is_found(survey.find, is_done)
             {
                 write_seed(alloc, asked.shrinks(), seed, notes);
             }

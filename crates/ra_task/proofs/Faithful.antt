@@ -26,7 +26,7 @@ no_other arguments argument command first is long sims = long (ap length (sym is
 pub no_help : (asked : Task) (P : Type 0) → OnHelp asked ⊥ → OnHelp asked P
 no_help (task.Answer node nodes) P none = tt
 no_help (task.Sim policy choices format) P none = tt
-no_help (task.Survey faults find first last) P none = tt
+no_help (task.Survey seeds) P none = tt
 no_help task.Check P none = tt
 no_help task.CheckMarks P none = tt
 no_help (task.Draw kind part) P none = tt

@@ -60,7 +60,7 @@ GivesNoChoices arguments = (text : List ℕ) → GivesText arguments (codes "--c
 abbrev pub OnAnswer : Task → (ℕ → ℕ → Type 0) → Type 0
 OnAnswer (Answer node nodes) P = P node nodes
 OnAnswer (Sim policy choices format) P = ⊤
-OnAnswer (Survey faults find first last) P = ⊤
+OnAnswer (Survey seeds) P = ⊤
 OnAnswer Check P = ⊤
 OnAnswer CheckMarks P = ⊤
 OnAnswer (Draw kind part) P = ⊤
@@ -71,7 +71,7 @@ OnAnswer (Help text) P = ⊤
 abbrev pub OnHelp : Task → Type 0 → Type 0
 OnHelp (Answer node nodes) P = ⊤
 OnHelp (Sim policy choices format) P = ⊤
-OnHelp (Survey faults find first last) P = ⊤
+OnHelp (Survey seeds) P = ⊤
 OnHelp Check P = ⊤
 OnHelp CheckMarks P = ⊤
 OnHelp (Draw kind part) P = ⊤
@@ -106,7 +106,7 @@ PrintsBy arguments Books = (HasTraceOption arguments → ⊥) × HasBooksOption 
 abbrev pub ChecksBy : (arguments : List (List ℕ)) → Task → Type 0
 ChecksBy arguments (Answer node nodes) = ⊤
 ChecksBy arguments (Sim policy choices format) = ⊤
-ChecksBy arguments (Survey faults find first last) = ⊤
+ChecksBy arguments (Survey seeds) = ⊤
 ChecksBy arguments Check = ReadsBy arguments kinds.Trace
 ChecksBy arguments CheckMarks = ReadsBy arguments kinds.Marks
 ChecksBy arguments (Draw kind part) = ReadsBy arguments kind

@@ -18,7 +18,7 @@ IsFaithful Listed = ⊥
 abbrev pub RunsFaithfully : Task → Type 0
 RunsFaithfully (task.Answer node nodes) = ⊥
 RunsFaithfully (task.Sim policy choices format) = IsFaithful policy
-RunsFaithfully (task.Survey faults find first last) = NoneIsLost faults × NoneIsRepeated faults × (first ≤ last)
+RunsFaithfully (task.Survey asked) = NoneIsLost asked.faults × NoneIsRepeated asked.faults × (asked.seeds.first ≤ asked.seeds.last)
 RunsFaithfully task.Check = ⊥
 RunsFaithfully task.CheckMarks = ⊥
 RunsFaithfully (task.Draw kind part) = ⊥
@@ -29,7 +29,7 @@ RunsFaithfully (task.Help text) = ⊥
 abbrev pub HasNoChoices : Task → Type 0
 HasNoChoices (task.Answer node nodes) = ⊤
 HasNoChoices (task.Sim policy choices format) = choices.now ≡ []
-HasNoChoices (task.Survey faults find first last) = ⊤
+HasNoChoices (task.Survey asked) = ⊤
 HasNoChoices task.Check = ⊤
 HasNoChoices task.CheckMarks = ⊤
 HasNoChoices (task.Draw kind part) = ⊤

@@ -2,7 +2,7 @@
 ghost use Rattle.std.specs.Prelude.{map, string_bytes};
 ghost use Rattle.ra_task.specs.Asked.{Asks};
 
-use crate::command_line::search::Search;
+use crate::command_line::search::{Search, SurveyTask};
 use crate::command_line::{CommandFault, Task, parse};
 use crate::node_arguments::are_node_arguments;
 use crate::settle_arguments::{SettleTask, settle_arguments};
@@ -31,10 +31,12 @@ impl<'a> Command<'a> {
         };
         match *task {
             Task::Sim { format, .. } => Some(format),
-            Task::Survey {
-                find: Some(Search { format, .. }),
-                ..
-            } => Some(format),
+            Task::Survey(
+                SurveyTask {
+                    find: Some(Search { format, .. }),
+                    ..
+                },
+            ) => Some(format),
             _ => None,
         }
     }

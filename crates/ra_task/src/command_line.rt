@@ -6,7 +6,7 @@ pub mod option_rows;
 pub mod search;
 pub mod usage;
 
-ghost use Rattle.std.specs.Prelude.{◌≡◌, ◌≢◌, ◌⊎◌, [], ◌≤◌, ◌↔◌, ◌∷◌, ◌++◌, ℕ, List, Any, Some, map, codes, slice_get, IsTrue, IsOk, IfOk, IfSome, true, string_bytes};
+ghost use Rattle.std.specs.Prelude.{◌≡◌, ◌≢◌, ◌⊎◌, [], ◌≤◌, ◌↔◌, ◌∷◌, ◌++◌, ℕ, List, Any, Some, map, codes, slice_get, IsTrue, IsOk, IfOk, IfSome, false, true, string_bytes};
 ghost use Rattle.ra_schedule.specs.Survey.{NoneIsLost, NoneIsRepeated};
 ghost use Rattle.ra_task.specs.Arguments.{AreSimArguments, ReadsBy, Gives, GivesNothingBut, GivesText, IsHelpArgument, NamesFaithfully};
 ghost use Rattle.ra_task.specs.Asked.{AsksForTask, IsOfCommand};
@@ -15,10 +15,10 @@ ghost use Rattle.ra_task.specs.Finishing.{IsFaithful, RunsFaithfully};
 use crate::cluster_output::{ClusterOutput, output_by};
 use crate::command_line::command_rows::command;
 use crate::command_line::input_kind::InputKind;
-use crate::command_line::search::Search;
+use crate::command_line::search::{Search, SurveyTask};
 use clap::error::ErrorKind;
-use clap::{ArgMatches, Error as ParseError};
-use ra_schedule::{Ending, Faults, OutputKind};
+use clap::{ArgMatches, Command, Error as ParseError};
+use ra_schedule::{Ending, Faults, OutputKind, SeedRange};
 use ra_world::Part;
 use std::alloc::Global;
 
@@ -48,14 +48,8 @@ pub enum Task<'a> {
         choices: &'a str,
         format: OutputKind,
     },
-    /// The command `sim` with many seeds: the faults of chance, if it has any, what is looked for among the runs, if
-    /// anything is, and the first and the last seed, both included.
-    Survey {
-        faults: Option<Faults>,
-        find: Option<Search>,
-        first: u64,
-        last: u64,
-    },
+    /// The command `sim` with many seeds.
+    Survey(SurveyTask),
     /// The command `check`.
     Check,
     /// The command `check --marks`.
@@ -183,16 +177,16 @@ pub fn policy_name(arguments: &[String], sim: &ArgMatches) -> Option<PolicyName>
     Some(policy_called(word, seed, faults))
 }
 
-/// Returns the first and the last seed of a text, for example of `1..1000`, or `None` if it is no such text, or the
-/// first is above the last. It does not allocate.
-fn seeds_of(text: &str) -> Option<(u64, u64)>
-    ensures { IfSome result (λ seeds. seeds.0 ≤ seeds.1) }
+/// Returns the seeds of a text, for example of `1..1000`, or `None` if it is no such text, or the first is above the
+/// last. It does not allocate.
+fn seeds_of(text: &str) -> Option<SeedRange>
+    ensures { IfSome result (λ seeds. seeds.first ≤ seeds.last) }
 {
     let (first, last) = text.split_once("..")?;
     let first = first.parse().ok()?;
     let last = last.parse().ok()?;
     if first <= last {
-        Some((first, last))
+        Some(SeedRange { first, last })
     } else {
         None
     }
@@ -210,6 +204,21 @@ pub fn has_argument(arguments: &[String], sought: &str) -> bool
     false
 }
 
+/// Returns what is to be printed of a run by these flags, or `None` if they ask for two things. It does not allocate.
+fn flagged_format(traces: bool, lists: bool, shrinks: bool, states: bool) -> Option<OutputKind>
+    ensures choices { IfSome result (λ format. lists ≡ false → format ≢ OutputKind.Choices) }
+    ensures shrunk { IfSome result (λ format. shrinks ≡ false → format ≢ OutputKind.Shrunk) }
+{
+    match (traces, lists, shrinks, states) {
+        (false, false, false, false) => Some(OutputKind::Lines),
+        (true, false, false, false) => Some(OutputKind::Trace),
+        (false, true, false, false) => Some(OutputKind::Choices),
+        (false, false, true, false) => Some(OutputKind::Shrunk),
+        (false, false, false, true) => Some(OutputKind::State),
+        _ => None,
+    }
+}
+
 /// Returns what is to be printed of a run. Returns `None` if the arguments ask for two things, or for choices when some
 /// may be repeats, for which there is no word. It does not allocate.
 pub fn format_of(policy: &PolicyName, arguments: &[String], sim: &ArgMatches) -> Option<OutputKind>
@@ -219,17 +228,13 @@ pub fn format_of(policy: &PolicyName, arguments: &[String], sim: &ArgMatches) ->
         → format ≢ OutputKind.Shrunk) }
 {
     let repeat: u16 = sim.get_one("repeat")?;
-    let has_words = repeat == 0 || !matches!(policy, PolicyName::Faulty { .. });
     let lists = has_argument(arguments, "--as-choices");
     let shrinks = has_argument(arguments, "--shrink");
-    match (sim.get_flag("trace"), lists, shrinks, sim.get_flag("state")) {
-        (false, false, false, false) => Some(OutputKind::Lines),
-        (true, false, false, false) => Some(OutputKind::Trace),
-        (false, true, false, false) if has_words => Some(OutputKind::Choices),
-        (false, false, true, false) if has_words => Some(OutputKind::Shrunk),
-        (false, false, false, true) => Some(OutputKind::State),
-        _ => None,
+    let may_repeat = repeat > 0 && matches!(policy, PolicyName::Faulty { .. });
+    if may_repeat && (lists || shrinks) {
+        return None;
     }
+    flagged_format(sim.get_flag("trace"), lists, shrinks, sim.get_flag("state"))
 }
 
 /// Returns the text of the choices that the arguments give, or its default, no text. It does not allocate.
@@ -303,13 +308,12 @@ fn survey_task<'a>(
 {
     let faults = chance_of(policy)?;
     let find = search_of(ending, format)?;
-    let (first, last) = seeds_of(seeds)?;
-    Some(Task::Survey {
+    let seeds = seeds_of(seeds)?;
+    Some(Task::Survey(SurveyTask {
         faults,
         find,
-        first,
-        last,
-    })
+        seeds,
+    }))
 }
 
 /// Returns the task of the command `sim`.
@@ -469,11 +473,23 @@ pub fn parse<'a>(alloc: Global, arguments: &'a [String]) -> Result<Task<'a>, Com
     let Ok(command) = command(alloc, asks_for_summary(arguments)) else {
         return Err(CommandFault::Memory);
     };
+    task_by(alloc, arguments, command)
+}
+
+/// Returns the task of the arguments, as the parser of this command line understands them.
+///
+/// # Errors
+///
+/// Those of `parse`.
+fn task_by<'a>(
+    alloc: Global,
+    arguments: &'a [String],
+    command: Command<'a>,
+) -> Result<Task<'a>, CommandFault>
+    ensures { IfOk result (AsksForTask (map string_bytes arguments.now)) }
+{
     match command.try_get_matches_from(arguments) {
-        Ok(matches) => match task_of(arguments, &matches) {
-            Some(task) => Ok(task),
-            None => Err(CommandFault::Usage),
-        },
+        Ok(matches) => task_of(arguments, &matches).ok_or(CommandFault::Usage),
         Err(error) => help_of(alloc, arguments, &error),
     }
 }

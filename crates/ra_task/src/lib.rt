@@ -15,7 +15,7 @@ mod waiting;
 pub use cluster_output::ClusterOutput;
 pub use command::{Command, command_of};
 pub use command_line::input_kind::InputKind;
-pub use command_line::search::Search;
+pub use command_line::search::{Search, SurveyTask};
 pub use command_line::usage::usage_note;
 pub use command_line::{CommandFault, PolicyName, Task, text_of};
 pub use notice::{NO_MEMORY, Notice, write_line};

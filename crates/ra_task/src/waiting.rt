@@ -25,7 +25,7 @@ fn task_input(task: &Task<'_>) -> Option<&'static str> {
         Task::Answer { .. } => Some(
             "reading a frame from standard input: type its digits and Enter, then Ctrl-D",
         ),
-        Task::Sim { .. } | Task::Survey { .. } | Task::Cluster(_) => Some(
+        Task::Sim { .. } | Task::Survey(_) | Task::Cluster(_) => Some(
             "reading a script from standard input: type it and then Ctrl-D, or redirect a file with < FILE",
         ),
         Task::Check => Some(kind_input(InputKind::Trace)),

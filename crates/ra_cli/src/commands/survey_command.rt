@@ -9,10 +9,10 @@ ghost use Rattle.ra_cli.specs.Surveyed as spec;
 use crate::commands::cluster_command::script_from;
 use crate::commands::survey_text::survey_text;
 use crate::error::RunScriptError;
-use ra_schedule::{ChoicesError, Ending, Faults, Observer, Script, SeedRange, Survey, survey};
+use ra_schedule::{ChoicesError, Ending, Observer, Script, Survey, survey};
 use ra_script::{MAX_TURNS, Printed, find_run};
 use ra_stamp::Memory;
-use ra_task::Search;
+use ra_task::{Search, SurveyTask};
 use ra_world::write_out;
 use std::alloc::Global;
 use std::io::{Read, Write};
@@ -32,16 +32,20 @@ fn all_finished(survey: &Survey) -> bool
 fn counted_of<O: Observer>(
     alloc: Global,
     script: &Script,
-    faults: Option<Faults>,
-    first: u64,
-    last: u64,
+    asked: &SurveyTask,
     observer: &mut O,
 ) -> Result<Printed, Memory>
     ensures { (input : List ℕ) → script_of input ≡ Ok script.now
-        → IfOk result (λ told. IsSurveyed faults first last input (string_bytes told.text) told.finished) }
+        → IfOk result (λ told. IsSurveyed asked.now input (string_bytes told.text) told.finished) }
 {
-    let seeds = SeedRange { first, last };
-    let counted = survey(alloc, script, faults, seeds, MAX_TURNS, observer)?;
+    let counted = survey(
+        alloc,
+        script,
+        asked.faults,
+        asked.seeds,
+        MAX_TURNS,
+        observer,
+    )?;
     let text = survey_text(alloc, &counted)?;
     Ok(Printed {
         text,
@@ -69,20 +73,25 @@ fn none_line(alloc: Global) -> Result<String, Memory>
 fn found_of<O: Observer>(
     alloc: Global,
     script: &Script,
-    faults: Option<Faults>,
+    asked: &SurveyTask,
     search: Search,
-    first: u64,
-    last: u64,
     observer: &mut O,
 ) -> Result<Printed, ChoicesError>
     ensures ok { (input : List ℕ) → script_of input ≡ Ok script.now
-        → IfOk result (λ told. IsFound faults search first last input (string_bytes told.text) told.finished) }
+        → IfOk result (λ told. IsFound asked.now search input (string_bytes told.text) told.finished) }
     ensures wordless { (input : List ℕ) → script_of input ≡ Ok script.now → IsErrOf result ChoicesError.Choice
-        → IsFirstUnwritten search.format faults search.ending first last input }
+        → IsFirstUnwritten search.format asked.now.faults search.ending asked.now.seeds.first asked.now.seeds.last input }
 {
     let Search { ending, format } = search;
-    let seeds = SeedRange { first, last };
-    if let Some(found) = find_run(alloc, script, faults, ending, seeds, format, observer)? {
+    if let Some(found) = find_run(
+        alloc,
+        script,
+        asked.faults,
+        ending,
+        asked.seeds,
+        format,
+        observer,
+    )? {
         return Ok(found);
     }
     let text = none_line(alloc)?;
@@ -107,22 +116,19 @@ fn none_found_is_success(ending: Ending) -> bool
 fn told_of<O: Observer>(
     alloc: Global,
     script: &Script,
-    faults: Option<Faults>,
-    find: Option<Search>,
-    first: u64,
-    last: u64,
+    asked: &SurveyTask,
     observer: &mut O,
 ) -> Result<Printed, ChoicesError>
     ensures ok { (input : List ℕ) → script_of input ≡ Ok script.now
-        → IfOk result (λ told. IsTold faults find first last input (string_bytes told.text) told.finished) }
+        → IfOk result (λ told. IsTold asked.now input (string_bytes told.text) told.finished) }
     ensures wordless { (input : List ℕ) → script_of input ≡ Ok script.now → IsErrOf result ChoicesError.Choice
-        → FoundHasNoWords faults find first last input }
+        → FoundHasNoWords asked.now input }
 {
-    let Some(search) = find else {
-        let counted = counted_of(alloc, script, faults, first, last, observer)?;
+    let Some(search) = asked.find else {
+        let counted = counted_of(alloc, script, asked, observer)?;
         return Ok(counted);
     };
-    found_of(alloc, script, faults, search, first, last, observer)
+    found_of(alloc, script, asked, search, observer)
 }
 
 /// Reads the text of a script, and drives a cluster through it by chance, with faults or without, under each seed from the first
@@ -145,23 +151,20 @@ fn told_of<O: Observer>(
 /// After each of the others the writer is as before.
 pub fn survey_script<R: Read, W: Write, O: Observer>(
     alloc: Global,
-    faults: Option<Faults>,
-    find: Option<Search>,
-    first: u64,
-    last: u64,
+    asked: &SurveyTask,
     reader: &mut R,
     writer: &mut W,
     observer: &mut O,
 ) -> Result<bool, RunScriptError>
-    ensures ok { IfOk result (SurveysBy faults find first last (R.remaining reader.old) (R.remaining reader.new)
+    ensures ok { IfOk result (SurveysBy asked.now (R.remaining reader.old) (R.remaining reader.new)
         (W.contents writer.old) (W.contents writer.new)) }
-    ensures reads { ReadsInput RunScriptError.Read 65537 (RefusesSurvey faults find first last)
+    ensures reads { ReadsInput RunScriptError.Read 65537 (RefusesSurvey asked.now)
         (R.remaining reader.old) (R.remaining reader.new) result }
-    ensures writes { WritesOutput RunScriptError.Write (MayBeTold faults find first last) (R.remaining reader.old)
+    ensures writes { WritesOutput RunScriptError.Write (MayBeTold asked.now) (R.remaining reader.old)
         (W.contents writer.old) (W.contents writer.new) (writer.new ≡ writer.old) result }
 {
     let script = script_from(alloc, reader)?;
-    let told = told_of(alloc, &script, faults, find, first, last, observer)?;
+    let told = told_of(alloc, &script, asked, observer)?;
     write_out(writer, told.text.as_bytes())?;
     Ok(told.finished)
 }

@@ -1,6 +1,6 @@
 //! The commands of `ra`, each a row of a table, so that the same few lines make them all.
-use crate::command_line::helps::{help_on, status_help, summary_help};
-use crate::command_line::option_rows::{options, options_of};
+use crate::command_line::helps::{STATUS_HELP, SUMMARY_HELP, help_on};
+use crate::command_line::option_rows::{options_of, with_options};
 use clap::Command;
 use std::alloc::{AllocError, Global};
 
@@ -84,12 +84,12 @@ fn command_with_options<'a>(
     is_summary: bool,
 ) -> Result<Command<'a>, AllocError> {
     let after = if is_summary {
-        summary_help()
+        SUMMARY_HELP
     } else {
         help_on(row.kind)
     };
-    let options = options(alloc, options_of(row.kind))?;
-    command_without_options(alloc, row, after).args(options)
+    let command = command_without_options(alloc, row, after);
+    with_options(alloc, command, options_of(row.kind))
 }
 
 /// Makes a command without its options. Its help ends with this text.
@@ -109,7 +109,7 @@ fn named_program<'a>(alloc: Global) -> Command<'a> {
     Command::new(alloc, "ra")
         .version(VERSION)
         .about("Simulate, run, check and draw a lock cluster that works by messages alone")
-        .after_help(status_help())
+        .after_help(STATUS_HELP)
 }
 
 /// Makes the program without its commands. A command line must name one.
@@ -119,17 +119,12 @@ fn program<'a>(alloc: Global) -> Command<'a> {
         .subcommand_required(true)
 }
 
-/// Makes the commands, in the order of help.
-fn commands<'a>(alloc: Global, is_summary: bool) -> Result<Vec<Command<'a>>, AllocError> {
-    let mut commands = Vec::new(alloc);
-    for row in COMMANDS {
-        commands.push(command_with_options(alloc, row, is_summary)?)?;
-    }
-    Ok(commands)
-}
-
 /// Makes the command line that `ra` understands, with the whole help of each command or with its summary.
 pub fn command<'a>(alloc: Global, is_summary: bool) -> Result<Command<'a>, AllocError> {
-    let commands = commands(alloc, is_summary)?;
-    program(alloc).subcommands(commands)
+    let mut program = program(alloc);
+    for row in COMMANDS {
+        let command = command_with_options(alloc, row, is_summary)?;
+        program = program.subcommand(command)?;
+    }
+    Ok(program)
 }

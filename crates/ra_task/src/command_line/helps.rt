@@ -316,12 +316,12 @@ Exit status:
   3  invalid";
 
 /// The summary of the help of each command, below its options.
-const SUMMARY_HELP: &str = "\
+pub const SUMMARY_HELP: &str = "\
 The command reads standard input. See --help for what it reads and prints, an
 example, and the exit statuses.";
 
 /// The help of the program, below its commands.
-const STATUS_HELP: &str = "\
+pub const STATUS_HELP: &str = "\
 Example: ra sim < script.toml
 
 Exit status:
@@ -377,14 +377,4 @@ pub fn help_on(kind: CommandKind) -> &'static str {
         CommandKind::Node => node_help(),
         CommandKind::Settle => settle_help(),
     }
-}
-
-/// Returns the summary of the help of each command, below its options.
-pub fn summary_help() -> &'static str {
-    SUMMARY_HELP
-}
-
-/// Returns the help of the program, below its commands.
-pub fn status_help() -> &'static str {
-    STATUS_HELP
 }

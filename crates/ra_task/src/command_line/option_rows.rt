@@ -1,7 +1,7 @@
 //! The options of the commands, each a row of a table, so that the same few lines make them all.
 use crate::command_line::command_rows::CommandKind;
 use clap::builder::ValueParser;
-use clap::{Arg, ArgAction};
+use clap::{Arg, ArgAction, Command};
 use std::alloc::{AllocError, Global};
 
 /// The words for the policies.
@@ -233,12 +233,14 @@ fn option_of<'a>(alloc: Global, row: &OptionRow<'a>) -> Arg<'a> {
         .default_values(row.defaults)
 }
 
-/// Makes the options of these rows, in their order, and after them the one for help.
-pub fn options<'a>(alloc: Global, rows: &[OptionRow<'a>]) -> Result<Vec<Arg<'a>>, AllocError> {
-    let mut options = Vec::new(alloc);
+/// Gives a command the options of these rows, in their order, and after them the one for help.
+pub fn with_options<'a>(
+    alloc: Global,
+    mut command: Command<'a>,
+    rows: &[OptionRow<'a>],
+) -> Result<Command<'a>, AllocError> {
     for row in rows {
-        options.push(option_of(alloc, row))?;
+        command = command.arg(option_of(alloc, row))?;
     }
-    options.push(option_of(alloc, &HELP_OPTION).short('h'))?;
-    Ok(options)
+    command.arg(option_of(alloc, &HELP_OPTION).short('h'))
 }

@@ -1,4 +1,5 @@
-use ra_schedule::{Ending, OutputKind};
+//! What is asked of many seeds.
+use ra_schedule::{Ending, Faults, OutputKind, SeedRange};
 
 /// What is looked for among the runs of many seeds.
 #[derive(Clone, Copy)]
@@ -7,4 +8,15 @@ pub struct Search {
     pub ending: Ending,
     /// What is printed of the first run that comes to it.
     pub format: OutputKind,
+}
+
+/// Which runs by many seeds are made, and what is looked for among them.
+#[derive(Clone, Copy)]
+pub struct SurveyTask {
+    /// The faults of chance, if it has any.
+    pub faults: Option<Faults>,
+    /// What is looked for among the runs, if anything is.
+    pub find: Option<Search>,
+    /// The seeds, one for each run.
+    pub seeds: SeedRange,
 }

@@ -111,10 +111,17 @@ fn between<'a>(said: &'a str, first: &str, second: &str) -> Option<(&'a str, &'a
 /// Returns the option of which the parser says that its number is wrong, and that number, or `None`. It says why after
 /// a colon, and otherwise lists the words that an option takes, and the nearest one.
 fn wrong_number_in(said: &str) -> Option<(&str, &str)> {
-    let (value, rest) = between(said, "invalid value '", "' for '")?;
-    let (option, after) = cut_at(rest, " <")?;
-    cut_at(after, ">': ")?;
-    Some((option, value))
+    let Some((value, rest)) = between(said, "invalid value '", "' for '") else {
+        return None;
+    };
+    let Some((option, after)) = cut_at(rest, " <") else {
+        return None;
+    };
+    if cut_at(after, ">': ").is_some() {
+        Some((option, value))
+    } else {
+        None
+    }
 }
 
 /// Adds the value of an option, and which ones it takes.
@@ -264,35 +271,54 @@ fn push_seeds(note: &mut Note, seeds: &str) {
     note.push("; see ra sim --help");
 }
 
+/// Returns what is wrong with what many seeds are to print of a run that is looked for, or `None`.
+fn search_fault(sim: &ArgMatches) -> Option<&'static str> {
+    let shrinks = sim.get_flag("shrink");
+    match sim.get_str("find") {
+        None if shrinks || sim.get_flag("trace") || sim.get_flag("as-choices") => Some(
+            "--seeds takes --trace, --as-choices or --shrink only with --find; see ra sim --help",
+        ),
+        Some("finished") if shrinks => Some(
+            "--shrink cannot be used with --find finished; see ra sim --help",
+        ),
+        _ => None,
+    }
+}
+
+/// Returns what is wrong with arguments of the command `sim` that ask for many seeds, or `None` if it is these seeds.
+fn survey_fault(policy: &PolicyName, sim: &ArgMatches) -> Option<&'static str> {
+    if !matches!(policy, PolicyName::Seeded(_) | PolicyName::Faulty { .. }) {
+        return Some("--seeds requires --policy seeded or faulty; see ra sim --help");
+    }
+    if sim.get_flag("state") {
+        return Some(STATE_TEXT);
+    }
+    search_fault(sim)
+}
+
 /// Adds what is wrong with arguments of the command `sim` that ask for many seeds.
 fn push_survey(note: &mut Note, policy: &PolicyName, sim: &ArgMatches) {
-    if !matches!(policy, PolicyName::Seeded(_) | PolicyName::Faulty { .. }) {
-        note.push("--seeds requires --policy seeded or faulty; see ra sim --help");
-    } else if sim.get_flag("state") {
-        note.push(STATE_TEXT);
-    } else if (sim.get_flag("trace") || sim.get_flag("as-choices") || sim.get_flag("shrink"))
-        && sim.get_str("find").is_none()
-    {
-        note.push(
-            "--seeds takes --trace, --as-choices or --shrink only with --find; see ra sim --help",
-        );
-    } else if sim.get_flag("shrink") && sim.get_str("find") == Some("finished") {
-        note.push("--shrink cannot be used with --find finished; see ra sim --help");
+    match survey_fault(policy, sim) {
+        Some(text) => note.push(text),
+        None => push_seeds(note, sim.get_str("seeds").unwrap_or("")),
+    }
+}
+
+/// Returns what is said about what is to be printed of a run if the arguments ask for something that can't be printed.
+fn format_fault(sim: &ArgMatches) -> &'static str {
+    if sim.get_flag("state") {
+        STATE_TEXT
+    } else if sim.get_flag("shrink") {
+        "--shrink cannot be used with --trace, --as-choices or --state, nor with --policy faulty unless --repeat is 0; see ra sim --help"
     } else {
-        push_seeds(note, sim.get_str("seeds").unwrap_or(""));
+        "--as-choices cannot be used with --trace, nor with --policy faulty unless --repeat is 0; see ra sim --help"
     }
 }
 
 /// Adds what is wrong with arguments of the command `sim` that name this policy, the next cause after the policy.
 fn push_under(note: &mut Note, arguments: &[String], policy: &PolicyName, sim: &ArgMatches) {
     if format_of(policy, arguments, sim).is_none() {
-        note.push(if sim.get_flag("state") {
-            STATE_TEXT
-        } else if sim.get_flag("shrink") {
-            "--shrink cannot be used with --trace, --as-choices or --state, nor with --policy faulty unless --repeat is 0; see ra sim --help"
-        } else {
-            "--as-choices cannot be used with --trace, nor with --policy faulty unless --repeat is 0; see ra sim --help"
-        });
+        note.push(format_fault(sim));
     } else if sim.get_str("seeds").is_some() {
         push_survey(note, policy, sim);
     } else {

@@ -10,12 +10,12 @@ use Rattle.ra_cli.proofs.serving.survey_seeds.Goals as goal
 
 pub returns-in-Ok-true : goal.returns-in-Ok-true
 returns-in-Ok-true g c =
-    if_done (task.Survey c.args.faults c.args.find c.args.first c.args.last) _ _ _ _ _ _ c.new.ensures
+    if_done (task.Survey c.args.asked.now) _ _ _ _ _ _ c.new.ensures
     (rw c.in-Ok-true.field-0-test at c.in-Ok-true.ensures.ok)
 
 pub returns-in-Ok-false : goal.returns-in-Ok-false
 returns-in-Ok-false g c =
-    if_left (task.Survey c.args.faults c.args.find c.args.first c.args.last) _ _ _ _ _ _ c.new-in-Ok-false.ensures
+    if_left (task.Survey c.args.asked.now) _ _ _ _ _ _ c.new-in-Ok-false.ensures
     (rw c.in-Ok-false.field-0-test at c.in-Ok-false.ensures.ok)
 
 pub returns-in-Err : goal.returns-in-Err
@@ -26,11 +26,11 @@ returns-in-Err g c =
     let between = g.W.Write.contents c.survey_script.new.writer in
     let new = g.R.Read.remaining c.survey_script.new.reader in
     let after = g.W.Write.contents c.refuse.new.writer in
-    if_refused (task.Survey c.args.faults c.args.find c.args.first c.args.last) old new before after (c.survey_script.new.reader ≡ c.args.reader.now) c.refuse.result.status between (Cluster fault)
+    if_refused (task.Survey c.args.asked.now) old new before after (c.survey_script.new.reader ≡ c.args.reader.now) c.refuse.result.status between (Cluster fault)
     (c.refuse.new.writer ≡ c.survey_script.new.writer) c.refuse.ensures
     (ap g.W.Write.contents) (λ other. ap g.W.Write.contents (c.in-Err.ensures.writes.unwritten (λ e. other (inr (inr (inl (ap Cluster e)))))))
-    (λ is arguments fits. of_surveyed arguments c.args.faults c.args.find c.args.first c.args.last old before between
+    (λ is arguments fits. of_surveyed arguments c.args.asked.now old before between
     (c.in-Err.ensures.writes.prefix (ap Err (of_run fault is))))
-    (of_known old (λ input. RefusesSurvey c.args.faults c.args.find c.args.first c.args.last input fault)
+    (of_known old (λ input. RefusesSurvey c.args.asked.now input fault)
     (λ input. (other : RunScriptError) × (Cluster fault ≡ Cluster other)
-    × RefusesSurvey c.args.faults c.args.find c.args.first c.args.last input other) (λ input h. (fault, refl, h)) c.in-Err.ensures.reads.refused)
+    × RefusesSurvey c.args.asked.now input other) (λ input h. (fault, refl, h)) c.in-Err.ensures.reads.refused)

@@ -5,17 +5,11 @@ use Rattle.ra_task.proofs.command_line.parse.Goals as goal
 pub returns-then-are_sim_arguments-clause-asked : goal.returns-then-are_sim_arguments-clause-asked
 returns-then-are_sim_arguments-clause-asked c = record { help = tt; numbers = tt; marks = tt; faithful = λ _. tt; choices = λ _. refl }
 
-pub returns-in-Some-clause-asked : goal.returns-in-Some-clause-asked
-returns-in-Some-clause-asked c = c.in-Some.ensures
-
 pub returns-in_default-clause-plain : goal.returns-in_default-clause-plain
 returns-in_default-clause-plain c are = sim_arguments _ (c.are_sim_arguments.ensures are) c.if-are_sim_arguments.false
-
-pub returns-in-Ok-try_get_matches_from-clause-plain : goal.returns-in-Ok-try_get_matches_from-clause-plain
-returns-in-Ok-try_get_matches_from-clause-plain c are = sim_arguments _ (c.are_sim_arguments.ensures are) c.if-are_sim_arguments.false
 
 pub returns-clause-plain : goal.returns-clause-plain
 returns-clause-plain c are = sim_arguments _ (c.are_sim_arguments.ensures are) c.if-are_sim_arguments.false
 
 pub returns-clause-asked : goal.returns-clause-asked
-returns-clause-asked c = c.help_of.ensures
+returns-clause-asked c = c.task_by.ensures

@@ -5,6 +5,6 @@ use Rattle.ra_cli.proofs.commands.survey_command.counted_of.Goals as goal
 
 pub returns : goal.returns
 returns g c input is =
-    subst (λ (xs : List ℕ). IsSurveyed c.args.faults c.args.first c.args.last input xs c.all_finished.result) (sym c.in_ok-text.ensures)
-    (surveyed c.args.faults c.args.first c.args.last input c.args.script.now c.in_ok-counted.counted c.all_finished.result is c.in_ok-counted.ensures.ok
+    subst (λ (xs : List ℕ). IsSurveyed c.args.asked.now input xs c.all_finished.result) (sym c.in_ok-text.ensures)
+    (surveyed c.args.asked.now input c.args.script.now c.in_ok-counted.counted c.all_finished.result is c.in_ok-counted.ensures.ok
     c.all_finished.ensures)

@@ -21,15 +21,15 @@ pub returns-in_err-script-clause-reads : goal.returns-in_err-script-clause-reads
 returns-in_err-script-clause-reads g c =
     let why = c.in_err-script.field-0.0 in
     let old = g.R.Read.remaining c.args.reader.now in
-    reads_badly Read 65537 (RefusesSurvey c.args.faults c.args.find c.args.first c.args.last) old _ c.from_residual.result why c.from_residual.ensures.1
-    (of_known old (λ input. RefusesRun input why) (λ input. RefusesSurvey c.args.faults c.args.find c.args.first c.args.last input why)
-    (λ input h. unread c.args.faults c.args.find c.args.first c.args.last input why c.in_err-script.ensures.early c.in_err-script.ensures.unrun h)
+    reads_badly Read 65537 (RefusesSurvey c.args.asked.now) old _ c.from_residual.result why c.from_residual.ensures.1
+    (of_known old (λ input. RefusesRun input why) (λ input. RefusesSurvey c.args.asked.now input why)
+    (λ input h. unread c.args.asked.now input why c.in_err-script.ensures.early c.in_err-script.ensures.unrun h)
     c.in_err-script.ensures.reads.refused)
     (λ e. c.in_err-script.ensures.reads.failed (ap Err e)) c.in_err-script.ensures.reads.at_most
 
 pub returns-in_err-script-clause-writes : goal.returns-in_err-script-clause-writes
 returns-in_err-script-clause-writes g c =
-    writes_nothing Write (MayBeTold c.args.faults c.args.find c.args.first c.args.last) _ _ _ _ c.from_residual.result c.in_err-script.field-0.0 c.from_residual.ensures.1
+    writes_nothing Write (MayBeTold c.args.asked.now) _ _ _ _ c.from_residual.result c.in_err-script.field-0.0 c.from_residual.ensures.1
     c.in_err-script.ensures.early refl
 
 -- what was found has no words
@@ -42,16 +42,16 @@ returns-in_err-told-clause-reads g c =
     let why = c.in_err-told.field-0.0 in
     let old = g.R.Read.remaining c.args.reader.now in
     let new = g.R.Read.remaining c.script_from.new.reader in
-    reads_badly Read 65537 (RefusesSurvey c.args.faults c.args.find c.args.first c.args.last) old new c.from_residual-in_err-told.result (of_choices why)
+    reads_badly Read 65537 (RefusesSurvey c.args.asked.now) old new c.from_residual-in_err-told.result (of_choices why)
     c.from_residual-in_err-told.ensures.1
-    (of_known old (λ input. (script_of input ≡ Ok c.in_ok-script.script) × Consumes old new input) (λ input. RefusesSurvey c.args.faults c.args.find c.args.first c.args.last input (of_choices why))
-    (λ input h. untold c.args.faults c.args.find c.args.first c.args.last input why (λ is. c.in_err-told.ensures.wordless input h.0 (ap Err is)))
+    (of_known old (λ input. (script_of input ≡ Ok c.in_ok-script.script) × Consumes old new input) (λ input. RefusesSurvey c.args.asked.now input (of_choices why))
+    (λ input h. untold c.args.asked.now input why (λ is. c.in_err-told.ensures.wordless input h.0 (ap Err is)))
     c.in_ok-script.ensures.ok) (λ e. choices_no_read why e) c.in_ok-script.ensures.reads.at_most
 
 pub returns-in_err-told-clause-writes : goal.returns-in_err-told-clause-writes
 returns-in_err-told-clause-writes g c =
     let why = c.in_err-told.field-0.0 in
-    writes_nothing Write (MayBeTold c.args.faults c.args.find c.args.first c.args.last) _ _ _ _ c.from_residual-in_err-told.result (of_choices why)
+    writes_nothing Write (MayBeTold c.args.asked.now) _ _ _ _ c.from_residual-in_err-told.result (of_choices why)
     c.from_residual-in_err-told.ensures.1 (λ e. choices_no_write why e) refl
 
 -- the writer failed
@@ -66,9 +66,9 @@ returns-in_err-write_out-clause-reads g c =
     let text = string_bytes c.in_ok-told.told.text in
     let (prefix, rest, is, left, appends) = c.in_err-write_out.ensures.err in
     let some : text ≢ [] = not_nil text prefix rest (sym c.as_bytes.ensures.value ∙ is) left in
-    reads_badly Read 65537 (RefusesSurvey c.args.faults c.args.find c.args.first c.args.last) old new c.from_residual-in_err-write_out.result Write
+    reads_badly Read 65537 (RefusesSurvey c.args.asked.now) old new c.from_residual-in_err-write_out.result Write
     c.from_residual-in_err-write_out.ensures.1
-    (of_known old (λ input. (script_of input ≡ Ok c.in_ok-script.script) × Consumes old new input) (λ input. RefusesSurvey c.args.faults c.args.find c.args.first c.args.last input Write)
+    (of_known old (λ input. (script_of input ≡ Ok c.in_ok-script.script) × Consumes old new input) (λ input. RefusesSurvey c.args.asked.now input Write)
     (λ input h. (text, c.in_ok-told.told.finished, c.in_ok-told.ensures.ok input h.0, some)) c.in_ok-script.ensures.ok)
     (λ e. write_no_read e) c.in_ok-script.ensures.reads.at_most
 
@@ -82,14 +82,14 @@ returns-in_err-write_out-clause-writes g c =
     let finished = c.in_ok-told.told.finished in
     let (prefix, rest, is, left, appends) = c.in_err-write_out.ensures.err in
     let parts : text ≡ prefix ++ rest = sym c.as_bytes.ensures.value ∙ is in
-    writes_badly Write (MayBeTold c.args.faults c.args.find c.args.first c.args.last) old before after _ c.from_residual-in_err-write_out.result
+    writes_badly Write (MayBeTold c.args.asked.now) old before after _ c.from_residual-in_err-write_out.result
     c.from_residual-in_err-write_out.ensures.1
     (of_known old (λ input. (script_of input ≡ Ok c.in_ok-script.script) × Consumes old new input)
-    (λ input. (f b : List ℕ) × MayBeTold c.args.faults c.args.find c.args.first c.args.last input (f ++ b) × (b ≢ []) × Appends before after f)
+    (λ input. (f b : List ℕ) × MayBeTold c.args.asked.now input (f ++ b) × (b ≢ []) × Appends before after f)
     (λ input h. (
       prefix,
       rest,
-      (finished, subst (λ (xs : List ℕ). IsTold c.args.faults c.args.find c.args.first c.args.last input xs finished) parts (c.in_ok-told.ensures.ok input h.0)),
+      (finished, subst (λ (xs : List ℕ). IsTold c.args.asked.now input xs finished) parts (c.in_ok-told.ensures.ok input h.0)),
       left,
       appends,
     )) c.in_ok-script.ensures.ok)
@@ -100,11 +100,11 @@ pub returns-clause-ok : goal.returns-clause-ok
 returns-clause-ok g c =
     let appends = subst (Appends (g.W.Write.contents c.args.writer.now) (g.W.Write.contents c.write_out.new.writer))
     c.as_bytes.ensures.value c.in_ok-write_out.ensures.ok in
-    surveys_by c.args.faults c.args.find c.args.first c.args.last _ _ _ _ c.in_ok-script.script (string_bytes c.in_ok-told.told.text) c.in_ok-told.told.finished
+    surveys_by c.args.asked.now _ _ _ _ c.in_ok-script.script (string_bytes c.in_ok-told.told.text) c.in_ok-told.told.finished
     c.in_ok-script.ensures.ok c.in_ok-script.ensures.read c.in_ok-told.ensures.ok appends
 
 pub returns-clause-reads : goal.returns-clause-reads
-returns-clause-reads g c = reads_well Read 65537 (RefusesSurvey c.args.faults c.args.find c.args.first c.args.last) _ _ _ c.in_ok-script.ensures.reads.at_most
+returns-clause-reads g c = reads_well Read 65537 (RefusesSurvey c.args.asked.now) _ _ _ c.in_ok-script.ensures.reads.at_most
 
 pub returns-clause-writes : goal.returns-clause-writes
-returns-clause-writes g c = writes_well Write (MayBeTold c.args.faults c.args.find c.args.first c.args.last) _ _ _ _ _
+returns-clause-writes g c = writes_well Write (MayBeTold c.args.asked.now) _ _ _ _ _
