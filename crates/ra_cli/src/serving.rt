@@ -286,36 +286,6 @@ fn run_by_threads<T: Threads + Wait + Sync, R: Read, W: Write>(
     }
 }
 
-/// Does a task, and returns what came of it. The observer is told of each seed. A text that was to be drawn and is not
-/// of its kind is left in `text`.
-fn do_task<T: Threads + Wait + Sync, R: BufRead, W: Write, O: Observer>(
-    rt: &T,
-    alloc: Global,
-    task: &Task<'_>,
-    reader: &mut R,
-    writer: &mut W,
-    text: &mut Vec<u8>,
-    observer: &mut O,
-) -> CommandOutcome
-    ensures { Does task.now (R.remaining reader.old) (R.remaining reader.new)
-        (W.contents writer.old) (W.contents writer.new) (reader.new ≡ reader.old) result.status }
-{
-    match *task {
-        Task::Answer { node, nodes } => respond(alloc, node, nodes, reader, writer),
-        Task::Sim {
-            policy,
-            choices,
-            format,
-        } => simulate(alloc, policy, choices, format, reader, writer),
-        Task::Survey(ref survey) => survey_seeds(alloc, survey, reader, writer, observer),
-        Task::Check => judge(alloc, reader, writer),
-        Task::CheckMarks => judge_marks(alloc, reader, writer),
-        Task::Draw { kind, part } => draw_part(alloc, kind, part, reader, writer, text),
-        Task::Cluster(printed) => run_by_threads(rt, alloc, printed, reader, writer),
-        Task::Help(ref help) => CommandOutcome::new(written(writer, help.as_bytes(), DONE), None),
-    }
-}
-
 /// Does what arguments ask for, and returns what came of it. The observer is told of each seed. A text that was to be
 /// drawn and is not of its kind, or of books to settle, is left in `text`.
 pub fn do_command<T: Threads + Wait + Sync, R: BufRead, W: Write, O: Observer>(
@@ -331,11 +301,30 @@ pub fn do_command<T: Threads + Wait + Sync, R: BufRead, W: Write, O: Observer>(
         (W.contents writer.old) (W.contents writer.new) (reader.new ≡ reader.old) result.status }
 {
     orderly_scripts_are_finished();
-    match asked {
+    match *asked {
         Command::Node => be_a_node(alloc, reader, writer),
-        Command::Settle(books) => settle_books(alloc, *books, reader, writer, text),
-        Command::Task(task) => do_task(rt, alloc, task, reader, writer, text, observer),
-        Command::Unknown(fault) => refuse(writer, CommandRefusal::Command(*fault)),
+        Command::Settle(books) => settle_books(alloc, books, reader, writer, text),
+        Command::Task(Task::Answer { node, nodes }) => respond(alloc, node, nodes, reader, writer),
+        Command::Task(
+            Task::Sim {
+                policy,
+                choices,
+                format,
+            },
+        ) => simulate(alloc, policy, choices, format, reader, writer),
+        Command::Task(Task::Survey(ref survey)) => {
+            survey_seeds(alloc, survey, reader, writer, observer)
+        }
+        Command::Task(Task::Check) => judge(alloc, reader, writer),
+        Command::Task(Task::CheckMarks) => judge_marks(alloc, reader, writer),
+        Command::Task(Task::Draw { kind, part }) => {
+            draw_part(alloc, kind, part, reader, writer, text)
+        }
+        Command::Task(Task::Cluster(printed)) => run_by_threads(rt, alloc, printed, reader, writer),
+        Command::Task(Task::Help(ref help)) => {
+            CommandOutcome::new(written(writer, help.as_bytes(), DONE), None)
+        }
+        Command::Unknown(fault) => refuse(writer, CommandRefusal::Command(fault)),
     }
 }
 

@@ -11,10 +11,12 @@ use Rattle.ra_task.specs.Arguments.{AreNodeArguments, AreSimArguments}
 use Rattle.ra_cli.specs.SettleRun.{ServesSettle}
 use Rattle.ra_task.specs.SettleArguments.{AreSettleArguments, AsksToSettle}
 use Rattle.ra_task.specs.Asked.{AreOtherArguments}
+use Rattle.ra_task.specs.declared.command_line.Task.TheVariants as task
 use Rattle.ra_cli.proofs.NodeRuns.{no_book, no_sim}
 use Rattle.ra_cli.proofs.SettleRuns.{two_refuses}
 use Rattle.ra_cli.proofs.SettleArguments.{no_node_arguments, no_sim_arguments, one_thing}
 use Rattle.ra_cli.proofs.Statuses.{none_of_command, refused, broken}
+use Rattle.ra_cli.proofs.Helped.{helped}
 use Rattle.ra_cli.proofs.TaskServed.{MemoryOrUsage, served}
 use Rattle.ra_cli.proofs.serving.do_command.Goals as goal
 
@@ -67,10 +69,75 @@ returns-in-Settle g c arguments asks =
       settle = λ other also. subst (λ (p : SettleTask). ServesSettle p old new before after status) (one_thing arguments books other asked also) serves;
     }
 
-pub returns-in-Task : goal.returns-in-Task
-returns-in-Task g c arguments asks =
+-- ---- Each task
+
+pub returns-in-Task-Answer : goal.returns-in-Task-Answer
+returns-in-Task-Answer g c arguments asks =
     let law = c.orderly_scripts_are_finished.ensures in
-    served law.finished law.only_memory arguments c.in-Task.task _ _ _ _ _ _ (rw c.in-Task.is at asks) c.do_task.ensures
+    let known = rw c.in-Task-Answer.is at asks in
+    let is = rw c.in-Task-Answer.is at c.in-Task-Answer.field-0-is in
+    served law.finished law.only_memory arguments (task.Answer c.in-Task-Answer.node c.in-Task-Answer.nodes) _ _ _ _ _ _
+    (rw is at known) c.respond.ensures
+
+pub returns-in-Task-Sim : goal.returns-in-Task-Sim
+returns-in-Task-Sim g c arguments asks =
+    let law = c.orderly_scripts_are_finished.ensures in
+    let known = rw c.in-Task-Sim.is at asks in
+    let is = rw c.in-Task-Sim.is at c.in-Task-Sim.field-0-is in
+    served law.finished law.only_memory arguments (task.Sim c.in-Task-Sim.policy c.in-Task-Sim.choices c.in-Task-Sim.format) _ _ _ _ _ _
+    (rw is at known) c.simulate.ensures.does
+
+pub returns-in-Task-Survey : goal.returns-in-Task-Survey
+returns-in-Task-Survey g c arguments asks =
+    let law = c.orderly_scripts_are_finished.ensures in
+    let known = rw c.in-Task-Survey.is at asks in
+    let is = rw c.in-Task-Survey.is at c.in-Task-Survey.field-0-is in
+    served law.finished law.only_memory arguments (task.Survey c.in-Task-Survey.survey) _ _ _ _ _ _
+    (rw is at known) c.survey_seeds.ensures
+
+pub returns-in-Task-Check : goal.returns-in-Task-Check
+returns-in-Task-Check g c arguments asks =
+    let law = c.orderly_scripts_are_finished.ensures in
+    let known = rw c.in-Task-Check.is at asks in
+    let is = rw c.in-Task-Check.is at c.in-Task-Check.field-0-is in
+    served law.finished law.only_memory arguments task.Check _ _ _ _ _ _
+    (rw is at known) c.judge.ensures
+
+pub returns-in-Task-CheckMarks : goal.returns-in-Task-CheckMarks
+returns-in-Task-CheckMarks g c arguments asks =
+    let law = c.orderly_scripts_are_finished.ensures in
+    let known = rw c.in-Task-CheckMarks.is at asks in
+    let is = rw c.in-Task-CheckMarks.is at c.in-Task-CheckMarks.field-0-is in
+    served law.finished law.only_memory arguments task.CheckMarks _ _ _ _ _ _
+    (rw is at known) c.judge_marks.ensures
+
+pub returns-in-Task-Draw : goal.returns-in-Task-Draw
+returns-in-Task-Draw g c arguments asks =
+    let law = c.orderly_scripts_are_finished.ensures in
+    let known = rw c.in-Task-Draw.is at asks in
+    let is = rw c.in-Task-Draw.is at c.in-Task-Draw.field-0-is in
+    served law.finished law.only_memory arguments (task.Draw c.in-Task-Draw.kind c.in-Task-Draw.part) _ _ _ _ _ _
+    (rw is at known) c.draw_part.ensures
+
+pub returns-in-Task-Cluster : goal.returns-in-Task-Cluster
+returns-in-Task-Cluster g c arguments asks =
+    let law = c.orderly_scripts_are_finished.ensures in
+    let known = rw c.in-Task-Cluster.is at asks in
+    let is = rw c.in-Task-Cluster.is at c.in-Task-Cluster.field-0-is in
+    served law.finished law.only_memory arguments (task.Cluster c.in-Task-Cluster.printed) _ _ _ _ _ _
+    (rw is at known) c.run_by_threads.ensures
+
+pub returns-in-Task-Help : goal.returns-in-Task-Help
+returns-in-Task-Help g c arguments asks =
+    let law = c.orderly_scripts_are_finished.ensures in
+    let known = rw c.in-Task-Help.is at asks in
+    let is = rw c.in-Task-Help.is at c.in-Task-Help.field-0-is in
+    rw c.new.ensures (served law.finished law.only_memory arguments (task.Help c.in-Task-Help.help) _ _ _ _ _ _
+    (rw is at known)
+    (helped c.in-Task-Help.help c.as_bytes.result.now _ _ _ _ (c.args.reader.now ≡ c.args.reader.now) c.written.result refl
+    c.as_bytes.ensures.value c.written.ensures))
+
+-- ---- None of them
 
 not_done : (status : ℕ) → 1 ≤ status → status ≡ 0 → ⊥
 not_done status least is = omega (arith, least, is)
