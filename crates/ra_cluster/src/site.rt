@@ -13,7 +13,7 @@ ghost use Rattle.ra_frame.specs.Fits.{Fits};
 
 use crate::cluster::all_sites::{stop_after, stop_all};
 use crate::site::closed_book::{is_whole_of, stopped_book};
-use crate::site::desk::{Batch, Desk, Halt, Handed, Stepped};
+use crate::site::desk::{Desk, Halt, Handed, Stepped};
 use crate::site::request::Request;
 use crate::site::sending::Sending;
 use crate::site::ticket::{SharedTicket, Ticket};
@@ -152,8 +152,10 @@ impl Site {
                 .ask(alloc, self.node, gate, &request, ticket.as_ref());
             self.finish(rt, alloc, asked, post)
         };
-        self.answer(rt, made, sites)?;
-        self.wait_for_grant(rt, ticket.as_ref(), &request)
+        match self.answer(rt, made, sites) {
+            Ok(()) => self.wait_for_grant(rt, ticket.as_ref(), &request),
+            Err(refused) => Err(refused),
+        }
     }
 
     /// Gives back the name that a client holds. It waits for locks alone.
@@ -205,11 +207,23 @@ impl Site {
     )
         requires { AreSitesWith self.now sites.now }
     {
-        let mut batch = Batch::new(alloc);
+        let (mut taken, mut stepped) = (Vec::new(alloc), Vec::new(alloc));
+        // Each way out ends the loop, so that the lists are dropped at one exit.
         for _ in rt.forever() {
-            if !self.pump_once(rt, alloc, inbox, &mut batch, post, sites, gate) {
+            let (are_sent, received) = match inbox.take(rt, &mut taken) {
+                Ok(true) => self.carry(rt, alloc, taken.as_slice(), &mut stepped, post, gate),
+                Ok(false) => break,
+                Err(Memory) => (true, Err(Halt::Refused(BookError::Memory))),
+            };
+            if !are_sent {
+                stop_all(rt, sites, Stop::Send);
+            }
+            if let Err(halt) = received {
+                stop_after(rt, sites, self.halt(rt, halt, sites));
                 break;
             }
+            stepped.clear();
+            taken.clear();
         }
     }
 
@@ -319,47 +333,14 @@ impl Site {
         stopped_book(alloc, me, nodes, start, cause)
     }
 
-    /// Waits for frames, and hands the book those that have come together. Returns whether to go on: each site is stopped if the
-    /// book or the gate refused a frame, or memory ran out.
-    fn pump_once<R: Wait, G: Gate>(
-        &self,
-        rt: &R,
-        alloc: Global,
-        inbox: &Inbox,
-        batch: &mut Batch,
-        post: &Post,
-        sites: &[Site],
-        gate: &G,
-    ) -> bool {
-        match inbox.take(rt, &mut batch.taken) {
-            Ok(true) => {}
-            Ok(false) => return false,
-            Err(Memory) => {
-                stop_all(rt, sites, Stop::Memory);
-                return false;
-            }
-        }
-        let (are_sent, received) = self.carry(rt, alloc, batch, post, gate);
-        batch.clear();
-        if !are_sent {
-            stop_all(rt, sites, Stop::Send);
-        }
-        match received {
-            Ok(()) => true,
-            Err(halt) => {
-                stop_after(rt, sites, self.halt(rt, halt, sites));
-                false
-            }
-        }
-    }
-
-    /// Hands the book the frames of a batch, and sends those of their events, with no round of an audit in between. Returns whether
-    /// all were sent, and if one was not received, why; those before it were.
+    /// Hands the book frames, and sends those of their events, with no round of an audit in between. Puts what came of each into
+    /// the list. Returns whether all were sent, and if one was not received, why; those before it were.
     fn carry<R: Wait, G: Gate>(
         &self,
         rt: &R,
         alloc: Global,
-        batch: &mut Batch,
+        taken: &[Vec<u8>],
+        stepped: &mut Vec<Stepped>,
         post: &Post,
         gate: &G,
     ) -> (bool, Result<(), Halt>) {
@@ -367,9 +348,9 @@ impl Site {
         let received = self
             .desk
             .lock(rt)
-            .receive_all(alloc, self.node, gate, batch);
+            .receive_all(alloc, self.node, gate, taken, stepped);
         let mut are_sent = true;
-        for step in batch.stepped.as_slice() {
+        for step in stepped.as_slice() {
             if !self.tell_and_send(rt, alloc, step, post) {
                 are_sent = false;
             }
@@ -389,8 +370,10 @@ impl Site {
         made: Result<Stepped, Halt>,
         post: &Post,
     ) -> Result<bool, Halt> {
-        let stepped = made?;
-        Ok(self.tell_and_send(rt, alloc, &stepped, post))
+        match made {
+            Ok(stepped) => Ok(self.tell_and_send(rt, alloc, &stepped, post)),
+            Err(halt) => Err(halt),
+        }
     }
 
     /// Tells the client that an event let in, and sends the event's frames. Returns whether all were sent.

@@ -95,7 +95,10 @@ fn do_op<R: Wait, G: Gate + Drop>(
 ) -> Result<(), CallError> {
     match op {
         Op::Lock(name, mode) => {
-            let grant = run.cluster.lock(rt, alloc, node, client, name, mode)?;
+            let grant = match run.cluster.lock(rt, alloc, node, client, name, mode) {
+                Ok(grant) => grant,
+                Err(refused) => return Err(refused),
+            };
             if let Some(stop) = keep_grant(rt, grant, run.grants, run.cluster.gate()) {
                 run.cluster.stop(rt, stop);
                 return Err(CallError::Site(SiteError::Stopped(stop)));

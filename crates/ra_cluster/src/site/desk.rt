@@ -51,15 +51,6 @@ pub struct Stepped {
     ghost fit: { All Fits frames.items },
 }
 
-/// Frames that came together, and what came of each that the book took.
-#[derive(Drop)]
-pub struct Batch {
-    /// The bytes of each frame.
-    pub taken: Vec<Vec<u8>>,
-    /// In the order of the frames, up to the first that was refused.
-    pub stepped: Vec<Stepped>,
-}
-
 /// A book, and the clients of its node whose requests are neither granted nor stopped.
 #[derive(Drop)]
 pub struct Desk {
@@ -95,22 +86,6 @@ impl Handed {
             events: Events::new(alloc),
             lost: Vec::new(alloc),
         }
-    }
-}
-
-impl Batch {
-    /// Makes one without a frame.
-    pub fn new(alloc: Global) -> Batch {
-        Batch {
-            taken: Vec::new(alloc),
-            stepped: Vec::new(alloc),
-        }
-    }
-
-    /// Drops its frames and what came of them, and keeps the room.
-    pub fn clear(&mut self) {
-        self.stepped.clear();
-        self.taken.clear();
     }
 }
 
@@ -153,26 +128,30 @@ impl Desk {
         if !gate.step(node) {
             return Err(Halt::Gate);
         }
-        let Request { client, name, mode } = *request;
-        let Some(waiter) = self.waiter(client, name, ticket) else {
+        let Some(waiter) = self.waiter(request, ticket) else {
             // Each other cause comes before `Memory`.
-            return Err(Halt::Refused(self.book.ask_refusal(client, name, mode)));
+            let refused = self
+                .book
+                .ask_refusal(request.client, request.name, request.mode);
+            return Err(Halt::Refused(refused));
         };
-        let posted = self.book.ask(alloc, client, name, mode)?;
+        let posted = self
+            .book
+            .ask(alloc, request.client, request.name, request.mode)?;
         self.waiters.push_reserved(waiter);
         Ok(self.stepped(posted))
     }
 
     /// Makes room for one more client that waits, and returns that client, or `None` if there is no memory or no ticket.
-    fn waiter(&mut self, client: u32, name: Name, ticket: Option<&SharedTicket>) -> Option<Waiter>
+    fn waiter(&mut self, request: &Request, ticket: Option<&SharedTicket>) -> Option<Waiter>
         ensures { IfSome result (λ _. vec_len self.new.waiters < vec_capacity self.new.waiters) }
     {
         let ticket = ticket?;
         self.waiters.reserve(1).ok()?;
         let ticket = Arc::try_clone(ticket).ok()?;
         Some(Waiter {
-            client,
-            name,
+            client: request.client,
+            name: request.name,
             ticket,
         })
     }
@@ -222,7 +201,7 @@ impl Desk {
         Ok(self.stepped(posted))
     }
 
-    /// Hands the book the frames of a batch, and asks the gate of this node before each. Puts what came of each into the batch.
+    /// Hands the book frames, and asks the gate of this node before each. Puts what came of each into the list.
     ///
     /// # Errors
     ///
@@ -232,14 +211,15 @@ impl Desk {
         alloc: Global,
         node: NodeId,
         gate: &G,
-        batch: &mut Batch,
+        taken: &[Vec<u8>],
+        stepped: &mut Vec<Stepped>,
     ) -> Result<(), Halt> {
-        for bytes in batch.taken.as_slice() {
-            if batch.stepped.reserve(1).is_err() {
+        for bytes in taken {
+            if stepped.reserve(1).is_err() {
                 return Err(Halt::Refused(BookError::Memory));
             }
             let step = self.receive(alloc, node, gate, bytes.as_slice())?;
-            batch.stepped.push_reserved(step);
+            stepped.push_reserved(step);
         }
         Ok(())
     }
