@@ -48,7 +48,10 @@ fn answer_place(alloc: Global, arguments: &[String], input: &[u8], why: AnswerEr
 }
 
 /// Returns what is said of a remark that is about what was read.
-fn place_in(alloc: Global, source: &NoteSource<'_>, bytes: &[u8], remark: &Remark) -> PlaceNote {
+fn place_in(alloc: Global, source: &NoteSource<'_>, remark: &Remark) -> PlaceNote {
+    let Some(bytes) = source.seen else {
+        return Ok(None);
+    };
     match *remark {
         Remark::Refused(CommandRefusal::Perform(why)) => perform_place(
             alloc,
@@ -68,31 +71,33 @@ fn place_in(alloc: Global, source: &NoteSource<'_>, bytes: &[u8], remark: &Remar
     }
 }
 
+/// Returns what is said of a wrong line. Its cause alone is `text`.
+fn line_place(
+    alloc: Global,
+    source: &NoteSource<'_>,
+    line: u64,
+    why: LineCause,
+    text: &'static str,
+) -> PlaceNote {
+    match text_in(source.seen, source.drawn) {
+        Some(bytes) => line_note(alloc, bytes, line, why, text),
+        None => Ok(None),
+    }
+}
+
 /// Returns what there is to say of the place of what a remark is about, or `None`.
 pub fn place_of(alloc: Global, source: &NoteSource<'_>, remark: &Remark) -> Option<String> {
     let said = match *remark {
         Remark::NoTrace { line, cause, due } => {
             let why = cause_in(alloc, source.drawn, cause, due);
-            line_note(
-                alloc,
-                text_in(source.seen, source.drawn)?,
-                line,
-                why,
-                cause_text(cause),
-            )
+            line_place(alloc, source, line, why, cause_text(cause))
         }
         Remark::NoLog { line, cause } => {
             let why = LineCause::Marks(cause);
-            line_note(
-                alloc,
-                text_in(source.seen, source.drawn)?,
-                line,
-                why,
-                mark_cause_text(cause),
-            )
+            line_place(alloc, source, line, why, mark_cause_text(cause))
         }
         Remark::Unsettled { line, cause } => unsettled_note(alloc, source.drawn, line, cause),
-        _ => place_in(alloc, source, source.seen?, remark),
+        _ => place_in(alloc, source, remark),
     };
     said.unwrap_or(None)
 }
