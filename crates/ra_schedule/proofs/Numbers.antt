@@ -1,10 +1,10 @@
 -- Decimals, and the choices of words.
-use Rattle.std.proofs.Common.{lit<, if◌then◌else◌, ◌≡◌, ℕ, ◌+◌, ◌*◌, ◌^◌, ◌<◌, ◌≤◌, Bool, true, ◌&&◌, ◌||◌, ◌==◌, not, nat_le, List, [], ◌∷◌, ◌++◌, length, get_or, drop, Option, Some, None, option_map, refl, sym, ap, ◌∙◌, arith, append_assoc}
+use Rattle.std.proofs.Common.{lit<, if◌then◌else◌, ◌≡◌, ℕ, ◌+◌, ◌-◌, ◌*◌, ◌^◌, ◌<◌, ◌≤◌, Bool, true, ◌&&◌, ◌||◌, ◌==◌, not, nat_le, List, [], ◌∷◌, ◌++◌, length, get_or, take, drop, Option, Some, None, option_map, refl, sym, ap, ◌∙◌, subst, arith, append_assoc}
 use Rattle.std.proofs.Math.Nat.{pow-le-pow_right}
 use Rattle.std.proofs.lemmas.Bool.{and_parts, leb-true}
 use Rattle.std.proofs.lemmas.Grind.{pow_more}
 use Rattle.std.proofs.lemmas.List.{append-nil, drop_all, at_drop_more}
-use Rattle.std.proofs.lemmas.List.Sums.{AllPass-from_list_all}
+use Rattle.std.proofs.lemmas.List.Sums.{AllPass-from_list_all, fold_more}
 use Rattle.std.specs.Char.{is_ascii_digit}
 use Rattle.std.specs.List.{AllPass, list_all, slice_split}
 use Rattle.ra_schedule.specs.declared.choice.Choice.{Choice}
@@ -18,6 +18,20 @@ small_power value place small few =
 -- one more digit
 pub small_more : (value place digit : ℕ) → value < 10 ^ place → digit < 10 → 10 * value + digit < 10 ^ (place + 1)
 small_more value place digit small one = let more = pow_more 10 place in omega (arith, more)
+
+digit_below : (byte : ℕ) → is_ascii_digit byte ≡ true → byte - 48 < 10
+digit_below byte is = let (low, high) = and_parts (nat_le 48 byte) (nat_le byte 57) is in let most = leb-true byte 57 high in omega (arith, most)
+
+-- the number of one more digit
+pub decimal_more : (digits : List ℕ) (i value digit : ℕ) → i < length digits → AllPass is_ascii_digit digits → digit ≡ get_or digits i 0 - 48
+    → value ≡ decimal_value (take i digits) → value < 10 ^ i
+    → (10 * value + digit ≡ decimal_value (take (i + 1) digits)) × (10 * value + digit < 10 ^ (i + 1))
+decimal_more digits i value digit less each is so_far small = (
+  ap (λ (d : ℕ). 10 * value + d) is
+      ∙ ap (λ (v : ℕ). 10 * v + (get_or digits i 0 - 48)) so_far
+      ∙ sym (fold_more (λ value digit. 10 * value + (digit - 48)) 0 digits i 0 less),
+  small_more value i digit small (subst (λ (d : ℕ). d < 10) (sym is) (digit_below (get_or digits i 0) (each i 0 less))),
+)
 
 -- a decimal is at most nine digits
 pub decimal_parts : (digits : List ℕ) → is_decimal digits ≡ true → (length digits ≤ 9) × AllPass is_ascii_digit digits

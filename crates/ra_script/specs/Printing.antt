@@ -19,7 +19,7 @@ pub record PrintsRun (format : OutputKind) (policy : Policy) (script : ScriptSta
   pub unread : IfErr result (λ why. why ≢ Read)
   pub early : IfErr result (λ why. why ≢ Write)
 
--- the same of the script that this text is, or that it is none
+-- The same from the text of a script. A text that is no script is refused.
 pub record PrintsInput (format : OutputKind) (policy : Policy) (input : List ℕ) (result : Result Printed PerformError) : Type 0 where
   pub ok : IfOk result (λ printed. IsPerformedAs format policy input (string_bytes printed.text) printed.finished)
   pub err : IfErr result (RefusesAs format policy input)
