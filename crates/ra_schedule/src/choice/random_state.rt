@@ -53,29 +53,10 @@ impl RandomState {
             enabled,
         }))
     }
-
-    /// Notes a step that was made with these marks. Only at its node something has changed, so that only the clients there are
-    /// looked at, and those that entered.
-    fn note(
-        &mut self,
-        script: &Script,
-        world: &World,
-        clients: &[Progress],
-        step: &Step,
-        marks: &[Mark],
-    )
-        requires tracked { Tracks script.now world.now clients.now }
-        requires draws { AreDrawsElsewhere step.now marks.now script.now world.now.moves self.old }
-        ensures generator { self.new.generator ≡ self.old.generator }
-        ensures draws { AreDraws script.now world.now.moves self.new }
-    {
-        let members = members_at(&self.node_clients, node_at(step));
-        self.enabled.look_at_all(script, world, clients, members);
-        self.enabled.look_at_entered(script, world, clients, marks);
-    }
 }
 
-/// Notes a step that was made with these marks, if the choice is random.
+/// Notes a step that was made with these marks, if the choice is random. Only at its node something has changed, so that only the
+/// clients there are looked at, and those that entered.
 pub fn note_step_in(
     draws: &mut Option<RandomState>,
     script: &Script,
@@ -89,9 +70,12 @@ pub fn note_step_in(
     ensures generator { generator_in draws.new ≡ generator_in draws.old }
     ensures draws { IfSome draws.new (AreDraws script.now world.now.moves) }
 {
-    if let Some(draws) = draws {
-        draws.note(script, world, clients, step, marks);
-    }
+    let Some(draws) = draws else {
+        return;
+    };
+    let members = members_at(&draws.node_clients, node_at(step));
+    draws.enabled.look_at_all(script, world, clients, members);
+    draws.enabled.look_at_entered(script, world, clients, marks);
 }
 
 /// Returns the generator that a policy begins with, if it has one.

@@ -1,10 +1,56 @@
-use Rattle.std.proofs.Common.{Option, subst}
+use Rattle.std.proofs.Common.{◌≡◌, ◌+◌, ◌<◌, [], Option, length, sym, ◌∙◌, subst, arith, inl, inr}
 use Rattle.std.specs.Option.{IfSome}
 use Rattle.ra_schedule.specs.declared.choice.random_state.RandomState.{RandomState}
+use Rattle.ra_schedule.specs.Enabled.{IsFlag, AreNodeClients}
 use Rattle.ra_schedule.specs.PolicyState.{AreDrawsElsewhere}
+use Rattle.ra_schedule.proofs.NodesOfClients.{has_node}
 use Rattle.ra_schedule.proofs.choice.random_state.note_step_in.Goals as goal
+use Rattle.ra_schedule.proofs.choice.random_state.note_step_in.Goals.{In-Some}
 
-pub note-requires-clause-draws : goal.note-requires-clause-draws
-note-requires-clause-draws c =
+-- what chance knew before
+known : (c : In-Some) → AreDrawsElsewhere c.args.step.now c.args.marks.now c.args.script.now c.args.world.now.moves c.in-Some.draws
+known c =
     subst (λ (o : Option RandomState). IfSome o (AreDrawsElsewhere c.args.step.now c.args.marks.now c.args.script.now c.args.world.now.moves)) c.in-Some.is
     c.requires.draws
+
+pub look_at_all-requires-clause-alike : goal.look_at_all-requires-clause-alike
+look_at_all-requires-clause-alike c = (known (goal.at.look_at_all-requires-clause-alike c).In-Some).alike
+
+pub look_at_all-requires-clause-count : goal.look_at_all-requires-clause-count
+look_at_all-requires-clause-count c = (known (goal.at.look_at_all-requires-clause-count c).In-Some).count
+
+pub returns-clause-draws : goal.returns-clause-draws
+returns-clause-draws c =
+    let before = known (goal.at.returns-clause-draws c).In-Some in
+    let script = c.args.script.now in
+    let moves = c.args.world.now.moves in
+    let old = c.in-Some.draws.enabled.flags.items in
+    let middle = c.look_at_all.new.self.flags.items in
+    let new = c.look_at_entered.new.self.flags.items in
+    let members = c.members_at-members.result.now in
+    let node_clients : AreNodeClients script c.deref.result.now = subst (AreNodeClients script) (sym c.deref.ensures.value) before.node_clients in
+    let len : length new ≡ length old = c.look_at_entered.ensures.alike ∙ c.look_at_all.ensures.alike in
+    record {
+      node_clients = before.node_clients;
+      flags = record {
+        length_is = len ∙ before.alike;
+        each = λ k d within.
+            let had : k < length old = omega (arith, within, len) in
+            elim (c.look_at_entered.ensures.flags k d (omega (arith, within, c.look_at_entered.ensures.alike))) [
+              | inl right ↦ right
+              | inr silent ↦
+                  subst (IsFlag script moves (k + 1)) (sym silent.0)
+                  (elim (c.look_at_all.ensures.flags k d had) [
+                    | inl right ↦ right
+                    | inr absent ↦
+                        subst (IsFlag script moves (k + 1)) (sym absent.0)
+                        (before.flags k d had
+                        (λ here.
+                        let (node, is) = has_node script k (omega (arith, had, before.alike)) in
+                        absent.1 (c.members_at-members.ensures (k + 1) node (c.node_at.ensures ∙ sym here ∙ is) (node_clients (k + 1) node [] is)))
+                        silent.1)
+                  ])
+            ];
+      };
+      count = c.look_at_entered.ensures.count;
+    }
