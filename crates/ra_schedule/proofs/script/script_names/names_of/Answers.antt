@@ -1,4 +1,4 @@
-use Rattle.std.proofs.Common.{◌+◌, ◌≤◌, arith, length, sym, refl}
+use Rattle.std.proofs.Common.{◌+◌, ◌≤◌, arith, length, refl}
 use Rattle.std.proofs.lemmas.Result.{IfOk-weaker}
 use Rattle.ra_schedule.proofs.ScriptNames.{nobody_yet, next_client, are_names}
 use Rattle.ra_schedule.proofs.script.script_names.names_of.Goals as goal
