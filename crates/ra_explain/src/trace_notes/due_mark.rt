@@ -10,7 +10,7 @@ use std::alloc::Global;
 
 /// Adds that a mark is due here, with its line in quotes.
 fn push_expected(alloc: Global, note: &mut Note, mark: &Mark) {
-    match &mark_line(alloc, mark) {
+    match mark_line(alloc, mark) {
         Ok(line) => {
             note.push("expected the mark '");
             note.push(line.as_str().strip_suffix("\n").unwrap_or(""));

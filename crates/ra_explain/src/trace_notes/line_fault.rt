@@ -29,39 +29,6 @@ fn push_wrong(note: &mut Note, field: Field, text: &[u8], version: Option<Versio
     note.push(field_range(field, version));
 }
 
-/// Adds what is wrong with a field of a line of this kind, which is this text or missing. Returns whether anything is.
-fn push_field(
-    note: &mut Note,
-    kind: LineKind,
-    field: Field,
-    text: Option<&[u8]>,
-    version: Option<Version>,
-) -> bool {
-    match text {
-        Some(text) if may_be(field, text, version) => false,
-        Some(text) => {
-            push_wrong(note, field, text, version);
-            true
-        }
-        None => {
-            note.push(field_name(field));
-            push_expected(note, " is missing", kind);
-            true
-        }
-    }
-}
-
-/// Returns the next field of the rest of a line, if it has one, and what follows it, if anything does.
-fn next_field(rest: Option<&[u8]>) -> (Option<&[u8]>, Option<&[u8]>) {
-    match rest {
-        Some(rest) => {
-            let (text, after) = cut(rest, b' ');
-            (Some(text), after)
-        }
-        None => (None, None),
-    }
-}
-
 /// Adds what is wrong with the fields of a line of this kind, and returns whether anything is.
 fn push_fields(
     note: &mut Note,
@@ -71,8 +38,14 @@ fn push_fields(
 ) -> bool {
     let mut rest = fields;
     for field in kind.fields() {
-        let (text, after) = next_field(rest);
-        if push_field(note, kind, *field, text, version) {
+        let Some(left) = rest else {
+            note.push(field_name(*field));
+            push_expected(note, " is missing", kind);
+            return true;
+        };
+        let (text, after) = cut(left, b' ');
+        if !may_be(*field, text, version) {
+            push_wrong(note, *field, text, version);
             return true;
         }
         rest = after;
