@@ -38,16 +38,21 @@ impl NodeLane {
     /// Returns the first column of a client that is free for a bar from this row on, and that it is free. If none is, it returns the
     /// last one, and that it is not. If the client has no column, it returns `None`.
     fn find(&self, client: u32, first: u32) -> Option<(u32, bool)> {
-        let mut place = *self.firsts.get(&client)?;
+        let Some(first_place) = self.firsts.get(&client) else {
+            return None;
+        };
+        let mut place = *first_place;
         for _column in 0..self.columns.len() {
-            let column = self.columns.get(place as usize)?;
-            if column.end <= first {
-                return Some((place, true));
+            match self.columns.get(place as usize) {
+                Some(column) if column.end <= first => return Some((place, true)),
+                Some(
+                    Column {
+                        next: Some(next),
+                        ..
+                    },
+                ) => place = *next,
+                _ => break,
             }
-            let Some(next) = column.next else {
-                break;
-            };
-            place = next;
         }
         Some((place, false))
     }
