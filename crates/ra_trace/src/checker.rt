@@ -1,9 +1,8 @@
 pub mod check_text;
 pub mod verdict;
 
-ghost use Rattle.std.specs.Prelude.{◌≡◌, ◌≢◌, ◌⊎◌, ◌<◌, ◌+◌, ◌^◌, List, ◌∷◌, [], false, drop, length, slice_get, IfOk, IfErr, IfSome, IsNone, IsTrue};
+ghost use Rattle.std.specs.Prelude.{◌≡◌, ◌≢◌, ◌<◌, ◌+◌, ◌^◌, List, ◌∷◌, [], false, drop, length, slice_get, IfOk, IfErr, IfSome, IsNone, IsTrue};
 ghost use Rattle.ra_stamp.specs.declared.entry.Mark.{Mark};
-ghost use Rattle.ra_table.specs.Laws.{AllowsMark};
 ghost use Rattle.ra_world.specs.Quiet.{requests_in};
 ghost use Rattle.ra_world.specs.Run.{marks_of};
 ghost use Rattle.ra_world.specs.Traffic.{sent_by};
@@ -204,7 +203,10 @@ impl Checker {
             return Ok(Judgement::Wrong(Cause::Line));
         }
         if !self.is_due(mark) {
-            return Ok(Judgement::Wrong(cause_of(&self.table, mark)));
+            if allows(&self.table, mark) {
+                return Ok(Judgement::Wrong(Cause::Marks));
+            }
+            return Ok(Judgement::Wrong(Cause::Table));
         }
         match try_mark(&mut self.table, mark)? {
             Some(_) => Ok(Judgement::Wrong(Cause::Table)),
@@ -213,17 +215,5 @@ impl Checker {
                 Ok(Judgement::Right)
             }
         }
-    }
-}
-
-/// Returns why a mark that is not due is wrong: the lock table refuses it, or otherwise it is not due.
-fn cause_of(table: &Table, mark: &Mark) -> Cause
-    ensures { ((result ≡ Cause.Marks) × AllowsMark table.now mark.now)
-        ⊎ ((result ≡ Cause.Table) × (AllowsMark table.now mark.now → ⊥)) }
-{
-    if allows(table, mark) {
-        Cause::Marks
-    } else {
-        Cause::Table
     }
 }

@@ -8,7 +8,7 @@ ghost use Rattle.ra_world.specs.Quiet.{requests_in};
 ghost use Rattle.ra_trace.specs.declared.mark_log.marks_verdict.MarksVerdict.{MarksVerdict};
 ghost use Rattle.ra_trace.specs.Check.{ChecksLog};
 ghost use Rattle.ra_trace.specs.Marks.{grants_in};
-ghost use Rattle.ra_trace.specs.MarksAlong.{IsAlongMarks, IsMissing, IsNewLog, JudgedLine, JudgedMark, SomeMarkTaken, TurnsMarks};
+ghost use Rattle.ra_trace.specs.MarksAlong.{IsAlongMarks, IsNewLog, JudgedLine, JudgedMark, SomeMarkTaken, TurnsMarks};
 ghost use Rattle.ra_trace.specs.MarksReading.{AnswersMarks};
 
 use crate::line::Line;
@@ -113,17 +113,6 @@ impl MarkLog {
     }
 }
 
-/// Returns what follows if no line does: nothing more if no byte was taken, and otherwise a wrong line.
-fn missing(taken: usize) -> MarkJudgement
-    ensures { IsMissing taken result }
-{
-    if taken == 0 {
-        MarkJudgement::End
-    } else {
-        MarkJudgement::Wrong(MarkCause::Line)
-    }
-}
-
 /// Reads the next line into the log, and says what it is. `taken` becomes the number of its bytes. The text may still have `left`
 /// bytes.
 ///
@@ -147,7 +136,8 @@ fn take_next<R: Read, S: LineSource<R>>(
     S::next_line(reader, room, taken, left)?;
     match &room.line {
         Some(line) => log.take_line(line),
-        None => Ok(missing(*taken)),
+        None if *taken == 0 => Ok(MarkJudgement::End),
+        None => Ok(MarkJudgement::Wrong(MarkCause::Line)),
     }
 }
 

@@ -1,5 +1,5 @@
 //! How lists of choices are read.
-ghost use Rattle.std.specs.Prelude.{◌≡◌, ◌⊎◌, ◌≤◌, List, [], ◌∷◌, ◌++◌, Some, None, length, OnOk, IfOk, IfErr, MatchResult};
+ghost use Rattle.std.specs.Prelude.{◌≡◌, ◌⊎◌, ◌≤◌, List, [], Some, None, length, OnOk, IfOk, IfErr, MatchResult};
 ghost use Rattle.std.specs.List.{AllPass, list_all};
 ghost use Rattle.std.specs.Char.{is_ascii_digit};
 ghost use Rattle.ra_schedule.specs.declared.choice.Choice.{Choice};
@@ -68,24 +68,6 @@ fn choice_of(word: &[u8]) -> Option<Choice>
     }
 }
 
-/// Adds the choice that a word spells.
-///
-/// # Errors
-///
-/// `Choice`: it spells none. `Memory`.
-fn push_choice(choices: &mut Choices, word: &str) -> Result<(), ChoicesError>
-    ensures ok { OnOk result ((choice : Choice) × (spec.choice_of word.now ≡ Some choice)
-        × (choices.new.items ≡ choices.old.items ++ choice ∷ [])) }
-    ensures err { IfErr result (λ fault. ((fault ≡ ChoicesError.Choice) × (spec.choice_of word.now ≡ None))
-        ⊎ (fault ≡ ChoicesError.Memory)) }
-{
-    let Some(choice) = choice_of(word.as_bytes()) else {
-        return Err(ChoicesError::Choice);
-    };
-    choices.push(choice)?;
-    Ok(())
-}
-
 /// Adds the choices of a text to an empty list.
 ///
 /// # Errors
@@ -101,7 +83,10 @@ fn push_choices(choices: &mut Choices, text: &str) -> Result<(), ChoicesError>
         return Ok(());
     }
     for word in text.split(' ') {
-        push_choice(choices, word)?;
+        let Some(choice) = choice_of(word.as_bytes()) else {
+            return Err(ChoicesError::Choice);
+        };
+        choices.push(choice)?;
     }
     Ok(())
 }

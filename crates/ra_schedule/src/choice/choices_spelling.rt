@@ -1,5 +1,5 @@
 //! How lists of choices are written.
-ghost use Rattle.std.specs.Prelude.{◌≡◌, ◌⊎◌, ◌↔◌, ◌++◌, ◌∷◌, ◌<◌, List, [], All, length, IsTrue, OnOk, IfOk, IfErr, string_bytes, decimal};
+ghost use Rattle.std.specs.Prelude.{◌≡◌, ◌⊎◌, ◌↔◌, ◌++◌, ◌<◌, All, IsTrue, OnOk, IfOk, IfErr, string_bytes, decimal};
 ghost use Rattle.ra_schedule.specs.declared.choice.Choice.{Choice};
 ghost use Rattle.ra_schedule.specs.ChoicesText as spec;
 ghost use Rattle.ra_schedule.specs.ChoicesText.{HasText, Lists};
@@ -56,25 +56,16 @@ fn push_word(alloc: Global, text: &mut String, choice: &Choice) -> Result<(), Me
     }
 }
 
-/// Adds the word of the choice at this place to those of the choices before, after a space if there are any.
-fn push_next(alloc: Global, text: &mut String, place: usize, choice: &Choice) -> Result<(), Memory>
-    ensures { (before : List Choice) → length before ≡ place → string_bytes text.old ≡ spec.spelled_all before
-        → OnOk result (string_bytes text.new ≡ spec.spelled_all (before ++ choice.now ∷ [])) }
-{
-    if place == 0 {
-        return push_word(alloc, text, choice);
-    }
-    text.push_str(" ")?;
-    push_word(alloc, text, choice)
-}
-
 /// Returns the words of choices, with one space between two.
 fn words_of(alloc: Global, choices: &Choices) -> Result<String, Memory>
     ensures { IfOk result (λ text. string_bytes text ≡ spec.spelled_all choices.now.items) }
 {
     let mut text = String::new(alloc);
     for (place, choice) in choices.as_slice().iter().enumerate() {
-        push_next(alloc, &mut text, place, choice)?;
+        if place > 0 {
+            text.push_str(" ")?;
+        }
+        push_word(alloc, &mut text, choice)?;
     }
     Ok(text)
 }

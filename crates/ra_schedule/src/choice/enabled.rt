@@ -1,5 +1,5 @@
 //! Which clients are enabled, kept from turn to turn.
-ghost use Rattle.std.specs.Prelude.{◌≡◌, ◌≢◌, ◌⊎◌, ◌+◌, ◌<◌, ◌≤◌, ℕ, Bool, if◌then◌else◌, All, Contains, length, slice_get, slice_set, slice_index_or, IfOk};
+ghost use Rattle.std.specs.Prelude.{◌≡◌, ◌≢◌, ◌⊎◌, ◌+◌, ◌<◌, ℕ, Bool, if◌then◌else◌, All, Contains, length, slice_get, slice_index_or, IfOk};
 ghost use Rattle.ra_schedule.specs.Schedule.{Enters};
 ghost use Rattle.ra_schedule.specs.Progress.{Tracks};
 ghost use Rattle.ra_schedule.specs.Enabled.{AreFlags, IsFlag, numbers_from};
@@ -127,21 +127,10 @@ impl Enabled {
         if 1 <= client && client <= script.clients() {
             let place = client as usize - 1;
             let on = enabled_step(script, world, client, clients[place]).is_some();
-            self.set(place, on);
+            let was = self.flags[place];
+            self.count = self.count + one_if(on) - one_if(was);
+            self.flags[place] = on;
         }
-    }
-
-    /// Notes whether the client at this place is enabled.
-    fn set(&mut self, place: usize, on: bool)
-        requires within { place < length self.old.flags.items }
-        requires few { length self.old.flags.items ≤ 64 }
-        requires count { self.old.count ≡ length (numbers_from 1 self.old.flags.items) }
-        ensures flags { self.new.flags.items ≡ slice_set self.old.flags.items place on }
-        ensures count { self.new.count ≡ length (numbers_from 1 self.new.flags.items) }
-    {
-        let was = self.flags[place];
-        self.count = self.count + one_if(on) - one_if(was);
-        self.flags[place] = on;
     }
 }
 

@@ -1,6 +1,6 @@
 //! What is left to do for the clients that have begun, and when a run of theirs is stuck.
-ghost use Rattle.std.specs.Prelude.{◌≡◌, ◌↔◌, ℕ, IsTrue, IsNone, IfSome};
-ghost use Rattle.ra_schedule.specs.Progress.{Tracks, IsProgress};
+ghost use Rattle.std.specs.Prelude.{◌↔◌, ℕ, IsTrue, IsNone, IfSome};
+ghost use Rattle.ra_schedule.specs.Progress.{Tracks};
 ghost use Rattle.ra_schedule.specs.Shrinking.{CanGoOn, IsFirstToGoOn, IsOldest, IsQuiet, IsStuckRun};
 ghost use Rattle.ra_schedule.specs.Replaying.{SomeoneWaits};
 
@@ -9,22 +9,6 @@ use crate::driver::client_progress::Progress;
 use crate::{Choice, Script};
 use ra_world::World;
 
-/// Returns whether a client with this progress has begun and is enabled.
-fn can_go_on(script: &Script, world: &World, client: u32, progress: Progress) -> bool
-    requires count { world.now.count ≡ script.now.nodes }
-    requires start { world.now.start ≡ 0 }
-    requires progress { IsProgress client world.now.moves progress }
-    ensures { IsTrue result ↔ CanGoOn script.now world.now.moves client }
-{
-    if progress.done == 0 {
-        return false;
-    }
-    match enabled_step(script, world, client, progress) {
-        Some(_) => true,
-        None => false,
-    }
-}
-
 /// Returns the first client in the order of the script that has begun and is enabled, or `None`.
 fn first_to_go_on(script: &Script, world: &World, clients: &[Progress]) -> Option<u32>
     requires { Tracks script.now world.now clients.now }
@@ -32,8 +16,10 @@ fn first_to_go_on(script: &Script, world: &World, clients: &[Progress]) -> Optio
     ensures none { IsNone result → (client : ℕ) → CanGoOn script.now world.now.moves client → ⊥ }
 {
     for place in 0..script.clients() {
-        if can_go_on(script, world, place + 1, clients[place as usize]) {
-            return Some(place + 1);
+        let client = place + 1;
+        let progress = clients[place as usize];
+        if progress.done > 0 && enabled_step(script, world, client, progress).is_some() {
+            return Some(client);
         }
     }
     None

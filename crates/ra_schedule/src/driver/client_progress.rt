@@ -1,8 +1,7 @@
 //! How far the clients are.
-ghost use Rattle.std.specs.Prelude.{◌≡◌, ◌≢◌, ◌+◌, ◌<◌, ◌≤◌, ◌⊎◌, ◌||◌, ℕ, length, replicate, false, slice_index_or, IsTrue, IfOk};
+ghost use Rattle.std.specs.Prelude.{◌≡◌, ◌≢◌, ◌+◌, ◌<◌, ◌≤◌, ◌||◌, ℕ, length, replicate, false, slice_index_or, IfOk};
 ghost use Rattle.ra_world.specs.Traffic.{Move};
-ghost use Rattle.ra_schedule.specs.Schedule.{Enters};
-ghost use Rattle.ra_schedule.specs.Progress.{IsAfterStep, IsAfterMarks, IsProgressAfter, OfEach, AreCountable, IsStuck, AreStuck, NoneEnters};
+ghost use Rattle.ra_schedule.specs.Progress.{IsAfterStep, IsAfterMarks, IsProgressAfter, OfEach, AreCountable, AreStuck, NoneEnters};
 
 use crate::Script;
 use ra_stamp::{Mark, Memory};
@@ -34,13 +33,6 @@ pub fn opening_progress(alloc: Global, clients: u32) -> Result<Vec<Progress>, Me
     Ok(list)
 }
 
-/// Returns whether the client does not wait and has something left to do.
-fn is_free(script: &Script, client: u32, progress: Progress) -> bool
-    ensures { IsTrue result ⊎ IsStuck script.now client progress }
-{
-    !progress.waiting && script.op(client, progress.done).is_some()
-}
-
 /// Returns the place of the first client that does not wait and has something left to do, or the number of clients if there is
 /// none. There must be none before the place `first`.
 pub fn first_free(script: &Script, clients: &[Progress], first: u32) -> u32
@@ -49,7 +41,8 @@ pub fn first_free(script: &Script, clients: &[Progress], first: u32) -> u32
     ensures { AreStuck script.now clients.now result }
 {
     for place in first..script.clients() {
-        if is_free(script, place + 1, clients[place as usize]) {
+        let progress = clients[place as usize];
+        if !progress.waiting && script.op(place + 1, progress.done).is_some() {
             return place;
         }
     }
@@ -63,19 +56,11 @@ pub fn first_entered(marks: &[Mark], first: u32) -> u32
 {
     let mut place = first;
     for mark in marks {
-        place = place.min(place_entered(mark, place));
+        if let Mark::Entered(entry) = mark {
+            place = place.min(entry.client.saturating_sub(1));
+        }
     }
     place
-}
-
-/// Returns the place of the client that entered by the mark, or `first` if it says so of nobody.
-fn place_entered(mark: &Mark, first: u32) -> u32
-    ensures { (k : ℕ) → k < result → Enters (k + 1) mark.now → ⊥ }
-{
-    match mark {
-        Mark::Entered(entry) => entry.client.saturating_sub(1),
-        Mark::Requested(_) | Mark::Left(_) => first,
-    }
 }
 
 /// Moves a client on by one operation, after which it waits if this is an ask.

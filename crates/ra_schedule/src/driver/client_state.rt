@@ -1,8 +1,8 @@
 //! What a client is at after the steps so far.
-ghost use Rattle.std.specs.Prelude.{◌≡◌, ◌++◌, List, length, IfSome, IsNone, string_bytes, OnOk, IfOk};
+ghost use Rattle.std.specs.Prelude.{◌≡◌, ◌++◌, List, length, string_bytes, OnOk, IfOk};
 ghost use Rattle.ra_world.specs.Traffic.{Move};
-ghost use Rattle.ra_schedule.specs.Schedule.{Asks, IsWaiting, steps_of};
-ghost use Rattle.ra_schedule.specs.Progress.{IsAskedIn, IsProgress, IsWaitingAt, Tracks};
+ghost use Rattle.ra_schedule.specs.Schedule.{IsWaiting, steps_of};
+ghost use Rattle.ra_schedule.specs.Progress.{IsProgress, IsWaitingAt, Tracks};
 ghost use Rattle.ra_schedule.specs.StateText as spec;
 
 use crate::choice::picking::enabled_step;
@@ -23,22 +23,6 @@ pub enum ClientState {
     Next(Op, bool),
 }
 
-/// Returns what a client asks for in a step, which has this number, or `None` if it does not ask.
-fn asked_in(step: &Step, client: u32, number: u64) -> Option<ClientState>
-    ensures some { IfSome result (IsAskedIn step.now client number) }
-    ensures none { IsNone result → Asks client step.now → ⊥ }
-{
-    match *step {
-        Step::Ask {
-            client: asker,
-            name,
-            mode,
-            ..
-        } if asker == client => Some(ClientState::Waits(name, mode, number)),
-        _ => None,
-    }
-}
-
 /// Returns what a client waits for, and since when: its last ask among these steps. The cost is linear in the number of steps after
 /// it.
 fn waits_since(steps: &[Step], client: u32) -> ClientState
@@ -47,10 +31,15 @@ fn waits_since(steps: &[Step], client: u32) -> ClientState
 {
     let mut rest = steps;
     while let Some((last, before)) = rest.split_last() {
-        if let Some(asked) = asked_in(last, client, rest.len() as u64) {
-            return asked;
+        match *last {
+            Step::Ask {
+                client: asker,
+                name,
+                mode,
+                ..
+            } if asker == client => return ClientState::Waits(name, mode, rest.len() as u64),
+            _ => rest = before,
         }
-        rest = before;
     }
     // A client that waits has asked.
     ClientState::Done

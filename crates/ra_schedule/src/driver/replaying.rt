@@ -2,7 +2,7 @@
 ghost use Rattle.std.specs.Prelude.{◌≡◌, ◌+◌, ◌<◌, ◌≤◌, ◌^◌, ◌⊎◌, ◌↔◌, [], ℕ, length, IsTrue, IsNone, IfOk, IfSome, OnOk};
 ghost use Rattle.ra_schedule.specs.declared.choice.Choice.{Choice};
 ghost use Rattle.ra_schedule.specs.Shrinking as spec;
-ghost use Rattle.ra_schedule.specs.Shrinking.{ComesOf, GoesOnOldest, IsAlikeAt, IsFirstAlike, IsFor, IsQuiet, IsStuckRun, Redone, Replays};
+ghost use Rattle.ra_schedule.specs.Shrinking.{ComesOf, GoesOnOldest, IsAlikeAt, IsFirstAlike, IsFor, IsQuiet, IsStuckRun, Replays};
 ghost use Rattle.ra_schedule.specs.Replaying.{IsReplay, MadeIfPossible};
 
 use crate::choice::picking::with_meaning;
@@ -40,21 +40,12 @@ fn unnumbered(message: &Message) -> Message
     }
 }
 
-/// Returns whether the messages differ at most in their numbers.
-fn are_alike(one: &Message, other: &Message) -> bool
-    ensures { IsTrue result ↔ (spec.unnumbered one.now ≡ spec.unnumbered other.now) }
-{
-    let left = unnumbered(one);
-    let right = unnumbered(other);
-    left == right
-}
-
 /// Returns whether a message is under way at this place that differs from this one at most in its number.
 fn is_alike_at(world: &World, place: u64, message: &Message) -> bool
     ensures { IsTrue result ↔ IsAlikeAt world.now.moves message.now place }
 {
     match world.message_at(place) {
-        Some(found) => are_alike(&found, message),
+        Some(found) => unnumbered(&found) == unnumbered(message),
         None => false,
     }
 }
@@ -112,30 +103,7 @@ fn make(
     }
 }
 
-/// Does what a step did, if it can be done now.
-///
-/// # Errors
-///
-/// `Memory`: memory ran out.
-fn redo(
-    alloc: Global,
-    script: &Script,
-    world: &mut World,
-    driver: &mut Driver,
-    step: &Step,
-) -> Result<(), Memory>
-    requires replay { IsReplay script.now world.old driver.old }
-    requires countable { length world.old.moves + 1 < 2 ^ 64 }
-    ensures { OnOk result (IsReplay script.now world.new driver.new
-        × Redone script.now step.now world.old.moves world.new.moves) }
-{
-    match choice_for(world, step) {
-        Some(choice) => make(alloc, script, world, driver, choice),
-        None => Ok(()),
-    }
-}
-
-/// Does what steps did, one after the other, as far as it can be done.
+/// Does what steps did, one after the other, each if it can be done then.
 ///
 /// # Errors
 ///
@@ -153,7 +121,9 @@ fn redo_all(
     ensures replays { OnOk result (Replays script.now [] steps.now world.new.moves) }
 {
     for step in steps {
-        redo(alloc, script, world, driver, step)?;
+        if let Some(choice) = choice_for(world, step) {
+            make(alloc, script, world, driver, choice)?;
+        }
     }
     Ok(())
 }

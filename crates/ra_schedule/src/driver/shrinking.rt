@@ -1,5 +1,5 @@
 //! A run that is stuck, made shorter step by step.
-ghost use Rattle.std.specs.Prelude.{◌≡◌, ◌++◌, ◌<◌, ◌≤◌, ℕ, List, [], length, take, drop, Ok, true, false, IfOk, OnOk, MatchOption};
+ghost use Rattle.std.specs.Prelude.{◌≡◌, ◌<◌, ◌≤◌, List, [], length, Ok, true, false, IfOk, OnOk, MatchOption};
 ghost use Rattle.ra_world.specs.Run.{IsRun};
 ghost use Rattle.ra_world.specs.Traffic.{Move};
 ghost use Rattle.ra_schedule.specs.Drive.{Drives};
@@ -61,38 +61,6 @@ fn are_of_one_client(one: &Step, other: &Step) -> bool
     }
 }
 
-/// Adds the steps before a place.
-///
-/// # Errors
-///
-/// `Memory`: memory ran out.
-fn add_before(list: &mut Steps, steps: &[Step], place: usize) -> Result<(), Memory>
-    requires { place ≤ length steps.now }
-    ensures { OnOk result (list.new.items ≡ list.old.items ++ take place steps.now) }
-{
-    for earlier in 0..place {
-        list.push(steps[earlier])?;
-    }
-    Ok(())
-}
-
-/// Adds the steps after a place that are not of the same client as the one there.
-///
-/// # Errors
-///
-/// `Memory`: memory ran out.
-fn add_others(list: &mut Steps, steps: &[Step], place: usize) -> Result<(), Memory>
-    requires { place < length steps.now }
-    ensures { OnOk result (list.new.items ≡ list.old.items ++ spec.without_first (drop place steps.now)) }
-{
-    for later in place + 1..steps.len() {
-        if !are_of_one_client(&steps[place], &steps[later]) {
-            list.push(steps[later])?;
-        }
-    }
-    Ok(())
-}
-
 /// Returns the steps without the one at a place and, if that is of a client, without the later ones of this client.
 ///
 /// # Errors
@@ -103,8 +71,14 @@ fn cut_of(alloc: Global, steps: &[Step], place: usize) -> Result<Steps, Memory>
     ensures { IfOk result (λ left. left.items ≡ cut steps.now place) }
 {
     let mut left = Steps::new(alloc);
-    add_before(&mut left, steps, place)?;
-    add_others(&mut left, steps, place)?;
+    for earlier in 0..place {
+        left.push(steps[earlier])?;
+    }
+    for later in place + 1..steps.len() {
+        if !are_of_one_client(&steps[place], &steps[later]) {
+            left.push(steps[later])?;
+        }
+    }
     Ok(left)
 }
 

@@ -43,28 +43,6 @@ fn client_before(text: &[u8]) -> Option<(u32, &[u8])>
     Some((number as u32, rest))
 }
 
-/// Reads a name and a mode.
-#[inline(always)]
-fn name_and_mode_of(text: &[u8]) -> Option<(Name, Mode)>
-    ensures { result ≡ spec.fields spec.name_of spec.mode_of text.now }
-{
-    let (name, mode) = cut(b' ', text)?;
-    let name = name_of(name)?;
-    let mode = mode_of(mode)?;
-    Some((name, mode))
-}
-
-/// Reads a name and a number.
-#[inline(always)]
-fn name_and_seq_of(text: &[u8]) -> Option<(Name, u64)>
-    ensures { result ≡ spec.fields spec.name_of spec.seq_of text.now }
-{
-    let (name, seq) = cut(b' ', text)?;
-    let name = name_of(name)?;
-    let seq = seq_of(seq)?;
-    Some((name, seq))
-}
-
 /// Reads a mode and a number.
 #[inline(always)]
 fn mode_and_seq_of(text: &[u8]) -> Option<(Mode, u64)>
@@ -113,7 +91,9 @@ fn ask_of(text: &[u8]) -> Option<Line>
     let Some((client, rest)) = client_before(rest) else {
         return None;
     };
-    let (name, mode) = name_and_mode_of(rest)?;
+    let (name, mode) = cut(b' ', rest)?;
+    let name = name_of(name)?;
+    let mode = mode_of(mode)?;
     Some(Line::Stepped(Step::Ask {
         node,
         client,
@@ -169,7 +149,9 @@ fn reply_of(text: &[u8]) -> Option<Message>
     let Some((to, rest)) = node_before(rest) else {
         return None;
     };
-    let (name, seq) = name_and_seq_of(rest)?;
+    let (name, seq) = cut(b' ', rest)?;
+    let name = name_of(name)?;
+    let seq = seq_of(seq)?;
     Some(Message::Reply {
         from,
         to,
@@ -357,20 +339,6 @@ impl LineKind {
     }
 }
 
-/// Reads the line of an ask.
-fn read_ask(text: &[u8], line: &mut Option<Line>)
-    ensures { line.new ≡ spec.read_as LineKind.Ask text.now }
-{
-    *line = ask_of(text);
-}
-
-/// Reads the line of a release.
-fn read_leave(text: &[u8], line: &mut Option<Line>)
-    ensures { line.new ≡ spec.read_as LineKind.Leave text.now }
-{
-    *line = leave_of(text);
-}
-
 /// Reads the line of a request.
 fn read_request(fate: Fate, text: &[u8], line: &mut Option<Line>)
     ensures { line.new ≡ spec.read_as (LineKind.Request fate) text.now }
@@ -409,8 +377,8 @@ impl LineKind {
     {
         match self {
             LineKind::First(version) => *line = first_of(version, rest),
-            LineKind::Ask => read_ask(rest, line),
-            LineKind::Leave => read_leave(rest, line),
+            LineKind::Ask => *line = ask_of(rest),
+            LineKind::Leave => *line = leave_of(rest),
             LineKind::Request(fate) => read_request(fate, rest, line),
             LineKind::Reply(fate) => read_reply(fate, rest, line),
             LineKind::Mark(change) => read_mark(change, rest, line),

@@ -16,21 +16,14 @@ pub enum Version {
 }
 
 impl Version {
-    /// Returns the greatest number of a node.
-    fn last_node(self) -> u16
-        ensures { result ≡ spec.last_node self }
-    {
-        match self {
-            Version::One => 16,
-            Version::Two => 64,
-        }
-    }
-
     /// Returns whether a node has a number of this version. It does not allocate.
     pub fn has_node(self, node: NodeId) -> bool
         ensures { result ≡ has_node self node }
     {
-        node.get() <= self.last_node()
+        match self {
+            Version::One => node.get() <= 16,
+            Version::Two => node.get() <= 64,
+        }
     }
 
     /// Returns whether a name may be locked in a mode. It does not allocate.
@@ -39,16 +32,6 @@ impl Version {
     {
         match self {
             Version::One => matches!(mode, Mode::Shared | Mode::Exclusive),
-            Version::Two => true,
-        }
-    }
-
-    /// Returns whether a message may be repeated.
-    fn has_repeats(self) -> bool
-        ensures { result ≡ spec.has_repeats self }
-    {
-        match self {
-            Version::One => false,
             Version::Two => true,
         }
     }
@@ -92,7 +75,10 @@ impl Version {
             Step::Leave { node, .. } => self.has_node(*node),
             Step::Deliver(message) => self.allows_message(message),
             Step::Lose(message) => self.allows_message(message),
-            Step::Repeat(message) => self.has_repeats() && self.allows_message(message),
+            Step::Repeat(message) => match self {
+                Version::One => false,
+                Version::Two => self.allows_message(message),
+            },
         }
     }
 }

@@ -1,5 +1,7 @@
-use Rattle.std.proofs.Common.{ℕ, Ok, IfOk, sym, subst}
+use Rattle.std.proofs.Common.{ℕ, Ok, IfOk, refl, sym, subst}
 use Rattle.std.proofs.lemmas.Result.{err_from_is_err_and}
+use Rattle.ra_trace.specs.declared.mark_log.MarkJudgement.TheVariants.{End, Wrong}
+use Rattle.ra_trace.specs.declared.mark_log.marks_verdict.MarkCause.TheVariants as cause
 use Rattle.ra_trace.specs.MarksAlong.{IsMissing, SomeMarkTaken, TurnsMarks}
 use Rattle.ra_trace.proofs.MarksAlong.{fails_there, turns_by, some_taken_by, none_turns, none_taken}
 use Rattle.ra_trace.proofs.TraceLaws.{mark_logs_rest_on_tables}
@@ -29,14 +31,26 @@ returns-in-Some-clause-some g c =
     subst (λ (n : ℕ). IfOk c.take_line.result (λ next. SomeMarkTaken c.args.left n next)) count
     (some_taken_by c.args.left (g.R.Read.remaining c.args.reader.now) (g.R.Read.remaining c.next_line.new.reader) bytes c.take_line.result some.0 some.2)
 
+-- no line came after no byte
 pub returns-in-None-clause-turned : goal.returns-in-None-clause-turned
 returns-in-None-clause-turned g c limit number old along =
     let (bytes, count, none) = rw c.in-None.is at c.in_ok-next_line.ensures in
     let new = g.R.Read.remaining c.next_line.new.reader in
-    let next = c.missing.result in
-    let missing = subst (λ (n : ℕ). IsMissing n next) (sym count) c.missing.ensures in
-    subst (λ (n : ℕ). TurnsMarks limit c.args.left old new c.args.log.now number n (Ok next)) count
-    (none_turns limit c.args.left old (g.R.Read.remaining c.args.reader.now) new c.args.log.now number bytes next along none.0 none.1 missing)
+    let missing = subst (λ (n : ℕ). IsMissing n End) (sym count) c.if-taken-eq0.true in
+    subst (λ (n : ℕ). TurnsMarks limit c.args.left old new c.args.log.now number n (Ok End)) count
+    (none_turns limit c.args.left old (g.R.Read.remaining c.args.reader.now) new c.args.log.now number bytes End along none.0 none.1 missing)
 
 pub returns-in-None-clause-some : goal.returns-in-None-clause-some
-returns-in-None-clause-some g c = none_taken c.args.left c.next_line.new.taken c.missing.result c.missing.ensures
+returns-in-None-clause-some g c = none_taken c.args.left c.next_line.new.taken End c.if-taken-eq0.true
+
+-- no line came after some
+pub returns-in-None-2-clause-turned : goal.returns-in-None-2-clause-turned
+returns-in-None-2-clause-turned g c limit number old along =
+    let (bytes, count, none) = rw c.in-None-2.is at c.in_ok-next_line.ensures in
+    let new = g.R.Read.remaining c.next_line.new.reader in
+    let missing = subst (λ (n : ℕ). IsMissing n (Wrong cause.Line)) (sym count) (refl, c.if-taken-eq0.false) in
+    subst (λ (n : ℕ). TurnsMarks limit c.args.left old new c.args.log.now number n (Ok (Wrong cause.Line))) count
+    (none_turns limit c.args.left old (g.R.Read.remaining c.args.reader.now) new c.args.log.now number bytes (Wrong cause.Line) along none.0 none.1 missing)
+
+pub returns-in-None-2-clause-some : goal.returns-in-None-2-clause-some
+returns-in-None-2-clause-some g c = none_taken c.args.left c.next_line.new.taken (Wrong cause.Line) (refl, c.if-taken-eq0.false)

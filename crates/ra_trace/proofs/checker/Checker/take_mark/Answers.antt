@@ -1,5 +1,7 @@
-use Rattle.std.proofs.Common.{sym, ◌∙◌, arith}
+use Rattle.std.proofs.Common.{refl, sym, ◌∙◌, arith, inl, inr}
 use Rattle.std.proofs.lemmas.Result.{err_from_is_err_and}
+use Rattle.std.proofs.lemmas.Bool.{false≢true}
+use Rattle.ra_trace.specs.declared.checker.verdict.Cause.TheVariants.{Marks, Table}
 use Rattle.ra_trace.proofs.MarkRefusals.{refused_is_not_allowed}
 use Rattle.ra_trace.proofs.TraceLaws.{traces_rest_on_runs}
 use Rattle.ra_trace.proofs.Taking.{mark_not_allowed, mark_is_taken, mark_is_not_last, table_refuses, wrong_mark, mark_may_come}
@@ -8,10 +10,16 @@ use Rattle.ra_trace.proofs.checker.Checker.take_mark.Goals as goal
 pub returns-then-not-allows_mark-clause-judged : goal.returns-then-not-allows_mark-clause-judged
 returns-then-not-allows_mark-clause-judged c = mark_not_allowed c.args.self.now c.args.mark.now (sym c.allows_mark.ensures ∙ c.if-not-allows_mark.true)
 
+-- the lock table allows it, so it is wrong for the marks that are due
+pub returns-then-allows-clause-judged : goal.returns-then-allows-clause-judged
+returns-then-allows-clause-judged c =
+    wrong_mark traces_rest_on_runs c.args.self.now c.args.mark.now Marks (sym c.allows_mark.ensures ∙ c.if-not-allows_mark.false)
+    (c.is_due.ensures.other c.if-not-is_due.true) (inl (refl, c.allows.ensures.0 c.if-allows.true))
+
 pub returns-then-not-is_due-clause-judged : goal.returns-then-not-is_due-clause-judged
 returns-then-not-is_due-clause-judged c =
-    wrong_mark traces_rest_on_runs c.args.self.now c.args.mark.now c.cause_of.result (sym c.allows_mark.ensures ∙ c.if-not-allows_mark.false)
-    (c.is_due.ensures.other c.if-not-is_due.true) c.cause_of.ensures
+    wrong_mark traces_rest_on_runs c.args.self.now c.args.mark.now Table (sym c.allows_mark.ensures ∙ c.if-not-allows_mark.false)
+    (c.is_due.ensures.other c.if-not-is_due.true) (inr (refl, λ allowed. false≢true (sym c.if-allows.false ∙ c.allows.ensures.1 allowed)))
 
 pub returns-in-Some-clause-judged : goal.returns-in-Some-clause-judged
 returns-in-Some-clause-judged c =
