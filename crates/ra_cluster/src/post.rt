@@ -5,7 +5,7 @@ ghost use Rattle.ra_cluster.specs.Cluster.{ChecksCount};
 
 use crossbeam_channel::{Receiver, Sender, unbounded};
 use ra_frame::{Frame, encode};
-use ra_stamp::{Memory, NodeCount, NodeId};
+use ra_stamp::{Memory, NodeCount};
 use std::alloc::Global;
 use std::sync::{RwLock, Wait};
 use std::{fmt, thread};
@@ -173,17 +173,12 @@ fn send_each<'a, R: Wait>(
 fn send_frame<R: Wait>(rt: &R, alloc: Global, senders: &[FrameSender], frame: &Frame) -> bool
     requires { Fits frame.now }
 {
+    let Some(sender) = senders.get(frame.message.to().place()) else {
+        return false;
+    };
     match encode(alloc, frame) {
-        Ok(bytes) => send_to(rt, senders, frame.message.to(), bytes),
+        Ok(bytes) => sender.send(rt, bytes).is_ok(),
         Err(Memory) => false,
-    }
-}
-
-/// Sends the bytes of a frame to the inbox of a node. Returns whether it took them.
-fn send_to<R: Wait>(rt: &R, senders: &[FrameSender], node: NodeId, bytes: Vec<u8>) -> bool {
-    match senders.get(node.place()) {
-        Some(sender) => sender.send(rt, bytes).is_ok(),
-        None => false,
     }
 }
 

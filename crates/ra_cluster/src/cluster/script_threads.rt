@@ -52,7 +52,7 @@ fn run_clients<R: Threads + Wait + Sync, G: Gate + Drop>(
 }
 
 /// Does the operations of a client one after the other, until one is refused. A refusal stops the cluster, unless the
-/// client's node is stopped already.
+/// client's node is stopped already or does not exist.
 fn run_client<R: Wait, G: Gate + Drop>(rt: &R, alloc: Global, run: &ScriptRun<'_, G>, client: u32) {
     let Some(node) = run.script.node_of(client) else {
         return;
@@ -63,20 +63,15 @@ fn run_client<R: Wait, G: Gate + Drop>(rt: &R, alloc: Global, run: &ScriptRun<'_
             return;
         };
         if let Err(refused) = do_op(rt, alloc, run, node, client, op) {
-            if let Some(stop) = stop_for(refused) {
+            let stop = match refused {
+                CallError::Site(refused) => stop_of(refused),
+                CallError::NoNode => None,
+            };
+            if let Some(stop) = stop {
                 run.cluster.stop(rt, stop);
             }
             return;
         }
-    }
-}
-
-/// Returns the cause for which the cluster is stopped after a client's call was refused, or `None` if the client's node is
-/// stopped already or does not exist.
-fn stop_for(refused: CallError) -> Option<Stop> {
-    match refused {
-        CallError::Site(refused) => stop_of(refused),
-        CallError::NoNode => None,
     }
 }
 

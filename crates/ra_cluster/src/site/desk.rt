@@ -89,13 +89,6 @@ impl Handed {
     }
 }
 
-impl Waiter {
-    /// Returns whether this is the client whose request this is.
-    fn is_of(&self, entry: &Entry) -> bool {
-        self.client == entry.client && self.name == entry.name
-    }
-}
-
 impl Desk {
     /// Makes the desk of a book that has sent nothing, at which nobody waits.
     pub fn new(alloc: Global, book: Book) -> Desk
@@ -327,7 +320,8 @@ impl Desk {
         ensures { IfSome result (λ place. place < vec_len self.now.waiters) }
     {
         for place in 0..self.waiters.len() {
-            if self.waiters[place].is_of(entry) {
+            let waiter = &self.waiters[place];
+            if waiter.client == entry.client && waiter.name == entry.name {
                 return Some(place);
             }
         }

@@ -16,21 +16,13 @@ pub fn lost_of(alloc: Global, book: &Book) -> Result<Vec<Frame>, Memory>
     ensures { IfOk result (λ lost. lost.items ≡ lost_frames book.now.sent) }
 {
     let mut lost = Vec::new(alloc);
-    push_lost(&mut lost, book)?;
-    Ok(lost)
-}
-
-/// Puts the frames of a book that are flagged lost after these, in order of sending.
-fn push_lost(lost: &mut Vec<Frame>, book: &Book) -> Result<(), Memory>
-    ensures { OnOk result (lost.new.items ≡ lost.old.items ++ lost_frames book.now.sent) }
-{
     for place in 0..book.sent_len() {
         let Some(sent) = book.sent(place) else {
-            return Ok(());
+            unreachable!()
         };
-        push_if_lost(lost, &sent)?;
+        push_if_lost(&mut lost, &sent)?;
     }
-    Ok(())
+    Ok(lost)
 }
 
 /// Puts a frame after these, if it is flagged lost.

@@ -1,13 +1,23 @@
-use Rattle.std.proofs.Common.{refl, arith}
+use Rattle.std.proofs.Common.{◌≡◌, Result, Ok, Err, refl, arith}
 use Rattle.ra_stamp.specs.NodeId.{IsNodeNumber}
+use Rattle.ra_cluster.specs.declared.post.NewPostError.{NewPostError}
+use Rattle.ra_cluster.specs.declared.post.NewPostError.TheVariants.{BadCount, Memory}
 use Rattle.ra_cluster.proofs.post.Post.new.Goals as goal
+
+-- what is made is not refused
+made : {X : Type 0} (x : X) → ◌≡◌ {A = Result X NewPostError} (Ok x) (Err BadCount) → ⊥
+made x is = cc
+
+-- memory that ran out is no bad count
+another : {X : Type 0} → ◌≡◌ {A = Result X NewPostError} (Err Memory) (Err BadCount) → ⊥
+another is = cc
 
 pub returns : goal.returns
 returns c =
     let good : IsNodeNumber c.args.nodes = c.in-Some.ensures.valid.0 refl in
     record {
       inboxes = omega (arith, c.loop-node.invariant);
-      count = record { bad_count = (λ is. absurd (cc), λ bad. absurd (bad good)); allowed = (λ _. good, λ _. tt) };
+      count = record { bad_count = (λ is. absurd (made _ is), λ bad. absurd (bad good)); allowed = (λ _. good, λ _. tt) };
     }
 
 pub returns-then-is_err : goal.returns-then-is_err
@@ -15,5 +25,5 @@ returns-then-is_err c =
     let good : IsNodeNumber c.args.nodes = c.in-Some.ensures.valid.0 refl in
     record {
       inboxes = tt;
-      count = record { bad_count = (λ is. absurd (cc), λ bad. absurd (bad good)); allowed = (λ _. good, λ _. refl) };
+      count = record { bad_count = (λ is. absurd (another is), λ bad. absurd (bad good)); allowed = (λ _. good, λ _. refl) };
     }
