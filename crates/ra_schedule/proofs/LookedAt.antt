@@ -17,7 +17,7 @@ use Rattle.ra_schedule.specs.Schedule.{Enables, IsEnabled, steps_by, steps_of, s
 use Rattle.ra_schedule.specs.Enabled.{IsFlag}
 
 -- whether a step was found says whether the client is enabled
-flag_of : (script : ScriptState) (moves : List Move) (client : ℕ) (found : Option Step) → IfSome found (Enables script moves client)
+pub flag_of : (script : ScriptState) (moves : List Move) (client : ℕ) (found : Option Step) → IfSome found (Enables script moves client)
     → (IsNone found → IsEnabled script moves client → ⊥) → IsFlag script moves client (is_some found)
 flag_of script moves client (Some step) enables none = (λ on. (step, enables), λ enabled. refl)
 flag_of script moves client None enables none = (λ on. absurd (false≢true on), λ enabled. absurd (none refl enabled))

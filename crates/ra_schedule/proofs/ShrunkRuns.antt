@@ -331,6 +331,14 @@ in_vain_more script steps from place None not told so_far = λ other first below
       | inr apart ↦ so_far other first (omega (arith, below, apart))
     ]
 
+-- the steps before a place, with the others of those after it, are what is left
+pub cut_begins : (steps list : List Step) (place i : ℕ) → place < length steps → i ≤ place → place ≤ i → list ≡ take i steps
+    → list ++ others (step_there steps place) (drop (place + 1) steps) ≡ cut steps place
+cut_begins steps list place i less not_past reached is =
+    let same : i ≡ place = omega (arith, not_past, reached) in
+    ap (λ (xs : List Step). xs ++ others (step_there steps place) (drop (place + 1) steps)) (is ∙ ap (λ (n : ℕ). take n steps) same)
+    ∙ ap (λ (xs : List Step). take place steps ++ without_first xs) (sym (lists.drop_more steps place (Leave 0 0 []) less))
+
 -- one more step is added
 pub taken_more : (steps before list new : List Step) (i : ℕ) (step : Step) → i < length steps → step ≡ get_or steps i step → list ≡ before ++ take i steps
     → new ≡ list ++ step ∷ [] → new ≡ before ++ take (i + 1) steps

@@ -4,7 +4,7 @@ ghost use Rattle.ra_world.specs.declared.step.Step.{Step};
 ghost use Rattle.ra_schedule.specs.declared.choice.Choice.{Choice};
 ghost use Rattle.ra_schedule.specs.declared.error.DriveError.{DriveError};
 ghost use Rattle.ra_schedule.specs.Script.{client_at, op_at};
-ghost use Rattle.ra_schedule.specs.Schedule.{Enables, IsEnabled, IsFirstEnabled, StandsFor, Picks, Ends, step_of};
+ghost use Rattle.ra_schedule.specs.Schedule.{Enables, IsEnabled, IsFirstEnabled, StandsFor, Picks, Ends};
 ghost use Rattle.ra_schedule.specs.Driving.{HasFault, IsMeaning};
 ghost use Rattle.ra_schedule.specs.Progress.{Tracks, IsProgress, AreStuck};
 ghost use Rattle.ra_schedule.specs.PolicyState.{AreDraws, generator_at, generator_in, words_drawn, words_for};
@@ -13,23 +13,7 @@ use crate::choice::random_choice::choose;
 use crate::choice::random_state::RandomState;
 use crate::driver::client_progress::Progress;
 use crate::{Choice, DriveError, Op, Policy, Script};
-use ra_stamp::NodeId;
 use ra_world::{Step, World};
-
-/// Returns an operation of a client of this node as a step.
-fn step_of(node: NodeId, client: u32, op: Op) -> Step
-    ensures { result ≡ step_of node client op }
-{
-    match op {
-        Op::Lock(name, mode) => Step::Ask {
-            node,
-            client,
-            name,
-            mode,
-        },
-        Op::Unlock(name) => Step::Leave { node, client, name },
-    }
-}
 
 /// Returns the step of a client with this progress if it is enabled, or `None`.
 pub fn enabled_step(script: &Script, world: &World, client: u32, progress: Progress) -> Option<Step>
@@ -44,7 +28,15 @@ pub fn enabled_step(script: &Script, world: &World, client: u32, progress: Progr
     }
     let node = script.node_of(client)?;
     let op = script.op(client, progress.done)?;
-    let step = step_of(node, client, op);
+    let step = match op {
+        Op::Lock(name, mode) => Step::Ask {
+            node,
+            client,
+            name,
+            mode,
+        },
+        Op::Unlock(name) => Step::Leave { node, client, name },
+    };
     if world.accepts(&step) {
         Some(step)
     } else {

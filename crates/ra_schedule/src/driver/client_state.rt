@@ -31,15 +31,18 @@ fn waits_since(steps: &[Step], client: u32) -> ClientState
 {
     let mut rest = steps;
     while let Some((last, before)) = rest.split_last() {
-        match *last {
-            Step::Ask {
-                client: asker,
-                name,
-                mode,
-                ..
-            } if asker == client => return ClientState::Waits(name, mode, rest.len() as u64),
-            _ => rest = before,
+        if let Step::Ask {
+            client: asker,
+            name,
+            mode,
+            ..
+        } = *last
+        {
+            if asker == client {
+                return ClientState::Waits(name, mode, rest.len() as u64);
+            }
         }
+        rest = before;
     }
     // A client that waits has asked.
     ClientState::Done

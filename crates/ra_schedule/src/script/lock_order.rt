@@ -76,7 +76,20 @@ fn out_of_order_of(script: &Script, client: u32) -> Option<OutOfOrder>
     ensures none { IsNone result → IsOf LocksOutOfOrder script.now client → ⊥ }
 {
     let ops = script.ops(client)?;
-    first_below(ops, client)
+    let mut first = None;
+    let mut end = ops.len();
+    for since in 0..ops.len() {
+        // Before this end, none of the names that were locked so far is held at one that is not above it.
+        if let Some(place) = locks_below(ops, since, end) {
+            end = place;
+            first = Some(OutOfOrder {
+                client,
+                place: place as u64,
+                since: since as u64,
+            });
+        }
+    }
+    first
 }
 
 /// Returns the client's first operation that locks a name that it never unlocks.
@@ -95,26 +108,6 @@ fn unreleased_of(script: &Script, client: u32) -> Option<Unreleased>
         }
     }
     None
-}
-
-/// Returns the first of a client's operations that is out of order, as [`first_out_of_order`] says.
-fn first_below(ops: &[Op], client: u32) -> Option<OutOfOrder>
-    ensures some { IfSome result (λ found. (found.client ≡ client) × IsFirstBelow ops.now found.since found.place) }
-    ensures none { IsNone result → (since place : ℕ) → LocksBelow ops.now since place → ⊥ }
-{
-    let mut first = None;
-    let mut end = ops.len();
-    for since in 0..ops.len() {
-        if let Some(place) = locks_below(ops, since, end) {
-            end = place;
-            first = Some(OutOfOrder {
-                client,
-                place: place as u64,
-                since: since as u64,
-            });
-        }
-    }
-    first
 }
 
 /// Returns the first place, before the end, of an operation that locks a name that is not above the one that was locked at

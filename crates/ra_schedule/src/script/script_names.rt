@@ -10,15 +10,6 @@ use ra_stamp::{Memory, Name};
 use std::alloc::Global;
 use std::collections::BTreeSet;
 
-/// Returns the name of an operation.
-fn name_of(op: Op) -> Name
-    ensures { result ≡ spec.name_of op }
-{
-    match op {
-        Op::Lock(name, _) | Op::Unlock(name) => name,
-    }
-}
-
 /// Puts the names of a client's operations into a set.
 fn put_names(names: &mut BTreeSet<Name>, script: &Script, client: u32) -> Result<(), Memory>
     ensures { OnOk result ((name : List ℕ) → Contains names.new.keys name
@@ -31,7 +22,11 @@ fn put_names(names: &mut BTreeSet<Name>, script: &Script, client: u32) -> Result
         let Some(op) = script.op(client, place) else {
             unreachable!()
         };
-        names.insert(name_of(op))?;
+        let name = match op {
+            Op::Lock(name, _) => name,
+            Op::Unlock(name) => name,
+        };
+        names.insert(name)?;
     }
     Ok(())
 }

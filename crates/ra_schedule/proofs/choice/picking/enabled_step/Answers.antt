@@ -1,7 +1,9 @@
-use Rattle.std.proofs.Common.{sym, ◌∙◌}
+use Rattle.std.proofs.Common.{◌≡◌, sym, ap, ◌∙◌}
 use Rattle.std.proofs.lemmas.Bool.{false≢true, true≢false}
+use Rattle.ra_schedule.specs.Schedule.{step_of}
 use Rattle.ra_schedule.proofs.LookedAt.{no_client, no_op, enables, refused}
 use Rattle.ra_schedule.proofs.choice.picking.enabled_step.Goals as goal
+use Rattle.ra_schedule.proofs.choice.picking.enabled_step.Goals.{in-Lock, in-Unlock}
 
 pub returns-then-progress-clause-none : goal.returns-then-progress-clause-none
 returns-then-progress-clause-none c none enabled = enabled.1.free (c.requires.progress.waiting.0 c.if-progress.true)
@@ -21,9 +23,14 @@ returns-in_err-node-clause-some c = rw c.from_residual.ensures tt
 
 pub returns-then-accepts-clause-some : goal.returns-then-accepts-clause-some
 returns-then-accepts-clause-some c =
-    enables c.args.script.now c.args.world.now c.args.client c.args.progress c.in_ok-node.node c.in_ok-op.op c.step_of-step.result
+    let made : c.match-op.step ≡ step_of c.in_ok-node.node c.args.client c.in_ok-op.op =
+    elim c.match-op.branch [
+      | in-Lock w ↦ w.step-is ∙ sym (ap (step_of c.in_ok-node.node c.args.client) w.in-Lock.is)
+      | in-Unlock w ↦ w.step-is ∙ sym (ap (step_of c.in_ok-node.node c.args.client) w.in-Unlock.is)
+    ] in
+    enables c.args.script.now c.args.world.now c.args.client c.args.progress c.in_ok-node.node c.in_ok-op.op c.match-op.step
     c.requires.count c.requires.start c.requires.progress
-    c.if-progress.false c.in_ok-node.ensures.value c.in_ok-op.ensures.value c.step_of-step.ensures (c.accepts.ensures.value.0 c.if-accepts.true)
+    c.if-progress.false c.in_ok-node.ensures.value c.in_ok-op.ensures.value made (c.accepts.ensures.value.0 c.if-accepts.true)
 
 pub returns-then-accepts-clause-none : goal.returns-then-accepts-clause-none
 returns-then-accepts-clause-none c none enabled = true≢false none
@@ -33,6 +40,11 @@ returns-else-accepts-clause-some c = tt
 
 pub returns-else-accepts-clause-none : goal.returns-else-accepts-clause-none
 returns-else-accepts-clause-none c none enabled =
-    refused c.args.script.now c.args.world.now c.args.client c.args.progress c.in_ok-node.node c.in_ok-op.op c.step_of-step.result
-    c.requires.count c.requires.start c.requires.progress c.in_ok-node.ensures.value c.in_ok-op.ensures.value c.step_of-step.ensures
+    let made : c.match-op.step ≡ step_of c.in_ok-node.node c.args.client c.in_ok-op.op =
+    elim c.match-op.branch [
+      | in-Lock w ↦ w.step-is ∙ sym (ap (step_of c.in_ok-node.node c.args.client) w.in-Lock.is)
+      | in-Unlock w ↦ w.step-is ∙ sym (ap (step_of c.in_ok-node.node c.args.client) w.in-Unlock.is)
+    ] in
+    refused c.args.script.now c.args.world.now c.args.client c.args.progress c.in_ok-node.node c.in_ok-op.op c.match-op.step
+    c.requires.count c.requires.start c.requires.progress c.in_ok-node.ensures.value c.in_ok-op.ensures.value made
     (λ goes_on. false≢true (sym c.if-accepts.false ∙ c.accepts.ensures.value.1 goes_on)) enabled

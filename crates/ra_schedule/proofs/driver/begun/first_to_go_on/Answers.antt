@@ -1,22 +1,40 @@
-use Rattle.std.proofs.Common.{◌+◌, arith, sym, ◌∙◌, below_more}
+use Rattle.std.proofs.Common.{◌<◌, ◌+◌, false, length, arith, sym, ◌∙◌, below_more}
 use Rattle.std.proofs.lemmas.Bool.{false≢true}
 use Rattle.ra_schedule.specs.Shrinking.{CanGoOn}
+use Rattle.ra_schedule.proofs.LookedAt.{flag_of}
 use Rattle.ra_schedule.proofs.OldestChoices.{none_below, none_at_all}
 use Rattle.ra_schedule.proofs.driver.begun.first_to_go_on.Goals as goal
+use Rattle.ra_schedule.proofs.driver.begun.first_to_go_on.Goals.{else-progress-gt0-via-then-progress-gt0+else-is_some, else-progress-gt0-via-else-progress-gt0}
 
-pub returns-then-can_go_on-clause-some : goal.returns-then-can_go_on-clause-some
-returns-then-can_go_on-clause-some c = (
-  c.can_go_on.ensures.0 c.if-can_go_on.true,
-  none_below c.args.script.now c.args.world.now.moves c.loop-place.place c.loop-place.invariant,
-)
+pub returns-then-is_some-clause-some : goal.returns-then-is_some-clause-some
+returns-then-is_some-clause-some c =
+    let script = c.args.script.now in
+    let moves = c.args.world.now.moves in
+    let place = c.loop-place.place in
+    let within : place < length c.args.clients.now = omega (arith, c.loop-place-test.true, c.clients-place-end.ensures.value, c.requires.length_is) in
+    let done = (c.requires.each place (record { done = 0; waiting = false }) within).done in
+    let flag = flag_of script moves (place + 1) c.enabled_step.result c.enabled_step.ensures.some c.enabled_step.ensures.none in (
+      (let some = c.if-progress-gt0.true in omega (arith, done, some), flag.0 (sym c.is_some.ensures ∙ c.if-is_some.true)),
+      none_below script moves place c.loop-place.invariant,
+    )
 
 pub loop-place-init : goal.loop-place-init
 loop-place-init c k less on = absurd (omega (arith, less))
 
 pub loop-place-preserved : goal.loop-place-preserved
 loop-place-preserved c =
-    below_more (λ k. CanGoOn c.args.script.now c.args.world.now.moves (k + 1) → ⊥) c.loop-place.place c.loop-place.invariant
-    (λ on. false≢true (sym c.if-can_go_on.false ∙ c.can_go_on.ensures.1 on))
+    let script = c.args.script.now in
+    let moves = c.args.world.now.moves in
+    let place = c.loop-place.place in
+    let within : place < length c.args.clients.now = omega (arith, c.loop-place-test.true, c.clients-place-end.ensures.value, c.requires.length_is) in
+    let done = (c.requires.each place (record { done = 0; waiting = false }) within).done in
+    below_more (λ k. CanGoOn script moves (k + 1) → ⊥) place c.loop-place.invariant
+    (λ on. elim c.else-progress-gt0.branch [
+      | else-progress-gt0-via-then-progress-gt0+else-is_some w ↦
+          let flag = flag_of script moves (place + 1) w.enabled_step.result w.enabled_step.ensures.some w.enabled_step.ensures.none in
+          false≢true (sym w.if-is_some.false ∙ (w.is_some.ensures ∙ flag.1 on.1))
+      | else-progress-gt0-via-else-progress-gt0 w ↦ let none = w.if-progress-gt0.false in let begun = on.0 in omega (arith, done, none, begun)
+    ])
 
 pub returns-clause-none : goal.returns-clause-none
 returns-clause-none c e =

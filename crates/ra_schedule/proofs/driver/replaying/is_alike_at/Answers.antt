@@ -12,13 +12,13 @@ pub returns-in-Some : goal.returns-in-Some
 returns-in-Some c =
     let (left, leaves, is) = c.in-Some.ensures.value in
     let moves = c.args.world.now.moves in
-    let same = same_messages c.unnumbered.result c.unnumbered-2.result in (
-      λ yes. (c.in-Some.found, (left, leaves, sym is), sym c.unnumbered.ensures ∙ same.0 (sym c.eq.ensures ∙ yes) ∙ c.unnumbered-2.ensures),
+    let same = same_messages c.unnumbered.result c.unnumbered-in-Some.result in (
+      λ yes. (c.in-Some.found, (left, leaves, sym is), sym c.unnumbered.ensures ∙ same.0 (sym c.eq.ensures ∙ yes) ∙ c.unnumbered-in-Some.ensures),
       λ at.
           let (other, there, alike) = at in
           let found_alike = subst (λ (m : Sent). unnumbered m ≡ unnumbered c.args.message.now)
           (place_is_one schedules_rest_on_runs.one_list moves c.args.place other c.in-Some.found there (left, leaves, sym is)) alike in
-          c.eq.ensures ∙ same.1 (c.unnumbered.ensures ∙ found_alike ∙ sym c.unnumbered-2.ensures),
+          c.eq.ensures ∙ same.1 (c.unnumbered.ensures ∙ found_alike ∙ sym c.unnumbered-in-Some.ensures),
     )
 
 pub returns-in-None : goal.returns-in-None

@@ -1,4 +1,4 @@
-use Rattle.std.proofs.Common.{◌≡◌, refl, ◌≤◌, ◌<◌, ◌-◌, length, slice_index_or, ap, ◌∙◌, arith}
+use Rattle.std.proofs.Common.{◌≡◌, refl, ◌<◌, ◌-◌, length, slice_index_or, ap, ◌∙◌, arith}
 use Rattle.ra_schedule.proofs.EnabledFlags.{bit, bit_at_most, at_most, count_set}
 use Rattle.ra_schedule.proofs.LookedAt.{flag_set, flags_kept, looked_at}
 use Rattle.ra_schedule.proofs.choice.enabled.Enabled.look_at.Goals as goal
@@ -16,3 +16,27 @@ pub enabled_step-requires-clause-progress : goal.enabled_step-requires-clause-pr
 enabled_step-requires-clause-progress c =
     looked_at c.args.script.now c.args.world.now c.args.clients.now c.args.client c.clients.result _ c.requires.tracked c.if-client-ge1.true
     c.if-client-clients.true c.clients.ensures.value
+
+pub overflow_add-self : goal.overflow_add-self
+overflow_add-self c =
+    let on : c.one_if.result ≡ bit c.is_some-on.result = c.one_if.ensures in
+    let few = c.clients.ensures.script.at_most in
+    omega (arith, few, c.requires.alike, c.requires.count, on, bit_at_most c.is_some-on.result, at_most 1 c.args.self.now.flags.items)
+
+pub overflow_sub-self : goal.overflow_sub-self
+overflow_sub-self c =
+    let flags = c.args.self.now.flags.items in
+    let place = c.args.client - 1 in
+    let within : place < length flags = omega (arith, c.if-client-ge1.true, c.if-client-clients.true, c.clients.ensures.value, c.requires.alike) in
+    let was : c.one_if-then-client-clients.result ≡ bit (slice_index_or flags place c.index-was.result.now) = c.one_if-then-client-clients.ensures ∙ ap bit c.index-was.ensures in
+    let on : c.one_if.result ≡ bit c.is_some-on.result = c.one_if.ensures in
+    omega (arith, c.requires.count, on, was, count_set flags place c.is_some-on.result c.index-was.result.now within)
+
+pub returns-then-client-clients-clause-count : goal.returns-then-client-clients-clause-count
+returns-then-client-clients-clause-count c =
+    let flags = c.args.self.now.flags.items in
+    let place = c.args.client - 1 in
+    let within : place < length flags = omega (arith, c.if-client-ge1.true, c.if-client-clients.true, c.clients.ensures.value, c.requires.alike) in
+    let was : c.one_if-then-client-clients.result ≡ bit (slice_index_or flags place c.index-was.result.now) = c.one_if-then-client-clients.ensures ∙ ap bit c.index-was.ensures in
+    let on : c.one_if.result ≡ bit c.is_some-on.result = c.one_if.ensures in
+    omega (arith, c.requires.count, on, was, count_set flags place c.is_some-on.result c.index-was.result.now within)

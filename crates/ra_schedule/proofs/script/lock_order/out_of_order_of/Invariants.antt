@@ -1,5 +1,5 @@
 use Rattle.ra_schedule.proofs.FirstLocks.{FirstSoFar}
-use Rattle.ra_schedule.proofs.script.lock_order.first_below.Given as goal
+use Rattle.ra_schedule.proofs.script.lock_order.out_of_order_of.Given as goal
 
 -- the first so far, and the end is its place
 abbrev pub invariant-loop-since : goal.invariant-loop-since
