@@ -132,15 +132,6 @@ fn push_step(text: &mut String, step: &Step) -> Result<(), Memory>
     }
 }
 
-/// Adds the line of a step.
-fn push_step_line(text: &mut String, step: &Step) -> Result<(), Memory>
-    ensures { OnOk result (string_bytes text.new ≡ string_bytes text.old ++ spec.step_line step.now) }
-{
-    push_step(text, step)?;
-    text.push_str("\n")?;
-    Ok(())
-}
-
 /// Adds the lines of marks.
 fn push_marks(text: &mut String, marks: &Marks) -> Result<(), Memory>
     ensures text { OnOk result (string_bytes text.new ≡ string_bytes text.old ++ flat_map mark_line marks.now.items) }
@@ -160,7 +151,8 @@ fn push_move(text: &mut String, step: &Step, marks: &Marks) -> Result<(), Memory
     ensures fit { OnOk result (StepFits step.now × All MarkFits marks.now.items) }
 {
     step_fits(step);
-    push_step_line(text, step)?;
+    push_step(text, step)?;
+    text.push_str("\n")?;
     push_marks(text, marks)
 }
 
