@@ -17,13 +17,6 @@ cut-append (x ∷ xs) ys free =
     let other : (x == 32) ≡ false = ne_eqb x 32 (All-head (λ b. b ≢ 32) x xs free) in
     rw (other, cut-append xs ys (All-tail (λ b. b ≢ 32) x xs free))
 
--- bytes of which none is a space
-pub cut-none : (xs : List ℕ) → All (λ b. b ≢ 32) xs → cut xs ≡ None
-cut-none [] free = refl
-cut-none (x ∷ xs) free =
-    let other : (x == 32) ≡ false = ne_eqb x 32 (All-head (λ b. b ≢ 32) x xs free) in
-    rw (other, cut-none xs (All-tail (λ b. b ≢ 32) x xs free))
-
 pub cut-only : (text : List ℕ) (parts : List ℕ × List ℕ) → cut text ≡ Some parts → text ≡ parts.0 ++ 32 ∷ parts.1
 cut-only [] parts e = absurd cc
 cut-only (b ∷ text) parts e =

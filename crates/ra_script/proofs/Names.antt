@@ -1,11 +1,10 @@
 -- Names and operations as they are spelled.
-use Rattle.std.proofs.Common.{◌≡◌, ◌≢◌, ◌⊎◌, ◌↔◌, ℕ, ◌≤◌, List, [], ◌∷◌, ◌++◌, length, true, ◌&&◌, nat_le, if◌then◌else◌, Option, Some, None, IsSome, Result, Ok, Err, IfOk, IsOk, All, inl, inr, refl, sym, ap, subst, ◌∙◌, codes, arith}
+use Rattle.std.proofs.Common.{◌≡◌, ◌≢◌, ◌⊎◌, ℕ, ◌≤◌, List, [], ◌∷◌, ◌++◌, length, true, ◌&&◌, nat_le, if◌then◌else◌, Option, Some, None, IsSome, All, inl, inr, refl, sym, ap, subst, ◌∙◌, codes, arith}
 use Rattle.std.specs.Prelude.{IfSome, is_some, option_and_then}
-use Rattle.std.specs.Result.{result_ok}
 use Rattle.std.specs.Str.{bytes_eq}
 use Rattle.std.specs.List.{list_all}
 use Rattle.std.proofs.lemmas.Option.{same_Some, option_and_then_some}
-use Rattle.std.proofs.lemmas.Bool.{cases_Bool, and_parts, le-leb, leb-true, false≢true}
+use Rattle.std.proofs.lemmas.Bool.{cases_Bool, and_parts, le-leb, leb-true}
 use Rattle.std.proofs.lemmas.List.Elements.{All-nil, All-cons}
 use Rattle.std.proofs.lemmas.List.Sums.{AllPass-from_list_all, list_all-from_AllPass}
 use Rattle.std.proofs.lemmas.Slice.Eq.{bytes_eq-Decides}
@@ -27,15 +26,6 @@ IsName-from bytes h =
     let (lengths, each) = and_parts (nat_le 1 (length bytes) && nat_le (length bytes) 32) (list_all is_name_byte bytes) h in
     let (some, few) = and_parts (nat_le 1 (length bytes)) (nat_le (length bytes) 32) lengths in
     record { not_empty = leb-true 1 (length bytes) some; not_long = leb-true (length bytes) 32 few; each = AllPass-from_list_all is_name_byte bytes each }
-
--- by `Name::new`
-pub name_made : {E : Type 0} (bytes : List ℕ) (r : Result (List ℕ) E) → IsOk r ↔ IsName bytes → IfOk r (λ name. name ≡ bytes) → result_ok r ≡ name_of bytes
-name_made bytes (Ok name) valid value = let good = is_name-true bytes (valid.0 refl) in rw (value, good)
-name_made bytes (Err e) valid value =
-    elim (cases_Bool (is_name bytes)) [
-      | inl good ↦ absurd (false≢true (valid.1 (IsName-from bytes good)))
-      | inr bad ↦ rw bad
-    ]
 
 -- ---- What is read is how it is written
 

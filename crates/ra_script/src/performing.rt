@@ -1,7 +1,7 @@
 pub mod find_run;
 pub mod printed;
 
-ghost use Rattle.std.specs.Prelude.{◌≡◌, ◌⊎◌, ℕ, List, All, MatchOption, ◌++◌, string_bytes, codes, OnOk, IfOk, IfErr};
+ghost use Rattle.std.specs.Prelude.{◌≡◌, ◌⊎◌, ℕ, List, All, MatchOption, ◌++◌, string_bytes, codes, IfOk, IfErr};
 ghost use Rattle.ra_schedule.specs.declared.driver.output_kind.OutputKind.{OutputKind};
 ghost use Rattle.ra_schedule.specs.ChoicesText.{HasText, Lists};
 ghost use Rattle.ra_script.specs.Performed.{PerformsScript};
@@ -15,7 +15,6 @@ use ra_schedule::{
     Choices, ChoicesError, OutputKind, Policy, Script, Shown, choices_text, drive, show, shrink,
     summarize,
 };
-use ra_stamp::Memory;
 use ra_trace::trace_text;
 use ra_world::{read_up_to, report_text, runs_are_determined, write_out};
 use std::alloc::Global;
@@ -68,14 +67,6 @@ fn trace_of(alloc: Global, policy: &Policy, script: &Script) -> Result<Printed, 
     }
 }
 
-/// Adds a line feed.
-fn end_line(text: &mut String) -> Result<(), Memory>
-    ensures { OnOk result (string_bytes text.new ≡ string_bytes text.old ++ codes "\n") }
-{
-    text.push_str("\n")?;
-    Ok(())
-}
-
 /// Returns the line of choices: their words, and a line feed.
 ///
 /// # Errors
@@ -87,8 +78,10 @@ fn choices_line(alloc: Global, choices: &Choices) -> Result<String, ChoicesError
         ⊎ (fault ≡ ChoicesError.Memory)) }
 {
     let mut text = choices_text(alloc, choices)?;
-    end_line(&mut text)?;
-    Ok(text)
+    match text.push_str("\n") {
+        Ok(()) => Ok(text),
+        Err(_) => Err(ChoicesError::Memory),
+    }
 }
 
 /// Drives a cluster through a script by a policy, and returns the line of its choices, by which the run is made again.

@@ -35,17 +35,7 @@ const LOOKS: &[Look] = &[
     },
 ];
 
-/// Says what a text looks like, if that is known.
-fn say_look(note: &mut Note, text: &str) {
-    for look in LOOKS {
-        if text.starts_with(look.prefix) {
-            note.push(look.text);
-            return;
-        }
-    }
-}
-
-/// Repeats what the parser says of a text that is not a TOML document, and says what the text looks like.
+/// Repeats what the parser says of a text that is not a TOML document, and says what the text looks like, if that is known.
 fn say_toml(alloc: Global, note: &mut Note, text: &str, fault: &toml::de::Error) {
     note.refuse_if(fault.is_memory());
     note.push("the script is not valid TOML: ");
@@ -53,16 +43,10 @@ fn say_toml(alloc: Global, note: &mut Note, text: &str, fault: &toml::de::Error)
         Ok(said) => note.lines(said.trim_end()),
         Err(_) => note.refuse_if(true),
     }
-    say_look(note, text);
-}
-
-/// Returns what is said of a refused operation.
-fn op_text(fault: ScriptError) -> &'static str {
-    match fault {
-        ScriptError::NotHeld => ": the client does not hold this name",
-        ScriptError::AlreadyHeld => ": the client already holds this name",
-        _ => {
-            ": not an operation: expected S, X, IS, IX, SIX or U, a space and a name of 1 to 32 characters from A-Z, a-z, 0-9, _, - and ."
+    for look in LOOKS {
+        if text.starts_with(look.prefix) {
+            note.push(look.text);
+            return;
         }
     }
 }
@@ -76,7 +60,13 @@ fn say_refused(note: &mut Note, client: usize, place: usize, op: &str, fault: Sc
     note.number(place);
     note.push(", ");
     note.quoted_text(op);
-    note.push(op_text(fault));
+    note.push(match fault {
+        ScriptError::NotHeld => ": the client does not hold this name",
+        ScriptError::AlreadyHeld => ": the client already holds this name",
+        _ => {
+            ": not an operation: expected S, X, IS, IX, SIX or U, a space and a name of 1 to 32 characters from A-Z, a-z, 0-9, _, - and ."
+        }
+    });
 }
 
 /// Says which operation of the last client is the first to be refused, if there is one.
@@ -114,8 +104,8 @@ fn say_clients(alloc: Global, note: &mut Note, script: &mut Script, clients: &[C
     }
 }
 
-/// Says which client is the first whose node does not exist, if there is one.
-fn say_node(note: &mut Note, nodes: u16, clients: &[ClientRef<'_>]) {
+/// Says what is wrong with the clients of a document, if anything is. First comes one whose node does not exist.
+fn say_all_clients(alloc: Global, note: &mut Note, nodes: u16, clients: &[ClientRef<'_>]) {
     for (place, client) in clients.iter().enumerate() {
         if client.node_up_to(nodes).is_none() {
             note.push("client ");
@@ -127,14 +117,6 @@ fn say_node(note: &mut Note, nodes: u16, clients: &[ClientRef<'_>]) {
             note.push(", the value of nodes");
             return;
         }
-    }
-}
-
-/// Says what is wrong with the clients of a document, if anything is.
-fn say_all_clients(alloc: Global, note: &mut Note, nodes: u16, clients: &[ClientRef<'_>]) {
-    say_node(note, nodes, clients);
-    if !note.is_empty() {
-        return;
     }
     match Script::new(alloc, 1) {
         Ok(mut script) => say_clients(alloc, note, &mut script, clients),
@@ -171,14 +153,6 @@ fn say_tree(alloc: Global, note: &mut Note, tree: &Table) {
     }
 }
 
-/// Says what is wrong with a text that is UTF-8 and not too long, if anything is.
-fn say_text(alloc: Global, note: &mut Note, text: &str) {
-    match toml::table_from_str(alloc, text) {
-        Ok(tree) => say_tree(alloc, note, &tree),
-        Err(fault) => say_toml(alloc, note, text, &fault),
-    }
-}
-
 /// Returns the line and the column, in bytes, of what follows these bytes. Both are counted from 1.
 fn place_after(text: &[u8]) -> (usize, usize) {
     let (mut line, mut column): (usize, usize) = (1, 1);
@@ -196,7 +170,10 @@ fn place_after(text: &[u8]) -> (usize, usize) {
 /// Says what is wrong with bytes within the limit, if anything is.
 fn say_bytes(alloc: Global, note: &mut Note, text: &[u8]) {
     match str::from_utf8(text) {
-        Ok(text) => say_text(alloc, note, text),
+        Ok(text) => match toml::table_from_str(alloc, text) {
+            Ok(tree) => say_tree(alloc, note, &tree),
+            Err(fault) => say_toml(alloc, note, text, &fault),
+        },
         Err(fault) => {
             let (line, column) = place_after(text.get(..fault.valid_up_to()).unwrap_or(b""));
             note.push("the script is not valid UTF-8 at line ");

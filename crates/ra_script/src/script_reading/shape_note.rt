@@ -12,16 +12,11 @@ const SCRIPT: &str = "a script has nodes (an integer) and client (an array of ta
 /// What the table of a client has.
 const CLIENT: &str = "a client has node (an integer) and ops (an array of strings)";
 
-/// Returns whether a key is neither of two. It does not allocate.
-fn is_neither(key: &str, first: &str, second: &str) -> bool {
-    key != first && key != second
-}
-
 /// Returns the first key of a table that is neither of these two, if there is one. It does not allocate.
 fn unknown_key<'a>(table: &'a Table, first: &str, second: &str) -> Option<&'a str> {
     for key in table.keys() {
         let key = key.as_str();
-        if is_neither(key, first, second) {
+        if key != first && key != second {
             return Some(key);
         }
     }
@@ -65,8 +60,16 @@ fn array_in<'a>(
     found
 }
 
-/// Says which operation is the first that is not a string, if there is one.
-fn say_ops(note: &mut Note, ops: &Array) {
+/// Says what is wrong with the shape of a client, of whose operations the first that is not a string.
+fn say_client(note: &mut Note, client: &Value) {
+    let Some(table) = client.as_table() else {
+        note.push("not a table: ");
+        note.push(CLIENT);
+        return;
+    };
+    let Some(ops) = array_in(note, table, "node", "ops", CLIENT) else {
+        return;
+    };
     for (place, op) in ops.iter().enumerate() {
         if op.as_str().is_none() {
             note.push("operation ");
@@ -78,20 +81,12 @@ fn say_ops(note: &mut Note, ops: &Array) {
     }
 }
 
-/// Says what is wrong with the shape of a client.
-fn say_client(note: &mut Note, client: &Value) {
-    if let Some(table) = client.as_table() {
-        if let Some(ops) = array_in(note, table, "node", "ops", CLIENT) {
-            say_ops(note, ops);
-        }
-    } else {
-        note.push("not a table: ");
-        note.push(CLIENT);
-    }
-}
-
-/// Says what is wrong with the first client of the wrong shape, if there is one.
-fn say_clients(alloc: Global, note: &mut Note, clients: &Array) {
+/// Says what is wrong with the shape of a document, if anything is. It checks the document first, and then client by
+/// client.
+pub fn say_shape(alloc: Global, note: &mut Note, tree: &Table) {
+    let Some(clients) = array_in(note, tree, "nodes", "client", SCRIPT) else {
+        return;
+    };
     for (place, client) in clients.iter().enumerate() {
         if let Err(fault) = client_of(alloc, client) {
             note.refuse_if(fault == ScriptError::Memory);
@@ -101,13 +96,5 @@ fn say_clients(alloc: Global, note: &mut Note, clients: &Array) {
             say_client(note, client);
             return;
         }
-    }
-}
-
-/// Says what is wrong with the shape of a document, if anything is. It checks the document first, and then client by
-/// client.
-pub fn say_shape(alloc: Global, note: &mut Note, tree: &Table) {
-    if let Some(clients) = array_in(note, tree, "nodes", "client", SCRIPT) {
-        say_clients(alloc, note, clients);
     }
 }

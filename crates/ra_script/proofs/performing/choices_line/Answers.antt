@@ -1,4 +1,4 @@
-use Rattle.std.proofs.Common.{◌≡◌, ◌⊎◌, string_bytes, refl, inl, inr}
+use Rattle.std.proofs.Common.{◌≡◌, ◌⊎◌, string_bytes, refl, inl, inr, rules}
 use Rattle.std.proofs.lemmas.Result.{err_from_is_err_and}
 use Rattle.ra_schedule.specs.declared.error.ChoicesError.{ChoicesError}
 use Rattle.ra_schedule.specs.declared.error.ChoicesError.TheVariants.{Choice, Memory}
@@ -9,15 +9,13 @@ weaker : (fault : ChoicesError) (P Q : Type 0) → ((fault ≡ Choice) × P) ⊎
 weaker fault P Q (inl none) = inl none
 weaker fault P Q (inr (is, some)) = inr is
 
-pub returns-clause-ok : goal.returns-clause-ok
-returns-clause-ok c = (string_bytes c.in_ok-text.text, c.in_ok-text.ensures.ok, c.in_ok-end_line.ensures)
+pub returns-in-Ok-clause-ok : goal.returns-in-Ok-clause-ok
+returns-in-Ok-clause-ok c = (string_bytes c.in_ok-text.text, c.in_ok-text.ensures.ok, search rules)
 
 pub returns-in_err-text-clause-err : goal.returns-in_err-text-clause-err
 returns-in_err-text-clause-err c =
     let p = err_from_is_err_and c.from_residual.result c.from_residual.ensures.1 in
     rw (p.1, p.2) (weaker c.in_err-text.field-0.0 _ _ c.in_err-text.ensures.err)
 
-pub returns-in_err-end_line-clause-err : goal.returns-in_err-end_line-clause-err
-returns-in_err-end_line-clause-err c =
-    let p = err_from_is_err_and c.from_residual-in_err-end_line.result c.from_residual-in_err-end_line.ensures.1 in
-    rw (p.1, p.2) (inr refl)
+pub returns-in-Err-clause-err : goal.returns-in-Err-clause-err
+returns-in-Err-clause-err c = inr refl

@@ -1,0 +1,33 @@
+use Rattle.std.proofs.Common.{◌≡◌, ℕ, nat_le, List, [], ◌∷◌, length, Some, None, refl, sym, ◌∙◌, inl, inr}
+use Rattle.std.proofs.lemmas.Bool.{cases_Bool}
+use Rattle.ra_trace.specs.Forms as forms
+use Rattle.ra_script.specs.Operation.{name_of, op_of, cut}
+use Rattle.ra_script.proofs.script_reading.operation.operation_of.Goals as goal
+
+-- ---- Traces are cut and name in the same way
+
+same_cut : (text : List ℕ) → forms.cut 32 text ≡ cut text
+same_cut [] = refl
+same_cut (b ∷ bs) = rw (same_cut bs)
+
+same_name : (bytes : List ℕ) → forms.name_of bytes ≡ name_of bytes
+same_name bytes =
+    elim (cases_Bool (nat_le 1 (length bytes))) [
+      | inl some ↦ rw some
+      | inr none ↦ rw none
+    ]
+
+-- ---- What a text is read as, by its parts
+
+no_parts : (text : List ℕ) → forms.cut 32 text ≡ None → None ≡ op_of text
+no_parts text none = rw (sym (same_cut text) ∙ none)
+
+no_name : (text : List ℕ) (parts : List ℕ × List ℕ) → forms.cut 32 text ≡ Some parts → forms.name_of parts.1 ≡ None → None ≡ op_of text
+no_name text parts is none = rw (sym (same_cut text) ∙ is, sym (same_name parts.1) ∙ none)
+
+pub returns-in_default : goal.returns-in_default
+returns-in_default c = no_parts c.args.text.now (rw c.in_default.is at c.cut.ensures)
+
+pub returns-in_default-name_of : goal.returns-in_default-name_of
+returns-in_default-name_of c =
+    no_name c.args.text.now (c.in-Some.word.now, c.in-Some.name.now) (rw c.in-Some.is at c.cut.ensures) (sym c.name_of.ensures ∙ c.in_default-name_of.is)
