@@ -17,24 +17,6 @@ pub enum Refusal {
     Event(BookError),
 }
 
-/// Returns the line that says why an event is refused. It does not allocate.
-fn event_line(cause: BookError) -> &'static str
-    ensures text { result.now ≡ spec.refused_line (Refusal.Event cause) }
-    ensures short { length result.now ≤ 40 }
-{
-    match cause {
-        BookError::Failed => "refused Failed\n",
-        BookError::Frame(fault) => fault.refused_line(),
-        BookError::Busy => "refused Busy\n",
-        BookError::Exhausted => "refused Exhausted\n",
-        BookError::NotHeld => "refused NotHeld\n",
-        BookError::WrongNode => "refused WrongNode\n",
-        BookError::Stranger => "refused Stranger\n",
-        BookError::ClockFull => "refused ClockFull\n",
-        BookError::Memory => "refused Memory\n",
-    }
-}
-
 /// Returns the line with which a line is refused. It does not allocate.
 pub fn refused_line(why: Refusal) -> &'static str
     ensures text { result.now ≡ spec.refused_line why }
@@ -44,6 +26,16 @@ pub fn refused_line(why: Refusal) -> &'static str
         Refusal::Line => "refused Line\n",
         Refusal::Hex => "refused Hex\n",
         Refusal::Frame(fault) => fault.refused_line(),
-        Refusal::Event(cause) => event_line(cause),
+        Refusal::Event(cause) => match cause {
+            BookError::Failed => "refused Failed\n",
+            BookError::Frame(fault) => fault.refused_line(),
+            BookError::Busy => "refused Busy\n",
+            BookError::Exhausted => "refused Exhausted\n",
+            BookError::NotHeld => "refused NotHeld\n",
+            BookError::WrongNode => "refused WrongNode\n",
+            BookError::Stranger => "refused Stranger\n",
+            BookError::ClockFull => "refused ClockFull\n",
+            BookError::Memory => "refused Memory\n",
+        },
     }
 }

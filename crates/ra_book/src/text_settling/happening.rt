@@ -6,36 +6,7 @@ ghost use Rattle.ra_book.specs.Gathering.{Comes};
 
 use ra_frame::{Frame, encoded, round_trip};
 use ra_history::{Book, BookError, BookKind};
-use ra_stamp::{Mode, Name};
 use std::alloc::Global;
-
-/// A client asks.
-///
-/// # Errors
-///
-/// Those of [`Book::ask`].
-fn ask(alloc: Global, book: &mut Book, client: u32, name: Name, mode: Mode) -> Result<(), BookError>
-    ensures { Comes book.old (BookKind.Asked client name mode) book.new result }
-{
-    if let Err(why) = book.ask(alloc, client, name, mode) {
-        return Err(why);
-    }
-    Ok(())
-}
-
-/// A client leaves.
-///
-/// # Errors
-///
-/// Those of [`Book::leave`].
-fn leave(alloc: Global, book: &mut Book, client: u32, name: Name) -> Result<(), BookError>
-    ensures { Comes book.old (BookKind.Gave client name) book.new result }
-{
-    if let Err(why) = book.leave(alloc, client, name) {
-        return Err(why);
-    }
-    Ok(())
-}
 
 /// A frame comes.
 ///
@@ -64,8 +35,18 @@ pub fn happen(alloc: Global, book: &mut Book, kind: &BookKind) -> Result<(), Boo
     ensures { Comes book.old kind.now book.new result }
 {
     match kind {
-        BookKind::Asked { client, name, mode } => ask(alloc, book, *client, *name, *mode),
-        BookKind::Gave { client, name } => leave(alloc, book, *client, *name),
+        BookKind::Asked { client, name, mode } => {
+            if let Err(why) = book.ask(alloc, *client, *name, *mode) {
+                return Err(why);
+            }
+            Ok(())
+        }
+        BookKind::Gave { client, name } => {
+            if let Err(why) = book.leave(alloc, *client, *name) {
+                return Err(why);
+            }
+            Ok(())
+        }
         BookKind::Got(frame) => receive(alloc, book, frame),
     }
 }
