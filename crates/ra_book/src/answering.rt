@@ -19,14 +19,13 @@ ghost use Rattle.ra_book.specs.declared.answering.line_refusal.Refusal.{Refusal}
 use crate::answering::answer_line::answer_line;
 use crate::answering::line_refusal::refused_line;
 use crate::answering::waiting_output::{Output, flush, put};
-use crate::next_line::first_line::opened;
 use crate::next_line::kept_line::KeptLine;
 use crate::next_line::{Input, next_line};
-use crate::{BookFault, Refusal, TimedNode};
+use crate::{BookFault, FirstLine, Refusal, TimedNode};
 use std::alloc::Global;
 use std::io::{BufRead, Write};
 
-/// Makes the node of a book that begins with this line, or returns `None` if it is no first line.
+/// Makes the node of a book that begins with this line, or returns `None` if it is no first line. It does not allocate.
 fn opened_by(alloc: Global, line: &KeptLine) -> Option<TimedNode>
     ensures { (text : List ℕ) → IsKeptLine text line.now.bytes.items line.now.is_long
         → MatchOption result ((node nodes start : ℕ) → IsFirst text node nodes start → ⊥) (IsOpenedBy text) }
@@ -34,7 +33,8 @@ fn opened_by(alloc: Global, line: &KeptLine) -> Option<TimedNode>
     if line.is_long {
         return None;
     }
-    opened(alloc, line.bytes.as_slice())
+    let first = FirstLine::parse(line.bytes.as_slice())?;
+    Some(TimedNode::new(alloc, first.member, first.start))
 }
 
 /// Puts out that a first line is not that of a book.

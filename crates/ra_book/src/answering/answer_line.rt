@@ -1,10 +1,9 @@
 //! The answer to a line of a book after the first.
-ghost use Rattle.std.specs.Prelude.{◌≡◌, ℕ, List, IfOk, MatchResult};
+ghost use Rattle.std.specs.Prelude.{ℕ, List, IfOk, MatchResult};
 ghost use Rattle.ra_book.specs.Answers.{Answers, Reacts, Stays};
-ghost use Rattle.ra_book.specs.BookText.{IsEvent, IsUnread};
 ghost use Rattle.ra_book.specs.Input.{IsKeptLine};
 ghost use Rattle.ra_book.specs.Output.{Puts};
-ghost use Rattle.ra_book.specs.Timed.{CanCome, FitAt};
+ghost use Rattle.ra_book.specs.Timed.{FitAt};
 
 use crate::answering::answer_texts::put_outcome;
 use crate::answering::line_refusal::refused_line;
@@ -12,39 +11,25 @@ use crate::answering::waiting_output::{Output, put};
 use crate::next_line::event_line::event_of;
 use crate::next_line::kept_line::KeptLine;
 use crate::{Refusal, TimedNode};
-use ra_history::BookKind;
 use ra_node::Outcome;
 use std::alloc::Global;
 use std::io::Write;
-
-/// Returns the event that a line is. It does not allocate.
-///
-/// # Errors
-///
-/// Those of `event_of`, and `Line` for a line that is too long.
-fn event_in(line: &KeptLine) -> Result<BookKind, Refusal>
-    ensures read { (text : List ℕ) → IsKeptLine text line.now.bytes.items line.now.is_long
-        → MatchResult result (IsEvent text) (IsUnread text) }
-    ensures can_come { IfOk result CanCome }
-{
-    if line.is_long {
-        return Err(Refusal::Line);
-    }
-    event_of(line.bytes.as_slice())
-}
 
 /// Hands a line to a node, and returns what the node sends and marks.
 ///
 /// # Errors
 ///
-/// Those of `event_of` and of [`TimedNode::take`]. The node is as before.
+/// `Line` for a line that is too long, and those of `event_of` and of [`TimedNode::take`]. The node is as before.
 fn react(alloc: Global, node: &mut TimedNode, line: &KeptLine) -> Result<Outcome, Refusal>
     ensures reacts { (text : List ℕ) → IsKeptLine text line.now.bytes.items line.now.is_long
         → MatchResult result (λ outcome. Reacts node.old text outcome.sends.items outcome.marks.items node.new)
         (Stays node.old text node.new) }
     ensures fits { IfOk result (λ outcome. FitAt node.new.clock outcome.sends.items) }
 {
-    match event_in(line) {
+    if line.is_long {
+        return Err(Refusal::Line);
+    }
+    match event_of(line.bytes.as_slice()) {
         Ok(kind) => match node.take(alloc, &kind) {
             Ok(outcome) => Ok(outcome),
             Err(cause) => Err(Refusal::Event(cause)),

@@ -14,7 +14,7 @@ use crate::answering::waiting_output::{Output, put};
 use itoa::{Buffer, Integer};
 use ra_frame::{Frame, MAX_FRAME, encoded};
 use ra_node::Outcome;
-use ra_stamp::{Entry, Mark, Message, NodeId};
+use ra_stamp::{Entry, Mark, Message};
 use std::io::Write;
 
 /// Puts out a field, with the space before it.
@@ -44,17 +44,6 @@ fn put_bytes<W: Write>(writer: &mut W, out: &mut Output, bytes: &[u8])
     put_field(writer, out, digits);
 }
 
-/// Puts out the line of a frame with these bytes that goes to this node.
-fn put_send_line<W: Write>(writer: &mut W, out: &mut Output, to: NodeId, bytes: &[u8])
-    requires { length bytes.now ≤ 56 }
-    ensures { Puts (W.contents writer.old) (W.contents writer.new) out.old out.new (send_line to bytes.now) }
-{
-    put(writer, out, b"send");
-    put_number(writer, out, to.get());
-    put_bytes(writer, out, bytes);
-    put(writer, out, b"\n");
-}
-
 /// Puts out the line of a frame that fits.
 fn put_frame<W: Write>(writer: &mut W, out: &mut Output, frame: &Frame)
     requires { Fits frame.now }
@@ -62,7 +51,10 @@ fn put_frame<W: Write>(writer: &mut W, out: &mut Output, frame: &Frame)
         × Puts (W.contents writer.old) (W.contents writer.new) out.old out.new (send_line (to_of frame.now.message) bytes) }
 {
     let bytes = encoded(frame);
-    put_send_line(writer, out, frame.message.to(), bytes.as_slice());
+    put(writer, out, b"send");
+    put_number(writer, out, frame.message.to().get());
+    put_bytes(writer, out, bytes.as_slice());
+    put(writer, out, b"\n");
 }
 
 /// Puts out a line for each message, in order: its frame with this clock.

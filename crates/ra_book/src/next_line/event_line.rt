@@ -1,8 +1,5 @@
 //! A line of a book as the event that it is.
-ghost use Rattle.std.specs.Prelude.{◌≡◌, ◌≤◌, ◌/◌, ◌++◌, ℕ, List, true, false, length, codes, IfOk, IfErr, MatchResult, Some};
-ghost use Rattle.ra_frame.specs.declared.error.FrameError.{FrameError};
-ghost use Rattle.ra_frame.specs.FrameText.{IsFrameText};
-ghost use Rattle.ra_frame.specs.Faults.{first_fault};
+ghost use Rattle.std.specs.Prelude.{◌≡◌, ◌≤◌, ◌/◌, ◌++◌, ℕ, List, true, false, length, codes, IfOk, MatchResult};
 ghost use Rattle.ra_frame.specs.Fits.{Fits};
 ghost use Rattle.ra_book.specs.BookText.{IsEvent, IsUnread, HasBytes, IsFrameOf, IsNoFrame};
 ghost use Rattle.ra_book.specs.Timed.{CanCome};
@@ -61,22 +58,6 @@ fn are_bytes(digits: &[u8], bytes: &mut [u8]) -> bool
     hex::decode_to_slice(digits, bytes).is_ok()
 }
 
-/// Returns the frame that bytes are the text of. It does not allocate.
-///
-/// # Errors
-///
-/// `Frame`: they are no frame, with the fault that [`decode`] names.
-fn frame_in(bytes: &[u8]) -> Result<Frame, Refusal>
-    ensures frame { IfOk result (IsFrameText bytes.now) }
-    ensures fits { IfOk result Fits }
-    ensures refused { IfErr result (λ why. (fault : FrameError) × (why ≡ Refusal.Frame fault) × (first_fault bytes.now ≡ Some fault)) }
-{
-    match decode(bytes) {
-        Ok(frame) => Ok(frame),
-        Err(fault) => Err(Refusal::Frame(fault)),
-    }
-}
-
 /// Returns the frame whose text digits stand for. It does not allocate.
 ///
 /// # Errors
@@ -92,10 +73,12 @@ fn frame_of(digits: &[u8]) -> Result<Frame, Refusal>
 {
     let mut room = [0; MAX_BYTES];
     let bytes = &mut room[..digits.len() / 2];
-    if are_bytes(digits, bytes) {
-        frame_in(bytes)
-    } else {
-        Err(Refusal::Hex)
+    if !are_bytes(digits, bytes) {
+        return Err(Refusal::Hex);
+    }
+    match decode(bytes) {
+        Ok(frame) => Ok(frame),
+        Err(fault) => Err(Refusal::Frame(fault)),
     }
 }
 

@@ -1,14 +1,11 @@
 //! The first line of a book.
 ghost use Rattle.std.specs.Prelude.{◌≡◌, ◌≤◌, ◌<◌, ◌++◌, ℕ, List, codes, length, MatchOption};
 ghost use Rattle.ra_book.specs.BookText.{IsFirst};
-ghost use Rattle.ra_book.specs.Timed.{opening};
 
-use crate::TimedNode;
 use crate::next_line::book_fields::first_of;
 use crate::next_line::event_line::MAX_LINE;
 use ra_stamp::{Member, NodeId};
 use ra_trace::rest_after;
-use std::alloc::Global;
 
 /// What the first line of a book says.
 #[derive(Clone, Copy)]
@@ -58,13 +55,4 @@ impl FirstLine {
             None => None,
         }
     }
-}
-
-/// Makes the node of a book that begins with this line, or returns `None` if it is no first line. It does not allocate.
-pub fn opened(alloc: Global, line: &[u8]) -> Option<TimedNode>
-    ensures { MatchOption result ((node nodes start : ℕ) → IsFirst line.now node nodes start → ⊥)
-        (λ made. (node nodes start : ℕ) × IsFirst line.now node nodes start × (made ≡ opening node nodes start)) }
-{
-    let first = FirstLine::parse(line)?;
-    Some(TimedNode::new(alloc, first.member, first.start))
 }

@@ -1,14 +1,17 @@
-use Rattle.std.proofs.Common.{◌≡◌, List, ℕ, ap, ◌∙◌, rules}
+use Rattle.std.proofs.Common.{◌≡◌, List, ℕ, decimal, ap, ◌∙◌, rules}
+use Rattle.hex.specs.Hex.{encode_lower}
 use Rattle.ra_stamp.specs.Message.{to_of}
-use Rattle.ra_book.specs.Answers.{send_line}
-use Rattle.ra_book.proofs.Put.{renamed}
+use Rattle.ra_world.specs.Lines.{field}
+use Rattle.ra_book.proofs.Put.{both, renamed}
 use Rattle.ra_book.proofs.answering.answer_texts.put_frame.Goals as goal
 
 pub returns : goal.returns
 returns g c =
     let same : c.as_slice.result.now ≡ c.encoded-bytes.result.items = search rules in
-    let to : c.to.result ≡ to_of c.args.frame.now.message = search rules in (
+    let to : c.to.result ≡ to_of c.args.frame.now.message = search rules in
+    let number = renamed _ _ _ _ _ _ (ap (λ (n : ℕ). field (decimal n)) (c.get.ensures.value ∙ to)) c.put_number.ensures in
+    let digits = renamed _ _ _ _ _ _ (ap (λ (bs : List ℕ). field (encode_lower bs)) same) c.put_bytes.ensures in (
       c.encoded-bytes.result.items,
       c.encoded-bytes.ensures,
-      renamed _ _ _ _ _ _ (ap (λ (bs : List ℕ). send_line c.to.result bs) same ∙ ap (λ (n : ℕ). send_line n c.encoded-bytes.result.items) to) c.put_send_line.ensures,
+      both _ _ _ _ _ _ _ _ (both _ _ _ _ _ _ _ _ (both _ _ _ _ _ _ _ _ c.put.ensures number) digits) c.put-2.ensures,
     )
