@@ -1,6 +1,6 @@
 -- Books in the order of their nodes.
-use Rattle.std.proofs.Common.{◌≡◌, ◌≢◌, ℕ, zero, suc, ◌+◌, ◌<◌, ◌≤◌, List, [], ◌∷◌, ◌++◌, length, map, get_or, Result, Ok, Err, inl, inr, refl, sym, ap, subst, ◌∙◌, arith}
-use Rattle.std.specs.Prelude.{All, MatchResult}
+use Rattle.std.proofs.Common.{◌≡◌, ◌≢◌, ℕ, zero, suc, ◌+◌, ◌<◌, ◌≤◌, List, [], ◌∷◌, ◌++◌, length, map, get_or, inl, inr, refl, sym, ap, subst, ◌∙◌, arith}
+use Rattle.std.specs.Prelude.{All}
 use Rattle.std.specs.List.{range_with_len, remove}
 use Rattle.std.specs.List.Sorted.{IsPermutation}
 use Rattle.std.proofs.lemmas.List.{append-nil, length-append, length-map, get_or-map, map_push, nil_from_length}
@@ -10,8 +10,6 @@ use Rattle.std.proofs.lemmas.List.Quantifiers.{Any-push}
 use Rattle.std.proofs.lemmas.List.Sorted.{All-permutation, IsPermutation-more, IsPermutation-refl, IsPermutation-sym, length_permutation}
 use Rattle.ra_history.specs.Book.{BookState, IsWhole}
 use Rattle.ra_history.specs.Settled.{start_of}
-use Rattle.ra_book.specs.declared.text_settling.arranging.Unarranged.{Unarranged}
-use Rattle.ra_book.specs.declared.text_settling.arranging.Unarranged.TheVariants.{Missing}
 use Rattle.ra_book.specs.Texts.{AreBeside, AreRight, AreWhole, IsBeside, IsRead}
 use Rattle.ra_book.specs.Gathering.{IsAllArranged, IsArranged, LacksNode, LacksSome}
 use Rattle.ra_book.specs.Verdicts.{IsMissing}
@@ -141,10 +139,3 @@ module _ (lines : List (List ℕ)) (earlier : List BookState) (last : BookState)
       none k d within,
     ),
   )
-
--- what was found of as many books as nodes
-pub all_found : {V : Type 0} (items : V → List BookState) (books : List BookState) (nodes : ℕ) (r : Result V Unarranged) → length books ≡ nodes
-    → MatchResult r (λ ordered. IsArranged books nodes (items ordered)) (λ why. why ≡ Missing → LacksNode books nodes)
-    → MatchResult r (λ ordered. IsAllArranged books nodes (items ordered)) (λ why. why ≡ Missing → LacksSome books nodes)
-all_found items bs nodes (Err why) many h = λ is. inr (h is)
-all_found items bs nodes (Ok ordered) many h = all_of bs (items ordered) nodes many h

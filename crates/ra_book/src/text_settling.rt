@@ -6,16 +6,15 @@ pub mod read_books;
 pub mod searching;
 pub mod settle_error;
 
-ghost use Rattle.std.specs.Prelude.{◌≡◌, ◌⊎◌, ◌∷◌, ◌++◌, [], ℕ, Bool, false, List, All, IfErr, IfOk, IfSome, IsErrOf, IsOkUnless, MatchResult, OnOk};
-ghost use Rattle.ra_history.specs.Book.{BookState};
-ghost use Rattle.ra_history.specs.Settled.{HasUnsent, IsCluster};
+ghost use Rattle.std.specs.Prelude.{◌≡◌, ◌⊎◌, ◌∷◌, ◌++◌, [], ℕ, List, All, IfErr, IfOk, IfSome, IsErrOf, IsOkUnless, MatchResult, OnOk};
+ghost use Rattle.ra_history.specs.Settled.{IsCluster};
 ghost use Rattle.ra_book.specs.Texts.{IsRead};
 ghost use Rattle.ra_book.specs.Gathering.{HasGathered, IsGathered, IsMadeOf, IsTwiceBy, IsUnfit};
 ghost use Rattle.ra_book.specs.Verdicts.{HasFittingBooks, IsRunBy, IsSettledBy, IsSettledText, IsUnsettled, IsWrong};
 ghost use Rattle.ra_book.specs.declared.text_settling.settle_error.TextCause.{TextCause};
 
 use crate::settle_laws::each_text_of_books_has_one_verdict;
-use crate::text_settling::arranging::{Unarranged, all_arranged};
+use crate::text_settling::arranging::{Unarranged, arranged};
 use crate::text_settling::came_frames::Came;
 use crate::text_settling::gathering::Gathered;
 use crate::text_settling::read_books::read_books;
@@ -33,37 +32,6 @@ pub struct SettledText {
     pub start: u64,
     /// The steps of the run, and what came of them.
     pub settled: Settled,
-}
-
-/// Returns why books do not settle to which a frame came that was not sent: the first line of the text by which one came.
-fn unsent(books: &mut [Book], came: &[Came]) -> SettleTextError
-    requires cluster { IsCluster books.old }
-    requires each { All IsRead books.old }
-    ensures { (repeats : Bool) → IsUnfit repeats books.old came.now result }
-{
-    match first_unsent(books, came) {
-        Some(line) => SettleTextError::Invalid {
-            line,
-            cause: TextCause::NotSent,
-        },
-        // It never comes to this, as all that came is in `came`.
-        None => SettleTextError::Memory,
-    }
-}
-
-/// Returns why books do not settle to which a message came twice, but no frame that was not sent: the first line of the text by
-/// which one came again.
-fn again(alloc: Global, came: &[Came]) -> SettleTextError
-    ensures { (books : List BookState) → (HasUnsent books → ⊥) → IsUnfit false books came.now result }
-{
-    match first_again(alloc, came) {
-        Ok(Some(line)) => SettleTextError::Invalid {
-            line,
-            cause: TextCause::Twice,
-        },
-        // It never comes to `Ok(None)`, as all that came is in `came`.
-        Ok(None) | Err(_) => SettleTextError::Memory,
-    }
 }
 
 /// Settles the books of a cluster, with copies if messages may come again.
@@ -107,8 +75,22 @@ fn settle_ordered(
                 settled,
             })
         }
-        Err(SettleError::NotSent) => Err(unsent(books, came)),
-        Err(SettleError::Twice) => Err(again(alloc, came)),
+        Err(SettleError::NotSent) => match first_unsent(books, came) {
+            Some(line) => Err(SettleTextError::Invalid {
+                line,
+                cause: TextCause::NotSent,
+            }),
+            // It never comes to this, as all that came is in `came`.
+            None => Err(SettleTextError::Memory),
+        },
+        Err(SettleError::Twice) => match first_again(alloc, came) {
+            Ok(Some(line)) => Err(SettleTextError::Invalid {
+                line,
+                cause: TextCause::Twice,
+            }),
+            // It never comes to `Ok(None)`, as all that came is in `came`.
+            Ok(None) | Err(_) => Err(SettleTextError::Memory),
+        },
         Err(_) => Err(SettleTextError::Memory),
     }
 }
@@ -132,7 +114,7 @@ fn settle_books(
     ensures { (text : List ℕ) (gathered : Gathered) → IsMadeOf gathered books.old.items nodes came.now
         → HasGathered text gathered next → MatchResult result (IsSettledText repeats text) (IsUnsettled repeats text) }
 {
-    match all_arranged(alloc, books, nodes) {
+    match arranged(alloc, books, nodes) {
         Ok(ordered) => {
             let mut ordered = ordered;
             settle_ordered(alloc, ordered.as_mut_slice(), came, repeats)

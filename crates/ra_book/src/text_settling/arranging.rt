@@ -1,7 +1,7 @@
 //! Books in the order of their nodes.
 ghost use Rattle.std.specs.Prelude.{◌≡◌, ◌≢◌, ◌<◌, All, length, slice_index_or, MatchOption, MatchResult};
 ghost use Rattle.ra_history.specs.Book.{BookState};
-ghost use Rattle.ra_book.specs.Gathering.{IsAllArranged, IsArranged, LacksNode, LacksSome};
+ghost use Rattle.ra_book.specs.Gathering.{IsAllArranged, LacksSome};
 
 use ra_history::Book;
 use std::alloc::Global;
@@ -28,44 +28,28 @@ fn place_of(books: &[Book], node: usize) -> Option<usize>
     None
 }
 
-/// Takes the books of the nodes 1 to `nodes` out of these, and returns them in this order. There are at most 64, so that they are
-/// looked through for each.
-///
-/// # Errors
-///
-/// `Missing`: one of the nodes has none. `Memory`.
-fn arranged(alloc: Global, left: &mut Vec<Book>, nodes: usize) -> Result<Vec<Book>, Unarranged>
-    ensures { MatchResult result (λ ordered. IsArranged left.old.items nodes ordered.items)
-        (λ why. why ≡ Unarranged.Missing → LacksNode left.old.items nodes) }
-{
-    let mut ordered = Vec::new(alloc);
-    if ordered.reserve(nodes).is_err() {
-        return Err(Unarranged::Memory);
-    }
-    for before in 0..nodes {
-        let Some(place) = place_of(left, before + 1) else {
-            return Err(Unarranged::Missing);
-        };
-        ordered.push_reserved(left.remove(place));
-    }
-    Ok(ordered)
-}
-
-/// Takes the books out of these, and returns them in the order of their nodes, 1 to `nodes`.
+/// Takes the books out of these, and returns them in the order of their nodes, 1 to `nodes`. There are at most 64, so that they
+/// are looked through for each.
 ///
 /// # Errors
 ///
 /// `Missing`: they are not as many, or one of the nodes has none. `Memory`.
-pub fn all_arranged(
-    alloc: Global,
-    books: &mut Vec<Book>,
-    nodes: usize,
-) -> Result<Vec<Book>, Unarranged>
+pub fn arranged(alloc: Global, books: &mut Vec<Book>, nodes: usize) -> Result<Vec<Book>, Unarranged>
     ensures { MatchResult result (λ ordered. IsAllArranged books.old.items nodes ordered.items)
         (λ why. why ≡ Unarranged.Missing → LacksSome books.old.items nodes) }
 {
     if books.len() != nodes {
         return Err(Unarranged::Missing);
     }
-    arranged(alloc, books, nodes)
+    let mut ordered = Vec::new(alloc);
+    if ordered.reserve(nodes).is_err() {
+        return Err(Unarranged::Memory);
+    }
+    for before in 0..nodes {
+        let Some(place) = place_of(books, before + 1) else {
+            return Err(Unarranged::Missing);
+        };
+        ordered.push_reserved(books.remove(place));
+    }
+    Ok(ordered)
 }

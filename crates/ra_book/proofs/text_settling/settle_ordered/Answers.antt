@@ -1,7 +1,6 @@
-use Rattle.std.proofs.Common.{Bool, subst, sym, ap, ◌∙◌}
+use Rattle.std.proofs.Common.{sym, ap, ◌∙◌}
 use Rattle.ra_history.specs.Book.{BookState}
-use Rattle.ra_book.specs.Gathering.{IsUnfit}
-use Rattle.ra_book.proofs.Sent.{first_book}
+use Rattle.ra_book.proofs.Sent.{cluster_numbered, first_book, first_unsent_of}
 use Rattle.ra_book.proofs.text_settling.settle_ordered.Goals as goal
 
 pub returns-in-Ok : goal.returns-in-Ok
@@ -15,10 +14,13 @@ returns-in-Ok c =
       run_is = c.in-Ok.ensures;
     }
 
-pub returns-in-Err-NotSent : goal.returns-in-Err-NotSent
-returns-in-Err-NotSent c = c.unsent.ensures c.args.repeats
+pub first_unsent-requires : goal.first_unsent-requires
+first_unsent-requires c = cluster_numbered c.args.books.now c.requires.cluster
 
-pub returns-in-Err-Twice : goal.returns-in-Err-Twice
-returns-in-Err-Twice c =
+pub returns-in-Some : goal.returns-in-Some
+returns-in-Some c = first_unsent_of c.args.books.now c.args.came.now c.in-Some.line c.requires.each c.in-Some.ensures
+
+pub returns-in-Ok-Some : goal.returns-in-Ok-Some
+returns-in-Ok-Some c =
     let (may_not, sent) = c.in-Err-Twice.ensures c.in-Err-Twice.field-0-is in
-    subst (λ (b : Bool). IsUnfit b c.args.books.now c.args.came.now c.again.result) (sym may_not) (c.again.ensures c.args.books.now sent)
+    (may_not, sent, rw c.in-Ok-Some.field-0-is at c.in-Ok-Some.ensures)
