@@ -15,21 +15,13 @@ use std::io::{Read, Write};
 /// The most lines that are drawn, since a reader of a trace can count them. A line has at most 126 arrows.
 const MAX_LINES: u64 = 4096;
 
-/// Returns how many line feeds a byte is.
-fn feed_count(byte: u8) -> u64
-    ensures value { result ≡ spec.feed_count byte }
-    ensures at_most { result ≤ 1 }
-{
-    if byte == b'\n' { 1 } else { 0 }
-}
-
 /// Returns how many lines a text has. It does not allocate.
 fn line_count(text: &[u8]) -> u64
     ensures { result ≡ spec.line_count text.now }
 {
     let mut lines = 0;
     for byte in text {
-        lines += feed_count(*byte);
+        lines += if *byte == b'\n' { 1 } else { 0 };
     }
     lines
 }

@@ -3,7 +3,7 @@ mod name_cut;
 mod node_lane;
 pub mod sizes;
 
-use crate::timeline::{LockSpan, MessagePath, Timeline};
+use crate::timeline::{LockSpan, Timeline};
 use itoa::Buffer;
 pub use name_cut::NameCut;
 use name_cut::name_cut_of;
@@ -44,7 +44,7 @@ pub struct Layout {
     end: u32,
     /// How names are shortened.
     pub cut: NameCut,
-    /// How wide a label is.
+    /// About how wide a label is at most, with the greatest number and the longest name: letters have different widths.
     label: u64,
     /// Whether a message comes from the lane of copies.
     pub has_copies: bool,
@@ -53,39 +53,28 @@ pub struct Layout {
     pub bars: Vec<LockBar>,
 }
 
-/// Returns the greatest number of these messages, and whether one of them is a copy.
-fn most_and_copies(paths: &[MessagePath]) -> (u64, bool) {
-    let (mut most, mut has_copies) = (0, false);
-    for path in paths {
-        most = u64::max(most, path.message.seq());
-        has_copies = has_copies || path.copied;
-    }
-    (most, has_copies)
-}
-
-/// Returns about how wide a label is at most, with this number and the longest name: letters have different widths.
-fn label_width(number: u64, cut: &NameCut) -> u64 {
-    let letters = Buffer::new()
-        .format(number)
-        .len()
-        .saturating_add(cut.letters_of(cut.longest))
-        .saturating_add(LABEL_LETTERS);
-    (letters as u64).saturating_mul(MEAN_LETTER)
-}
-
 impl Layout {
     /// Makes an empty one for what is drawn of a run.
     pub fn new(alloc: Global, timeline: &Timeline) -> Layout {
         let steps = short(timeline.rows.len());
         let left = timeline.paths.still_under_way.min(UNDER_WAY_ROWS);
         let cut = name_cut_of(timeline);
-        let (most, has_copies) = most_and_copies(&timeline.paths.drawn);
+        let (mut most, mut has_copies) = (0, false);
+        for path in &timeline.paths.drawn {
+            most = u64::max(most, path.message.seq());
+            has_copies = has_copies || path.copied;
+        }
+        let letters = Buffer::new()
+            .format(most)
+            .len()
+            .saturating_add(cut.letters_of(cut.longest))
+            .saturating_add(LABEL_LETTERS);
         Layout {
             nodes: timeline.nodes,
             steps,
             end: steps.saturating_add(left).saturating_add(1),
             cut,
-            label: label_width(most, &cut),
+            label: (letters as u64).saturating_mul(MEAN_LETTER),
             has_copies,
             lanes: Vec::new(alloc),
             bars: Vec::new(alloc),
@@ -161,15 +150,9 @@ impl Layout {
             .saturating_add(ROWS_TOP)
     }
 
-    /// Returns how many times the nodes are named again, each time above a row.
+    /// Returns how many times the nodes are named again, each time below the row that ends a band.
     pub fn bands(&self) -> u32 {
         self.end.saturating_sub(1) / BAND_ROWS
-    }
-
-    /// Returns how far down the nodes are named again for this time, counted from 0.
-    pub fn band_y(&self, band: u32) -> u64 {
-        let row = band.saturating_add(1).saturating_mul(BAND_ROWS);
-        self.y(row).saturating_add(BAND_HEIGHT)
     }
 
     /// Returns the row of a message under way at the end, and whether it has one of its own.
@@ -224,18 +207,6 @@ impl Layout {
             .saturating_sub(LANE_MARGIN + (u64::from(column) + 1) * COLUMN_WIDTH)
     }
 
-    /// Returns whether there is room for the name and the mode of a lock along its bar.
-    pub fn has_room(&self, bar: &LockBar) -> bool {
-        let span = &bar.span;
-        let letters = self
-            .cut
-            .letters_of(span.key.name.bytes().len())
-            .saturating_add(span.mode.word().len())
-            .saturating_add(1);
-        let height = self.y(bar.end).saturating_sub(self.y(span.asked.row));
-        self.is_wide() && (letters as u64).saturating_mul(WIDE_LETTER) <= height
-    }
-
     /// Returns how far to the right the last node is.
     fn last_x(&self) -> u64 {
         match self.lanes.last() {
@@ -249,20 +220,17 @@ impl Layout {
         self.last_x().saturating_add(self.gap())
     }
 
-    /// Returns its width.
-    pub fn width(&self) -> u64 {
+    /// Returns its width and its height.
+    pub fn size(&self) -> (u64, u64) {
         let last = if self.has_copies {
             self.copies_x().saturating_add(COPIES_WIDTH)
         } else {
             self.last_x()
         };
-        last.saturating_add(self.label)
+        let width = last
+            .saturating_add(self.label)
             .saturating_add(RIGHT_MARGIN)
-            .max(LEGEND_WIDTH)
-    }
-
-    /// Returns its height.
-    pub fn height(&self) -> u64 {
-        self.bottom().saturating_add(BOTTOM_MARGIN)
+            .max(LEGEND_WIDTH);
+        (width, self.bottom().saturating_add(BOTTOM_MARGIN))
     }
 }

@@ -19,7 +19,6 @@ use ra_stamp::Memory;
 use std::alloc::Global;
 use svg_writer::PatternValue::{Number, Text};
 use svg_writer::SvgWriter;
-use wording::ending_of;
 
 /// What the headline counts of the whole run.
 #[derive(Clone, Copy)]
@@ -30,22 +29,10 @@ pub struct Totals {
     pub count: u128,
 }
 
-/// Adds which lines are drawn if they are not all.
-fn put_part(svg: &mut SvgWriter, part: Part) {
-    if part.from > 1 {
-        svg.write(", from line $", &[Number(part.from)]);
-    }
-    if part.to < u64::MAX {
-        svg.write(", to line $", &[Number(part.to)]);
-    }
-}
-
 /// Adds how many things there are.
 fn put_count(svg: &mut SvgWriter, count: u64, thing: &str) {
-    svg.write(
-        "$ $$",
-        &[Number(count), Text(thing), Text(ending_of(count))],
-    );
+    let ending = if count == 1 { "" } else { "s" };
+    svg.write("$ $$", &[Number(count), Text(thing), Text(ending)]);
 }
 
 /// Adds what is drawn: how many nodes there are, the totals, and which lines if they are not all.
@@ -55,12 +42,17 @@ fn put_headline(svg: &mut SvgWriter, nodes: u16, totals: &Totals, part: Part) {
     put_count(svg, short(totals.requests), "request");
     svg.put(b", ");
     put_count(svg, short(totals.count), totals.counted);
-    put_part(svg, part);
+    if part.from > 1 {
+        svg.write(", from line $", &[Number(part.from)]);
+    }
+    if part.to < u64::MAX {
+        svg.write(", to line $", &[Number(part.to)]);
+    }
 }
 
 /// Adds the size of the picture, its title, how shapes look, and the legend.
 fn put_head(svg: &mut SvgWriter, layout: &Layout, totals: &Totals, part: Part) {
-    let (width, height) = (layout.width(), layout.height());
+    let (width, height) = layout.size();
     svg.write(
         " width=\"$\" height=\"$\" viewBox=\"0 0 $ $\">\n<title>",
         &[Number(width), Number(height), Number(width), Number(height)],
@@ -100,7 +92,7 @@ fn draw_timeline(
         put_head(&mut layers.shapes, &layout, totals, part);
         layers.draw(&layout, timeline);
     } else {
-        layers.shapes.run_out();
+        layers.shapes.is_out = true;
     }
 }
 

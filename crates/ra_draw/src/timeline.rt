@@ -53,24 +53,6 @@ fn act_of(step: &Step) -> Option<ClientAct> {
     }
 }
 
-/// Returns what a client does by a mark of a log: to be granted a name is shown by its bar alone.
-fn act_of_mark(mark: &Mark) -> Option<ClientAct> {
-    let entry = mark.entry();
-    let key = LockKey {
-        node: entry.stamp.node,
-        client: entry.client,
-        name: entry.name,
-    };
-    match mark {
-        Mark::Requested(entry) => Some(ClientAct {
-            key,
-            mode: Some(entry.mode),
-        }),
-        Mark::Entered(_) => None,
-        Mark::Left(_) => Some(ClientAct { key, mode: None }),
-    }
-}
-
 /// Returns a world for the run of a trace with this first line, or `None` if it is that of a mark log.
 fn world_of(alloc: Global, first: &[u8]) -> Result<Option<MarklessWorld>, Memory> {
     let Some(Line::First { nodes, start, .. }) = &Line::parse(first) else {
@@ -148,8 +130,11 @@ impl Timeline {
             && let Message::Request { .. } = request
             && sends.is_empty()
         {
-            if self.now.row > 0 {
-                self.paths.defer_last();
+            // The path that was added last is that of this request, if the step is drawn.
+            if self.now.row > 0
+                && let Some(path) = self.paths.drawn.last_mut()
+            {
+                path.is_deferred = true;
             }
             self.deferrals.begin(request, self.now)?;
         }
@@ -182,10 +167,26 @@ impl Timeline {
         }
     }
 
-    /// Takes the mark of a line of a log.
+    /// Takes the mark of a line of a log. To be granted a name is shown by the client's bar alone.
     fn take_mark(&mut self, number: u64, mark: &Mark, is_drawn: bool) -> Result<(), Memory> {
-        self.begin(number, act_of_mark(mark), is_drawn)?;
-        self.nodes = self.nodes.max(mark.entry().stamp.node.get());
+        let entry = mark.entry();
+        let mode = match mark {
+            Mark::Requested(_) => Some(entry.mode),
+            Mark::Entered(_) | Mark::Left(_) => None,
+        };
+        let act = match mark {
+            Mark::Entered(_) => None,
+            Mark::Requested(_) | Mark::Left(_) => Some(ClientAct {
+                key: LockKey {
+                    node: entry.stamp.node,
+                    client: entry.client,
+                    name: entry.name,
+                },
+                mode,
+            }),
+        };
+        self.begin(number, act, is_drawn)?;
+        self.nodes = self.nodes.max(entry.stamp.node.get());
         self.spans.take(mark, self.now);
         Ok(())
     }

@@ -31,22 +31,16 @@ struct CommonLetters {
     longest: usize,
 }
 
-/// Returns how many letters two names have in common at their beginnings.
-fn same_before(one: &[u8], other: &[u8]) -> usize {
+/// Returns how many letters two names have in common, at their ends or at their beginnings.
+fn same_letters(one: &[u8], other: &[u8], at_end: bool) -> usize {
     let most = one.len().min(other.len());
     for place in 0..most {
-        if one[place] != other[place] {
-            return place;
-        }
-    }
-    most
-}
-
-/// Returns how many letters two names have in common at their ends.
-fn same_after(one: &[u8], other: &[u8]) -> usize {
-    let most = one.len().min(other.len());
-    for place in 0..most {
-        if one[one.len() - 1 - place] != other[other.len() - 1 - place] {
+        let is_same = if at_end {
+            one[one.len() - 1 - place] == other[other.len() - 1 - place]
+        } else {
+            one[place] == other[place]
+        };
+        if !is_same {
             return place;
         }
     }
@@ -72,15 +66,15 @@ impl CommonLetters {
             };
             return;
         };
-        self.before = self.before.min(same_before(first.bytes(), other));
-        self.after = self.after.min(same_after(first.bytes(), other));
+        self.before = self.before.min(same_letters(first.bytes(), other, false));
+        self.after = self.after.min(same_letters(first.bytes(), other, true));
         self.shortest = self.shortest.min(other.len());
         self.longest = self.longest.max(other.len());
     }
 }
 
-/// Returns what the names of what is drawn have in common. It is linear in what is drawn.
-fn common_in(timeline: &Timeline) -> CommonLetters {
+/// Returns how the names of what is drawn are shortened. It is linear in what is drawn.
+pub fn name_cut_of(timeline: &Timeline) -> NameCut {
     let mut common = CommonLetters {
         first: None,
         before: 0,
@@ -96,12 +90,6 @@ fn common_in(timeline: &Timeline) -> CommonLetters {
             common.take(&act.key.name);
         }
     }
-    common
-}
-
-/// Returns how the names of what is drawn are shortened. It is linear in what is drawn.
-pub fn name_cut_of(timeline: &Timeline) -> NameCut {
-    let common = common_in(timeline);
     let longest = common.longest;
     if longest <= WHOLE {
         return NameCut {

@@ -36,15 +36,15 @@ impl NodeLane {
     }
 
     /// Returns the first column of a client that is free for a bar from this row on, and that it is free. If none is, it returns the
-    /// last one, and that it is not. If the client has no column, it returns `None`.
-    fn find(&self, client: u32, first: u32) -> Option<(u32, bool)> {
+    /// last one, if the client has a column, and that it is not.
+    fn find(&self, client: u32, first: u32) -> (Option<u32>, bool) {
         let Some(first_place) = self.firsts.get(&client) else {
-            return None;
+            return (None, false);
         };
         let mut place = *first_place;
         for _column in 0..self.columns.len() {
             match self.columns.get(place as usize) {
-                Some(column) if column.end <= first => return Some((place, true)),
+                Some(column) if column.end <= first => return (Some(place), true),
                 Some(
                     Column {
                         next: Some(next),
@@ -54,19 +54,7 @@ impl NodeLane {
                 _ => break,
             }
         }
-        Some((place, false))
-    }
-
-    /// Notes that a client has one column more, after this one if it had any.
-    fn note_place(&mut self, client: u32, before: Option<u32>, place: u32) -> Result<(), Memory> {
-        if let Some(before) = before {
-            if let Some(column) = self.columns.get_mut(before as usize) {
-                column.next = Some(place);
-            }
-        } else {
-            self.firsts.insert(client, place)?;
-        }
-        Ok(())
+        (Some(place), false)
     }
 
     /// Adds a column for a client, after this one if it had any, with a bar down to this row. Returns which.
@@ -77,21 +65,26 @@ impl NodeLane {
             end,
             next: None,
         })?;
-        self.note_place(client, before, place)?;
+        if let Some(before) = before {
+            if let Some(column) = self.columns.get_mut(before as usize) {
+                column.next = Some(place);
+            }
+        } else {
+            self.firsts.insert(client, place)?;
+        }
         Ok(place)
     }
 
     /// Takes a column for a bar of this client over these rows, and returns which.
     pub fn take(&mut self, client: u32, first: u32, last: u32) -> Result<u32, Memory> {
         match self.find(client, first) {
-            Some((place, true)) => {
+            (Some(place), true) => {
                 if let Some(column) = self.columns.get_mut(place as usize) {
                     column.end = last;
                 }
                 Ok(place)
             }
-            Some((place, false)) => self.add(client, Some(place), last),
-            None => self.add(client, None, last),
+            (before, _) => self.add(client, before, last),
         }
     }
 

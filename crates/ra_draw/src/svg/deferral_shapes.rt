@@ -6,23 +6,6 @@ use crate::svg::svg_writer::PatternValue::{Node, Number, Text, Whole};
 use crate::timeline::{Deferral, Moment};
 
 impl Layers {
-    /// Begins the shape of a deferral: what it is.
-    fn name_deferral(&mut self, deferral: &Deferral) {
-        let request = &deferral.request;
-        let name = request.name();
-        self.shapes.write(
-            "<g><title>node $ defers its reply to request $ of node $ for $, from line $",
-            &[
-                Node(request.to()),
-                Number(request.seq()),
-                Node(request.from()),
-                Whole(&name),
-                Number(deferral.came.line),
-            ],
-        );
-        self.end_title(deferral.ended);
-    }
-
     /// Draws the line of a deferral from a point, this far to the left of the lane, with this look.
     fn draw_deferral_line(
         &mut self,
@@ -52,9 +35,21 @@ impl Layers {
     /// Draws the line of a deferral, this far to the left of the lane, from where the REQUEST came to where the REPLY is sent, and says
     /// what it is. Beneath it is one that is not seen, so that a pointer hits it easily.
     fn draw_deferral(&mut self, layout: &Layout, deferral: &Deferral, beside: u64) {
+        let request = &deferral.request;
+        let name = request.name();
+        self.shapes.write(
+            "<g><title>node $ defers its reply to request $ of node $ for $, from line $",
+            &[
+                Node(request.to()),
+                Number(request.seq()),
+                Node(request.from()),
+                Whole(&name),
+                Number(deferral.came.line),
+            ],
+        );
+        self.end_title(deferral.ended);
         let came = deferral.came.row;
-        let from = layout.at(deferral.request.to(), came);
-        self.name_deferral(deferral);
+        let from = layout.at(request.to(), came);
         self.draw_deferral_line(layout, deferral.ended, from, beside, "hit");
         self.draw_deferral_line(layout, deferral.ended, from, beside, "deferral");
         if came > 0 {

@@ -1,11 +1,13 @@
 //! The shapes of a picture, and their labels: the lanes, what is on each row, and what the other files of this folder draw.
-use crate::layout::sizes::{CLIENTS_Y, COLUMN_WIDTH, LANES_TOP, NODES_Y, ROW_NUMBERS_X};
+use crate::layout::sizes::{
+    BAND_HEIGHT, BAND_ROWS, CLIENTS_Y, COLUMN_WIDTH, LANES_TOP, NODES_Y, ROW_NUMBERS_X,
+};
 use crate::layout::{Layout, Point};
 use crate::svg::svg_writer::PatternValue::{Node, Number, Short, Text, Whole};
 use crate::svg::svg_writer::SvgWriter;
 use crate::svg::wording::mode_text;
 use crate::timeline::{ClientAct, LockKey, Moment, Timeline};
-use ra_stamp::{Memory, Mode, NodeId};
+use ra_stamp::{Memory, NodeId};
 use std::alloc::Global;
 
 /// The two layers of a picture: the shapes, and the labels, which are in front of them all.
@@ -76,8 +78,11 @@ impl Layers {
             .write("node\">$$</text>\n", &[Text(word), Node(node)]);
     }
 
-    /// Names the clients of the columns of a node, if their numbers are short.
-    fn name_clients(&mut self, layout: &Layout, node: NodeId) {
+    /// Draws the lane of a node, and names it, again and again in a long picture, and the clients of its columns that have short numbers.
+    fn draw_node(&mut self, layout: &Layout, node: NodeId) {
+        self.shapes.write("<g><title>node $</title>", &[Node(node)]);
+        self.draw_lane(layout, layout.x(node), "lane");
+        self.name_node(layout, node, NODES_Y);
         let mut place = 0;
         for column in layout.columns(node) {
             let client = u64::from(column.client);
@@ -88,16 +93,9 @@ impl Layers {
             }
             place = u32::saturating_add(place, 1);
         }
-    }
-
-    /// Draws the lane of a node, and names it, again and again in a long picture, and the clients of its columns.
-    fn draw_node(&mut self, layout: &Layout, node: NodeId) {
-        self.shapes.write("<g><title>node $</title>", &[Node(node)]);
-        self.draw_lane(layout, layout.x(node), "lane");
-        self.name_node(layout, node, NODES_Y);
-        self.name_clients(layout, node);
         for band in 0..layout.bands() {
-            self.name_node(layout, node, layout.band_y(band));
+            let row = u32::saturating_add(band, 1).saturating_mul(BAND_ROWS);
+            self.name_node(layout, node, layout.y(row).saturating_add(BAND_HEIGHT));
         }
     }
 
@@ -117,54 +115,38 @@ impl Layers {
         }
     }
 
-    /// Begins the dot of what a client does, to its class: first a larger one that is not seen, so that a pointer hits it easily.
-    fn begin_dot(&mut self, place: Point) {
+    /// Draws a dot where a client asks for a name in a mode or leaves it, and labels it.
+    fn draw_act(&mut self, layout: &Layout, act: &ClientAct, row: u32) {
+        let key = &act.key;
+        let place = layout.at(key.node, row);
+        let (what, class, word) = match act.mode {
+            Some(_) => ("asks for", "ask", "asks"),
+            None => ("leaves", "leave", "leaves"),
+        };
+        self.begin_act(key, what);
+        if let Some(mode) = act.mode {
+            self.shapes.write(", $", &[Text(mode_text(mode))]);
+        }
+        // First comes a larger dot that is not seen, so that a pointer hits it easily.
         self.shapes.write(
-            "</title><circle cx=\"$\" cy=\"$\" r=\"10\" class=\"touch\"/><circle cx=\"$\" cy=\"$\" r=\"4\" class=\"",
+            "</title><circle cx=\"$\" cy=\"$\" r=\"10\" class=\"touch\"/><circle cx=\"$\" cy=\"$\" r=\"4\" class=\"$\"/></g>\n",
             &[
                 Number(place.x),
                 Number(place.y),
                 Number(place.x),
                 Number(place.y),
+                Text(class),
             ],
         );
-    }
-
-    /// Begins the label of what a client does.
-    fn begin_act_label(&mut self, layout: &Layout, key: &LockKey, place: Point, word: &str) {
         self.begin_text(place.x.saturating_add(8), place.y.saturating_sub(4));
         self.labels.write(
             "label to-right\">$ $",
             &[Text(word), Short(&key.name, layout.cut)],
         );
-    }
-
-    /// Draws a dot where a client asks for a name in a mode, and labels it.
-    fn draw_ask(&mut self, layout: &Layout, key: &LockKey, mode: Mode, place: Point) {
-        self.begin_act(key, "asks for");
-        self.shapes.write(", $", &[Text(mode_text(mode))]);
-        self.begin_dot(place);
-        self.shapes.put(b"ask\"/></g>\n");
-        self.begin_act_label(layout, key, place, "asks");
-        self.labels.write(" $</text>\n", &[Text(mode.word())]);
-    }
-
-    /// Draws a dot where a client leaves a name, and labels it.
-    fn draw_leave(&mut self, layout: &Layout, key: &LockKey, place: Point) {
-        self.begin_act(key, "leaves");
-        self.begin_dot(place);
-        self.shapes.put(b"leave\"/></g>\n");
-        self.begin_act_label(layout, key, place, "leaves");
-        self.labels.put(b"</text>\n");
-    }
-
-    /// Draws what a client does on a row.
-    fn draw_act(&mut self, layout: &Layout, act: &ClientAct, row: u32) {
-        let place = layout.at(act.key.node, row);
-        match act.mode {
-            Some(mode) => self.draw_ask(layout, &act.key, mode, place),
-            None => self.draw_leave(layout, &act.key, place),
+        if let Some(mode) = act.mode {
+            self.labels.write(" $", &[Text(mode.word())]);
         }
+        self.labels.put(b"</text>\n");
     }
 
     /// Begins the label to the left of a row.
@@ -206,8 +188,7 @@ impl Layers {
 
     /// Returns the shapes, and the labels after them.
     pub fn finish(self) -> Result<Vec<u8>, Memory> {
-        let Layers { mut shapes, labels } = self;
-        shapes.append(&labels);
-        shapes.finish()
+        let Layers { shapes, labels } = self;
+        shapes.finish(&labels)
     }
 }

@@ -1,6 +1,6 @@
 //! The bars of clients beside the lanes, and their names.
-use crate::layout::sizes::COLUMN_WIDTH;
-use crate::layout::{Layout, LockBar, Point};
+use crate::layout::sizes::{COLUMN_WIDTH, WIDE_LETTER};
+use crate::layout::{Layout, LockBar};
 use crate::svg::layers::Layers;
 use crate::svg::svg_writer::PatternValue::{Number, Short, Text};
 use crate::svg::wording::mode_text;
@@ -37,16 +37,19 @@ const INSIDE: BarPhase = BarPhase {
 };
 
 impl Layers {
-    /// Draws a phase from one moment to another, or to the end of the bar, if it has a row, and says what the client does. Beneath it is
-    /// one as wide as its column that is not seen, so that a pointer hits it easily.
+    /// Draws a phase that began, from one moment to another or to the end of the bar, if it has a row, and says what the client does.
+    /// Beneath it is one as wide as its column that is not seen, so that a pointer hits it easily.
     fn draw_phase(
         &mut self,
         layout: &Layout,
         bar: &LockBar,
         phase: &BarPhase,
-        first: Moment,
+        first: Option<Moment>,
         last: Option<Moment>,
     ) {
+        let Some(first) = first else {
+            return;
+        };
         let end = match last {
             Some(last) => last.row,
             None => bar.end,
@@ -58,47 +61,39 @@ impl Layers {
                 &[Text(mode_text(bar.span.mode)), Number(first.line)],
             );
             self.end_title(last);
-            self.draw_bar(layout, bar, phase, first.row, end);
+            let x = layout.column_x(bar.span.key.node, bar.column);
+            let y = layout.y(first.row);
+            let height = layout.y(end).saturating_sub(y);
+            self.shapes.write(
+                "<rect x=\"$\" y=\"$\" width=\"$\" height=\"$\" class=\"touch\"/><rect x=\"$\" y=\"$\" width=\"$\" height=\"$\" class=\"$ $\"/></g>\n",
+                &[
+                    Number(x),
+                    Number(y),
+                    Number(COLUMN_WIDTH),
+                    Number(height),
+                    Number(x.saturating_add(phase.inset)),
+                    Number(y),
+                    Number(phase.width),
+                    Number(height),
+                    Text(phase.look),
+                    Text(bar.span.mode.word()),
+                ],
+            );
         }
-    }
-
-    /// Draws the bar of a phase from one row to another.
-    fn draw_bar(&mut self, layout: &Layout, bar: &LockBar, phase: &BarPhase, first: u32, end: u32) {
-        let x = layout.column_x(bar.span.key.node, bar.column);
-        let y = layout.y(first);
-        let height = layout.y(end).saturating_sub(y);
-        self.begin_bar(Point { x, y }, COLUMN_WIDTH, height);
-        self.shapes.put(b"touch\"/>");
-        let inner = Point {
-            x: x.saturating_add(phase.inset),
-            y,
-        };
-        self.begin_bar(inner, phase.width, height);
-        self.shapes.write(
-            "$ $\"/></g>\n",
-            &[Text(phase.look), Text(bar.span.mode.word())],
-        );
-    }
-
-    /// Begins a bar, to the quotation mark of its class.
-    fn begin_bar(&mut self, corner: Point, width: u64, height: u64) {
-        self.shapes.write(
-            "<rect x=\"$\" y=\"$\" width=\"$\" height=\"$\" class=\"",
-            &[
-                Number(corner.x),
-                Number(corner.y),
-                Number(width),
-                Number(height),
-            ],
-        );
     }
 
     /// Writes the name and the mode of a lock along its bar, from the beginning or the top of the page on, if there is room.
     fn name_lock_bar(&mut self, layout: &Layout, bar: &LockBar) {
-        if layout.has_room(bar) {
-            let span = &bar.span;
+        let span = &bar.span;
+        let letters = layout
+            .cut
+            .letters_of(span.key.name.bytes().len())
+            .saturating_add(span.mode.word().len())
+            .saturating_add(1);
+        let y = layout.y(span.asked.row);
+        let height = layout.y(bar.end).saturating_sub(y);
+        if layout.is_wide() && (letters as u64).saturating_mul(WIDE_LETTER) <= height {
             let x = layout.column_x(span.key.node, bar.column);
-            let y = layout.y(span.asked.row);
             self.labels.write(
                 "<text transform=\"translate($ $)rotate(90)\" class=\"label\">$ $</text>\n",
                 &[
@@ -114,13 +109,9 @@ impl Layers {
     /// Draws the bar of a lock, phase by phase, and names it.
     pub fn draw_lock_bar(&mut self, layout: &Layout, bar: &LockBar) {
         let span = &bar.span;
-        self.draw_phase(layout, bar, &QUEUED, span.asked, span.requested);
-        if let Some(requested) = span.requested {
-            self.draw_phase(layout, bar, &WAITING, requested, span.entered);
-        }
-        if let Some(entered) = span.entered {
-            self.draw_phase(layout, bar, &INSIDE, entered, span.left);
-        }
+        self.draw_phase(layout, bar, &QUEUED, Some(span.asked), span.requested);
+        self.draw_phase(layout, bar, &WAITING, span.requested, span.entered);
+        self.draw_phase(layout, bar, &INSIDE, span.entered, span.left);
         self.name_lock_bar(layout, bar);
     }
 }

@@ -1,10 +1,11 @@
 //! The paths of messages: arrows, crosses and loops, with their labels.
 use crate::layout::{Layout, Point};
 use crate::svg::layers::Layers;
+use crate::svg::svg_writer::PatternValue;
 use crate::svg::svg_writer::PatternValue::{Node, Number, Short, Text, Whole};
 use crate::svg::wording::{kind_of, mode_text};
 use crate::timeline::{MessageEnd, MessagePath, Moment};
-use ra_stamp::{Message, Name};
+use ra_stamp::Message;
 
 impl Layers {
     /// Begins the label of a message beside a place: its kind, number, name and mode.
@@ -12,40 +13,23 @@ impl Layers {
         &mut self,
         layout: &Layout,
         message: &Message,
-        name: &Name,
         place: Point,
         side: &'static str,
     ) {
         let kind = kind_of(message);
         self.begin_text(place.x, place.y);
-        self.labels.write(
-            "label of-$ $\">$ $ $",
-            &[
-                Text(kind),
-                Text(side),
-                Text(kind),
-                Number(message.seq()),
-                Short(name, layout.cut),
-            ],
-        );
+        self.labels
+            .write("label of-$ $\">$", &[Text(kind), Text(side), Text(kind)]);
+        let name = message.name();
+        self.labels
+            .write(" $ $", &[Number(message.seq()), Short(&name, layout.cut)]);
         if let Message::Request { mode, .. } = message {
             self.labels.write(" $", &[Text(mode.word())]);
         }
     }
 
-    /// Begins the label of a message beside the lane of the node to which it goes, on the side from which it does not come.
-    fn begin_head(&mut self, layout: &Layout, message: &Message, from: Point, head: Point) {
-        let y = head.y.saturating_add(3);
-        let (x, side) = if from.x < head.x {
-            (head.x.saturating_add(8), "to-right")
-        } else {
-            let gutter = layout.gutter(message.to());
-            (head.x.saturating_sub(gutter.saturating_add(4)), "to-left")
-        };
-        self.begin_label(layout, message, &message.name(), Point { x, y }, side);
-    }
-
-    /// Labels a message at the node to which it goes, if there is room on this page.
+    /// Labels a message beside the lane of the node to which it goes, on the side from which it does not come, if there is room on this
+    /// page. The label ends with this pattern.
     fn label_head(
         &mut self,
         layout: &Layout,
@@ -53,10 +37,18 @@ impl Layers {
         from: Point,
         head: Point,
         ending: &'static str,
+        values: &[PatternValue],
     ) {
         if layout.is_wide() {
-            self.begin_head(layout, message, from, head);
-            self.labels.write("$</text>\n", &[Text(ending)]);
+            let y = head.y.saturating_add(3);
+            let (x, side) = if from.x < head.x {
+                (head.x.saturating_add(8), "to-right")
+            } else {
+                let gutter = layout.gutter(message.to());
+                (head.x.saturating_sub(gutter.saturating_add(4)), "to-left")
+            };
+            self.begin_label(layout, message, Point { x, y }, side);
+            self.labels.write(ending, values);
         }
     }
 
@@ -68,24 +60,20 @@ impl Layers {
         self.shapes.write("$ $\"/>", &[Text(look), Text(kind)]);
     }
 
-    /// Begins the shape of a message: which one it is.
-    fn name_message(&mut self, message: &Message, name: &Name) {
-        self.shapes.write(
-            "<g><title>$ $ from node $ to node $ for $",
-            &[
-                Text(kind_of(message)),
-                Number(message.seq()),
-                Node(message.from()),
-                Node(message.to()),
-                Whole(name),
-            ],
-        );
-    }
-
     /// Begins the shape of a message: which one it is, and when it came under way.
     fn begin_message(&mut self, path: &MessagePath) {
         let message = &path.message;
-        self.name_message(message, &message.name());
+        self.shapes.write("<g><title>$", &[Text(kind_of(message))]);
+        let name = message.name();
+        self.shapes.write(
+            " $ from node $ to node $ for $",
+            &[
+                Number(message.seq()),
+                Node(message.from()),
+                Node(message.to()),
+                Whole(&name),
+            ],
+        );
         if let Message::Request { mode, .. } = message {
             self.shapes.write(", $", &[Text(mode_text(*mode))]);
         }
@@ -102,14 +90,14 @@ impl Layers {
             .write(", delivered at line $", &[Number(end.line)]);
         let ending = if path.is_deferred {
             self.shapes.put(b", deferred");
-            " deferred"
+            " deferred</text>\n"
         } else {
-            ""
+            "</text>\n"
         };
         self.shapes.put(b"</title>");
         self.draw_line(from, to, kind_of(message), "arrow");
         self.shapes.put(b"</g>\n");
-        self.label_head(layout, message, from, to, ending);
+        self.label_head(layout, message, from, to, ending, &[]);
     }
 
     /// Draws the path of a message to where it is lost, and a cross there.
@@ -123,7 +111,7 @@ impl Layers {
             "<path class=\"cross\" d=\"M$ $m-5 -5l10 10m0 -10l-10 10\"/></g>\n",
             &[Number(cross.x), Number(cross.y)],
         );
-        self.label_head(layout, message, from, to, " lost");
+        self.label_head(layout, message, from, to, " lost</text>\n", &[]);
     }
 
     /// Draws the path of a message that is still under way, to before the lane of the node to which it goes.
@@ -141,10 +129,9 @@ impl Layers {
         self.shapes.put(b", still under way</title>");
         self.draw_line(from, end, kind_of(message), "under-way");
         self.shapes.put(b"</g>\n");
-        if has_row && is_first && layout.is_wide() {
-            self.begin_head(layout, message, from, to);
-            self.labels
-                .write(" to node $</text>\n", &[Node(message.to())]);
+        if has_row && is_first {
+            let node = [Node(message.to())];
+            self.label_head(layout, message, from, to, " to node $</text>\n", &node);
         }
     }
 
@@ -161,7 +148,7 @@ impl Layers {
                 x: place.x.saturating_add(12),
                 y: place.y.saturating_add(3),
             };
-            self.begin_label(layout, message, &message.name(), beside, "to-right");
+            self.begin_label(layout, message, beside, "to-right");
             self.labels.write(
                 ", $ to $</text>\n",
                 &[Node(message.from()), Node(message.to())],

@@ -24,7 +24,8 @@ pub enum PatternValue<'a> {
 #[derive(Drop)]
 pub struct SvgWriter {
     text: Vec<u8>,
-    is_out: bool,
+    /// Nothing more is written, since memory ran out.
+    pub is_out: bool,
 }
 
 impl SvgWriter {
@@ -79,20 +80,14 @@ impl SvgWriter {
         self.put(rest);
     }
 
-    /// Adds what another writer wrote.
-    pub fn append(&mut self, other: &SvgWriter) {
-        self.put(&other.text);
-        self.is_out = self.is_out || other.is_out;
-    }
-
-    /// Writes nothing more, since memory ran out.
-    pub fn run_out(&mut self) {
-        self.is_out = true;
-    }
-
-    /// Returns the text.
-    pub fn finish(self) -> Result<Vec<u8>, Memory> {
+    /// Returns the text, and what another writer wrote after it.
+    pub fn finish(mut self, after: &SvgWriter) -> Result<Vec<u8>, Memory> {
+        self.put(&after.text);
         let SvgWriter { text, is_out } = self;
-        if is_out { Err(Memory) } else { Ok(text) }
+        if is_out || after.is_out {
+            Err(Memory)
+        } else {
+            Ok(text)
+        }
     }
 }

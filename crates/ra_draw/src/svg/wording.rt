@@ -19,8 +19,3 @@ pub fn kind_of(message: &Message) -> &'static str {
         Message::Reply { .. } => "reply",
     }
 }
-
-/// Returns the ending of a word for this many things.
-pub fn ending_of(count: u64) -> &'static str {
-    if count == 1 { "" } else { "s" }
-}

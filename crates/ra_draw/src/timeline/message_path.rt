@@ -104,13 +104,6 @@ impl MessagePaths {
         Ok(())
     }
 
-    /// Notes that the message that was delivered last, which is drawn, is a REQUEST that was deferred.
-    pub fn defer_last(&mut self) {
-        if let Some(path) = self.drawn.last_mut() {
-            path.is_deferred = true;
-        }
-    }
-
     /// Notes that those under way, which came so in the part, are drawn.
     pub fn close(&mut self) -> Result<(), Memory> {
         for (message, equals) in self.under_way.iter() {
