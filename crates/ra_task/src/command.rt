@@ -4,7 +4,7 @@ ghost use Rattle.ra_task.specs.Asked.{Asks};
 
 use crate::command_line::search::{Search, SurveyTask};
 use crate::command_line::{CommandFault, Task, parse};
-use crate::node_arguments::are_node_arguments;
+use crate::lone_command::is_command_alone;
 use crate::settle_arguments::{SettleTask, settle_arguments};
 use ra_schedule::OutputKind;
 use std::alloc::Global;
@@ -23,27 +23,21 @@ pub enum Command<'a> {
 }
 
 impl<'a> Command<'a> {
-    /// Returns what is printed of a run by `sim`, of one that is looked for if it looks for one, or `None` for another
-    /// command.
-    fn printed(&self) -> Option<OutputKind> {
+    /// Returns whether a run of `sim` is to be shrunk, or one that is looked for. It does not allocate.
+    pub fn shrinks(&self) -> bool {
         let Command::Task(task) = self else {
-            return None;
+            return false;
         };
         match *task {
-            Task::Sim { format, .. } => Some(format),
+            Task::Sim { format, .. } => matches!(format, OutputKind::Shrunk),
             Task::Survey(
                 SurveyTask {
                     find: Some(Search { format, .. }),
                     ..
                 },
-            ) => Some(format),
-            _ => None,
+            ) => matches!(format, OutputKind::Shrunk),
+            _ => false,
         }
-    }
-
-    /// Returns whether a run is to be shrunk. It does not allocate.
-    pub fn shrinks(&self) -> bool {
-        matches!(self.printed(), Some(OutputKind::Shrunk))
     }
 
     /// Returns the node and the number of nodes of `answer`, or 0 and 0. It does not allocate.
@@ -75,7 +69,7 @@ impl<'a> Command<'a> {
 pub fn command_of<'a>(alloc: Global, arguments: &'a [String]) -> Command<'a>
     ensures { Asks (map string_bytes arguments.now) result }
 {
-    if are_node_arguments(arguments) {
+    if is_command_alone(arguments, "node") {
         return Command::Node;
     }
     if let Some(asked) = settle_arguments(arguments) {

@@ -6,16 +6,17 @@ pub mod option_rows;
 pub mod search;
 pub mod usage;
 
-ghost use Rattle.std.specs.Prelude.{◌≡◌, ◌≢◌, ◌⊎◌, [], ◌≤◌, ◌↔◌, ◌∷◌, ◌++◌, ℕ, List, Any, Some, map, codes, slice_get, IsTrue, IsOk, IfOk, IfSome, false, true, string_bytes};
+ghost use Rattle.std.specs.Prelude.{◌≡◌, ◌≢◌, ◌⊎◌, ◌≤◌, ◌↔◌, ◌∷◌, ◌++◌, ℕ, List, Any, Some, map, codes, slice_get, IsTrue, IsOk, IfOk, IfSome, false, true, string_bytes};
 ghost use Rattle.ra_schedule.specs.Survey.{NoneIsLost, NoneIsRepeated};
 ghost use Rattle.ra_task.specs.Arguments.{AreSimArguments, ReadsBy, Gives, GivesNothingBut, GivesText, IsHelpArgument, NamesFaithfully};
 ghost use Rattle.ra_task.specs.Asked.{AsksForTask, IsOfCommand};
 ghost use Rattle.ra_task.specs.Finishing.{IsFaithful, RunsFaithfully};
 
-use crate::cluster_output::{ClusterOutput, output_by};
+use crate::cluster_output::ClusterOutput;
 use crate::command_line::command_rows::command;
 use crate::command_line::input_kind::InputKind;
 use crate::command_line::search::{Search, SurveyTask};
+use crate::lone_command::is_command_alone;
 use clap::error::ErrorKind;
 use clap::{ArgMatches, Command, Error as ParseError};
 use ra_schedule::{Ending, Faults, OutputKind, SeedRange};
@@ -141,27 +142,13 @@ fn faults_of(arguments: &[String]) -> Option<Faults>
     Some(faults)
 }
 
-/// Returns the word for the policy that the arguments give, or its default. It does not allocate.
-pub fn policy_word(arguments: &[String]) -> &str
-    ensures { (result.now ≡ codes "oldest") ⊎ GivesText (map string_bytes arguments.now) (codes "--policy") result.now }
+/// Returns the text that the arguments give an option, or its default. It does not allocate.
+pub fn text_or<'a>(arguments: &'a [String], option: &str, default: &'a str) -> &'a str
+    ensures { (result.now ≡ default.now) ⊎ GivesText (map string_bytes arguments.now) option.now result.now }
 {
-    match text_of(arguments, "--policy") {
-        Some(word) => word,
-        None => "oldest",
-    }
-}
-
-/// Returns the policy of a word, with what the arguments give policies of chance.
-fn policy_called(word: &str, seed: u64, faults: Faults) -> PolicyName
-    ensures { ¬ (word.now ≡ codes "listed") → (word.now ≡ codes "faulty" → (faults.lose ≡ 0) × (faults.repeat ≡ 0))
-        → IsFaithful result }
-{
-    match word {
-        "newest" => PolicyName::Newest,
-        "seeded" => PolicyName::Seeded(seed),
-        "faulty" => PolicyName::Faulty { seed, faults },
-        "listed" => PolicyName::Listed,
-        _ => PolicyName::Oldest,
+    match text_of(arguments, option) {
+        Some(text) => text,
+        None => default,
     }
 }
 
@@ -173,8 +160,14 @@ pub fn policy_name(arguments: &[String], sim: &ArgMatches) -> Option<PolicyName>
 {
     let seed = sim.get_one("seed")?;
     let faults = faults_of(arguments)?;
-    let word = policy_word(arguments);
-    Some(policy_called(word, seed, faults))
+    let word = text_or(arguments, "--policy", "oldest");
+    match word {
+        "newest" => Some(PolicyName::Newest),
+        "seeded" => Some(PolicyName::Seeded(seed)),
+        "faulty" => Some(PolicyName::Faulty { seed, faults }),
+        "listed" => Some(PolicyName::Listed),
+        _ => Some(PolicyName::Oldest),
+    }
 }
 
 /// Returns the seeds of a text, for example of `1..1000`, or `None` if it is no such text, or the first is above the
@@ -193,7 +186,7 @@ fn seeds_of(text: &str) -> Option<SeedRange>
 }
 
 /// Returns whether one of the arguments is this one. It does not allocate.
-pub fn has_argument(arguments: &[String], sought: &str) -> bool
+fn has_argument(arguments: &[String], sought: &str) -> bool
     ensures { IsTrue result ↔ Any (λ argument. string_bytes argument ≡ sought.now) arguments.now }
 {
     for argument in arguments {
@@ -237,16 +230,6 @@ pub fn format_of(policy: &PolicyName, arguments: &[String], sim: &ArgMatches) ->
     flagged_format(sim.get_flag("trace"), lists, shrinks, sim.get_flag("state"))
 }
 
-/// Returns the text of the choices that the arguments give, or its default, no text. It does not allocate.
-pub fn given_choices<'a>(arguments: &'a [String]) -> &'a str
-    ensures { (result.now ≡ []) ⊎ GivesText (map string_bytes arguments.now) (codes "--choices") result.now }
-{
-    match text_of(arguments, "--choices") {
-        Some(text) => text,
-        None => "",
-    }
-}
-
 /// Returns the end that the arguments look for, if they do. It does not allocate.
 fn ending_of(sim: &ArgMatches) -> Option<Ending> {
     match sim.get_str("find")? {
@@ -266,19 +249,9 @@ fn chance_of(policy: PolicyName) -> Option<Option<Faults>>
     }
 }
 
-/// Returns what is printed of a run that was looked for: its trace, unless choices are asked for. It does not allocate.
-fn found_format(format: OutputKind) -> OutputKind
-    ensures choices { format ≢ OutputKind.Choices → result ≢ OutputKind.Choices }
-    ensures shrunk { format ≢ OutputKind.Shrunk → result ≢ OutputKind.Shrunk }
-{
-    match format {
-        OutputKind::Choices | OutputKind::Shrunk => format,
-        _ => OutputKind::Trace,
-    }
-}
-
-/// Returns what is looked for among the runs of many seeds, if an end is given. Returns `None` if a format of one run
-/// is asked for, but no end is, or if a finished run is to be shrunk. It does not allocate.
+/// Returns what is looked for among the runs of many seeds, if an end is given: the trace of such a run is printed, unless
+/// choices are asked for. Returns `None` if a format of one run is asked for, but no end is, or if a finished run is to be
+/// shrunk. It does not allocate.
 fn search_of(ending: Option<Ending>, format: OutputKind) -> Option<Option<Search>>
     ensures choices { IfSome result (λ find. format ≢ OutputKind.Choices → IfSome find (λ search. search.format ≢ OutputKind.Choices)) }
     ensures shrunk { IfSome result (λ find. format ≢ OutputKind.Shrunk → IfSome find (λ search. search.format ≢ OutputKind.Shrunk)) }
@@ -286,9 +259,12 @@ fn search_of(ending: Option<Ending>, format: OutputKind) -> Option<Option<Search
     match (ending, format) {
         (_, OutputKind::State) => None,
         (Some(Ending::Finished), OutputKind::Shrunk) => None,
+        (Some(ending), OutputKind::Choices | OutputKind::Shrunk) => {
+            Some(Some(Search { ending, format }))
+        }
         (Some(ending), _) => Some(Some(Search {
             ending,
-            format: found_format(format),
+            format: OutputKind::Trace,
         })),
         (None, OutputKind::Lines) => Some(None),
         (None, _) => None,
@@ -322,7 +298,7 @@ fn sim_task<'a>(arguments: &'a [String], sim: &ArgMatches<'a>) -> Option<Task<'a
     ensures faithful { IfSome result (λ task. NamesFaithfully (map string_bytes arguments.now) → RunsFaithfully task) }
 {
     let policy = policy_name(arguments, sim)?;
-    let choices = given_choices(arguments);
+    let choices = text_or(arguments, "--choices", "");
     let format = format_of(&policy, arguments, sim)?;
     let ending = ending_of(sim);
     if let Some(seeds) = sim.get_str("seeds") {
@@ -376,12 +352,20 @@ fn check_task<'a>(arguments: &[String]) -> Task<'a>
     }
 }
 
-/// Returns the task of the command `cluster`, or `None` if the arguments ask it to print both the trace and the books.
+/// Returns the task of the command `cluster`, or `None` if the arguments ask it to print both the trace and the books. The
+/// parser has found that these arguments are options, and tells less of them in its contract than the arguments do.
 fn cluster_task<'a>(arguments: &[String]) -> Option<Task<'a>>
     ensures { IfSome result (IsOfCommand (map string_bytes arguments.now)) }
 {
-    let printed = output_by(arguments)?;
-    Some(Task::Cluster(printed))
+    match (
+        has_argument(arguments, "--trace"),
+        has_argument(arguments, "--books"),
+    ) {
+        (false, false) => Some(Task::Cluster(ClusterOutput::Lines)),
+        (true, false) => Some(Task::Cluster(ClusterOutput::Trace)),
+        (false, true) => Some(Task::Cluster(ClusterOutput::Books)),
+        (true, true) => None,
+    }
 }
 
 /// Returns the argument for the command, the first after the program's name, or `None` if there is none. It does not
@@ -442,16 +426,6 @@ fn asks_for_summary(arguments: &[String]) -> bool {
     false
 }
 
-/// Returns whether the arguments are the program's name and `sim`. It does not allocate.
-fn are_sim_arguments(arguments: &[String]) -> bool
-    ensures { AreSimArguments (map string_bytes arguments.now) → result ≡ true }
-{
-    match arguments {
-        [_, argument] => argument.as_str() == "sim",
-        _ => false,
-    }
-}
-
 /// Returns the task of the arguments, of which the first is the program's name. It is a text of help, or the version,
 /// only if one of them asks for it. The name and `sim` alone are never refused.
 ///
@@ -463,7 +437,7 @@ pub fn parse<'a>(alloc: Global, arguments: &'a [String]) -> Result<Task<'a>, Com
     ensures plain { AreSimArguments (map string_bytes arguments.now) → IsOk result }
 {
     // No contract of the parser's says that it takes these arguments.
-    if are_sim_arguments(arguments) {
+    if is_command_alone(arguments, "sim") {
         return Ok(Task::Sim {
             policy: PolicyName::Oldest,
             choices: "",

@@ -5,7 +5,7 @@
 mod cluster_output;
 mod command;
 mod command_line;
-mod node_arguments;
+mod lone_command;
 mod notice;
 mod policy;
 mod settle_arguments;

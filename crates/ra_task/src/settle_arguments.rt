@@ -34,25 +34,6 @@ fn are_texts(one: &String, other: &String, first: &str, second: &str) -> bool
     is_text(one, first) && is_text(other, second)
 }
 
-/// Returns what one option of `settle` asks for, or `None` if it is no such option. It does not allocate.
-fn one_option(one: &String) -> Option<SettleTask>
-    ensures { MatchOption result (AreNoOptions (string_bytes one.now ∷ [])) (AreOptionsFor (string_bytes one.now ∷ [])) }
-{
-    if is_text(one, "--repeats") {
-        return Some(SettleTask {
-            repeats: true,
-            printed: SettleOutput::Lines,
-        });
-    }
-    if is_text(one, "--trace") {
-        return Some(SettleTask {
-            repeats: false,
-            printed: SettleOutput::Trace,
-        });
-    }
-    None
-}
-
 /// Returns what two options of `settle` ask for, or `None` if they are not two of its options. It does not allocate.
 fn two_options(one: &String, other: &String) -> Option<SettleTask>
     ensures { MatchOption result (AreNoOptions (string_bytes one.now ∷ string_bytes other.now ∷ []))
@@ -81,7 +62,21 @@ fn options_of(options: &[String]) -> Option<SettleTask>
             repeats: false,
             printed: SettleOutput::Lines,
         }),
-        [one] => one_option(one),
+        [one] => {
+            if is_text(one, "--repeats") {
+                Some(SettleTask {
+                    repeats: true,
+                    printed: SettleOutput::Lines,
+                })
+            } else if is_text(one, "--trace") {
+                Some(SettleTask {
+                    repeats: false,
+                    printed: SettleOutput::Trace,
+                })
+            } else {
+                None
+            }
+        }
         [one, other] => two_options(one, other),
         _ => None,
     }

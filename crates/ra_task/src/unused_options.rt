@@ -1,5 +1,5 @@
 //! Options of `sim` that are given but have no effect.
-use crate::command_line::{given_choices, policy_word, text_of};
+use crate::command_line::{text_of, text_or};
 use crate::notice::write_line;
 use std::io::Write;
 
@@ -40,21 +40,15 @@ pub fn is_given(arguments: &[String], option: &str) -> bool {
     text_of(arguments, option).is_some()
 }
 
-/// Returns whether an option has an effect under a policy. It does not allocate.
-fn is_for(limited: &Limited, policy: &str) -> bool {
-    for &other in limited.policies {
-        if other == policy {
-            return true;
-        }
-    }
-    false
-}
-
 /// Writes a line for each option that is given but has no effect under the policy. It does not allocate, and ignores a
 /// failure of the writer.
 fn write_limits<N: Write>(arguments: &[String], options: &[Limited], policy: &str, notes: &mut N) {
     for limited in options {
-        if is_given(arguments, limited.option) && !is_for(limited, policy) {
+        let mut is_unused = is_given(arguments, limited.option);
+        for &other in limited.policies {
+            is_unused = is_unused && other != policy;
+        }
+        if is_unused {
             write_line(notes, limited.text);
         }
     }
@@ -63,9 +57,9 @@ fn write_limits<N: Write>(arguments: &[String], options: &[Limited], policy: &st
 /// Writes a line for each option of `sim` that is given but has no effect. It does not allocate, and ignores a failure
 /// of the writer.
 pub fn write_unused_options<N: Write>(arguments: &[String], notes: &mut N) {
-    let policy = policy_word(arguments);
+    let policy = text_or(arguments, "--policy", "oldest");
     write_limits(arguments, LIMITED, policy, notes);
-    if policy == "listed" && given_choices(arguments).is_empty() {
+    if policy == "listed" && text_or(arguments, "--choices", "").is_empty() {
         write_line(
             notes,
             "--policy listed has nothing to do: --choices is missing or empty",

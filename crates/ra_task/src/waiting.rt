@@ -14,34 +14,31 @@ fn input_of(asked: &Command<'_>) -> Option<&'static str> {
         Command::Settle(_) => Some(
             "reading books from standard input: redirect a file with < FILE, or several with cat FILE .. |",
         ),
-        Command::Task(task) => task_input(task),
-        Command::Unknown(_) => None,
-    }
-}
-
-/// Returns what a task reads and how it is given, or `None` if it is a text of help. It does not allocate.
-fn task_input(task: &Task<'_>) -> Option<&'static str> {
-    match task {
-        Task::Answer { .. } => Some(
+        Command::Task(Task::Answer { .. }) => Some(
             "reading a frame from standard input: type its digits and Enter, then Ctrl-D",
         ),
-        Task::Sim { .. } | Task::Survey(_) | Task::Cluster(_) => Some(
+        Command::Task(Task::Sim { .. } | Task::Survey(_) | Task::Cluster(_)) => Some(
             "reading a script from standard input: type it and then Ctrl-D, or redirect a file with < FILE",
         ),
-        Task::Check => Some(kind_input(InputKind::Trace)),
-        Task::CheckMarks => Some(kind_input(InputKind::Marks)),
-        Task::Draw { kind, .. } => Some(kind_input(*kind)),
-        Task::Help(_) => None,
-    }
-}
-
-/// Returns how a trace or a mark log is given. It does not allocate.
-fn kind_input(kind: InputKind) -> &'static str {
-    match kind {
-        InputKind::Trace =>
+        Command::Task(
+            Task::Check
+            | Task::Draw {
+                kind: InputKind::Trace,
+                ..
+            },
+        ) => Some(
             "reading a trace from standard input: type it and then Ctrl-D, or redirect a file with < FILE",
-        InputKind::Marks =>
+        ),
+        Command::Task(
+            Task::CheckMarks
+            | Task::Draw {
+                kind: InputKind::Marks,
+                ..
+            },
+        ) => Some(
             "reading a mark log from standard input: type it and then Ctrl-D, or redirect a file with < FILE",
+        ),
+        Command::Task(Task::Help(_)) | Command::Unknown(_) => None,
     }
 }
 

@@ -67,14 +67,15 @@ const COMMANDS: &[CommandRow] = &[
     },
 ];
 
-/// Returns whether a command has this name. It does not allocate.
-pub fn is_command(name: &str) -> bool {
+/// Returns the command that the arguments name, or `None`. It does not allocate.
+pub fn command_named(arguments: &[String]) -> Option<&str> {
+    let name = arguments.get(1)?.as_str();
     for row in COMMANDS {
         if row.name == name {
-            return true;
+            return Some(name);
         }
     }
-    false
+    None
 }
 
 /// Makes a command. The summary of its help has its options, and names --help.
@@ -88,33 +89,19 @@ fn command_with_options<'a>(
     } else {
         help_on(row.kind)
     };
-    let command = command_without_options(alloc, row, after);
-    with_options(alloc, command, options_of(row.kind))
-}
-
-/// Makes a command without its options. Its help ends with this text.
-fn command_without_options<'a>(
-    alloc: Global,
-    row: &CommandRow<'a>,
-    after: &'static str,
-) -> Command<'a> {
-    Command::new(alloc, row.name)
+    let command = Command::new(alloc, row.name)
         .about(row.about)
         .after_help(after)
-        .disable_help_flag(true)
-}
-
-/// Makes the program with its version and its help.
-fn named_program<'a>(alloc: Global) -> Command<'a> {
-    Command::new(alloc, "ra")
-        .version(VERSION)
-        .about("Simulate, run, check and draw a lock cluster that works by messages alone")
-        .after_help(STATUS_HELP)
+        .disable_help_flag(true);
+    with_options(alloc, command, options_of(row.kind))
 }
 
 /// Makes the program without its commands. A command line must name one.
 fn program<'a>(alloc: Global) -> Command<'a> {
-    named_program(alloc)
+    Command::new(alloc, "ra")
+        .version(VERSION)
+        .about("Simulate, run, check and draw a lock cluster that works by messages alone")
+        .after_help(STATUS_HELP)
         .disable_help_subcommand(true)
         .subcommand_required(true)
 }

@@ -330,13 +330,8 @@ Exit status:
   2  refused: standard output has the cause as one word
   3  a run did not finish, or a trace, a mark log or books are not valid";
 
-/// Returns the help of the command `answer`. Each of these texts has a function of its own, since the cost of proving a
-/// function grows with the square of the bytes of the texts that it names.
-fn answer_help() -> &'static str {
-    ANSWER_HELP
-}
-
-/// Returns the help of the command `sim`.
+/// Returns the help of the command `sim`. Each of these texts but the shortest two has a function of its own, since the
+/// cost of proving a function grows with the square of the bytes of the texts that it names.
 fn sim_help() -> &'static str {
     SIM_HELP
 }
@@ -349,11 +344,6 @@ fn cluster_help() -> &'static str {
 /// Returns the help of the command `check`.
 fn check_help() -> &'static str {
     CHECK_HELP
-}
-
-/// Returns the help of the command `draw`.
-fn draw_help() -> &'static str {
-    DRAW_HELP
 }
 
 /// Returns the help of the command `node`.
@@ -369,11 +359,11 @@ fn settle_help() -> &'static str {
 /// Returns the help of a command, below its options.
 pub fn help_on(kind: CommandKind) -> &'static str {
     match kind {
-        CommandKind::Answer => answer_help(),
+        CommandKind::Answer => ANSWER_HELP,
         CommandKind::Sim => sim_help(),
         CommandKind::Cluster => cluster_help(),
         CommandKind::Check => check_help(),
-        CommandKind::Draw => draw_help(),
+        CommandKind::Draw => DRAW_HELP,
         CommandKind::Node => node_help(),
         CommandKind::Settle => settle_help(),
     }

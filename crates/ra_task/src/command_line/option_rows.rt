@@ -214,19 +214,14 @@ pub fn options_of(kind: CommandKind) -> &'static [OptionRow<'static>] {
     }
 }
 
-/// Makes an option, with its name and its help.
-fn named<'a>(alloc: Global, row: &OptionRow<'a>) -> Arg<'a> {
+/// Makes an option. If it takes one of several words, the text below the options lists them, and its own help leaves
+/// them out.
+fn option_of<'a>(alloc: Global, row: &OptionRow<'a>) -> Arg<'a> {
     Arg::new(alloc, row.name)
         .long(row.name)
         .help(row.help)
         .hide_default_value(row.hides_default)
         .hide_possible_values(true)
-}
-
-/// Makes an option. If it takes one of several words, the text below the options lists them, and its own help leaves
-/// them out.
-fn option_of<'a>(alloc: Global, row: &OptionRow<'a>) -> Arg<'a> {
-    named(alloc, row)
         .action(row.action)
         .value_parser(row.parser)
         .required(row.is_required)

@@ -1,5 +1,5 @@
 //! What the parser says about arguments that are not a command line, on one line.
-use crate::command_line::command_rows::{command, is_command};
+use crate::command_line::command_rows::{command, command_named};
 use crate::command_line::{PolicyName, format_of, policy_name};
 use crate::notice::Notice;
 use crate::policy::is_choice;
@@ -149,22 +149,6 @@ fn push_value(note: &mut Note, arguments: &[String], said: &str) -> bool {
     true
 }
 
-/// Returns the command that the arguments name, or `None`.
-fn command_named(arguments: &[String]) -> Option<&str> {
-    let name = arguments.get(1)?.as_str();
-    if is_command(name) { Some(name) } else { None }
-}
-
-/// Returns the argument that the parser did not expect, if it is not an option.
-fn unexpected_in(said: &str) -> Option<&str> {
-    let (argument, _) = between(said, "unexpected argument '", "' found")?;
-    if argument.starts_with('-') {
-        None
-    } else {
-        Some(argument)
-    }
-}
-
 /// Adds a line of what the parser says: a tip after a semicolon, and any other after a space.
 fn push_line(note: &mut Note, line: &str) {
     let (joint, shown) = match line.strip_prefix("tip: ") {
@@ -221,14 +205,16 @@ fn push_help(note: &mut Note, arguments: &[String]) {
     push_see(note, arguments);
 }
 
-/// Adds what the parser says, or which numbers an option takes, and what an unexpected argument may be.
+/// Adds what the parser says, or which numbers an option takes, and what an unexpected argument may be that is not an
+/// option.
 fn push_parsed(alloc: Global, note: &mut Note, arguments: &[String], said: &str) {
     if push_value(note, arguments, said) {
         return;
     }
     push_said(note, said);
     if let Some(name) = command_named(arguments)
-        && let Some(argument) = unexpected_in(said)
+        && let Some((argument, _)) = between(said, "unexpected argument '", "' found")
+        && !argument.starts_with('-')
     {
         push_unexpected(alloc, note, arguments, name, argument);
     }
@@ -285,40 +271,32 @@ fn search_fault(sim: &ArgMatches) -> Option<&'static str> {
     }
 }
 
-/// Returns what is wrong with arguments of the command `sim` that ask for many seeds, or `None` if it is these seeds.
-fn survey_fault(policy: &PolicyName, sim: &ArgMatches) -> Option<&'static str> {
-    if !matches!(policy, PolicyName::Seeded(_) | PolicyName::Faulty { .. }) {
-        return Some("--seeds requires --policy seeded or faulty; see ra sim --help");
-    }
-    if sim.get_flag("state") {
-        return Some(STATE_TEXT);
-    }
-    search_fault(sim)
-}
-
-/// Adds what is wrong with arguments of the command `sim` that ask for many seeds.
+/// Adds what is wrong with arguments of the command `sim` that ask for many seeds: the seeds, if nothing else is.
 fn push_survey(note: &mut Note, policy: &PolicyName, sim: &ArgMatches) {
-    match survey_fault(policy, sim) {
+    let fault = if !matches!(policy, PolicyName::Seeded(_) | PolicyName::Faulty { .. }) {
+        Some("--seeds requires --policy seeded or faulty; see ra sim --help")
+    } else if sim.get_flag("state") {
+        Some(STATE_TEXT)
+    } else {
+        search_fault(sim)
+    };
+    match fault {
         Some(text) => note.push(text),
         None => push_seeds(note, sim.get_str("seeds").unwrap_or("")),
-    }
-}
-
-/// Returns what is said about what is to be printed of a run if the arguments ask for something that can't be printed.
-fn format_fault(sim: &ArgMatches) -> &'static str {
-    if sim.get_flag("state") {
-        STATE_TEXT
-    } else if sim.get_flag("shrink") {
-        "--shrink cannot be used with --trace, --as-choices or --state, nor with --policy faulty unless --repeat is 0; see ra sim --help"
-    } else {
-        "--as-choices cannot be used with --trace, nor with --policy faulty unless --repeat is 0; see ra sim --help"
     }
 }
 
 /// Adds what is wrong with arguments of the command `sim` that name this policy, the next cause after the policy.
 fn push_under(note: &mut Note, arguments: &[String], policy: &PolicyName, sim: &ArgMatches) {
     if format_of(policy, arguments, sim).is_none() {
-        note.push(format_fault(sim));
+        let text = if sim.get_flag("state") {
+            STATE_TEXT
+        } else if sim.get_flag("shrink") {
+            "--shrink cannot be used with --trace, --as-choices or --state, nor with --policy faulty unless --repeat is 0; see ra sim --help"
+        } else {
+            "--as-choices cannot be used with --trace, nor with --policy faulty unless --repeat is 0; see ra sim --help"
+        };
+        note.push(text);
     } else if sim.get_str("seeds").is_some() {
         push_survey(note, policy, sim);
     } else {

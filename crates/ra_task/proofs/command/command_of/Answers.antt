@@ -3,8 +3,8 @@ use Rattle.std.proofs.lemmas.Bool.{false≢true}
 use Rattle.ra_task.proofs.Settling.{none_asked}
 use Rattle.ra_task.proofs.command.command_of.Goals as goal
 
-pub returns-then-are_node_arguments : goal.returns-then-are_node_arguments
-returns-then-are_node_arguments c = c.are_node_arguments.ensures.0 c.if-are_node_arguments.true
+pub returns-then-is_command_alone : goal.returns-then-is_command_alone
+returns-then-is_command_alone c = c.is_command_alone.ensures.0 c.if-is_command_alone.true
 
 pub returns-in-Some : goal.returns-in-Some
 returns-in-Some c = c.in-Some.ensures
@@ -12,7 +12,7 @@ returns-in-Some c = c.in-Some.ensures
 pub returns-in-Ok : goal.returns-in-Ok
 returns-in-Ok c = (
   record {
-    no_node = λ are. false≢true (sym c.if-are_node_arguments.false ∙ c.are_node_arguments.ensures.1 are);
+    no_node = λ are. false≢true (sym c.if-is_command_alone.false ∙ c.is_command_alone.ensures.1 are);
     no_books = none_asked (map string_bytes c.args.arguments.now) c.settle_arguments.result c.settle_arguments.ensures c.in_default.not-Some;
   },
   c.in-Ok.ensures.asked,
@@ -21,7 +21,7 @@ returns-in-Ok c = (
 pub returns-in-Err : goal.returns-in-Err
 returns-in-Err c = (
   record {
-    no_node = λ are. false≢true (sym c.if-are_node_arguments.false ∙ c.are_node_arguments.ensures.1 are);
+    no_node = λ are. false≢true (sym c.if-is_command_alone.false ∙ c.is_command_alone.ensures.1 are);
     no_books = none_asked (map string_bytes c.args.arguments.now) c.settle_arguments.result c.settle_arguments.ensures c.in_default.not-Some;
   },
   λ are. false≢true (c.in-Err.ensures.plain are),

@@ -27,9 +27,14 @@ faultless arguments word faults names (inr given) zero is =
     let none = names.faultless (subst (GivesText arguments (codes "--policy")) is given) in
     zero none.0 none.1
 
-pub returns : goal.returns
-returns c names =
+pub returns-in-faulty : goal.returns-in-faulty
+returns-in-faulty c names =
     let arguments = map string_bytes c.args.arguments.now in
-    let word = c.policy_word-word.result.now in
-    let said = c.policy_word-word.ensures in
-    c.policy_called.ensures (unlisted arguments word names said) (faultless arguments word c.in_ok-faults.faults names said c.in_ok-faults.ensures)
+    let word = c.text_or-word.result.now in
+    faultless arguments word c.in_ok-faults.faults names c.text_or-word.ensures c.in_ok-faults.ensures c.in-faulty.is
+
+pub returns-in-listed : goal.returns-in-listed
+returns-in-listed c names =
+    let arguments = map string_bytes c.args.arguments.now in
+    let word = c.text_or-word.result.now in
+    unlisted arguments word names c.text_or-word.ensures c.in-listed.is

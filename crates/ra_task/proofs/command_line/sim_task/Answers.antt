@@ -22,5 +22,5 @@ returns-clause-asked c =
       help = tt;
       numbers = tt;
       marks = tt;
-      choices = λ gives_none. none arguments c.given_choices-choices.result.now gives_none c.given_choices-choices.ensures;
+      choices = λ gives_none. none arguments c.text_or-choices.result.now gives_none c.text_or-choices.ensures;
     }
