@@ -65,7 +65,8 @@ impl Layers {
     pub fn draw_deferrals(&mut self, layout: &Layout, deferrals: &[Deferral]) {
         let mut beside = NEAREST_DEFERRAL;
         for deferral in deferrals {
-            if deferral.is_drawn() {
+            // One that is over before the part is not drawn.
+            if !matches!(deferral.ended, Some(Moment { row: 0, .. })) {
                 self.draw_deferral(layout, deferral, beside);
                 beside = if beside < FARTHEST_DEFERRAL {
                     u64::saturating_add(beside, DEFERRAL_STEP)

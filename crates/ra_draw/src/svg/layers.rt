@@ -1,8 +1,8 @@
 //! The shapes of a picture, and their labels: the lanes, what is on each row, and what the other files of this folder draw.
+use crate::layout::Layout;
 use crate::layout::sizes::{
     BAND_HEIGHT, BAND_ROWS, CLIENTS_Y, COLUMN_WIDTH, LANES_TOP, NODES_Y, ROW_NUMBERS_X,
 };
-use crate::layout::{Layout, Point};
 use crate::svg::svg_writer::PatternValue::{Node, Number, Short, Text, Whole};
 use crate::svg::svg_writer::SvgWriter;
 use crate::svg::wording::mode_text;
@@ -24,14 +24,6 @@ impl Layers {
             shapes: SvgWriter::new(alloc),
             labels: SvgWriter::new(alloc),
         }
-    }
-
-    /// Begins a line, to the quotation mark of its class.
-    pub fn begin_line(&mut self, from: Point, to: Point) {
-        self.shapes.write(
-            "<line x1=\"$\" y1=\"$\" x2=\"$\" y2=\"$\" class=\"",
-            &[Number(from.x), Number(from.y), Number(to.x), Number(to.y)],
-        );
     }
 
     /// Begins a label, to the quotation mark of its class.
@@ -65,9 +57,16 @@ impl Layers {
 
     /// Draws the line of a lane, with this class.
     fn draw_lane(&mut self, layout: &Layout, x: u64, class: &'static str) {
-        let y = layout.bottom();
-        self.begin_line(Point { x, y: LANES_TOP }, Point { x, y });
-        self.shapes.write("$\"/></g>\n", &[Text(class)]);
+        self.shapes.write(
+            "<line x1=\"$\" y1=\"$\" x2=\"$\" y2=\"$\" class=\"$\"/></g>\n",
+            &[
+                Number(x),
+                Number(LANES_TOP),
+                Number(x),
+                Number(layout.bottom()),
+                Text(class),
+            ],
+        );
     }
 
     /// Names a node this far down.

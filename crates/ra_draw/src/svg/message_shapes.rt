@@ -5,7 +5,7 @@ use crate::svg::svg_writer::PatternValue;
 use crate::svg::svg_writer::PatternValue::{Node, Number, Short, Text, Whole};
 use crate::svg::wording::{kind_of, mode_text};
 use crate::timeline::{MessageEnd, MessagePath, Moment};
-use ra_stamp::Message;
+use ra_stamp::{Message, Name};
 
 impl Layers {
     /// Begins the label of a message beside a place: its kind, number, name and mode.
@@ -13,16 +13,22 @@ impl Layers {
         &mut self,
         layout: &Layout,
         message: &Message,
+        name: &Name,
         place: Point,
         side: &'static str,
     ) {
         let kind = kind_of(message);
         self.begin_text(place.x, place.y);
-        self.labels
-            .write("label of-$ $\">$", &[Text(kind), Text(side), Text(kind)]);
-        let name = message.name();
-        self.labels
-            .write(" $ $", &[Number(message.seq()), Short(&name, layout.cut)]);
+        self.labels.write(
+            "label of-$ $\">$ $ $",
+            &[
+                Text(kind),
+                Text(side),
+                Text(kind),
+                Number(message.seq()),
+                Short(name, layout.cut),
+            ],
+        );
         if let Message::Request { mode, .. } = message {
             self.labels.write(" $", &[Text(mode.word())]);
         }
@@ -47,17 +53,28 @@ impl Layers {
                 let gutter = layout.gutter(message.to());
                 (head.x.saturating_sub(gutter.saturating_add(4)), "to-left")
             };
-            self.begin_label(layout, message, Point { x, y }, side);
+            self.begin_label(layout, message, &message.name(), Point { x, y }, side);
             self.labels.write(ending, values);
         }
     }
 
     /// Draws a line, and beneath it a wide one that is not seen, so that a pointer hits it easily.
     fn draw_line(&mut self, from: Point, to: Point, kind: &'static str, look: &'static str) {
-        self.begin_line(from, to);
-        self.shapes.put(b"hit\"/>");
-        self.begin_line(from, to);
-        self.shapes.write("$ $\"/>", &[Text(look), Text(kind)]);
+        self.shapes.write(
+            "<line x1=\"$\" y1=\"$\" x2=\"$\" y2=\"$\" class=\"hit\"/><line x1=\"$\" y1=\"$\" x2=\"$\" y2=\"$\" class=\"$ $\"/>",
+            &[
+                Number(from.x),
+                Number(from.y),
+                Number(to.x),
+                Number(to.y),
+                Number(from.x),
+                Number(from.y),
+                Number(to.x),
+                Number(to.y),
+                Text(look),
+                Text(kind),
+            ],
+        );
     }
 
     /// Begins the shape of a message: which one it is, and when it came under way.
@@ -86,15 +103,15 @@ impl Layers {
     fn draw_delivered(&mut self, layout: &Layout, path: &MessagePath, from: Point, end: Moment) {
         let message = &path.message;
         let to = layout.at(message.to(), end.row);
-        self.shapes
-            .write(", delivered at line $", &[Number(end.line)]);
-        let ending = if path.is_deferred {
-            self.shapes.put(b", deferred");
-            " deferred</text>\n"
+        let (said, ending) = if path.is_deferred {
+            (
+                ", delivered at line $, deferred</title>",
+                " deferred</text>\n",
+            )
         } else {
-            "</text>\n"
+            (", delivered at line $</title>", "</text>\n")
         };
-        self.shapes.put(b"</title>");
+        self.shapes.write(said, &[Number(end.line)]);
         self.draw_line(from, to, kind_of(message), "arrow");
         self.shapes.put(b"</g>\n");
         self.label_head(layout, message, from, to, ending, &[]);
@@ -148,7 +165,7 @@ impl Layers {
                 x: place.x.saturating_add(12),
                 y: place.y.saturating_add(3),
             };
-            self.begin_label(layout, message, beside, "to-right");
+            self.begin_label(layout, message, &message.name(), beside, "to-right");
             self.labels.write(
                 ", $ to $</text>\n",
                 &[Node(message.from()), Node(message.to())],

@@ -44,16 +44,11 @@ impl SvgWriter {
         }
     }
 
-    /// Adds a number.
-    fn put_number(&mut self, number: u64) {
-        self.put(Buffer::new().format(number).as_bytes());
-    }
-
     /// Adds a value. In a short name, two dots take the place of what is left out at an end.
     fn put_value(&mut self, value: &PatternValue) {
         match value {
-            PatternValue::Number(number) => self.put_number(*number),
-            PatternValue::Node(node) => self.put_number(u64::from(node.get())),
+            PatternValue::Number(number) => self.put(Buffer::new().format(*number).as_bytes()),
+            PatternValue::Node(node) => self.put(Buffer::new().format(node.get()).as_bytes()),
             PatternValue::Text(text) => self.put(text.as_bytes()),
             PatternValue::Whole(name) => self.put(name.bytes()),
             PatternValue::Short(name, cut) => {

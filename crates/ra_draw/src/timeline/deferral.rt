@@ -15,16 +15,6 @@ pub struct Deferral {
     pub ended: Option<Moment>,
 }
 
-impl Deferral {
-    /// Returns whether it is not over before the part that is drawn.
-    pub fn is_drawn(&self) -> bool {
-        match self.ended {
-            Some(ended) => ended.row > 0,
-            None => true,
-        }
-    }
-}
-
 /// All deferrals, in the order in which they began, and the places of those that are not over.
 #[derive(Drop)]
 pub struct DeferralSpans {
