@@ -1,6 +1,6 @@
 -- Which arguments ask for a task that neither loses nor repeats a message.
-use Rattle.std.proofs.Common.{◌≡◌, ◌≢◌, ℕ, Bool, true, false, List, length, Option, Some, None, codes, slice_get, sym, ap, ◌∙◌, arith}
-use Rattle.std.specs.Prelude.{Any, IfSome}
+use Rattle.std.proofs.Common.{◌≡◌, ◌≢◌, ◌↔◌, ℕ, Bool, true, false, List, length, Option, Some, None, codes, slice_get, refl, sym, ap, ◌∙◌, arith}
+use Rattle.std.specs.Prelude.{Any, IfSome, IsTrue}
 use Rattle.ra_task.specs.Finishing.{RunsFaithfully}
 use Rattle.ra_task.specs.Arguments.{IsHelpArgument, NamesFaithfully, OnHelp, SimsFaithfully}
 use Rattle.ra_task.specs.Asked.{AsksForTask, IsOfCommand}
@@ -8,10 +8,15 @@ use Rattle.ra_task.specs.declared.command_line.Task.{Task}
 use Rattle.ra_task.specs.declared.command_line.Task.TheVariants as task
 
 -- a premise that another one follows from may take its place
-pub under : (Holds : Task → Type 0) (P Q : Type 0) → (P → Q) → (result : Option Task) → IfSome result (λ task. Q → Holds task)
-    → IfSome result (λ task. P → Holds task)
+pub under : {A : Type 0} (Holds : A → Type 0) (P Q : Type 0) → (P → Q) → (result : Option A) → IfSome result (λ value. Q → Holds value)
+    → IfSome result (λ value. P → Holds value)
 under Holds P Q f None h = tt
-under Holds P Q f (Some task) h = λ p. h (f p)
+under Holds P Q f (Some value) h = λ p. h (f p)
+
+-- what is so exactly if it is found is not found if it is not so
+pub not_found : (found : Bool) (P : Type 0) → IsTrue found ↔ P → (P → ⊥) → found ≡ false
+not_found true P is none = absurd (none (is.0 refl))
+not_found false P is none = refl
 
 -- the arguments ask for no command but `sim`
 pub is_sim : (arguments : List (List ℕ)) (argument : List ℕ) → slice_get arguments 1 ≡ Some argument → SimsFaithfully arguments → argument ≡ codes "sim"

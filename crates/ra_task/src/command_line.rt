@@ -232,9 +232,10 @@ pub fn format_of(policy: &PolicyName, arguments: &[String], sim: &ArgMatches) ->
 
 /// Returns the end that the arguments look for, if they do. It does not allocate.
 fn ending_of(sim: &ArgMatches) -> Option<Ending> {
-    match sim.get_str("find")? {
-        "finished" => Some(Ending::Finished),
-        _ => Some(Ending::Stuck),
+    match sim.get_str("find") {
+        Some("finished") => Some(Ending::Finished),
+        Some(_) => Some(Ending::Stuck),
+        None => None,
     }
 }
 

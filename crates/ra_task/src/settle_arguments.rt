@@ -20,6 +20,12 @@ pub struct SettleTask {
     pub printed: SettleOutput,
 }
 
+/// What both options ask for.
+const BOTH: SettleTask = SettleTask {
+    repeats: true,
+    printed: SettleOutput::Trace,
+};
+
 /// Returns whether an argument is this text. It does not allocate.
 fn is_text(argument: &String, text: &str) -> bool
     ensures { IsTrue result ↔ (string_bytes argument.now ≡ text.now) }
@@ -32,24 +38,6 @@ fn are_texts(one: &String, other: &String, first: &str, second: &str) -> bool
     ensures { IsTrue result ↔ ((string_bytes one.now ≡ first.now) × (string_bytes other.now ≡ second.now)) }
 {
     is_text(one, first) && is_text(other, second)
-}
-
-/// Returns what two options of `settle` ask for, or `None` if they are not two of its options. It does not allocate.
-fn two_options(one: &String, other: &String) -> Option<SettleTask>
-    ensures { MatchOption result (AreNoOptions (string_bytes one.now ∷ string_bytes other.now ∷ []))
-        (AreOptionsFor (string_bytes one.now ∷ string_bytes other.now ∷ [])) }
-{
-    let both = SettleTask {
-        repeats: true,
-        printed: SettleOutput::Trace,
-    };
-    if are_texts(one, other, "--repeats", "--trace") {
-        return Some(both);
-    }
-    if are_texts(one, other, "--trace", "--repeats") {
-        return Some(both);
-    }
-    None
 }
 
 /// Returns what the arguments after `settle` ask for, or `None` if they are not its options, each at most once. It does
@@ -77,7 +65,15 @@ fn options_of(options: &[String]) -> Option<SettleTask>
                 None
             }
         }
-        [one, other] => two_options(one, other),
+        [one, other] => {
+            if are_texts(one, other, "--repeats", "--trace") {
+                Some(BOTH)
+            } else if are_texts(one, other, "--trace", "--repeats") {
+                Some(BOTH)
+            } else {
+                None
+            }
+        }
         _ => None,
     }
 }

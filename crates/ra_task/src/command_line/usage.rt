@@ -304,9 +304,13 @@ fn push_under(note: &mut Note, arguments: &[String], policy: &PolicyName, sim: &
     }
 }
 
-/// Adds what is wrong with arguments of a command in which the parser finds nothing wrong. The causes for `sim` are tried
-/// in the order in which a task is made from the arguments.
-fn push_unseen(note: &mut Note, arguments: &[String], command: &str, given: &ArgMatches) {
+/// Adds what is wrong with arguments in which the parser finds nothing wrong, so the cause is something that it does not
+/// check. The causes for `sim` are tried in the order in which a task is made from the arguments.
+fn push_unseen(note: &mut Note, arguments: &[String], matches: &ArgMatches) {
+    let Some((command, given)) = matches.subcommand() else {
+        push_help(note, arguments);
+        return;
+    };
     // `node` and `settle` have an argument that the parser passes over, which only `--` is.
     match command {
         "draw" => note.push("--from must be at least 1, and at most --to; see ra draw --help"),
@@ -324,19 +328,10 @@ fn push_unseen(note: &mut Note, arguments: &[String], command: &str, given: &Arg
     }
 }
 
-/// Adds what is wrong with arguments in which the parser finds nothing wrong, so the cause is something that it does
-/// not check.
-fn push_unchecked(note: &mut Note, arguments: &[String], matches: &ArgMatches) {
-    match matches.subcommand() {
-        Some((command, given)) => push_unseen(note, arguments, command, given),
-        None => push_help(note, arguments),
-    }
-}
-
 /// Adds what is wrong with the arguments.
 fn push_usage<'a>(alloc: Global, note: &mut Note, arguments: &'a [String], command: Command<'a>) {
     match command.try_get_matches_from(arguments) {
-        Ok(matches) => push_unchecked(note, arguments, &matches),
+        Ok(matches) => push_unseen(note, arguments, &matches),
         Err(error) => push_error(alloc, note, arguments, &error),
     }
 }
