@@ -20,12 +20,6 @@ pub struct SettleTask {
     pub printed: SettleOutput,
 }
 
-/// What both options ask for.
-const BOTH: SettleTask = SettleTask {
-    repeats: true,
-    printed: SettleOutput::Trace,
-};
-
 /// Returns whether an argument is this text. It does not allocate.
 fn is_text(argument: &String, text: &str) -> bool
     ensures { IsTrue result ↔ (string_bytes argument.now ≡ text.now) }
@@ -40,6 +34,43 @@ fn are_texts(one: &String, other: &String, first: &str, second: &str) -> bool
     is_text(one, first) && is_text(other, second)
 }
 
+/// Returns what one option of `settle` asks for, or `None` if it is no such option. It does not allocate.
+fn one_option(one: &String) -> Option<SettleTask>
+    ensures { MatchOption result (AreNoOptions (string_bytes one.now ∷ [])) (AreOptionsFor (string_bytes one.now ∷ [])) }
+{
+    if is_text(one, "--repeats") {
+        return Some(SettleTask {
+            repeats: true,
+            printed: SettleOutput::Lines,
+        });
+    }
+    if is_text(one, "--trace") {
+        return Some(SettleTask {
+            repeats: false,
+            printed: SettleOutput::Trace,
+        });
+    }
+    None
+}
+
+/// Returns what two options of `settle` ask for, or `None` if they are not two of its options. It does not allocate.
+fn two_options(one: &String, other: &String) -> Option<SettleTask>
+    ensures { MatchOption result (AreNoOptions (string_bytes one.now ∷ string_bytes other.now ∷ []))
+        (AreOptionsFor (string_bytes one.now ∷ string_bytes other.now ∷ [])) }
+{
+    let both = SettleTask {
+        repeats: true,
+        printed: SettleOutput::Trace,
+    };
+    if are_texts(one, other, "--repeats", "--trace") {
+        return Some(both);
+    }
+    if are_texts(one, other, "--trace", "--repeats") {
+        return Some(both);
+    }
+    None
+}
+
 /// Returns what the arguments after `settle` ask for, or `None` if they are not its options, each at most once. It does
 /// not allocate.
 fn options_of(options: &[String]) -> Option<SettleTask>
@@ -50,30 +81,8 @@ fn options_of(options: &[String]) -> Option<SettleTask>
             repeats: false,
             printed: SettleOutput::Lines,
         }),
-        [one] => {
-            if is_text(one, "--repeats") {
-                Some(SettleTask {
-                    repeats: true,
-                    printed: SettleOutput::Lines,
-                })
-            } else if is_text(one, "--trace") {
-                Some(SettleTask {
-                    repeats: false,
-                    printed: SettleOutput::Trace,
-                })
-            } else {
-                None
-            }
-        }
-        [one, other] => {
-            if are_texts(one, other, "--repeats", "--trace") {
-                Some(BOTH)
-            } else if are_texts(one, other, "--trace", "--repeats") {
-                Some(BOTH)
-            } else {
-                None
-            }
-        }
+        [one] => one_option(one),
+        [one, other] => two_options(one, other),
         _ => None,
     }
 }
