@@ -1,11 +1,10 @@
 //! Where the fault of a frame is in its line of digits.
 use crate::frame_notes::digits::{no_name_byte, part};
 use crate::frame_notes::frame_field::{NAME, extent_of, index_of, name_of, range_of};
-use crate::frame_notes::hexadecimal::first_line;
 use crate::note_parts::{push_number_in, push_numbered};
 use ra_frame::FrameError;
 use ra_stamp::Memory;
-use ra_world::Note;
+use ra_world::{Note, cut};
 use std::alloc::Global;
 
 /// Adds the name of a field and the offsets of its bytes, of which there are `width` from `place` on.
@@ -94,7 +93,7 @@ pub fn frame_note(
     fault: FrameError,
 ) -> Result<Option<String>, Memory> {
     let mut note = Note::new(alloc);
-    let (digits, _) = first_line(input);
+    let (digits, _) = cut(input, b'\n');
     push_frame_fault(&mut note, digits, fault);
     note.finish()
 }

@@ -42,33 +42,17 @@ fn format_in(digits: &[u8]) -> Format {
     format_of(&[byte_at(digits, 0)]).unwrap_or(Format::V2)
 }
 
-/// Returns the text for the field with this index, of texts in the order of the fields.
-fn text_of(texts: &[&'static str], index: usize) -> &'static str {
-    match texts.get(index) {
-        Some(text) => text,
-        None => "",
-    }
-}
-
 /// Returns the name of the field with this index.
 pub fn name_of(index: usize) -> &'static str {
-    text_of(&NAMES, index)
-}
-
-/// Returns what the field with this index may contain in version 1.
-fn range_in_1(index: usize) -> &'static str {
-    match index {
-        2 | 3 => NODE_1,
-        4 => MODE_1,
-        _ => text_of(&RANGES, index),
-    }
+    NAMES.get(index).unwrap_or(&"")
 }
 
 /// Returns what the field with this index may contain in the frame of these digits.
 pub fn range_of(digits: &[u8], index: usize) -> &'static str {
-    match format_in(digits) {
-        Format::V1 => range_in_1(index),
-        Format::V2 => text_of(&RANGES, index),
+    match (format_in(digits), index) {
+        (Format::V1, 2 | 3) => NODE_1,
+        (Format::V1, 4) => MODE_1,
+        _ => RANGES.get(index).unwrap_or(&""),
     }
 }
 

@@ -7,12 +7,6 @@ use std::alloc::Global;
 /// The most bytes that a line may have, without its line feed.
 const MAX_LINE: usize = 256;
 
-/// Returns the first line of an input, without its line feed, and whether nothing follows it.
-pub fn first_line(input: &[u8]) -> (&[u8], bool) {
-    let (line, after) = cut(input, b'\n');
-    (line, matches!(after, None | Some(b"")))
-}
-
 /// Adds which byte of a line is not a hexadecimal digit, by its place in the digits, before which this many other bytes come.
 fn push_no_digit(note: &mut Note, before: usize, place: usize, byte: u8) {
     push_number_in(
@@ -61,10 +55,10 @@ pub fn push_digits_fault(note: &mut Note, digits: &[u8], before: usize) {
 /// `Memory`: memory ran out.
 pub fn digits_note(alloc: Global, input: &[u8]) -> Result<Option<String>, Memory> {
     let mut note = Note::new(alloc);
-    let (line, is_alone) = first_line(input);
+    let (line, after) = cut(input, b'\n');
     if line.len() > MAX_LINE {
         note.push("the line has more than 256 bytes: a frame has at most 56 bytes, or 112 digits");
-    } else if !is_alone {
+    } else if !matches!(after, None | Some(b"")) {
         push_number_in(
             &mut note,
             "there is more input after the first line, whose length is ",

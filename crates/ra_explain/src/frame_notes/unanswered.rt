@@ -2,11 +2,10 @@
 use crate::frame_notes::digits::byte_at;
 use crate::frame_notes::frame_fault::push_field;
 use crate::frame_notes::frame_field::{extent_of, index_of, name_of};
-use crate::frame_notes::hexadecimal::first_line;
 use crate::note_parts::push_number_in;
 use ra_frame::FrameError;
 use ra_stamp::Memory;
-use ra_world::Note;
+use ra_world::{Note, cut};
 use std::alloc::Global;
 
 /// Why a node does not answer a frame.
@@ -47,7 +46,7 @@ pub fn unanswered_note(
     why: Unanswered,
 ) -> Result<Option<String>, Memory> {
     let mut note = Note::new(alloc);
-    let (digits, _) = first_line(input);
+    let (digits, _) = cut(input, b'\n');
     let index = index_of(match why {
         Unanswered::WrongNode => FrameError::To,
         Unanswered::Stranger => FrameError::From,
