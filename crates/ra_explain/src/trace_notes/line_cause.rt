@@ -20,27 +20,16 @@ pub enum LineCause {
     Marks(MarkCause),
 }
 
-/// Adds why a line of a trace is wrong, which is `other` if nothing more precise is found.
-fn push_trace_cause(
-    alloc: Global,
-    note: &mut Note,
-    line: &TextLine<'_>,
-    cause: Cause,
-    other: &str,
-) {
-    match cause {
-        Cause::Line => push_trace_text(note, line, other),
-        Cause::Marks => note.push(other),
-        Cause::Refused => push_refused(alloc, note, line, other),
-        Cause::NotUnderWay => push_not_under_way(alloc, note, line, other),
-        Cause::Table => push_obstacle(alloc, note, line, None, other),
-    }
-}
-
 /// Adds why a line is wrong, which is `other` if nothing more precise is found.
 fn push_cause(alloc: Global, note: &mut Note, line: &TextLine<'_>, cause: LineCause, other: &str) {
     match cause {
-        LineCause::Trace(cause) => push_trace_cause(alloc, note, line, cause, other),
+        LineCause::Trace(cause) => match cause {
+            Cause::Line => push_trace_text(note, line, other),
+            Cause::Marks => note.push(other),
+            Cause::Refused => push_refused(alloc, note, line, other),
+            Cause::NotUnderWay => push_not_under_way(alloc, note, line, other),
+            Cause::Table => push_obstacle(alloc, note, line, None, other),
+        },
         LineCause::Due(due) => push_due(alloc, note, line, &due),
         LineCause::Marks(MarkCause::Line) => push_mark_text(note, line, other),
         LineCause::Marks(why) => push_obstacle(alloc, note, line, Some(why), other),

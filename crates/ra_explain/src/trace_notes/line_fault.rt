@@ -1,7 +1,7 @@
 //! Which field of a line of a trace or mark log is wrong, and what it may contain.
 use crate::hint::TAB;
 use crate::trace_notes::line_field::{field_name, field_range, may_be};
-use crate::trace_notes::line_form::{kind_of, push_form};
+use crate::trace_notes::line_form::{kind_of, words_of};
 use ra_trace::{Field, LineKind, Version};
 use ra_world::{Note, cut};
 
@@ -9,7 +9,11 @@ use ra_world::{Note, cut};
 fn push_expected(note: &mut Note, wrong: &str, kind: LineKind) {
     note.push(wrong);
     note.push(": expected ");
-    push_form(note, kind);
+    note.push(words_of(kind));
+    for field in kind.fields() {
+        note.push(" ");
+        note.push(field_name(*field));
+    }
 }
 
 /// Adds what a field contains and what it must be, or that a tab does not separate fields.
@@ -29,14 +33,18 @@ fn push_wrong(note: &mut Note, field: Field, text: &[u8], version: Option<Versio
     note.push(field_range(field, version));
 }
 
-/// Adds what is wrong with the fields of a line of this kind, and returns whether anything is.
-fn push_fields(
+/// Adds which field of a line is wrong in this version and what it may contain, and returns whether one is. Adds
+/// nothing unless the words of the line are those of one of these kinds. If the version is not known, fields are
+/// checked as in version 2.
+pub fn push_line_fault(
     note: &mut Note,
-    kind: LineKind,
-    fields: Option<&[u8]>,
+    kinds: &[LineKind],
+    line: &[u8],
     version: Option<Version>,
 ) -> bool {
-    let mut rest = fields;
+    let Some((kind, mut rest)) = kind_of(kinds, line) else {
+        return false;
+    };
     for field in kind.fields() {
         let Some(left) = rest else {
             note.push(field_name(*field));
@@ -54,19 +62,4 @@ fn push_fields(
         push_expected(note, "too many fields", kind);
     }
     rest.is_some()
-}
-
-/// Adds which field of a line is wrong in this version and what it may contain, and returns whether one is. Adds
-/// nothing unless the words of the line are those of one of these kinds. If the version is not known, fields are
-/// checked as in version 2.
-pub fn push_line_fault(
-    note: &mut Note,
-    kinds: &[LineKind],
-    line: &[u8],
-    version: Option<Version>,
-) -> bool {
-    match kind_of(kinds, line) {
-        Some((kind, fields)) => push_fields(note, kind, fields, version),
-        None => false,
-    }
 }

@@ -16,29 +16,19 @@ pub fn field_name(field: Field) -> &'static str {
     }
 }
 
-/// Returns which nodes there may be in this version, or in each version if the version is not known.
-fn node_range(version: Option<Version>) -> &'static str {
-    match version {
-        Some(Version::One) => "1 to 16 in version 1, without leading zeros",
-        Some(Version::Two) => "1 to 64, without leading zeros",
-        None => "1 to 16 in version 1, or 1 to 64 in version 2, without leading zeros",
-    }
-}
-
-/// Returns which modes there are in this version, or in each version if the version is not known.
-fn mode_range(version: Option<Version>) -> &'static str {
-    match version {
-        Some(Version::One) => "S or X in version 1",
-        Some(Version::Two) => "S, X, IS, IX or SIX",
-        None => "S or X in version 1, or S, X, IS, IX or SIX in version 2",
-    }
-}
-
 /// Returns what a field may contain in this version, or in each version if the version is not known.
 pub fn field_range(field: Field, version: Option<Version>) -> &'static str {
     match field {
-        Field::Nodes | Field::Node | Field::From | Field::To => node_range(version),
-        Field::Mode => mode_range(version),
+        Field::Nodes | Field::Node | Field::From | Field::To => match version {
+            Some(Version::One) => "1 to 16 in version 1, without leading zeros",
+            Some(Version::Two) => "1 to 64, without leading zeros",
+            None => "1 to 16 in version 1, or 1 to 64 in version 2, without leading zeros",
+        },
+        Field::Mode => match version {
+            Some(Version::One) => "S or X in version 1",
+            Some(Version::Two) => "S, X, IS, IX or SIX",
+            None => "S or X in version 1, or S, X, IS, IX or SIX in version 2",
+        },
         Field::Client => "0 to 4294967295, without leading zeros",
         Field::Name => "1 to 32 characters from A-Z, a-z, 0-9, _, - and .",
         Field::Seq => "1 to 18446744073709551615, without leading zeros",

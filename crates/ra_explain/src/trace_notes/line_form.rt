@@ -1,7 +1,5 @@
 //! Which form a line of a trace or of a mark log has, by its words.
-use crate::trace_notes::line_field::field_name;
 use ra_trace::{Change, Fate, LineKind, Version};
-use ra_world::Note;
 
 /// The marks.
 pub const MARKS: &[LineKind] = &[
@@ -33,38 +31,21 @@ pub const LATER_LINES: &[LineKind] = &[
 ];
 
 /// Returns the words of a kind of lines, without the space before its first field.
-fn words_of(kind: LineKind) -> &'static str {
+pub fn words_of(kind: LineKind) -> &'static str {
     let words = kind.words();
     words.strip_suffix(" ").unwrap_or(words)
-}
-
-/// Returns the fields of a line of this kind, or `None` inside if nothing follows its words. Returns `None` if the line has other
-/// words.
-fn fields_in<'a>(kind: LineKind, line: &'a [u8]) -> Option<Option<&'a [u8]>> {
-    match line.strip_prefix(words_of(kind).as_bytes()) {
-        Some([]) => Some(None),
-        Some([b' ', fields @ ..]) => Some(Some(fields)),
-        _ => None,
-    }
 }
 
 /// Returns which of these kinds the words of a line have, and its fields, or `None` if nothing follows the words.
 pub fn kind_of<'a>(kinds: &[LineKind], line: &'a [u8]) -> Option<(LineKind, Option<&'a [u8]>)> {
     for kind in kinds {
-        if let Some(fields) = fields_in(*kind, line) {
-            return Some((*kind, fields));
+        match line.strip_prefix(words_of(*kind).as_bytes()) {
+            Some([]) => return Some((*kind, None)),
+            Some([b' ', fields @ ..]) => return Some((*kind, Some(fields))),
+            _ => {}
         }
     }
     None
-}
-
-/// Adds how a line of this kind is made.
-pub fn push_form(note: &mut Note, kind: LineKind) {
-    note.push(words_of(kind));
-    for field in kind.fields() {
-        note.push(" ");
-        note.push(field_name(*field));
-    }
 }
 
 /// Returns the version that the first line of a text names, or `None` if it does not name one.

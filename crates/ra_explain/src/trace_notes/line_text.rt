@@ -45,32 +45,16 @@ fn unless_tab<'a>(line: &[u8], text: &'a str) -> &'a str {
     if line.contains(&b'\t') { TAB } else { text }
 }
 
-/// Returns the text for a line that has the words of no later line of a trace of this version, or `None` if it has them.
-fn words_text(text: &[u8], version: Option<Version>) -> Option<&'static str> {
-    if kind_of(FIRST_LINES, text).is_some() {
-        Some(FIRST_AGAIN)
-    } else if matches!(version, Some(Version::One)) && text.starts_with(b"repeat ") {
-        Some(NO_REPEATS)
-    } else if kind_of(LATER_LINES, text).is_none() {
-        Some(unless_tab(text, hint_at(&[AT_LATER], text, WORDS)))
-    } else {
-        None
-    }
-}
-
 /// Adds the text for a later line of a trace, or `other` if nothing is found.
 fn push_later_line(note: &mut Note, text: &[u8], version: Option<Version>, other: &str) {
-    if let Some(words) = words_text(text, version) {
-        note.push(words);
+    if kind_of(FIRST_LINES, text).is_some() {
+        note.push(FIRST_AGAIN);
+    } else if matches!(version, Some(Version::One)) && text.starts_with(b"repeat ") {
+        note.push(NO_REPEATS);
+    } else if kind_of(LATER_LINES, text).is_none() {
+        note.push(unless_tab(text, hint_at(&[AT_LATER], text, WORDS)));
     } else if !push_line_fault(note, LATER_LINES, text, version) {
         note.push(other);
-    }
-}
-
-/// Adds the text for the first line of a trace.
-fn push_first_line(note: &mut Note, text: &[u8]) {
-    if !push_line_fault(note, FIRST_LINES, text, version_of(text)) {
-        note.push(hint_at(&[AT_BOTH, AT_FIRST], text, NOT_FIRST));
     }
 }
 
@@ -81,7 +65,9 @@ pub fn push_trace_text(note: &mut Note, line: &TextLine<'_>, other: &str) {
     } else if let Some(text) = end_text(line) {
         note.push(text);
     } else if line.number == 1 {
-        push_first_line(note, line.bytes);
+        if !push_line_fault(note, FIRST_LINES, line.bytes, version_of(line.bytes)) {
+            note.push(hint_at(&[AT_BOTH, AT_FIRST], line.bytes, NOT_FIRST));
+        }
     } else {
         push_later_line(note, line.bytes, version_of(line.before), other);
     }

@@ -17,24 +17,18 @@ pub struct TextLine<'a> {
     pub is_after_end: bool,
 }
 
-/// Returns what a text has from the line with this number on, counted from 1, or from its last line on if it ends before, and the line
-/// before that. The cost is linear in the text up to there.
-fn rest_from(text: &[u8], number: u64) -> (&[u8], &[u8]) {
-    let (mut rest, mut last) = (text, text);
-    for _ in 1..number {
-        let (line, Some(after)) = cut(rest, b'\n') else {
-            break;
-        };
-        last = line;
-        rest = after;
-    }
-    (rest, last)
-}
-
 impl<'a> TextLine<'a> {
     /// Returns the line of a text with this number, counted from 1. The cost is linear in the text up to there.
     pub fn at(text: &'a [u8], number: u64) -> TextLine<'a> {
-        let (rest, last) = rest_from(text, number);
+        // What the text has from the line on, or from its last line on if it ends before, and the line before that.
+        let (mut rest, mut last) = (text, text);
+        for _ in 1..number {
+            let (line, Some(after)) = cut(rest, b'\n') else {
+                break;
+            };
+            last = line;
+            rest = after;
+        }
         let (bytes, after) = cut(&rest[..rest.len().min(MAX_LINE)], b'\n');
         TextLine {
             number,
