@@ -8,34 +8,6 @@ use ra_trace::Line;
 use ra_world::{Note, mark_line};
 use std::alloc::Global;
 
-/// Adds that a mark is due here, with its line in quotes.
-fn push_expected(alloc: Global, note: &mut Note, mark: &Mark) {
-    match mark_line(alloc, mark) {
-        Ok(line) => {
-            note.push("expected the mark '");
-            note.push(line.as_str().strip_suffix("\n").unwrap_or(""));
-            note.push("' here");
-        }
-        Err(_) => note.refuse_if(true),
-    }
-}
-
-/// Adds that the client of an entry still awaits the REPLY of this node, the first of `count`.
-fn push_missing(note: &mut Note, entry: &Entry, first: u16, count: u16) {
-    note.push(": ");
-    note.client(entry.client);
-    push_numbered(note, " at node ", entry.stamp.node.get());
-    push_numbered(note, " still awaits the REPLY of node ", first);
-    if count > 1 {
-        let others = if count == 2 {
-            " other node"
-        } else {
-            " other nodes"
-        };
-        push_number_in(note, ", and of ", count - 1, others);
-    }
-}
-
 /// Adds that the client of an entry still awaits the REPLY of a node, and of how many others, if its request waits and it does.
 fn push_awaited(note: &mut Note, entry: &Entry, replay: &Replay) {
     if let Some(request) = replay.open.request_of(entry)
@@ -43,17 +15,19 @@ fn push_awaited(note: &mut Note, entry: &Entry, replay: &Replay) {
     {
         let (first, count) = replay.missing(entry);
         if count > 0 {
-            push_missing(note, entry, first, count);
+            note.push(": ");
+            note.client(entry.client);
+            push_numbered(note, " at node ", entry.stamp.node.get());
+            push_numbered(note, " still awaits the REPLY of node ", first);
         }
-    }
-}
-
-/// Adds that no mark is due, and which REPLY the client still awaits that this line lets in, if it does that. The cost is linear in the
-/// lines before.
-fn push_none(alloc: Global, note: &mut Note, line: &TextLine<'_>) {
-    note.push("expected no mark here");
-    if let Some(Line::Marked(Mark::Entered(entry))) = &Line::parse(line.bytes) {
-        push_awaited(note, entry, &Replay::before(alloc, line));
+        if count > 1 {
+            let others = if count == 2 {
+                " other node"
+            } else {
+                " other nodes"
+            };
+            push_number_in(note, ", and of ", count - 1, others);
+        }
     }
 }
 
@@ -61,7 +35,19 @@ fn push_none(alloc: Global, note: &mut Note, line: &TextLine<'_>) {
 /// in, if it does that. The cost is linear in the lines before.
 pub fn push_due(alloc: Global, note: &mut Note, line: &TextLine<'_>, due: &Option<Mark>) {
     match due {
-        Some(mark) => push_expected(alloc, note, mark),
-        None => push_none(alloc, note, line),
+        Some(mark) => match mark_line(alloc, mark) {
+            Ok(line) => {
+                note.push("expected the mark '");
+                note.push(line.as_str().strip_suffix("\n").unwrap_or(""));
+                note.push("' here");
+            }
+            Err(_) => note.refuse_if(true),
+        },
+        None => {
+            note.push("expected no mark here");
+            if let Some(Line::Marked(Mark::Entered(entry))) = &Line::parse(line.bytes) {
+                push_awaited(note, entry, &Replay::of(alloc, line.before, line.bytes));
+            }
+        }
     }
 }

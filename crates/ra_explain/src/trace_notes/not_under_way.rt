@@ -13,17 +13,6 @@ use std::alloc::Global;
 /// What is said of a message for which there is no reason to be sent.
 const NEVER_SENT: &str = "it was never sent";
 
-/// Returns the request at the node that gets a REPLY, if it waits or holds and is the one that the REPLY answers.
-fn answered_by<'a>(replay: &'a Replay, reply: &Message) -> Option<&'a OpenRequest> {
-    let sought = Sought::AtNode(reply.to(), reply.name());
-    match replay.open.next_of(0, &sought) {
-        Some(request)
-            if matches!(reply, Message::Reply { .. }) && request.entry.stamp.seq == reply.seq() =>
-            Some(request),
-        _ => None,
-    }
-}
-
 /// Adds why a REPLY was never sent, although this request waits for it.
 fn push_awaited(note: &mut Note, replay: &Replay, reply: &Message, answered: &OpenRequest) {
     let (from, to) = (reply.from(), reply.to());
@@ -61,24 +50,16 @@ fn push_taken(note: &mut Note, line: &TextLine<'_>, number: u64, is_lost: bool) 
     }
 }
 
-/// Adds why a message was never sent.
+/// Adds why a message was never sent: of a REPLY, why it was not although the request that it answers waits or holds.
 fn push_never_sent(note: &mut Note, replay: &Replay, message: &Message) {
-    match answered_by(replay, message) {
-        Some(answered) => push_awaited(note, replay, message, answered),
-        None => note.push(NEVER_SENT),
-    }
-}
-
-/// Adds why a message is not under way at a line, given what the lines before say of it.
-fn push_reason(note: &mut Note, line: &TextLine<'_>, replay: &Replay, other: &str) {
-    let Some(message) = &replay.message else {
-        note.push(other);
-        return;
-    };
-    note.push("this message is not under way: ");
-    match replay.taken {
-        Some((number, is_lost)) => push_taken(note, line, number, is_lost),
-        None => push_never_sent(note, replay, message),
+    let sought = Sought::AtNode(message.to(), message.name());
+    match replay.open.next_of(0, &sought) {
+        Some(request)
+            if matches!(message, Message::Reply { .. })
+                && request.entry.stamp.seq == message.seq() => {
+            push_awaited(note, replay, message, request);
+        }
+        _ => note.push(NEVER_SENT),
     }
 }
 
@@ -86,5 +67,16 @@ fn push_reason(note: &mut Note, line: &TextLine<'_>, replay: &Replay, other: &st
 /// Without memory for what waits, is queued and holds before it, it only adds of a REPLY that it was never sent. The cost is linear
 /// in the lines before.
 pub fn push_not_under_way(alloc: Global, note: &mut Note, line: &TextLine<'_>, other: &str) {
-    push_reason(note, line, &Replay::before(alloc, line), other);
+    let replay = Replay::of(alloc, line.before, line.bytes);
+    let taken = replay.taken;
+    match &replay.message {
+        Some(message) => {
+            note.push("this message is not under way: ");
+            match taken {
+                Some((number, is_lost)) => push_taken(note, line, number, is_lost),
+                None => push_never_sent(note, &replay, message),
+            }
+        }
+        None => note.push(other),
+    }
 }

@@ -10,28 +10,6 @@ use ra_trace::{Line, MarkCause};
 use ra_world::Note;
 use std::alloc::Global;
 
-/// Returns the request at the node of an entry that waits for its name or holds it, or if there is none, the first of its client, if
-/// there is one.
-fn nearest_of<'a>(open: &'a OpenText, entry: &Entry) -> Option<&'a OpenRequest> {
-    let at_node = open.next_of(0, &Sought::AtNode(entry.stamp.node, entry.name));
-    if at_node.is_some() {
-        at_node
-    } else {
-        open.next_of(0, &Sought::Of(entry.client, entry.name))
-    }
-}
-
-/// Returns the text for a cause in a trace. For `Held` and `Earlier` it is empty: the request in the way is named.
-fn cause_text(cause: MarkCause) -> &'static str {
-    match cause {
-        MarkCause::NodeBusy => ": its node already waits for the name or holds it",
-        MarkCause::NotAbove => ": its number is not above every number granted for the name",
-        MarkCause::NotWaiting => ": no such request waits for the name",
-        MarkCause::NotHeld => ": no such request holds the name",
-        _ => "",
-    }
-}
-
 /// Adds a request that is in the way of another one, with its number, if there is one. Returns whether there is.
 fn push_other(note: &mut Note, joint: &str, request: Option<&OpenRequest>) -> bool {
     if let Some(request) = request {
@@ -58,37 +36,25 @@ fn push_never(note: &mut Note, entry: &Entry, replay: &Replay, cause: MarkCause)
     }
 }
 
-/// Adds what became of an entry that neither waits nor holds: it was released, or it was never requested. If it was not, a request
-/// like it is named in its place, or the last one that its node released. If none is, and it should hold, who holds its name.
-fn push_past(note: &mut Note, entry: &Entry, replay: &Replay, cause: MarkCause) {
-    if let Some(released) = replay.release_of(entry) {
-        push_numbered(note, ": it was released in line ", released.since);
-    } else if !push_other(note, ": ", nearest_of(&replay.open, entry)) {
-        push_never(note, entry, replay, cause);
-    }
-}
-
 /// Adds what became of an entry that should wait or hold and does not: it already holds, still waits, was released, or
-/// was never requested.
+/// was never requested. If it was not, a request like it is named in its place: the one of its node that waits or holds, the first
+/// of its client that does, or the last one that its node released. If none is, and it should hold, who holds its name.
 fn push_fate(note: &mut Note, entry: &Entry, replay: &Replay, cause: MarkCause) {
-    match replay.open.request_of(entry) {
-        Some(request) => {
-            let text = if request.holds() {
-                ": it was granted in line "
-            } else {
-                ": it has waited since line "
-            };
-            push_numbered(note, text, request.since);
-        }
-        None => push_past(note, entry, replay, cause),
-    }
-}
-
-/// Adds the greatest number that was granted for the name of an entry, if the number of the entry is not above it.
-fn push_granted(note: &mut Note, entry: &Entry, replay: &Replay) {
-    if replay.granted >= entry.stamp.seq {
-        push_number_in(note, ": ", replay.granted, " was granted in line ");
-        note.number(replay.granted_at);
+    let at_node = Sought::AtNode(entry.stamp.node, entry.name);
+    let of_client = Sought::Of(entry.client, entry.name);
+    if let Some(request) = replay.open.request_of(entry) {
+        let text = if request.holds() {
+            ": it was granted in line "
+        } else {
+            ": it has waited since line "
+        };
+        push_numbered(note, text, request.since);
+    } else if let Some(released) = replay.release_of(entry) {
+        push_numbered(note, ": it was released in line ", released.since);
+    } else if !push_other(note, ": ", replay.open.next_of(0, &at_node))
+        && !push_other(note, ": ", replay.open.next_of(0, &of_client))
+    {
+        push_never(note, entry, replay, cause);
     }
 }
 
@@ -103,7 +69,12 @@ fn push_first(note: &mut Note, replay: &Replay, sought: &Sought) {
 /// Adds what is in the way of the mark of an entry, for this cause.
 fn push_details(note: &mut Note, entry: &Entry, replay: &Replay, cause: MarkCause) {
     match cause {
-        MarkCause::NotAbove => push_granted(note, entry, replay),
+        MarkCause::NotAbove => {
+            if replay.granted >= entry.stamp.seq {
+                push_number_in(note, ": ", replay.granted, " was granted in line ");
+                note.number(replay.granted_at);
+            }
+        }
         MarkCause::NodeBusy => {
             push_first(note, replay, &Sought::AtNode(entry.stamp.node, entry.name));
         }
@@ -114,35 +85,40 @@ fn push_details(note: &mut Note, entry: &Entry, replay: &Replay, cause: MarkCaus
     }
 }
 
-/// Adds `other`, which says why a mark of a log is wrong, and what is in its way for this cause, if that is known.
-fn push_in_log(note: &mut Note, entry: &Entry, replay: &Replay, cause: MarkCause, other: &str) {
-    note.push(other);
-    if replay.open.is_whole {
-        push_details(note, entry, replay, cause);
-    }
+/// Adds that a lock table does not allow a mark of a trace, for this cause.
+fn push_cause(note: &mut Note, cause: MarkCause) {
+    note.push("the lock table does not allow this mark");
+    note.push(match cause {
+        MarkCause::NodeBusy => ": its node already waits for the name or holds it",
+        MarkCause::NotAbove => ": its number is not above every number granted for the name",
+        MarkCause::NotWaiting => ": no such request waits for the name",
+        MarkCause::NotHeld => ": no such request holds the name",
+        // The request in the way is named.
+        _ => "",
+    });
 }
 
-/// Adds why a lock table does not allow a mark of a trace and what is in its way, or `other` if that is not known.
-fn push_in_trace(
+/// Adds why a mark is wrong and what is in its way, given what the lines before say of it, or `other` if that is not known.
+fn push_reason(
     alloc: Global,
     note: &mut Note,
     line: &TextLine<'_>,
     mark: &Mark,
     replay: &Replay,
+    log_cause: Option<MarkCause>,
     other: &str,
 ) {
-    let cause = if replay.open.is_whole {
-        refusal_after(alloc, line.before, mark)
-    } else {
-        None
+    let cause = match log_cause {
+        _ if !replay.open.is_whole => None,
+        Some(_) => log_cause,
+        None => refusal_after(alloc, line.before, mark),
     };
     match cause {
-        Some(cause) => {
-            note.push("the lock table does not allow this mark");
-            note.push(cause_text(cause));
-            push_details(note, mark.entry(), replay, cause);
-        }
-        None => note.push(other),
+        Some(cause) if log_cause.is_none() => push_cause(note, cause),
+        _ => note.push(other),
+    }
+    if let Some(cause) = cause {
+        push_details(note, mark.entry(), replay, cause);
     }
 }
 
@@ -157,11 +133,8 @@ pub fn push_obstacle(
     other: &str,
 ) {
     if let Some(Line::Marked(mark)) = &Line::parse(line.bytes) {
-        let replay = Replay::before(alloc, line);
-        match log_cause {
-            Some(cause) => push_in_log(note, mark.entry(), &replay, cause, other),
-            None => push_in_trace(alloc, note, line, mark, &replay, other),
-        }
+        let replay = Replay::of(alloc, line.before, line.bytes);
+        push_reason(alloc, note, line, mark, &replay, log_cause, other);
     } else {
         note.push(other);
     }

@@ -1,6 +1,6 @@
 //! Why a node refuses what a client wants at a line of a trace.
 use crate::note_parts::{push_name_and_mode, push_numbered};
-use crate::trace_notes::open_request::{OpenRequest, Stage};
+use crate::trace_notes::open_request::Stage;
 use crate::trace_notes::open_text::ClientKey;
 use crate::trace_notes::replay::Replay;
 use crate::trace_notes::text_line::TextLine;
@@ -47,37 +47,27 @@ pub fn push_exhausted(note: &mut Note, name: &Name) {
     note.push(": the greatest is 18446744073709551615");
 }
 
-/// Adds that a trace of this many nodes has no such node.
-fn push_no_node(note: &mut Note, node: NodeId, nodes: u16) {
-    push_numbered(note, "there is no node ", node.get());
-    push_numbered(note, ": the highest node of the trace is ", nodes);
-}
-
-/// Adds what the client of a key does with the name, so that it may not ask for it again, or does not hold it.
-fn push_open(note: &mut Note, key: &ClientKey, open: &OpenRequest, is_ask: bool) {
-    let (node, client, name) = key;
-    let mode = open.entry.mode;
-    push_stage(
-        note,
-        *client,
-        open.stage,
-        name,
-        mode,
-        Some(*node),
-        open.since,
-    );
-    note.push(if is_ask {
-        " and may not ask for it again"
-    } else {
-        " and does not hold it"
-    });
-}
-
 /// Adds why a node that there is refuses what the client of a key wants, which is to ask for the name or to leave it.
 fn push_client(note: &mut Note, replay: &Replay, key: &ClientKey, is_ask: bool) {
     let (node, client, name) = key;
     match replay.open.clients.get(key) {
-        Some(open) => push_open(note, key, open, is_ask),
+        Some(open) => {
+            let mode = open.entry.mode;
+            push_stage(
+                note,
+                *client,
+                open.stage,
+                name,
+                mode,
+                Some(*node),
+                open.since,
+            );
+            note.push(if is_ask {
+                " and may not ask for it again"
+            } else {
+                " and does not hold it"
+            });
+        }
         None if is_ask => push_exhausted(note, name),
         None => push_not_held(note, *client, name, Some(*node)),
     }
@@ -87,7 +77,8 @@ fn push_client(note: &mut Note, replay: &Replay, key: &ClientKey, is_ask: bool) 
 fn push_refusal(note: &mut Note, replay: &Replay, key: &ClientKey, is_ask: bool, other: &str) {
     let (node, _, _) = key;
     if node.get() > replay.nodes && replay.nodes > 0 {
-        push_no_node(note, *node, replay.nodes);
+        push_numbered(note, "there is no node ", node.get());
+        push_numbered(note, ": the highest node of the trace is ", replay.nodes);
     } else if replay.nodes > 0 && replay.open.is_whole {
         push_client(note, replay, key, is_ask);
     } else {
@@ -95,9 +86,10 @@ fn push_refusal(note: &mut Note, replay: &Replay, key: &ClientKey, is_ask: bool,
     }
 }
 
-/// Returns the key of the client that asks or leaves by a line of a trace, and whether it asks, or `None` if it is another line.
-fn want_of(line: &[u8]) -> Option<(ClientKey, bool)> {
-    match &Line::parse(line) {
+/// Adds why the step in a line of a trace is refused, or `other` if that is not known since there is no memory for what waits, is
+/// queued and holds before it. The cost is linear in the lines before.
+pub fn push_refused(alloc: Global, note: &mut Note, line: &TextLine<'_>, other: &str) {
+    let (key, is_ask) = match &Line::parse(line.bytes) {
         Some(
             Line::Stepped(
                 Step::Ask {
@@ -107,21 +99,13 @@ fn want_of(line: &[u8]) -> Option<(ClientKey, bool)> {
                     ..
                 },
             ),
-        ) => Some(((*node, *client, *name), true)),
-        Some(Line::Stepped(Step::Leave { node, client, name })) => {
-            Some(((*node, *client, *name), false))
+        ) => ((*node, *client, *name), true),
+        Some(Line::Stepped(Step::Leave { node, client, name })) => ((*node, *client, *name), false),
+        _ => {
+            note.push(other);
+            return;
         }
-        _ => None,
-    }
-}
-
-/// Adds why the step in a line of a trace is refused, or `other` if that is not known since there is no memory for what waits, is
-/// queued and holds before it. The cost is linear in the lines before.
-pub fn push_refused(alloc: Global, note: &mut Note, line: &TextLine<'_>, other: &str) {
-    match want_of(line.bytes) {
-        Some((key, is_ask)) => {
-            push_refusal(note, &Replay::before(alloc, line), &key, is_ask, other);
-        }
-        None => note.push(other),
-    }
+    };
+    let replay = Replay::of(alloc, line.before, line.bytes);
+    push_refusal(note, &replay, &key, is_ask, other);
 }

@@ -1,7 +1,6 @@
 //! The lines before a wrong line, gone through once more for what they say of it.
 use crate::trace_notes::open_request::{OpenRequest, Stage};
 use crate::trace_notes::open_text::OpenText;
-use crate::trace_notes::text_line::TextLine;
 use ra_stamp::{Entry, Mark, Message, Stamp};
 use ra_trace::Line;
 use ra_world::{Step, cut};
@@ -44,30 +43,17 @@ fn is_answered_by(request: &Message, reply: &Message) -> bool {
         && request.seq() == reply.seq()
 }
 
-/// Returns whether a message is a REPLY to the request of an entry.
-fn is_reply_to(reply: &Message, entry: &Entry) -> bool {
-    matches!(reply, Message::Reply { .. })
-        && reply.to() == entry.stamp.node
-        && reply.name() == entry.name
-        && reply.seq() == entry.stamp.seq
-}
-
-/// Returns the entry of the mark that a line is, and the message that it delivers, loses or repeats, if it is or does that.
-fn subjects_of(line: &[u8]) -> (Option<Entry>, Option<Message>) {
-    match &Line::parse(line) {
-        Some(Line::Marked(mark)) => (Some(*mark.entry()), None),
-        Some(Line::Stepped(Step::Deliver(sent) | Step::Lose(sent) | Step::Repeat(sent))) => {
-            (None, Some(*sent))
-        }
-        _ => (None, None),
-    }
-}
-
 impl Replay {
-    /// Makes that of a line before which no line was taken yet.
-    fn new(alloc: Global, line: &[u8]) -> Replay {
-        let (entry, message) = subjects_of(line);
-        Replay {
+    /// Goes through these lines for what they say of the one after them, or of their end if that is empty. The cost is linear in them.
+    pub fn of(alloc: Global, lines: &[u8], subject: &[u8]) -> Replay {
+        let (entry, message) = match &Line::parse(subject) {
+            Some(Line::Marked(mark)) => (Some(*mark.entry()), None),
+            Some(Line::Stepped(Step::Deliver(sent) | Step::Lose(sent) | Step::Repeat(sent))) => {
+                (None, Some(*sent))
+            }
+            _ => (None, None),
+        };
+        let mut replay = Replay {
             nodes: 0,
             open: OpenText::new(alloc),
             entry,
@@ -78,20 +64,8 @@ impl Replay {
             message,
             taken: None,
             came: None,
-        }
-    }
-
-    /// Goes through the lines before this one. The cost is linear in them.
-    pub fn before(alloc: Global, line: &TextLine<'_>) -> Replay {
-        let mut replay = Replay::new(alloc, line.bytes);
-        replay.take_lines(line.before);
-        replay
-    }
-
-    /// Goes through all lines of a text. The cost is linear in it.
-    pub fn after(alloc: Global, text: &[u8]) -> Replay {
-        let mut replay = Replay::new(alloc, b"");
-        replay.take_lines(text);
+        };
+        replay.take_lines(lines);
         replay
     }
 
@@ -164,7 +138,10 @@ impl Replay {
     /// Takes that a message is delivered, which may be a REPLY to the request of the entry.
     fn take_reply(&mut self, message: &Message) {
         if let Some(entry) = &self.entry
-            && is_reply_to(message, entry)
+            && matches!(message, Message::Reply { .. })
+            && message.to() == entry.stamp.node
+            && message.name() == entry.name
+            && message.seq() == entry.stamp.seq
             && let Some(has) = self.replied.get_mut(usize::from(message.from().get()))
         {
             *has = true;
@@ -176,17 +153,14 @@ impl Replay {
         if let Some(entry) = self.entry {
             match mark {
                 Mark::Requested(_) => {}
-                Mark::Entered(granted) => self.take_grant(granted, &entry, number),
+                Mark::Entered(granted) => {
+                    if granted.name == entry.name && granted.stamp.seq > self.granted {
+                        self.granted = granted.stamp.seq;
+                        self.granted_at = number;
+                    }
+                }
                 Mark::Left(released) => self.take_release(released, &entry, number),
             }
-        }
-    }
-
-    /// Takes a grant in the line with this number, if it is of the name of the entry.
-    fn take_grant(&mut self, granted: &Entry, entry: &Entry, number: u64) {
-        if granted.name == entry.name && granted.stamp.seq > self.granted {
-            self.granted = granted.stamp.seq;
-            self.granted_at = number;
         }
     }
 
@@ -213,18 +187,16 @@ impl Replay {
         }
     }
 
-    /// Returns whether a node is another one than that of an entry, and has no REPLY to its request delivered.
-    fn is_missing(&self, node: u16, entry: &Entry) -> bool {
-        node != entry.stamp.node.get() && matches!(self.replied.get(usize::from(node)), Some(false))
-    }
-
     /// Returns the first node, other than that of an entry, that has no REPLY to its request delivered, and how many such nodes there
     /// are. If there is none, both are 0.
     pub fn missing(&self, entry: &Entry) -> (u16, u16) {
         let (mut first, mut count) = (0, 0);
         for before in 0..self.nodes {
-            if self.is_missing(before + 1, entry) {
-                first = if count == 0 { before + 1 } else { first };
+            let node = before + 1;
+            if node != entry.stamp.node.get()
+                && matches!(self.replied.get(usize::from(node)), Some(false))
+            {
+                first = if count == 0 { node } else { first };
                 count = u16::saturating_add(count, 1);
             }
         }

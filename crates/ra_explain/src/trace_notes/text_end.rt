@@ -25,13 +25,6 @@ struct LeftOver {
     holding: u64,
 }
 
-impl LeftOver {
-    /// Returns whether nothing is left to do. A lost message is not.
-    fn is_nothing(&self) -> bool {
-        self.under_way == 0 && self.waiting == 0 && self.queued == 0 && self.holding == 0
-    }
-}
-
 /// How many lines came of those that change what is left.
 #[derive(Clone, Copy)]
 struct LineCounts {
@@ -195,30 +188,14 @@ fn push_counts(note: &mut Note, left: &LeftOver, is_trace: bool) {
     } else {
         "the log ends with "
     };
-    for &(count, thing, does) in &[
-        (left.under_way, " message", "under way"),
-        (left.lost, " message", "lost"),
-        (u128::from(left.waiting), " request", "waiting"),
-        (u128::from(left.queued), " client", "queued"),
-        (u128::from(left.holding), " request", "holding"),
-    ] {
-        joint = push_count(note, joint, count, thing, does);
-    }
+    joint = push_count(note, joint, left.under_way, " message", "under way");
+    joint = push_count(note, joint, left.lost, " message", "lost");
+    joint = push_count(note, joint, u128::from(left.waiting), " request", "waiting");
+    joint = push_count(note, joint, u128::from(left.queued), " client", "queued");
+    push_count(note, joint, u128::from(left.holding), " request", "holding");
 }
 
-/// Adds the first clients at each stage, or that there was no memory for them.
-fn push_stages(note: &mut Note, open: &OpenText, want: &str) {
-    if !open.is_whole {
-        note.push("; there was no room to name them");
-        return;
-    }
-    let mut named = 0;
-    for stage in [Stage::Waits, Stage::Queued, Stage::Holds] {
-        named = push_clients(note, open, stage, named, want);
-    }
-}
-
-/// Adds what is left at the end of a text.
+/// Adds what is left at the end of a text: how much, and the first clients at each stage, or that there was no memory for them.
 fn push_end(alloc: Global, note: &mut Note, text: &[u8], left: &LeftOver) {
     let is_trace = version_of(text).is_some();
     push_counts(note, left, is_trace);
@@ -227,7 +204,15 @@ fn push_end(alloc: Global, note: &mut Note, text: &[u8], left: &LeftOver) {
     } else {
         ": no client blocks it"
     };
-    push_stages(note, &Replay::after(alloc, text).open, want);
+    let replay = Replay::of(alloc, text, b"");
+    if replay.open.is_whole {
+        let mut named = 0;
+        for stage in [Stage::Waits, Stage::Queued, Stage::Holds] {
+            named = push_clients(note, &replay.open, stage, named, want);
+        }
+    } else {
+        note.push("; there was no room to name them");
+    }
 }
 
 /// Returns a note on what is left at the end of a text, which is a mark log, or a trace in which this many messages were sent. The note
@@ -244,7 +229,8 @@ pub fn end_note(alloc: Global, text: &[u8], sent: u128) -> Result<Option<String>
     let left = LineCounts::of(text).left(sent);
     if text.is_empty() {
         note.push("the log has no mark, so nothing was judged");
-    } else if !left.is_nothing() {
+    } else if left.under_way > 0 || left.waiting > 0 || left.queued > 0 || left.holding > 0 {
+        // A lost message is nothing left to do.
         push_end(alloc, &mut note, text, &left);
     }
     note.finish()
