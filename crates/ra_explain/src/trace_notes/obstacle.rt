@@ -58,30 +58,28 @@ fn push_fate(note: &mut Note, entry: &Entry, replay: &Replay, cause: MarkCause) 
     }
 }
 
-/// Adds the first of these requests, which are in the way of a mark, if there is one.
-fn push_first(note: &mut Note, replay: &Replay, sought: &Sought) {
-    if let Some(request) = replay.open.next_of(0, sought) {
-        note.push(": ");
-        request.push_in_the_way(note);
-    }
-}
-
 /// Adds what is in the way of the mark of an entry, for this cause.
 fn push_details(note: &mut Note, entry: &Entry, replay: &Replay, cause: MarkCause) {
-    match cause {
+    let sought = match cause {
         MarkCause::NotAbove => {
             if replay.granted >= entry.stamp.seq {
                 push_number_in(note, ": ", replay.granted, " was granted in line ");
                 note.number(replay.granted_at);
             }
+            return;
         }
-        MarkCause::NodeBusy => {
-            push_first(note, replay, &Sought::AtNode(entry.stamp.node, entry.name));
+        MarkCause::NodeBusy => Sought::AtNode(entry.stamp.node, entry.name),
+        MarkCause::Held => Sought::BlockingAt(Stage::Holds, *entry),
+        MarkCause::Earlier => Sought::BlockingAt(Stage::Waits, *entry),
+        MarkCause::NotWaiting | MarkCause::NotHeld => {
+            push_fate(note, entry, replay, cause);
+            return;
         }
-        MarkCause::Held => push_first(note, replay, &Sought::BlockingAt(Stage::Holds, *entry)),
-        MarkCause::Earlier => push_first(note, replay, &Sought::BlockingAt(Stage::Waits, *entry)),
-        MarkCause::NotWaiting | MarkCause::NotHeld => push_fate(note, entry, replay, cause),
-        MarkCause::Line => {}
+        MarkCause::Line => return,
+    };
+    if let Some(request) = replay.open.next_of(0, &sought) {
+        note.push(": ");
+        request.push_in_the_way(note);
     }
 }
 
