@@ -59,24 +59,9 @@ impl ClientEnd {
     }
 }
 
-/// Returns what waits and holds after these marks, each since the place of its request among them, counted from 1. If memory ran out,
-/// the note records it. The cost is linear in the marks.
-fn requests_after(alloc: Global, note: &mut Note, marks: &[Mark]) -> OpenText {
-    let mut open = OpenText::new(alloc);
-    for (before, mark) in marks.iter().enumerate() {
-        let since = match open.request_of(mark.entry()) {
-            Some(request) => request.since,
-            None => (before as u64).saturating_add(1),
-        };
-        open.take_mark(mark, since);
-    }
-    note.refuse_if(!open.is_whole);
-    open
-}
-
 impl<'a> RunEnd<'a> {
-    /// Returns the end of a run of a script by a policy, given the report of that run. If memory ran out, the note
-    /// records it.
+    /// Returns the end of a run of a script by a policy, given the report of that run. Each request is there since the place of its
+    /// mark, counted from 1. If memory ran out, the note records it. The cost is linear in the marks.
     pub fn new(
         alloc: Global,
         note: &mut Note,
@@ -84,11 +69,20 @@ impl<'a> RunEnd<'a> {
         policy: &'a Policy,
         report: &'a Report,
     ) -> RunEnd<'a> {
+        let mut requests = OpenText::new(alloc);
+        for (before, mark) in report.marks.as_slice().iter().enumerate() {
+            let since = match requests.request_of(mark.entry()) {
+                Some(request) => request.since,
+                None => (before as u64).saturating_add(1),
+            };
+            requests.take_mark(mark, since);
+        }
+        note.refuse_if(!requests.is_whole);
         RunEnd {
             script,
             policy,
             report,
-            requests: requests_after(alloc, note, report.marks.as_slice()),
+            requests,
         }
     }
 
@@ -129,25 +123,25 @@ impl<'a> RunEnd<'a> {
         }
     }
 
-    /// Returns the state of a client that has done this many operations, and whose next one locks a name.
-    fn locking(&self, client: u32, done: u64, name: &Name, mode: Mode) -> ClientEnd {
-        if let Some(entry) = self.waiting_for(client, name) {
-            ClientEnd::Waits(entry)
-        } else if self.has_begun(client, done) {
-            ClientEnd::Queued { name: *name, mode }
-        } else {
-            ClientEnd::Idle(done.saturating_add(1))
-        }
-    }
-
     /// Returns the state of a client.
     pub fn client_end(&self, client: u32) -> ClientEnd {
         let done = self.done_by(client);
         match &self.script.op(client, done) {
-            None => ClientEnd::Done,
-            Some(Op::Lock(name, mode)) => self.locking(client, done, name, *mode),
-            Some(_) => ClientEnd::Idle(done.saturating_add(1)),
+            None => return ClientEnd::Done,
+            Some(Op::Lock(name, mode)) => {
+                if let Some(entry) = self.waiting_for(client, name) {
+                    return ClientEnd::Waits(entry);
+                }
+                if self.has_begun(client, done) {
+                    return ClientEnd::Queued {
+                        name: *name,
+                        mode: *mode,
+                    };
+                }
+            }
+            Some(_) => {}
         }
+        ClientEnd::Idle(done.saturating_add(1))
     }
 }
 

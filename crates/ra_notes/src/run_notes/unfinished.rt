@@ -1,28 +1,14 @@
 //! Which clients wait for which others at the end of a run.
 use crate::run_notes::client_end::{ClientEnd, RunEnd};
 use crate::script_notes::script_text::{run_of, script_in};
-use ra_explain::{
-    MAX_CLIENTS, OpenText, Sought, push_blockers, push_number_in, push_numbered, want_text,
-};
+use ra_explain::{MAX_CLIENTS, Sought, push_blockers, push_number_in, push_numbered, want_text};
 use ra_schedule::{Policy, Script, Summary};
-use ra_stamp::{Memory, Name, NodeId};
+use ra_stamp::{Memory, NodeId};
 use ra_world::Note;
 use std::alloc::Global;
 
-/// Adds the client that is ahead of the clients of this node queued for a name.
-fn push_first(note: &mut Note, requests: &OpenText, node: NodeId, name: &Name) {
-    if let Some(first) = requests.next_of(0, &Sought::AtNode(node, *name)) {
-        let does = if first.holds() {
-            ", which holds it"
-        } else {
-            ", which waits for it"
-        };
-        push_number_in(note, " after client ", first.entry.client, does);
-        note.mode(first.entry.mode);
-    }
-}
-
-/// Adds what is in the way of a client of a node that has something left to do, if it waits or is queued.
+/// Adds what is in the way of a client of a node that has something left to do, if it waits or is queued: which requests block it, or
+/// which client is ahead of it.
 fn push_reason(note: &mut Note, ending: &RunEnd<'_>, node: NodeId, client_end: &ClientEnd) {
     match client_end {
         ClientEnd::Waits(entry) => {
@@ -30,7 +16,17 @@ fn push_reason(note: &mut Note, ending: &RunEnd<'_>, node: NodeId, client_end: &
                 note.push(want_text(ending.report.under_way, ending.report.lost));
             }
         }
-        ClientEnd::Queued { name, .. } => push_first(note, &ending.requests, node, name),
+        ClientEnd::Queued { name, .. } => {
+            if let Some(first) = ending.requests.next_of(0, &Sought::AtNode(node, *name)) {
+                let does = if first.holds() {
+                    ", which holds it"
+                } else {
+                    ", which waits for it"
+                };
+                push_number_in(note, " after client ", first.entry.client, does);
+                note.mode(first.entry.mode);
+            }
+        }
         ClientEnd::Done | ClientEnd::Idle(_) => {}
     }
 }
@@ -68,7 +64,8 @@ fn push_clients(note: &mut Note, ending: &RunEnd<'_>, waits: bool, before: u64) 
     count
 }
 
-/// Adds what is left to do at the end of a policy's run of a script, of which this is the summary.
+/// Adds what is left to do at the end of a policy's run of a script, of which this is the summary, first for those that wait or are
+/// queued.
 fn push_ending(
     alloc: Global,
     note: &mut Note,
@@ -78,18 +75,13 @@ fn push_ending(
 ) {
     if !summary.finished {
         let ending = RunEnd::new(alloc, note, script, policy, &summary.report);
-        push_left(note, &ending);
-    }
-}
-
-/// Adds what is left to do at the end of a run, first for those that wait or are queued.
-fn push_left(note: &mut Note, ending: &RunEnd<'_>) {
-    note.push("the run did not finish: ");
-    let waiting = push_clients(note, ending, true, 0);
-    let count = push_clients(note, ending, false, waiting);
-    note.push_more("; and ", count, MAX_CLIENTS);
-    if count == 0 {
-        note.push("all operations are done, but messages are under way");
+        note.push("the run did not finish: ");
+        let waiting = push_clients(note, &ending, true, 0);
+        let count = push_clients(note, &ending, false, waiting);
+        note.push_more("; and ", count, MAX_CLIENTS);
+        if count == 0 {
+            note.push("all operations are done, but messages are under way");
+        }
     }
 }
 

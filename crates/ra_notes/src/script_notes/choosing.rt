@@ -4,7 +4,7 @@ use crate::script_notes::script_text::{run_of, script_in};
 use ra_explain::{push_number_in, push_numbered};
 use ra_schedule::{Choice, Choices, ChoicesError, Policy, Script, read_choices};
 use ra_stamp::Memory;
-use ra_world::{Note, Report};
+use ra_world::Note;
 use std::alloc::Global;
 
 /// Returns the policy of the first `count` choices.
@@ -19,18 +19,6 @@ fn first_of(alloc: Global, note: &mut Note, choices: &Choices, count: u64) -> Po
     Policy::Listed(first)
 }
 
-/// Returns whether the first `count` choices can be made.
-fn is_makeable(
-    alloc: Global,
-    note: &mut Note,
-    script: &Script,
-    choices: &Choices,
-    count: u64,
-) -> bool {
-    let policy = first_of(alloc, note, choices, count);
-    run_of(alloc, note, script, &policy).is_some()
-}
-
 /// Returns how many of the first choices can be made. It searches by halves, so the number of runs of the script is
 /// logarithmic in the number of choices. To follow the choices step by step would be to write the driver twice.
 fn makeable(alloc: Global, note: &mut Note, script: &Script, choices: &Choices) -> u64 {
@@ -38,7 +26,8 @@ fn makeable(alloc: Global, note: &mut Note, script: &Script, choices: &Choices) 
     for _turn in 0..u64::BITS {
         if low < high {
             let middle = low + (high - low) / 2;
-            if is_makeable(alloc, note, script, choices, middle + 1) {
+            let policy = first_of(alloc, note, choices, middle + 1);
+            if run_of(alloc, note, script, &policy).is_some() {
                 low = middle + 1;
             } else {
                 high = middle;
@@ -62,19 +51,6 @@ fn push_client(note: &mut Note, ending: &RunEnd<'_>, client: u32) {
     }
 }
 
-/// Adds how many messages are under way, and which places they have.
-fn push_messages(note: &mut Note, count: u128) {
-    match count {
-        0 => note.push("no message is under way at that point"),
-        1 => note.push("one message is under way at that point, at place 0"),
-        _ => {
-            note.number(count);
-            let text = " messages are under way at that point, at places 0 to ";
-            push_number_in(note, text, count - 1, " in the order of sending");
-        }
-    }
-}
-
 /// Adds that the choice at a place is not possible, as it is written.
 fn push_choice(note: &mut Note, choice: Choice, place: u64) {
     push_number_in(note, "choice ", place.saturating_add(1), " of --choices, ");
@@ -87,25 +63,23 @@ fn push_choice(note: &mut Note, choice: Choice, place: u64) {
     note.push(", is not possible: ");
 }
 
-/// Adds why a choice can't be made at the end of a run.
+/// Adds why a choice can't be made at the end of a run: of a client's choice, what the client does, and otherwise how many messages are
+/// under way, and which places they have.
 fn push_reason(note: &mut Note, ending: &RunEnd<'_>, choice: Choice) {
-    match choice {
-        Choice::Client(client) => push_client(note, ending, client),
-        _ => push_messages(note, ending.report.under_way),
+    if let Choice::Client(client) = choice {
+        push_client(note, ending, client);
+        return;
     }
-}
-
-/// Adds why a choice can't be made after a policy's run of a script, of which this is the report.
-fn push_reason_in(
-    alloc: Global,
-    note: &mut Note,
-    script: &Script,
-    policy: &Policy,
-    report: &Report,
-    choice: Choice,
-) {
-    let ending = RunEnd::new(alloc, note, script, policy, report);
-    push_reason(note, &ending, choice);
+    let count = ending.report.under_way;
+    match count {
+        0 => note.push("no message is under way at that point"),
+        1 => note.push("one message is under way at that point, at place 0"),
+        _ => {
+            note.number(count);
+            let text = " messages are under way at that point, at places 0 to ";
+            push_number_in(note, text, count - 1, " in the order of sending");
+        }
+    }
 }
 
 /// Adds why a choice can't be made after a policy's run of a script.
@@ -116,8 +90,9 @@ fn push_reason_after(
     policy: &Policy,
     choice: Choice,
 ) {
-    if let Some(summary) = run_of(alloc, note, script, policy) {
-        push_reason_in(alloc, note, script, policy, &summary.report, choice);
+    if let Some(summary) = &run_of(alloc, note, script, policy) {
+        let ending = RunEnd::new(alloc, note, script, policy, &summary.report);
+        push_reason(note, &ending, choice);
     }
 }
 

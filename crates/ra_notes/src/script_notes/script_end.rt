@@ -35,29 +35,15 @@ fn push_lock(note: &mut Note, client: u32, op: &Option<Op>, clients: u64, names:
     let joint = if names > 0 {
         ", "
     } else {
-        push_holder(note, client, clients);
+        note.push(if clients > 0 {
+            "; "
+        } else {
+            "the run finished with names still locked: "
+        });
+        note.client(client);
         " holds "
     };
     push_name_and_mode(note, joint, name, *mode);
-}
-
-/// Adds a client that holds a name, after this many others.
-fn push_holder(note: &mut Note, client: u32, clients: u64) {
-    note.push(if clients > 0 {
-        "; "
-    } else {
-        "the run finished with names still locked: "
-    });
-    note.client(client);
-}
-
-/// Adds which clients hold names at their ends.
-fn push_holders(note: &mut Note, script: &Script) {
-    let mut clients = 0;
-    for place in 0..script.clients() {
-        clients = push_kept(note, script, place + 1, clients);
-    }
-    note.push_more("; and ", clients, MOST);
 }
 
 /// Returns which names the clients of the script of a text hold at their ends, or `None` if they hold none. It is meant
@@ -69,8 +55,12 @@ fn push_holders(note: &mut Note, script: &Script) {
 /// `Memory`: memory ran out.
 pub fn script_end_note(alloc: Global, script: &[u8]) -> Result<Option<String>, Memory> {
     let mut note = Note::new(alloc);
-    if let Some(script) = script_in(alloc, &mut note, script) {
-        push_holders(&mut note, &script);
+    if let Some(script) = &script_in(alloc, &mut note, script) {
+        let mut clients = 0;
+        for place in 0..script.clients() {
+            clients = push_kept(&mut note, script, place + 1, clients);
+        }
+        note.push_more("; and ", clients, MOST);
     }
     note.finish()
 }
