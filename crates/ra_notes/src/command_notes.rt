@@ -65,14 +65,10 @@ pub fn range_note(alloc: Global, option: &str, number: u16, most: u16) -> Notice
 
 /// Returns what there is to say about a list of choices that is not one.
 pub fn of_choices(alloc: Global, choices: &str, why: ChoicesError) -> Notice {
-    match why {
-        ChoicesError::Choice => { no_choice_note(alloc, first_no_choice(alloc, choices)) }
-        ChoicesError::Memory => Notice::Text(NO_MEMORY),
+    if let ChoicesError::Memory = why {
+        return Notice::Text(NO_MEMORY);
     }
-}
-
-/// Returns the note on a word that is not a choice.
-fn no_choice_note(alloc: Global, word: &str) -> Notice {
+    let word = first_no_choice(alloc, choices);
     let text = format!(in alloc;
         "--choices: {word:?} is not a choice: expected c, m or l and a number of 1 to 9 digits without leading zeros, with one space between choices"
     );
@@ -113,25 +109,22 @@ pub fn of_check(why: TraceError) -> Notice {
     })
 }
 
-/// Returns the note on a part from this line on that has none of this many lines.
-fn no_lines_note(alloc: Global, from: u64, lines: u64) -> Notice {
-    let mut note = Note::new(alloc);
-    if lines == 0 {
-        note.push("there is nothing to draw");
-    } else {
-        push_numbered(&mut note, "--from is ", from);
-    }
-    let unit = if lines == 1 { " line" } else { " lines" };
-    push_number_in(&mut note, ": standard input has ", lines, unit);
-    Notice::of(note)
-}
-
 /// Returns what there is to say about an input that is not drawn.
 pub fn of_drawing(alloc: Global, asked: &Command<'_>, why: DrawError) -> Notice {
     match why {
         DrawError::Read => Notice::Text(NO_INPUT),
         DrawError::Limit => Notice::Text(TOO_MANY_BYTES),
-        DrawError::NoLines { lines } => no_lines_note(alloc, asked.first_line(), lines),
+        DrawError::NoLines { lines } => {
+            let mut note = Note::new(alloc);
+            if lines == 0 {
+                note.push("there is nothing to draw");
+            } else {
+                push_numbered(&mut note, "--from is ", asked.first_line());
+            }
+            let unit = if lines == 1 { " line" } else { " lines" };
+            push_number_in(&mut note, ": standard input has ", lines, unit);
+            Notice::of(note)
+        }
         DrawError::TooLong => Notice::Text(TOO_LONG),
         DrawError::Memory => Notice::Text(NO_MEMORY),
         DrawError::Write => Notice::Nothing,

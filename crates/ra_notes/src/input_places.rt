@@ -43,14 +43,9 @@ pub fn unanswered_place(
 
 /// Returns the policy by which a run was made, of many seeds by the last one that was tried, or `None` if none was.
 pub fn policy_by(alloc: Global, asked: &Command<'_>, last_seed: Option<u64>) -> Option<Policy> {
-    match asked {
-        Command::Task(task) => policy_of_task(alloc, task, last_seed),
-        _ => None,
-    }
-}
-
-/// Returns the policy by which the run of a task was made, of many seeds by the last one that was tried, or `None` if none was.
-fn policy_of_task(alloc: Global, task: &Task<'_>, last_seed: Option<u64>) -> Option<Policy> {
+    let Command::Task(task) = asked else {
+        return None;
+    };
     match *task {
         Task::Sim {
             policy,
@@ -78,23 +73,19 @@ pub fn unfinished_place(
     }
 }
 
-/// Returns the mark that is due at the first wrong line of a text, which is wrong for its marks. If memory runs out, it
-/// is not known.
-pub fn due_in(alloc: Global, text: &[u8]) -> LineCause {
-    let (mut rest, mut due) = (text, None);
+/// Returns why a line of a trace is wrong, with the mark that is due there. A text that was to be drawn is checked once
+/// more for that. If memory runs out for it, the mark is not known.
+pub fn cause_in(alloc: Global, drawn: &[u8], cause: Cause, due: Option<Mark>) -> LineCause {
+    if !matches!(cause, Cause::Marks) {
+        return LineCause::Trace(cause);
+    }
+    if drawn.is_empty() {
+        return LineCause::Due(due);
+    }
+    let (mut rest, mut due) = (drawn, None);
     match check_buffered_with_due(alloc, &mut rest, &mut due) {
         Ok(_) => LineCause::Due(due),
-        Err(_) => LineCause::Trace(Cause::Marks),
-    }
-}
-
-/// Returns why a line of a trace is wrong, with the mark that is due there. A text that was to be drawn is checked once
-/// more for that.
-pub fn cause_in(alloc: Global, drawn: &[u8], cause: Cause, due: Option<Mark>) -> LineCause {
-    match cause {
-        Cause::Marks if drawn.is_empty() => LineCause::Due(due),
-        Cause::Marks => due_in(alloc, drawn),
-        _ => LineCause::Trace(cause),
+        Err(_) => LineCause::Trace(cause),
     }
 }
 

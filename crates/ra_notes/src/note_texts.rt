@@ -55,26 +55,22 @@ const DEFECT: &str = "the threads did not record one run of the whole script: th
 pub fn cluster_text(fault: ClusterError) -> &'static str {
     match fault {
         ClusterError::OutOfOrder | ClusterError::Unreleased => UNEXPLAINED,
-        ClusterError::Fault(stop) => stop_text(stop),
+        // `run_cluster` does not tell which node was stopped. Memory and threads belong to the whole process, so it is chance which
+        // node runs out of them first.
+        ClusterError::Fault(stop) => match stop {
+            // A node loses its inbox only after it was stopped or all clients are done, so a lack of memory is the first cause.
+            Stop::Memory | Stop::Send => "a node was stopped: out of memory",
+            Stop::Spawn => {
+                "a node was stopped: cannot start a thread (each node and each client needs one)"
+            }
+            Stop::Clock | Stop::Exhausted | Stop::Frame | Stop::Refused | Stop::Gate =>
+                "a node was stopped in a way that no script can cause: this is a bug in ra",
+        },
         ClusterError::Settle
         | ClusterError::PlanUnmet
         | ClusterError::Lost
         | ClusterError::UnderWay => DEFECT,
         ClusterError::Memory => NO_MEMORY,
-    }
-}
-
-/// Returns what is said about the cause for which a node was stopped. `run_cluster` does not tell which node it was.
-/// Memory and threads belong to the whole process, so it is chance which node runs out of them first.
-fn stop_text(stop: Stop) -> &'static str {
-    match stop {
-        // A node loses its inbox only after it was stopped or all clients are done, so a lack of memory is the first cause.
-        Stop::Memory | Stop::Send => "a node was stopped: out of memory",
-        Stop::Spawn => {
-            "a node was stopped: cannot start a thread (each node and each client needs one)"
-        }
-        Stop::Clock | Stop::Exhausted | Stop::Frame | Stop::Refused | Stop::Gate =>
-            "a node was stopped in a way that no script can cause: this is a bug in ra",
     }
 }
 

@@ -9,13 +9,6 @@ use ra_world::Note;
 use std::alloc::Global;
 use std::io::Write;
 
-/// Writes which names the script leaves locked, if any, unless memory runs out. It ignores a failure of the writer.
-fn write_end<N: Write>(alloc: Global, script: Option<&[u8]>, notes: &mut N) {
-    if let Some(script) = script {
-        write_told(&script_end_note(alloc, script), notes);
-    }
-}
-
 /// Returns whether a run was found that ends as it should: a finished one if the command was done, and otherwise one
 /// that is stuck. It does not allocate.
 fn is_found(find: Option<Search>, is_done: bool) -> bool {
@@ -71,8 +64,10 @@ pub fn write_hints<N: Write>(
     match *task {
         Task::Sim { .. } => {
             write_unused_options(arguments, notes);
-            if is_done {
-                write_end(alloc, script, notes);
+            if let Some(script) = script
+                && is_done
+            {
+                write_told(&script_end_note(alloc, script), notes);
             }
         }
         Task::Survey(ref survey) => {

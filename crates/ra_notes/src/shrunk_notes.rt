@@ -13,8 +13,12 @@ fn notes_on(
     script: Option<&[u8]>,
     last_seed: Option<u64>,
 ) -> Option<ShrunkNotes> {
-    let script = script?;
-    let policy = policy_by(alloc, asked, last_seed)?;
+    let Some(script) = script else {
+        return None;
+    };
+    let Some(policy) = policy_by(alloc, asked, last_seed) else {
+        return None;
+    };
     shrunk_notes(alloc, script, &policy).ok()
 }
 
