@@ -47,24 +47,6 @@ fn push_end(note: &mut Note, digits: &[u8], index: usize, text: &str) {
     push_number_in(note, text, bytes, unit);
 }
 
-/// Adds which field has a value that is not allowed, or which byte of the name, and what is allowed there.
-fn push_value_fault(note: &mut Note, digits: &[u8], fault: FrameError) {
-    let index = index_of(fault);
-    let extent = extent_of(digits, index);
-    if let FrameError::NameByte = fault {
-        let wrong = no_name_byte(digits, extent.0, extent.1);
-        push_field(note, digits, "the name byte", (wrong, 1));
-    } else {
-        push_field(note, digits, name_of(index), extent);
-    }
-    if let FrameError::SameNode = fault {
-        note.push(", the same as the sender: a node sends no message to itself");
-    } else {
-        note.push(": ");
-        note.push(range_of(digits, index));
-    }
-}
-
 /// Adds the description of a frame's fault: which field of these hexadecimal digits it is, where its bytes are, what they are, and
 /// what is allowed there.
 pub fn push_frame_fault(note: &mut Note, digits: &[u8], fault: FrameError) {
@@ -76,7 +58,22 @@ pub fn push_frame_fault(note: &mut Note, digits: &[u8], fault: FrameError) {
         FrameError::Trailing => {
             push_end(note, digits, NAME, "is the last field, but the frame has ");
         }
-        _ => push_value_fault(note, digits, fault),
+        _ => {
+            let index = index_of(fault);
+            let extent = extent_of(digits, index);
+            if let FrameError::NameByte = fault {
+                let wrong = no_name_byte(digits, extent.0, extent.1);
+                push_field(note, digits, "the name byte", (wrong, 1));
+            } else {
+                push_field(note, digits, name_of(index), extent);
+            }
+            if let FrameError::SameNode = fault {
+                note.push(", the same as the sender: a node sends no message to itself");
+            } else {
+                note.push(": ");
+                note.push(range_of(digits, index));
+            }
+        }
     }
 }
 

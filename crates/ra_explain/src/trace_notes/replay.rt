@@ -65,20 +65,15 @@ impl Replay {
             taken: None,
             came: None,
         };
-        replay.take_lines(lines);
-        replay
-    }
-
-    /// Takes the lines of a text.
-    fn take_lines(&mut self, text: &[u8]) {
-        let mut rest = text;
+        let mut rest = lines;
         for number in 1..u64::MAX {
             let (line, Some(after)) = cut(rest, b'\n') else {
                 break;
             };
-            self.take(line, number);
+            replay.take(line, number);
             rest = after;
         }
+        replay
     }
 
     /// Takes the line with this number.
