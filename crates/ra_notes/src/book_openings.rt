@@ -51,20 +51,15 @@ impl<'a> Openings<'a> {
                 break;
             };
             if let Some(first) = FirstLine::parse(shown) {
-                openings.note(&first, line, after);
+                if openings.first.is_none() {
+                    openings.first = Some(Opening::new(&first, line, after));
+                }
+                openings.last = Some(Opening::new(&first, line, after));
+                openings.lines[usize::from(first.member.node().get())] = line;
             }
             rest = after;
         }
         (openings, rest)
-    }
-
-    /// Notes that a book begins with this line of this number, and goes on with this text.
-    fn note(&mut self, first: &FirstLine, line: u64, after: &'a [u8]) {
-        if self.first.is_none() {
-            self.first = Some(Opening::new(first, line, after));
-        }
-        self.last = Some(Opening::new(first, line, after));
-        self.lines[usize::from(first.member.node().get())] = line;
     }
 
     /// Returns the line at which the book of a node begins, or 0 if it has none.

@@ -1,6 +1,4 @@
 //! Why the node of a book does not take a line.
-ghost use Rattle.ra_book.specs.Timed.{CanCome};
-
 use crate::book_openings::Opening;
 use ra_book::{Refusal, TimedNode, event_of};
 use ra_explain::Stage;
@@ -53,46 +51,16 @@ impl Standing {
         for mark in marks {
             let entry = mark.entry();
             if self.client == entry.client && self.name == entry.name {
-                self.take_mark(line, mark);
+                match mark {
+                    Mark::Requested(_) => self.stage = Some(Stage::Waits),
+                    Mark::Entered(_) => {
+                        self.stage = Some(Stage::Holds);
+                        self.since = line;
+                    }
+                    Mark::Left(_) => self.stage = None,
+                }
             }
         }
-    }
-
-    /// Notes a mark of the client at a line.
-    fn take_mark(&mut self, line: u64, mark: &Mark) {
-        match mark {
-            Mark::Requested(_) => self.stage = Some(Stage::Waits),
-            Mark::Entered(_) => {
-                self.stage = Some(Stage::Holds);
-                self.since = line;
-            }
-            Mark::Left(_) => self.stage = None,
-        }
-    }
-}
-
-/// Has a node take the event of a line, and notes what it did to a client.
-///
-/// # Errors
-///
-/// Why the node does not take it.
-fn take_event(
-    alloc: Global,
-    node: &mut TimedNode,
-    standing: &mut Option<Standing>,
-    line: u64,
-    kind: &BookKind,
-) -> Result<(), Refusal>
-    requires { CanCome kind.now }
-{
-    match node.take(alloc, kind) {
-        Ok(outcome) => {
-            if let Some(client) = standing {
-                client.take(line, kind, outcome.marks.as_slice());
-            }
-            Ok(())
-        }
-        Err(cause) => Err(Refusal::Event(cause)),
     }
 }
 
@@ -108,9 +76,18 @@ fn take_line(
     line: u64,
     shown: &[u8],
 ) -> Result<(), Refusal> {
-    match event_of(shown) {
-        Ok(kind) => take_event(alloc, node, standing, line, &kind),
-        Err(why) => Err(why),
+    let kind = match event_of(shown) {
+        Ok(kind) => kind,
+        Err(why) => return Err(why),
+    };
+    match node.take(alloc, &kind) {
+        Ok(outcome) => {
+            if let Some(client) = standing {
+                client.take(line, &kind, outcome.marks.as_slice());
+            }
+            Ok(())
+        }
+        Err(cause) => Err(Refusal::Event(cause)),
     }
 }
 

@@ -16,18 +16,6 @@ const RECEIVE: &[u8] = b"receive ";
 const NO_CLOCK: &str =
     "the clock of this event would be above the greatest, 4611686018427387904 (2^62)";
 
-/// Adds for which node a frame is, and for which it should be, if that is why the node of a book with this first line does not take it.
-/// Otherwise it adds from which node the frame is, and which nodes there are.
-fn push_frame_node(note: &mut Note, first: &FirstLine, frame: &Frame, is_for_another: bool) {
-    if is_for_another {
-        push_numbered(note, "the frame is for node ", frame.message.to().get());
-        push_numbered(note, ": expected one for node ", first.member.node().get());
-    } else {
-        push_numbered(note, "the frame is from node ", frame.message.from().get());
-        push_numbered(note, ": the nodes are 1 to ", first.member.nodes());
-    }
-}
-
 /// Returns what is expected before a client that is so far asks again, or before one leaves that is so far.
 fn expectation(asks: bool, stage: Option<Stage>) -> &'static str {
     match stage {
@@ -38,32 +26,27 @@ fn expectation(asks: bool, stage: Option<Stage>) -> &'static str {
     }
 }
 
-/// Adds how far a client is.
-fn push_standing(note: &mut Note, standing: &Standing) {
-    let (client, name) = (standing.client, &standing.name);
-    match standing.stage {
-        Some(stage) => {
-            push_stage(
-                note,
-                client,
-                stage,
-                name,
-                standing.mode,
-                None,
-                standing.since,
-            );
-        }
-        None => push_not_held(note, client, name, None),
-    }
-}
-
-/// Adds why a client may not do what it does at the line.
+/// Adds why a client may not do what it does at the line: how far it is, and what is expected first, or that no number is left.
 fn push_client(note: &mut Note, why: BookError, standing: &Standing) {
+    let (client, name) = (standing.client, &standing.name);
     if let BookError::Busy | BookError::NotHeld = why {
-        push_standing(note, standing);
+        match standing.stage {
+            Some(stage) => {
+                push_stage(
+                    note,
+                    client,
+                    stage,
+                    name,
+                    standing.mode,
+                    None,
+                    standing.since,
+                );
+            }
+            None => push_not_held(note, client, name, None),
+        }
         note.push(expectation(matches!(why, BookError::Busy), standing.stage));
     } else {
-        push_exhausted(note, &standing.name);
+        push_exhausted(note, name);
     }
 }
 
@@ -76,12 +59,17 @@ fn push_untaken(
     cause: BookError,
     standing: &Option<Standing>,
 ) {
-    if let BookError::WrongNode | BookError::Stranger = cause {
-        if let Some(frame) = frame {
-            push_frame_node(note, first, frame, matches!(cause, BookError::WrongNode));
+    match (cause, frame, standing) {
+        (BookError::WrongNode, Some(frame), _) => {
+            push_numbered(note, "the frame is for node ", frame.message.to().get());
+            push_numbered(note, ": expected one for node ", first.member.node().get());
         }
-    } else if let Some(standing) = standing {
-        push_client(note, cause, standing);
+        (BookError::Stranger, Some(frame), _) => {
+            push_numbered(note, "the frame is from node ", frame.message.from().get());
+            push_numbered(note, ": the nodes are 1 to ", first.member.nodes());
+        }
+        (BookError::WrongNode | BookError::Stranger, None, _) | (_, _, None) => {}
+        (_, _, Some(standing)) => push_client(note, cause, standing),
     }
 }
 

@@ -1,5 +1,5 @@
 //! What is said of the line at which a text of books is wrong.
-use crate::book_openings::{Opening, Openings};
+use crate::book_openings::Openings;
 use crate::input_places::PlaceNote;
 use crate::note_texts::text_cause_text;
 use crate::refused_event::refused_event;
@@ -11,56 +11,33 @@ use ra_history::BookKind;
 use ra_world::{Note, cut};
 use std::alloc::Global;
 
-/// Returns the first of this many nodes that has no book, if one has none.
-fn missing_node(openings: &Openings<'_>, nodes: u16) -> Option<u16> {
-    for node in 1..=nodes {
-        if openings.line_of(node) == 0 {
-            return Some(node);
-        }
-    }
-    None
-}
-
-/// Adds which book is missing, of this many, if one is. Returns whether one is.
-fn push_missing(note: &mut Note, openings: &Openings<'_>, nodes: u16) -> bool {
-    let Some(node) = missing_node(openings, nodes) else {
-        return false;
-    };
-    push_numbered(note, ": the book of node ", node);
-    push_number_in(
-        note,
-        " is missing: expected one book of each of ",
-        nodes,
-        " nodes",
-    );
-    true
-}
-
-/// Adds which book is missing, of as many as the first one says, if one is and that is the cause.
+/// Adds which book is missing, of as many as the first one says, if one is and that is the cause, and otherwise the text of the
+/// cause.
 fn push_end(note: &mut Note, openings: &Openings<'_>, cause: TextCause) {
-    let is_missing = match &openings.first {
-        Some(opening) if matches!(cause, TextCause::Books) => {
-            push_missing(note, openings, opening.first.member.nodes())
+    if let Some(opening) = &openings.first
+        && matches!(cause, TextCause::Books)
+    {
+        let nodes = opening.first.member.nodes();
+        for node in 1..=nodes {
+            if openings.line_of(node) == 0 {
+                push_numbered(note, ": the book of node ", node);
+                push_number_in(
+                    note,
+                    " is missing: expected one book of each of ",
+                    nodes,
+                    " nodes",
+                );
+                return;
+            }
         }
-        _ => false,
-    };
-    if !is_missing {
-        push_cause(note, cause);
     }
+    push_cause(note, cause);
 }
 
 /// Adds the text of a cause.
 fn push_cause(note: &mut Note, cause: TextCause) {
     note.push(": ");
     note.push(text_cause_text(cause));
-}
-
-/// Adds what the first line of a book is to say, as this first one does.
-fn push_expected(note: &mut Note, opening: &Opening<'_>) {
-    let first = &opening.first;
-    push_numbered(note, ": expected NODES ", first.member.nodes());
-    push_numbered(note, " and START ", first.start);
-    push_numbered(note, ", as at line ", opening.line);
 }
 
 /// Adds why a line cannot be the first one of a book after these: its node has a book already, or it has another number of nodes or
@@ -73,18 +50,12 @@ fn push_first(note: &mut Note, openings: &Openings<'_>, first: &FirstLine, cause
                 let text = ": this node has a book already, which begins at line ";
                 push_number_in(note, text, again, ": expected one book of each node");
             } else {
-                push_expected(note, opening);
+                push_numbered(note, ": expected NODES ", opening.first.member.nodes());
+                push_numbered(note, " and START ", opening.first.start);
+                push_numbered(note, ", as at line ", opening.line);
             }
         }
         _ => push_cause(note, cause),
-    }
-}
-
-/// Returns the frame that comes by a line, if one does.
-fn frame_in(line: &[u8]) -> Option<Frame> {
-    match event_of(line) {
-        Ok(BookKind::Got(frame)) => Some(frame),
-        _ => None,
     }
 }
 
@@ -112,7 +83,10 @@ fn push_event(
     number: u64,
     cause: TextCause,
 ) {
-    let frame = frame_in(line);
+    let frame = match event_of(line) {
+        Ok(BookKind::Got(frame)) => Some(frame),
+        _ => None,
+    };
     push_place(note, openings, &frame);
     if let TextCause::Refused = cause
         && let Some(opening) = &openings.last
@@ -122,23 +96,6 @@ fn push_event(
         push_refused(note, line, &frame, &opening.first, *why, standing);
     } else {
         push_cause(note, cause);
-    }
-}
-
-/// Adds a line, and what is wrong with it.
-fn push_line(
-    alloc: Global,
-    note: &mut Note,
-    openings: &Openings<'_>,
-    line: &[u8],
-    number: u64,
-    cause: TextCause,
-) {
-    note.push(", ");
-    note.quoted(line);
-    match FirstLine::parse(line) {
-        Some(first) => push_first(note, openings, &first, cause),
-        None => push_event(alloc, note, openings, line, number, cause),
     }
 }
 
@@ -153,9 +110,15 @@ pub fn unsettled_note(alloc: Global, text: &[u8], number: u64, cause: TextCause)
     let mut note = Note::new(alloc);
     push_numbered(&mut note, "line ", number);
     let (openings, rest) = Openings::before(text, number);
-    match cut(rest, b'\n') {
-        (line, Some(_)) => push_line(alloc, &mut note, &openings, line, number, cause),
-        _ => push_end(&mut note, &openings, cause),
+    if let (line, Some(_)) = cut(rest, b'\n') {
+        note.push(", ");
+        note.quoted(line);
+        match FirstLine::parse(line) {
+            Some(first) => push_first(&mut note, &openings, &first, cause),
+            None => push_event(alloc, &mut note, &openings, line, number, cause),
+        }
+    } else {
+        push_end(&mut note, &openings, cause);
     }
     note.finish()
 }
