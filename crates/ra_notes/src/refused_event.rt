@@ -21,23 +21,6 @@ pub struct Standing {
 }
 
 impl Standing {
-    /// Makes that of the client of a line, which has not asked yet, if the line is one at which a client asks or leaves.
-    fn of_line(line: &[u8]) -> Option<Standing> {
-        let (client, name) = match &event_of(line) {
-            Ok(BookKind::Asked { client, name, .. } | BookKind::Gave { client, name }) => {
-                (*client, *name)
-            }
-            _ => return None,
-        };
-        Some(Standing {
-            client,
-            name,
-            mode: Mode::Exclusive,
-            stage: None,
-            since: 0,
-        })
-    }
-
     /// Notes the event of a line that the node took, and its marks.
     fn take(&mut self, line: u64, kind: &BookKind, marks: &[Mark]) {
         if let BookKind::Asked { client, name, mode } = kind
@@ -123,7 +106,19 @@ pub fn refused_event(
 ) -> Option<(Refusal, Option<Standing>)> {
     let first = &opening.first;
     let mut node = TimedNode::new(alloc, first.member, first.start);
-    let mut standing = Standing::of_line(line);
+    let mut standing = match &event_of(line) {
+        // Before the first line of the book, the client has not asked.
+        Ok(BookKind::Asked { client, name, .. } | BookKind::Gave { client, name }) => {
+            Some(Standing {
+                client: *client,
+                name: *name,
+                mode: Mode::Exclusive,
+                stage: None,
+                since: 0,
+            })
+        }
+        _ => None,
+    };
     match first_refusal(alloc, &mut node, &mut standing, opening, number) {
         None | Some(Refusal::Event(BookError::Memory)) => None,
         Some(why) => Some((why, standing)),

@@ -59,17 +59,24 @@ fn push_untaken(
     cause: BookError,
     standing: &Option<Standing>,
 ) {
-    match (cause, frame, standing) {
-        (BookError::WrongNode, Some(frame), _) => {
-            push_numbered(note, "the frame is for node ", frame.message.to().get());
-            push_numbered(note, ": expected one for node ", first.member.node().get());
+    match cause {
+        BookError::WrongNode => {
+            if let Some(frame) = frame {
+                push_numbered(note, "the frame is for node ", frame.message.to().get());
+                push_numbered(note, ": expected one for node ", first.member.node().get());
+            }
         }
-        (BookError::Stranger, Some(frame), _) => {
-            push_numbered(note, "the frame is from node ", frame.message.from().get());
-            push_numbered(note, ": the nodes are 1 to ", first.member.nodes());
+        BookError::Stranger => {
+            if let Some(frame) = frame {
+                push_numbered(note, "the frame is from node ", frame.message.from().get());
+                push_numbered(note, ": the nodes are 1 to ", first.member.nodes());
+            }
         }
-        (BookError::WrongNode | BookError::Stranger, None, _) | (_, _, None) => {}
-        (_, _, Some(standing)) => push_client(note, cause, standing),
+        _ => {
+            if let Some(standing) = standing {
+                push_client(note, cause, standing);
+            }
+        }
     }
 }
 

@@ -31,33 +31,23 @@ fn push_reason(note: &mut Note, ending: &RunEnd<'_>, node: NodeId, client_end: &
     }
 }
 
-/// Adds the state of a client that has something left to do, after this many others.
-fn push_client(
-    note: &mut Note,
-    ending: &RunEnd<'_>,
-    client: u32,
-    client_end: &ClientEnd,
-    before: u64,
-) {
-    if let Some(node) = ending.script.node_of(client)
-        && before < MAX_CLIENTS
-    {
-        note.push(if before == 0 { "" } else { "; " });
-        note.client(client);
-        push_numbered(note, " at node ", node.get());
-        client_end.push(note);
-        push_reason(note, ending, node, client_end);
-    }
-}
-
-/// Adds the clients with something left to do that wait or are queued, or those that do not, after this many others. Returns how many
-/// clients have something left to do so far.
+/// Adds the states of the first clients with something left to do that wait or are queued, or of those that do not, after this many
+/// others. Returns how many clients have something left to do so far.
 fn push_clients(note: &mut Note, ending: &RunEnd<'_>, waits: bool, before: u64) -> u64 {
     let mut count = before;
     for place in 0..ending.script.clients() {
-        let client_end = &ending.client_end(place + 1);
+        let client = place + 1;
+        let client_end = &ending.client_end(client);
         if client_end.is_left(waits) {
-            push_client(note, ending, place + 1, client_end, count);
+            if let Some(node) = ending.script.node_of(client)
+                && count < MAX_CLIENTS
+            {
+                note.push(if count == 0 { "" } else { "; " });
+                note.client(client);
+                push_numbered(note, " at node ", node.get());
+                client_end.push(note);
+                push_reason(note, ending, node, client_end);
+            }
             count = u64::saturating_add(count, 1);
         }
     }

@@ -51,18 +51,6 @@ fn push_client(note: &mut Note, ending: &RunEnd<'_>, client: u32) {
     }
 }
 
-/// Adds that the choice at a place is not possible, as it is written.
-fn push_choice(note: &mut Note, choice: Choice, place: u64) {
-    push_number_in(note, "choice ", place.saturating_add(1), " of --choices, ");
-    match choice {
-        Choice::Client(client) => push_numbered(note, "c", client),
-        Choice::Message(number) => push_numbered(note, "m", number),
-        Choice::Lost(number) => push_numbered(note, "l", number),
-        Choice::Repeated(number) => push_numbered(note, "r", number),
-    }
-    note.push(", is not possible: ");
-}
-
 /// Adds why a choice can't be made at the end of a run: of a client's choice, what the client does, and otherwise how many messages are
 /// under way, and which places they have.
 fn push_reason(note: &mut Note, ending: &RunEnd<'_>, choice: Choice) {
@@ -96,13 +84,21 @@ fn push_reason_after(
     }
 }
 
-/// Adds which choice can't be made, and why.
+/// Adds that the choice at a place can't be made, as it is written, and why.
 fn push_choice_at(alloc: Global, note: &mut Note, script: &Script, choices: &Choices, place: u64) {
-    if let Some(choice) = choices.at(place) {
-        push_choice(note, choice, place);
-        let policy = first_of(alloc, note, choices, place);
-        push_reason_after(alloc, note, script, &policy, choice);
+    let Some(choice) = choices.at(place) else {
+        return;
+    };
+    push_number_in(note, "choice ", place.saturating_add(1), " of --choices, ");
+    match choice {
+        Choice::Client(client) => push_numbered(note, "c", client),
+        Choice::Message(number) => push_numbered(note, "m", number),
+        Choice::Lost(number) => push_numbered(note, "l", number),
+        Choice::Repeated(number) => push_numbered(note, "r", number),
     }
+    note.push(", is not possible: ");
+    let policy = first_of(alloc, note, choices, place);
+    push_reason_after(alloc, note, script, &policy, choice);
 }
 
 /// Adds what is said about the choices of a text.
