@@ -73,3 +73,16 @@ returns-clause-histories g c =
     (omega (arith, c.nodes-nodes.ensures, c.into_sites-sites.ensures.count.0))
     (omega (arith, c.in-None.ensures.steps, c.loop-site.invariant.counted))
     c.loop-site.invariant.closes).histories
+
+pub returns-clause-count : goal.returns-clause-count
+returns-clause-count g c =
+    let all = (closes_all
+    c.nodes-nodes.result
+    c.self.inside.start
+    c.loop-site.books.items
+    (into_iter_items c.loop-site.site-iterator)
+    (omega (arith, c.nodes-nodes.ensures, c.into_sites-sites.ensures.count.0))
+    (omega (arith, c.in-None.ensures.steps, c.loop-site.invariant.counted))
+    c.loop-site.invariant.closes).count in
+    let books = c.loop-site.books.ok.0 in
+    omega (arith, books, all, c.nodes-nodes.ensures, ap (λ (s : ClusterState). s.nodes) c.self.view_is)

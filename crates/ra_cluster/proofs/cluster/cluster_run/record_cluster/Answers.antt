@@ -1,5 +1,7 @@
 use Rattle.std.proofs.Common.{ap, ◌∙◌, Err}
 use Rattle.std.proofs.lemmas.Result.{err_from_is_err_and}
+use Rattle.ra_cluster.specs.declared.cluster.cluster_run.ClusterError.TheVariants.{Memory}
+use Rattle.ra_cluster.specs.Outcome.{IsOfThreads}
 use Rattle.ra_cluster.proofs.Endings.{not_ok, passed_on, still_checked}
 use Rattle.ra_cluster.proofs.Records.{record_of}
 use Rattle.ra_cluster.proofs.cluster.cluster_run.record_cluster.Goals as goal
@@ -27,3 +29,12 @@ returns-in-Err g c = record {
   checked = still_checked c.args.script.now tt _ c.in_ok-check_script.ensures c.in-Err.ensures.threads;
   recorded = tt;
 }
+
+-- memory may run out at any time
+memory_of_threads : IsOfThreads Memory
+memory_of_threads = (λ is. absurd cc, λ is. absurd cc)
+
+pub returns-in_err-books-clause-checked : goal.returns-in_err-books-clause-checked
+returns-in_err-books-clause-checked g c =
+    let p = err_from_is_err_and c.from_residual-in_err-books.result c.from_residual-in_err-books.ensures.1 in
+    still_checked c.args.script.now tt c.from_residual-in_err-books.result c.in_ok-check_script.ensures (rw (p.1, p.2) memory_of_threads)
