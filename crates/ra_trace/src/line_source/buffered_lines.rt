@@ -1,5 +1,5 @@
 //! The next line of a trace, from what a reader has in its buffer.
-ghost use Rattle.std.specs.Prelude.{◌≡◌, ◌≢◌, ℕ, ◌≤◌, ◌<◌, ◌+◌, List, Option, true, false, length, slice_index_or, All, IfOk, IsNone};
+ghost use Rattle.std.specs.Prelude.{◌≡◌, ℕ, ◌≤◌, ◌<◌, ◌+◌, List, Option, true, false, length, All, IfOk, IsNone};
 ghost use Rattle.std.specs.Io.KnownBytes.{Consumes};
 ghost use Rattle.ra_trace.specs.NextLine.{EndsPart, ReadsSoFar, ReadsSome, IsPart, ReadsLine, TakesBytes, TakesPart};
 ghost use Rattle.ra_trace.specs.Reading.{IsOpenLine};
@@ -12,32 +12,19 @@ use crate::text_limits::MAX_LINE;
 use memchr::memchr;
 use std::io::{BufRead, Read};
 
-/// Returns where the first line feed is, or one past the end if there is none.
-#[inline(always)]
-fn feed_in(shown: &[u8]) -> usize
-    ensures within { result ≤ length shown.now }
-    ensures here { result < length shown.now → slice_index_or shown.now result 0 ≡ 10 }
-    ensures first { (k : ℕ) → k < result → slice_index_or shown.now k 0 ≢ 10 }
-{
-    match memchr(b'\n', shown) {
-        Some(place) => place,
-        None => shown.len(),
-    }
-}
-
 /// Returns how many of the bytes that are shown belong to the line, at most `most`, and whether the last of them is its line feed.
 #[inline(always)]
 fn part_of(shown: &[u8], most: usize) -> (usize, bool)
     ensures { IsPart most shown.now result.0 result.1 }
 {
     // Among all that is shown a line feed is found sooner than among so few bytes, since it is looked for in larger steps.
-    let end = feed_in(shown);
     let count = shown.len().min(most);
-    if end < count {
-        (end + 1, true)
-    } else {
-        (count, false)
+    if let Some(end) = memchr(b'\n', shown) {
+        if end < count {
+            return (end + 1, true);
+        }
     }
+    (count, false)
 }
 
 /// Takes what the reader shows of the line, at most `most` bytes. Returns how many they are, and whether the last of them is
