@@ -51,6 +51,12 @@ at_the_place ops client since end (Some f) is found other past b =
       | inr more ↦ let early = found.1 in inr (omega arith, omega arith)
     ]
 
+-- the places that are left are those of operations
+pub end_within : (ops : List Op) (client since end : ℕ) (first : Option OutOfOrder) → FirstSoFar ops client since end first → end ≤ length ops
+end_within ops client since end None so_far = let is = so_far.end_is in omega (arith, is)
+end_within ops client since end (Some f) so_far =
+    let is = so_far.end_is in let low = within ops f.since f.place so_far.found.2 in omega (arith, is, low)
+
 -- the name that is locked at the place, if there is one, is no sooner out of order
 pub none_here : (ops : List Op) (client since end : ℕ) (first : Option OutOfOrder) → FirstSoFar ops client since end first → NoneBelow ops since end
     → FirstSoFar ops client (since + 1) end first

@@ -1,6 +1,6 @@
 use Rattle.std.proofs.Common.{◌≡◌, ◌+◌, take, arith, List, sym, subst, ◌∙◌, ap, inl, inr, ◌++◌, ◌∷◌, [], slice_index_or}
 use Rattle.std.proofs.lemmas.Bool.{cases_eq}
-use Rattle.std.proofs.lemmas.List.{take_more}
+use Rattle.std.proofs.lemmas.List.{take_all, take_more}
 use Rattle.ra_stamp.specs.declared.entry.Mark.{Mark}
 use Rattle.ra_schedule.specs.declared.driver.client_progress.Progress.{Progress}
 use Rattle.ra_schedule.specs.Schedule.{Enters}
@@ -42,3 +42,8 @@ loop-mark-preserved c k d within =
           (other_mark (k + 1) (take i marks) mark old between (no_entry (k + 1) mark w.in_default.not-Entered) so_far)
     ] in
     subst (λ (ms : List Mark). IsAfterMarks (k + 1) ms old new) (sym more) done
+
+pub returns : goal.returns
+returns c k d within =
+    subst (λ (ms : List Mark). IsAfterMarks (k + 1) ms (slice_index_or c.args.list.now k d) (slice_index_or c.loop-mark.list k d))
+    (take_all c.loop-mark.mark-index c.args.marks.now (let past = c.loop-mark-test.false in omega (arith, past))) (c.loop-mark.invariant k d within)

@@ -1,10 +1,14 @@
 use Rattle.std.proofs.Common.{rules, ℕ, ◌+◌, Option, sym, subst}
 use Rattle.ra_schedule.specs.declared.script.lock_order.OutOfOrder.{OutOfOrder}
 use Rattle.ra_schedule.specs.LockOrder.{LocksOutOfOrder}
-use Rattle.ra_schedule.proofs.FirstLocks.{FirstSoFar, none_here, some_here, first_of_all, none_of_all, below_of_client, ops_of}
+use Rattle.ra_schedule.proofs.FirstLocks.{FirstSoFar, end_within, none_here, some_here, first_of_all, none_of_all, below_of_client, ops_of}
 use Rattle.ra_schedule.proofs.LockPlaces.{out_of_order_below}
 use Rattle.ra_schedule.proofs.script.lock_order.out_of_order_of.Goals as goal
 use Rattle.ra_schedule.proofs.script.lock_order.out_of_order_of.Goals.{in-Some, in_default}
+
+pub locks_below-requires : goal.locks_below-requires
+locks_below-requires c =
+    end_within c.in_ok-ops.ops.now c.args.client c.loop-since.since c.loop-since.end c.loop-since.first c.loop-since.invariant
 
 pub loop-since-preserved : goal.loop-since-preserved
 loop-since-preserved c =
