@@ -1,9 +1,26 @@
 -- Each site that is closed gives the book of the node after those that were closed.
-use Rattle.std.proofs.Common.{length, ap, ◌∙◌, arith}
+use Rattle.std.proofs.Common.{rules, ℕ, length, ap, sym, ◌∙◌, arith}
+use Rattle.std.specs.List.{range_with_len}
 use Rattle.std.specs.Vec.Iter.{into_iter_items}
 use Rattle.ra_cluster.specs.Cluster.{ClusterState}
-use Rattle.ra_cluster.proofs.SiteNumbers.{next_within, closes_more, closes_all}
+use Rattle.ra_cluster.proofs.SiteNumbers.{next_within, closes_none, closes_more, closes_all}
 use Rattle.ra_cluster.proofs.cluster.Cluster.close.Goals as goal
+
+pub loop-site-init : goal.loop-site-init
+loop-site-init g c =
+    let gives = c.into_iter-site-iterator.ensures.into_iter_gives in
+    record {
+      closes =
+          rw
+          c.into_sites-sites.ensures.empty
+          (closes_none
+          c.nodes-nodes.result
+          c.self.inside.start
+          (into_iter_items c.into_iter-site-iterator.result)
+          (gives.0 ∙ (c.into_sites-sites.ensures.sites ∙ ap (λ (k : ℕ). range_with_len 1 k) (sym c.nodes-nodes.ensures))));
+      counted = search rules;
+      room = search rules;
+    }
 
 pub close_as-requires-clause-member : goal.close_as-requires-clause-member
 close_as-requires-clause-member g c =
