@@ -17,16 +17,6 @@ pub struct ShrunkNotes {
     pub left: Option<String>,
 }
 
-/// Adds how many choices a run had, and how many the shorter one has.
-fn push_counts(note: &mut Note, before: u64, after: u64) {
-    if before == after {
-        push_number_in(note, "none of the ", before, " choices can be left out");
-    } else {
-        push_number_in(note, "shrunk from ", before, " choices to ");
-        note.number(after);
-    }
-}
-
 /// Returns the choices to which a policy's run of a script is shrunk, or `None` if it is not stuck or refused. If memory ran out,
 /// the note records it.
 fn shorter(alloc: Global, note: &mut Note, script: &Script, policy: &Policy) -> Option<Choices> {
@@ -39,10 +29,15 @@ fn shorter(alloc: Global, note: &mut Note, script: &Script, policy: &Policy) -> 
     }
 }
 
-/// Adds by how much a policy's run of a script is shrunk, to this many choices.
+/// Adds how many choices a policy's run of a script has, and that it is shrunk to this many.
 fn push_shorter(alloc: Global, note: &mut Note, script: &Script, policy: &Policy, choices: u64) {
     if let Some(summary) = run_of(alloc, note, script, policy) {
-        push_counts(note, summary.turns, choices);
+        if summary.turns == choices {
+            push_number_in(note, "none of the ", choices, " choices can be left out");
+        } else {
+            push_number_in(note, "shrunk from ", summary.turns, " choices to ");
+            note.number(choices);
+        }
     }
 }
 

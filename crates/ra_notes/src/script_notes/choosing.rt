@@ -78,7 +78,7 @@ fn push_reason_after(
     policy: &Policy,
     choice: Choice,
 ) {
-    if let Some(summary) = &run_of(alloc, note, script, policy) {
+    if let Some(summary) = run_of(alloc, note, script, policy) {
         let ending = RunEnd::new(alloc, note, script, policy, &summary.report);
         push_reason(note, &ending, choice);
     }

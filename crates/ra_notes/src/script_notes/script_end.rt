@@ -55,10 +55,10 @@ fn push_lock(note: &mut Note, client: u32, op: &Option<Op>, clients: u64, names:
 /// `Memory`: memory ran out.
 pub fn script_end_note(alloc: Global, script: &[u8]) -> Result<Option<String>, Memory> {
     let mut note = Note::new(alloc);
-    if let Some(script) = &script_in(alloc, &mut note, script) {
+    if let Some(script) = script_in(alloc, &mut note, script) {
         let mut clients = 0;
         for place in 0..script.clients() {
-            clients = push_kept(&mut note, script, place + 1, clients);
+            clients = push_kept(&mut note, &script, place + 1, clients);
         }
         note.push_more("; and ", clients, MOST);
     }
