@@ -90,10 +90,10 @@ fn push_event(
     push_place(note, openings, &frame);
     if let TextCause::Refused = cause
         && let Some(opening) = &openings.last
-        && let Some((why, standing)) = &refused_event(alloc, opening, line, number)
+        && let Some((why, standing)) = refused_event(alloc, opening, line, number)
     {
         note.push(": ");
-        push_refused(note, line, &frame, &opening.first, *why, standing);
+        push_refused(note, line, &frame, &opening.first, why, &standing);
     } else {
         push_cause(note, cause);
     }

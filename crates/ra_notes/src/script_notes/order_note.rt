@@ -22,14 +22,14 @@ fn push_lock(note: &mut Note, script: &Script, client: u32, place: u64) {
 
 /// Adds where the order of names is first broken in a script. If it is nowhere, it adds where a name is first kept.
 fn push_order(note: &mut Note, script: &Script) {
-    if let Some(found) = &first_out_of_order(script) {
+    if let Some(found) = first_out_of_order(script) {
         push_lock(note, script, found.client, found.place);
         note.push(" while holding ");
         push_name(note, script, found.client, found.since);
         note.push(
             ", which does not sort before it, so clients could deadlock: lock names in ascending byte order, or run the script with ra sim",
         );
-    } else if let Some(kept) = &first_unreleased(script) {
+    } else if let Some(kept) = first_unreleased(script) {
         push_lock(note, script, kept.client, kept.place);
         note.push(
             " and never unlocks it, so others could wait for it forever: unlock the name, or run the script with ra sim",
