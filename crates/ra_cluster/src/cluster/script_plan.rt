@@ -29,19 +29,12 @@ fn name_clients(marks: &[Mark], count: u32) -> bool
         ↔ All (λ mark. (1 ≤ client_of_mark mark) × (client_of_mark mark ≤ count)) marks.now }
 {
     for mark in marks {
-        if !names_a_client(mark, count) {
+        let client = mark.entry().client;
+        if client < 1 || count < client {
             return false;
         }
     }
     true
-}
-
-/// Returns whether a mark names one of this many clients.
-fn names_a_client(mark: &Mark, count: u32) -> bool
-    ensures { IsTrue result ↔ ((1 ≤ client_of_mark mark.now) × (client_of_mark mark.now ≤ count)) }
-{
-    let client = mark.entry().client;
-    1 <= client && client <= count
 }
 
 /// Returns whether a mark is that of a request that is made.
