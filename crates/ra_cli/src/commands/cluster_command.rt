@@ -121,7 +121,9 @@ fn text_of_run<T: Threads + Wait + Sync>(
     ensures err { IfErr result (λ why. (input : List ℕ) → script_of input ≡ Ok script.now → RefusesRun input (of_cluster why)) }
 {
     let recorded = record_cluster(rt, alloc, script, &OpenGate)?;
-    recorded_text(alloc, printed, script.nodes(), &recorded).or(Err(ClusterError::Memory))
+    let text = recorded_text(alloc, printed, script.nodes(), &recorded);
+    recorded.discard();
+    text.or(Err(ClusterError::Memory))
 }
 
 /// Reads the text of a script, runs it by threads, and writes what is printed of the one run into which the books of the nodes
