@@ -1,10 +1,11 @@
 -- What a reader gave that was read up to a limit, and which line an input is.
-use Rattle.std.proofs.Common.{◌≡◌, ◌≢◌, ◌⊎◌, ℕ, ◌≤◌, List, [], ◌∷◌, ◌++◌, length, Option, Some, refl, sym, ap, subst, ◌∙◌, arith, inl, inr}
-use Rattle.std.specs.Prelude.{All}
+use Rattle.std.proofs.Common.{◌≡◌, ◌≢◌, ◌⊎◌, ℕ, ◌<◌, ◌≤◌, List, [], ◌∷◌, ◌++◌, length, Bor, Option, Some, None, refl, sym, ap, subst, ◌∙◌, arith, inl, inr}
+use Rattle.std.specs.Prelude.{All, IfSome, IfNone}
 use Rattle.std.proofs.lemmas.Bool.{cases_lt}
-use Rattle.std.proofs.lemmas.List.{append-nil, append_cancel_right, length-append}
+use Rattle.std.proofs.lemmas.List.{append-nil, length-append}
 use Rattle.std.proofs.lemmas.List.Elements.{All-head, All-tail}
 use Rattle.ra_world.specs.Input.{Reads}
+use Rattle.ra_cli.specs.Line.{IsLine}
 
 -- all of the input was read, or as many bytes as may be
 pub record IsRead (limit : ℕ) (input taken : List ℕ) (new : Option (List ℕ)) : Type 0 where
@@ -21,25 +22,50 @@ is_read limit input rest taken h =
 
 -- ---- The line of an input
 
--- a line has no line feed at its end
-no_feed_at_end : (prefix : List ℕ) → All (λ byte. byte ≢ 10) (prefix ++ 10 ∷ []) → ⊥
-no_feed_at_end [] h = All-head (λ byte. byte ≢ 10) 10 [] h refl
-no_feed_at_end (x ∷ xs) h = no_feed_at_end xs (All-tail (λ byte. byte ≢ 10) x (xs ++ 10 ∷ []) h)
+-- bytes without a line feed, and a line feed after them
+once : (part rest line more : List ℕ) → All (λ byte. byte ≢ 10) part → All (λ byte. byte ≢ 10) line → part ++ 10 ∷ rest ≡ line ++ 10 ∷ more
+    → (part ≡ line) × (rest ≡ more)
+once [] rest [] more free none e = (refl, (cc))
+once [] rest (y ∷ ys) more free none e = absurd (All-head (λ byte. byte ≢ 10) y ys none (let same : y ≡ 10 = cc in same))
+once (x ∷ xs) rest [] more free none e = absurd (All-head (λ byte. byte ≢ 10) x xs free (let same : x ≡ 10 = cc in same))
+once (x ∷ xs) rest (y ∷ ys) more free none e =
+    let heads : x ≡ y = cc in
+    let tails : xs ++ 10 ∷ rest ≡ ys ++ 10 ∷ more = cc in
+    let (same, left) =
+    once xs rest ys more (All-tail (λ byte. byte ≢ 10) x xs free) (All-tail (λ byte. byte ≢ 10) y ys none) tails
+    in
+    ((cc), left)
 
--- the line of an input that ends in a line feed
-pub line_before : (prefix line : List ℕ) → All (λ byte. byte ≢ 10) line
-    → (prefix ++ 10 ∷ [] ≡ line) ⊎ (prefix ++ 10 ∷ [] ≡ line ++ 10 ∷ []) → line ≡ prefix
-line_before prefix line none (inl whole) = absurd (no_feed_at_end prefix (subst (All (λ byte. byte ≢ 10)) (sym whole) none))
-line_before prefix line none (inr feed) = sym (append_cancel_right prefix line (10 ∷ []) feed)
+feed_within : (part rest : List ℕ) → All (λ byte. byte ≢ 10) (part ++ 10 ∷ rest) → ⊥
+feed_within [] rest h = All-head (λ byte. byte ≢ 10) 10 rest h refl
+feed_within (x ∷ xs) rest h = feed_within xs rest (All-tail (λ byte. byte ≢ 10) x (xs ++ 10 ∷ rest) h)
 
-same_last : (prefix line : List ℕ) (x y : ℕ) → prefix ++ x ∷ [] ≡ line ++ y ∷ [] → x ≡ y
-same_last [] [] x y e = cc
-same_last [] (z ∷ zs) x y e = absurd (omega (arith, ap length e, length-append zs (y ∷ [])))
-same_last (w ∷ ws) [] x y e = absurd (omega (arith, ap length e, length-append ws (x ∷ [])))
-same_last (w ∷ ws) (z ∷ zs) x y e = same_last ws zs x y (cc)
+-- the line of an input that has a line feed, after which nothing comes
+pub line_before : (input part rest line : List ℕ) → All (λ byte. byte ≢ 10) part → input ≡ part ++ 10 ∷ rest → IsLine input line
+    → (part ≡ line) × (rest ≡ [])
+line_before input part rest line free is h =
+    elim h.whole [
+      | inl same ↦ absurd (feed_within part rest (subst (All (λ byte. byte ≢ 10)) (sym same ∙ is) h.no_feed))
+      | inr feed ↦ once part rest line [] free h.no_feed (sym is ∙ feed)
+    ]
 
--- the line of an input that ends in another byte
-pub line_whole : (prefix line : List ℕ) (last : ℕ) → last ≢ 10
-    → (prefix ++ last ∷ [] ≡ line) ⊎ (prefix ++ last ∷ [] ≡ line ++ 10 ∷ []) → line ≡ prefix ++ last ∷ []
-line_whole prefix line last other (inl whole) = sym whole
-line_whole prefix line last other (inr feed) = absurd (other (same_last prefix line last 10 feed))
+-- the line of an input that has none
+line_whole : (input line : List ℕ) → All (λ byte. byte ≢ 10) input → IsLine input line → input ≡ line
+line_whole input line free h =
+    elim h.whole [
+      | inl same ↦ same
+      | inr feed ↦ absurd (feed_within line [] (subst (All (λ byte. byte ≢ 10)) feed free))
+    ]
+
+-- an input whose first line feed comes after more than 256 bytes, or which has as many and none
+pub no_short_line : (input part : List ℕ) (after : Option (Bor (List ℕ))) → All (λ byte. byte ≢ 10) part
+    → IfSome after (λ rest. input ≡ part ++ 10 ∷ rest.now) → IfNone after (input ≡ part) → 256 < length part
+    → (line : List ℕ) → IsLine input line → ⊥
+no_short_line input part None free cut whole long line h =
+    let same : input ≡ line = line_whole input line (subst (All (λ byte. byte ≢ 10)) (sym whole) free) h in
+    let short : length line ≤ 256 = h.short in
+    omega (arith, ap length (sym whole ∙ same), long, short)
+no_short_line input part (Some rest) free cut whole long line h =
+    let same : part ≡ line = (line_before input part rest.now line free cut h).0 in
+    let short : length line ≤ 256 = h.short in
+    omega (arith, ap length same, long, short)

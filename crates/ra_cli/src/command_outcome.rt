@@ -50,11 +50,6 @@ pub enum Remark {
     },
 }
 
-/// Returns whether a status says that nothing was refused, and neither the input nor the output failed.
-fn ran_to_end(status: u8) -> bool {
-    matches!(status, 0 | UNFINISHED)
-}
-
 /// What came of a command: its exit status, and what there is to say of it to a person, if anything.
 #[derive(Clone, Copy)]
 pub struct CommandOutcome {
@@ -79,14 +74,18 @@ impl CommandOutcome {
 
     /// Returns whether nothing was refused, and neither the input nor the output failed.
     pub fn ran_to_end(&self) -> bool {
-        ran_to_end(self.status)
+        matches!(self.status, 0 | UNFINISHED)
     }
 
     /// Makes that of a verdict. Of one that could not be printed there is nothing to say but that.
     pub fn judged(status: u8, remark: Option<Remark>) -> CommandOutcome
         ensures { result.status ≡ status }
     {
-        CommandOutcome::new(status, if ran_to_end(status) { remark } else { None })
+        let mut outcome = CommandOutcome { status, remark };
+        if !outcome.ran_to_end() {
+            outcome.remark = None;
+        }
+        outcome
     }
 }
 

@@ -29,12 +29,23 @@ pub fn line_of(refusal: CommandRefusal) -> &'static str
     ensures { result.now ≡ spec.refused_line (spec.word_of refusal) }
 {
     match refusal {
-        CommandRefusal::Command(why) => command_line(why),
+        CommandRefusal::Command(CommandFault::Usage) => "refused Usage\n",
+        CommandRefusal::Command(CommandFault::Memory) => "refused Memory\n",
         CommandRefusal::Answer(why) => answer_line(why),
-        CommandRefusal::Choices(why) => choices_line(why),
+        CommandRefusal::Choices(ChoicesError::Choice) => "refused Choice\n",
+        CommandRefusal::Choices(ChoicesError::Memory) => "refused Memory\n",
         CommandRefusal::Perform(why) => perform_line(why),
-        CommandRefusal::Check(why) => trace_line(why),
-        CommandRefusal::Draw(why) => draw_line(why),
+        CommandRefusal::Check(TraceError::Read) => "refused Read\n",
+        CommandRefusal::Check(TraceError::Limit) => "refused Limit\n",
+        CommandRefusal::Check(TraceError::Memory) => "refused Memory\n",
+        CommandRefusal::Draw(why) => match why {
+            DrawError::Read => "refused Read\n",
+            DrawError::Limit => "refused Limit\n",
+            DrawError::NoLines { .. } => "refused NoLines\n",
+            DrawError::TooLong => "refused TooLong\n",
+            DrawError::Memory => "refused Memory\n",
+            DrawError::Write => "refused Write\n",
+        },
         CommandRefusal::Cluster(why) => run_line(why),
     }
 }
@@ -84,16 +95,6 @@ fn cluster_line(fault: ClusterError) -> &'static str
     }
 }
 
-/// Returns the line that says why arguments ask for nothing. It does not allocate.
-fn command_line(fault: CommandFault) -> &'static str
-    ensures { result.now ≡ spec.refused_line (spec.command_word fault) }
-{
-    match fault {
-        CommandFault::Usage => "refused Usage\n",
-        CommandFault::Memory => "refused Memory\n",
-    }
-}
-
 /// Returns the line that says why a frame is not answered. It does not allocate.
 fn answer_line(fault: AnswerError) -> &'static str
     ensures { result.now ≡ spec.refused_line (spec.answer_word fault) }
@@ -113,16 +114,6 @@ fn answer_line(fault: AnswerError) -> &'static str
     }
 }
 
-/// Returns the line that says why a text is no list of choices. It does not allocate.
-fn choices_line(fault: ChoicesError) -> &'static str
-    ensures { result.now ≡ spec.refused_line (spec.choices_word fault) }
-{
-    match fault {
-        ChoicesError::Choice => "refused Choice\n",
-        ChoicesError::Memory => "refused Memory\n",
-    }
-}
-
 /// Returns the line that says why a script is not performed. It does not allocate.
 fn perform_line(fault: PerformError) -> &'static str
     ensures { result.now ≡ spec.refused_line (spec.perform_word fault) }
@@ -134,31 +125,6 @@ fn perform_line(fault: PerformError) -> &'static str
         PerformError::Choice => "refused Choice\n",
         PerformError::Memory => "refused Memory\n",
         PerformError::Write => "refused Write\n",
-    }
-}
-
-/// Returns the line that says why a text has no verdict. It does not allocate.
-fn trace_line(fault: TraceError) -> &'static str
-    ensures { result.now ≡ spec.refused_line (spec.trace_word fault) }
-{
-    match fault {
-        TraceError::Read => "refused Read\n",
-        TraceError::Limit => "refused Limit\n",
-        TraceError::Memory => "refused Memory\n",
-    }
-}
-
-/// Returns the line that says why an input is not drawn. It does not allocate.
-fn draw_line(fault: DrawError) -> &'static str
-    ensures { result.now ≡ spec.refused_line (spec.draw_word fault) }
-{
-    match fault {
-        DrawError::Read => "refused Read\n",
-        DrawError::Limit => "refused Limit\n",
-        DrawError::NoLines { .. } => "refused NoLines\n",
-        DrawError::TooLong => "refused TooLong\n",
-        DrawError::Memory => "refused Memory\n",
-        DrawError::Write => "refused Write\n",
     }
 }
 

@@ -1,6 +1,5 @@
 //! The command `node`.
-ghost use Rattle.std.specs.Prelude.{◌≡◌, ◌≤◌, ◌++◌, ℕ, List, codes};
-ghost use Rattle.std.specs.Io.KnownBytes.{Appends};
+ghost use Rattle.std.specs.Prelude.{◌≤◌};
 ghost use Rattle.ra_cli.specs.NodeRun.{ServesNode};
 
 use crate::command_outcome::{CommandOutcome, Remark};
@@ -10,17 +9,6 @@ use ra_book::{BookFault, answer_book};
 use ra_trace::TraceError;
 use std::alloc::Global;
 use std::io::{BufRead, Write};
-
-/// Writes the line of a fault of the reader, as far as the writer takes it, and returns what came of it: the status is 1
-/// in any case. It does not allocate.
-fn say_unread<W: Write>(writer: &mut W) -> CommandOutcome
-    ensures status { result.status ≡ 1 }
-    ensures said { (said : List ℕ) × (rest : List ℕ) × (codes "refused Read\n" ≡ said ++ rest)
-        × Appends (W.contents writer.old) (W.contents writer.new) said }
-{
-    let line = line_of(CommandRefusal::Check(TraceError::Read)).as_bytes();
-    CommandOutcome::new(written(writer, line, BROKEN), Some(Remark::Unread))
-}
 
 /// Answers the lines of the reader's book as the node that its first line names, and returns what came of it. The status
 /// is 0 at the end of the input, 2 if its first line is not that of a book, and 1 if the reader or the writer failed.
@@ -36,7 +24,10 @@ pub fn be_a_node<R: BufRead, W: Write>(
     match answer_book(alloc, reader, writer) {
         Ok(()) => CommandOutcome::new(DONE, None),
         Err(BookFault::Line) => CommandOutcome::new(REFUSED, Some(Remark::NoBook)),
-        Err(BookFault::Read) => say_unread(writer),
+        Err(BookFault::Read) => {
+            let line = line_of(CommandRefusal::Check(TraceError::Read)).as_bytes();
+            CommandOutcome::new(written(writer, line, BROKEN), Some(Remark::Unread))
+        }
         Err(BookFault::Write) => CommandOutcome::new(BROKEN, None),
     }
 }
