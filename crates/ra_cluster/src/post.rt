@@ -5,7 +5,7 @@ ghost use Rattle.ra_cluster.specs.Cluster.{ChecksCount};
 
 use crossbeam_channel::{Receiver, Sender, unbounded};
 use ra_frame::{Frame, encode};
-use ra_stamp::{Memory, NodeCount};
+use ra_stamp::{Memory, NodeCount, NodeId};
 use std::alloc::Global;
 use std::sync::{RwLock, Wait};
 use std::{fmt, thread};
@@ -100,16 +100,19 @@ impl Post {
     pub fn send<R: Wait>(&self, rt: &R, alloc: Global, frame: &Frame) -> Result<(), SendError>
         requires { Fits frame.now }
     {
+        // They are made before the lock is taken, so that nobody waits for the allocator, and looked at after.
+        let bytes = encode(alloc, frame);
         let senders = self.senders.read(rt);
-        match senders.as_ref() {
-            Some(senders) => {
-                if send_frame(rt, alloc, senders, frame) {
-                    Ok(())
-                } else {
-                    Err(SendError::Refused)
-                }
-            }
-            None => Err(SendError::Closed),
+        let Some(senders) = senders.as_ref() else {
+            return Err(SendError::Closed);
+        };
+        let Ok(bytes) = bytes else {
+            return Err(SendError::Refused);
+        };
+        if send_to(rt, senders, frame.message.to(), bytes) {
+            Ok(())
+        } else {
+            Err(SendError::Refused)
         }
     }
 
@@ -173,12 +176,17 @@ fn send_each<'a, R: Wait>(
 fn send_frame<R: Wait>(rt: &R, alloc: Global, senders: &[FrameSender], frame: &Frame) -> bool
     requires { Fits frame.now }
 {
-    let Some(sender) = senders.get(frame.message.to().place()) else {
-        return false;
-    };
     match encode(alloc, frame) {
-        Ok(bytes) => sender.send(rt, bytes).is_ok(),
+        Ok(bytes) => send_to(rt, senders, frame.message.to(), bytes),
         Err(Memory) => false,
+    }
+}
+
+/// Sends the bytes of a frame to the inbox of a node. Returns whether it took them.
+fn send_to<R: Wait>(rt: &R, senders: &[FrameSender], node: NodeId, bytes: Vec<u8>) -> bool {
+    match senders.get(node.place()) {
+        Some(sender) => sender.send(rt, bytes).is_ok(),
+        None => false,
     }
 }
 
