@@ -1,10 +1,12 @@
 -- A name in its array, and as text.
-use Rattle.std.proofs.Common.{◌≡◌, ◌<◌, ℕ, ◌+◌, List, [], ◌∷◌, ◌++◌, length, take, drop, get_or, replicate, slice_set, true, refl, sym, ap, ◌∙◌, subst, append_assoc, arith}
+use Rattle.std.proofs.Common.{◌≡◌, ◌<◌, ◌≤◌, ℕ, ◌+◌, List, [], ◌∷◌, ◌++◌, length, take, drop, get_or, replicate, slice_set, true, refl, sym, ap, ◌∙◌, subst, append_assoc, arith}
 use Rattle.std.proofs.lemmas.Bool.Decides.{nat_tests}
-use Rattle.std.proofs.lemmas.List.{take_at, take_more, drop_more, set_at, length-take-le, drop-replicate}
+use Rattle.std.proofs.lemmas.List.{take_all, take_at, take_more, drop_more, set_at, length-take-le, drop-replicate}
 use Rattle.std.proofs.lemmas.List.Elements.{All-weaker}
+use Rattle.std.proofs.lemmas.List.Sums.{AllPass-from_list_all}
 use Rattle.std.proofs.lemmas.Str.{IsUtf8-from_ascii}
 use Rattle.std.proofs.lemmas.Str.Ascii.{IsAscii-from_all}
+use Rattle.std.specs.List.{list_all}
 use Rattle.std.specs.Str.{IsUtf8}
 use Rattle.ra_stamp.specs.Name.{IsName, IsPadded, padded, is_name_byte}
 
@@ -36,3 +38,19 @@ copied_more bytes before array i here room is =
     ∙ set_at (take i bytes) (get_or before i 0) (drop (i + 1) before) (get_or bytes i 0) i front
     ∙ sym (ap (λ (ys : List ℕ). ys ++ drop (i + 1) before) (take_more bytes i 0 here)
     ∙ append_assoc (take i bytes) (get_or bytes i 0 ∷ []) (drop (i + 1) before))
+
+-- once all bytes are looked at, they are a name
+pub name_from_bytes : (bytes : List ℕ) (i : ℕ) → length bytes ≤ i → 1 ≤ length bytes → length bytes ≤ 32 → list_all is_name_byte (take i bytes) ≡ true → IsName bytes
+name_from_bytes bytes i all some few each =
+    record {
+      not_empty = some;
+      not_long = few;
+      each = AllPass-from_list_all is_name_byte bytes (sym (ap (list_all is_name_byte) (take_all i bytes all)) ∙ each);
+    }
+
+-- once all bytes are copied, zeros follow them
+pub copied_all : (bytes array : List ℕ) (i : ℕ) → length bytes ≤ i → i ≤ length bytes → array ≡ take i bytes ++ drop i (replicate 32 0)
+    → array ≡ bytes ++ drop (length bytes) (replicate 32 0)
+copied_all bytes array i all within is =
+    let there : i ≡ length bytes = omega arith in
+    is ∙ ap (λ (front : List ℕ). front ++ drop i (replicate 32 0)) (take_all i bytes all) ∙ ap (λ (n : ℕ). bytes ++ drop n (replicate 32 0)) there

@@ -75,9 +75,7 @@ impl Hash for Message {
 
     // Three writes tell nearly all messages apart, and cost less than a write for each field.
     fn hash<H: Hasher>(&self, state: &mut H) {
-        let from = u32::from(self.from().get());
-        let to = u32::from(self.to().get());
-        state.write_u32(65536 * from + to);
+        state.write_u32(65536 * u32::from(self.from().get()) + u32::from(self.to().get()));
         state.write_u64(self.seq());
         state.write(self.name().bytes());
     }

@@ -62,25 +62,7 @@ impl Model for Name {
 fn is_name_byte(byte: u8) -> bool
     ensures { result ≡ is_name_byte byte }
 {
-    byte.is_ascii_alphanumeric() || matches!(byte, b'_' | b'-' | b'.')
-}
-
-/// Copies the bytes of a name to the front of an array, and returns whether a name may have each of them. It looks at each
-/// byte once.
-#[inline(always)]
-fn copy_name(bytes: &[u8], array: &mut [u8; 32]) -> bool
-    requires { length bytes.now ≤ 32 }
-    ensures each { IsTrue result ↔ AllPass is_name_byte bytes.now }
-    ensures copied { IsTrue result → array.new ≡ bytes.now ++ drop (length bytes.now) array.old }
-{
-    for place in 0..bytes.len() {
-        let byte = bytes[place];
-        if !is_name_byte(byte) {
-            return false;
-        }
-        array[place] = byte;
-    }
-    true
+    byte.is_ascii_alphanumeric() || byte == b'_' || byte == b'-' || byte == b'.'
 }
 
 impl Name {
@@ -127,8 +109,12 @@ impl Name {
             return None;
         }
         let mut padded = [0; 32];
-        if !copy_name(bytes, &mut padded) {
-            return None;
+        for place in 0..bytes.len() {
+            let byte = bytes[place];
+            if !is_name_byte(byte) {
+                return None;
+            }
+            padded[place] = byte;
         }
         Some(Name {
             bytes: padded,
