@@ -6,7 +6,7 @@ ghost use Rattle.ra_stamp.specs.declared.message.Message.{Message};
 ghost use Rattle.ra_bag.specs.Bag.{StandsIn, messages_in};
 ghost use Rattle.ra_bag.specs.Places.{IsFirstSlot, IsTold, Tells, Learns, Unlearns, later_numbers};
 
-use crate::slots::{MAX_LINEAR_SCAN, is_same};
+use crate::slots::MAX_LINEAR_SCAN;
 use indexmap::IndexMap;
 use ra_stamp::{Memory, Message};
 use std::alloc::Global;
@@ -266,12 +266,13 @@ fn take_number(numbers: &mut IndexMap<Message, u64>, entry: usize, message: &Mes
 
 /// Returns the number in an entry, or `None` if it is not the entry of this message.
 #[inline(always)]
+#[tactic(auto, using(ra_stamp::proofs::StampLaws::same_messages))]
 fn number_in(numbers: &IndexMap<Message, u64>, entry: usize, message: &Message) -> Option<u64>
     ensures at { IfSome result (λ number. slice_get numbers.now.entries entry ≡ Some (message.now, number)) }
     ensures found { IfSome result (λ number. lookup (⟦<Message as PartialEq>⟧.eq message.now) numbers.now.entries ≡ Some number) }
 {
     let (kept, number) = numbers.get_index(entry)?;
-    if is_same(kept, message) {
+    if *kept == *message {
         return Some(*number);
     }
     None

@@ -180,65 +180,15 @@ pub fn close_up(slots: &mut VecDeque<Option<Message>>)
     slots.retain(|kept| kept.is_some());
 }
 
-/// Returns whether the content of a slot is a message that is equal to this one.
+/// Returns whether the content of a slot is a message that is equal to this one. Most unequal messages differ in their
+/// numbers, which are compared first.
 #[inline(always)]
+#[tactic(auto, using(ra_stamp::proofs::StampLaws::same_messages))]
 fn is_of(kept: &Option<Message>, message: &Message) -> bool
     ensures { IsTrue result ↔ (kept.now ≡ Some message.now) }
 {
     match kept {
-        Some(other) => is_same(other, message),
+        Some(other) => other.seq() == message.seq() && *other == *message,
         None => false,
-    }
-}
-
-/// Returns whether two messages are equal. Most unequal messages differ in their numbers or nodes, which are compared
-/// first.
-#[inline(always)]
-pub fn is_same(a: &Message, b: &Message) -> bool
-    ensures { IsTrue result ↔ (a.now ≡ b.now) }
-{
-    // Each `*` saves the step of comparing references.
-    match a {
-        Message::Request {
-            from,
-            to,
-            name,
-            mode,
-            seq,
-        } => match b {
-            Message::Request {
-                from: other_from,
-                to: other_to,
-                name: other_name,
-                mode: other_mode,
-                seq: other_seq,
-            } => {
-                *seq == *other_seq
-                    && *to == *other_to
-                    && *from == *other_from
-                    && *mode == *other_mode
-                    && *name == *other_name
-            }
-            Message::Reply { .. } => false,
-        },
-        Message::Reply {
-            from,
-            to,
-            name,
-            seq,
-        } => match b {
-            Message::Reply {
-                from: other_from,
-                to: other_to,
-                name: other_name,
-                seq: other_seq,
-            } => {
-                *seq == *other_seq
-                    && *to == *other_to
-                    && *from == *other_from
-                    && *name == *other_name
-            }
-            Message::Request { .. } => false,
-        },
     }
 }
