@@ -161,7 +161,7 @@ still_awaited s other node k =
     second_true true b e = e
     second_true false b e = absurd cc
 
-is_waiting : (phase : Phase) (seq : ℕ) (mode : Mode) → phase ≡ Waiting seq mode → IsWaiting phase
+pub is_waiting : (phase : Phase) (seq : ℕ) (mode : Mode) → phase ≡ Waiting seq mode → IsWaiting phase
 is_waiting phase seq mode e = subst IsWaiting (sym e) tt
 
 not_waiting_idle : (phase : Phase) (seq : ℕ) (mode : Mode) → phase ≡ Waiting seq mode → phase ≡ Idle → ⊥

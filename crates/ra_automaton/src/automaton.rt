@@ -496,18 +496,11 @@ impl Automaton {
                     seq,
                 };
                 sends.push(reply)?;
-                self.observe(seq);
+                self.highest = self.highest.max(seq);
             }
             Answer::Defer => self.defer(other, seq),
         }
         Ok(sends)
-    }
-
-    /// Raises the highest number to that of a REQUEST, if it is lower.
-    fn observe(&mut self, seq: u64)
-        ensures { self.new ≡ record self.old { highest = max self.old.highest seq } }
-    {
-        self.highest = self.highest.max(seq);
     }
 
     /// Defers the REPLY to another node. Of two requests of one node the greater number counts.
@@ -563,7 +556,7 @@ impl Automaton {
         match self.effect(other, number) {
             Effect::Stray => false,
             Effect::WaitOn => {
-                self.count_reply(other);
+                self.awaited.remove(other);
                 false
             }
             Effect::Enter => {
@@ -571,15 +564,6 @@ impl Automaton {
                 true
             }
         }
-    }
-
-    /// Takes one of several REPLYs that are awaited.
-    fn count_reply(&mut self, other: NodeId)
-        requires waits { IsWaiting self.old.phase }
-        requires not_last { set.remove self.old.awaited other ≡ set.empty → ⊥ }
-        ensures { self.new ≡ record self.old { awaited = set.remove self.old.awaited other } }
-    {
-        self.awaited.remove(other);
     }
 
     /// Takes the last REPLY that is awaited, and enters.

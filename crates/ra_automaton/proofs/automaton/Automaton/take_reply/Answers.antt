@@ -1,0 +1,31 @@
+use Rattle.std.proofs.Common.{◌≡◌, inl, inr, refl, subst, sym, ap, ◌∙◌}
+use Rattle.std.specs.FinSet as set
+use Rattle.ra_automaton.specs.State.{State, IsConsistent, IsWaiting}
+use Rattle.ra_automaton.specs.View.{state_of}
+use Rattle.ra_automaton.proofs.Consistent.{consistent_waits_on, is_waiting}
+use Rattle.ra_automaton.proofs.automaton.Automaton.take_reply.Goals as goal
+
+pub invariant_of-self : goal.invariant_of-self
+invariant_of-self c =
+    let old = state_of c.self.inside in
+    let kept = c.self.invariant in
+    let told = c.effect.ensures.wait c.in-WaitOn.is in
+    let waits = subst (λ (s : State). IsWaiting s.phase) (sym c.self.view_is) (is_waiting c.args.self.now.phase c.args.number told.0 told.1.waits) in
+    record {
+      room = kept.room;
+      consistent = subst IsConsistent (λ i. record old { awaited = sym c.remove.ensures i })
+          (consistent_waits_on old c.args.other kept.consistent (λ e. told.2 (subst (λ (s : State). set.remove s.awaited c.args.other ≡ set.empty) c.self.view_is e)) waits);
+    }
+
+pub returns-in-WaitOn : goal.returns-in-WaitOn
+returns-in-WaitOn c =
+    let told = c.effect.ensures.wait c.in-WaitOn.is in
+    inr (
+      told.0,
+      inr (record {
+        awaits = told.1;
+        not_last = told.2;
+        entered_is = refl;
+        new_is = (λ i. record (state_of c.self.inside) { awaited = c.remove.ensures i }) ∙ ap (λ (s : State). record s { awaited = set.remove s.awaited c.args.other }) c.self.view_is;
+      }),
+    )
