@@ -13,19 +13,12 @@ fn excludes(a: &Entry, b: &Entry) -> bool
     a.name == b.name && conflicts(a.mode, b.mode)
 }
 
-/// Returns whether two entries are of one node, on one name.
-fn shares_node(a: &Entry, b: &Entry) -> bool
-    ensures { IsTrue result ↔ SharesNodeAndName a.now b.now }
-{
-    a.name == b.name && a.stamp.node == b.stamp.node
-}
-
 /// Returns whether an entry of the list is of this entry's node, on its name.
 pub fn has_node_of(list: &[Entry], entry: &Entry) -> bool
     ensures { IsTrue result ↔ Any (λ x. SharesNodeAndName x entry.now) list.now }
 {
     for other in list {
-        if shares_node(other, entry) {
+        if other.name == entry.name && other.stamp.node == entry.stamp.node {
             return true;
         }
     }
@@ -44,19 +37,12 @@ pub fn has_excluding(list: &[Entry], entry: &Entry) -> bool
     false
 }
 
-/// Returns whether another entry excludes this entry and is earlier.
-fn excludes_and_precedes(other: &Entry, entry: &Entry) -> bool
-    ensures { IsTrue result ↔ (Excludes other.now entry.now × IsEarlier other.now.stamp entry.now.stamp) }
-{
-    excludes(other, entry) && other.stamp < entry.stamp
-}
-
 /// Returns whether an entry of the list excludes this entry and is earlier.
 pub fn has_earlier(list: &[Entry], entry: &Entry) -> bool
     ensures { IsTrue result ↔ Any (λ x. Excludes x entry.now × IsEarlier x.stamp entry.now.stamp) list.now }
 {
     for other in list {
-        if excludes_and_precedes(other, entry) {
+        if excludes(other, entry) && other.stamp < entry.stamp {
             return true;
         }
     }

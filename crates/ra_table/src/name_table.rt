@@ -121,7 +121,7 @@ impl NameTable {
         requires { AreOn entry.now.name self.now.granted }
         ensures { CheckTells result self.now entry.now }
     {
-        if self.is_node_busy(entry) {
+        if has_node_of(&self.waiting, entry) || has_node_of(&self.holding, entry) {
             return Err(RequestError::NodeBusy);
         }
         if self.is_not_above(entry) {
@@ -159,13 +159,6 @@ impl NameTable {
             Some(_) => true,
             None => false,
         }
-    }
-
-    /// Returns whether the entry's node waits or holds.
-    fn is_node_busy(&self, entry: &Entry) -> bool
-        ensures { IsTrue result ↔ IsNodeBusy self.now entry.now }
-    {
-        has_node_of(&self.waiting, entry) || has_node_of(&self.holding, entry)
     }
 
     /// Returns whether an entry granted so far has the entry's number or a greater one.
