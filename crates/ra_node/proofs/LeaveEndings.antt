@@ -1,11 +1,16 @@
 -- A leave and a request in one step of the automaton are a leave that hands over to the next client, and how a leave ends.
-use Rattle.std.proofs.Common.{◌≡◌, ℕ, Bool, List, [], ◌∷◌, length, take, get_or, Option, Some, None, Result, Ok, Err, MatchResult, MatchOption, ◌+◌, refl, sym, ap, ◌∙◌, subst, arith, inl, inr}
+use Rattle.std.proofs.Common.{◌≡◌, ℕ, Bool, List, [], ◌∷◌, ◌++◌, ◌⊎◌, ◌≤◌, length, take, get_or, Option, Some, None, Result, Ok, Err, MatchResult, ◌↔◌, MatchOption, ◌+◌, refl, sym, ap, ◌∙◌, subst, arith, inl, inr}
+use Rattle.std.specs.Prelude.{IsOk, IsErrOf}
+use Rattle.std.proofs.lemmas.Bool.{false≢true}
 use Rattle.ra_stamp.specs.declared.entry.Entry.{Entry}
 use Rattle.ra_stamp.specs.declared.entry.Mark.{Mark}
 use Rattle.ra_stamp.specs.declared.entry.Mark.TheVariants.{Left}
 use Rattle.ra_stamp.specs.declared.message.Message.{Message}
-use Rattle.ra_automaton.specs.State.{State, IsConsistent}
-use Rattle.ra_automaton.specs.Steps.{LeaveAndRequestStep}
+use Rattle.ra_automaton.specs.declared.error.LeaveError.{LeaveError as Fault}
+use Rattle.ra_automaton.specs.declared.error.LeaveError.TheVariants as fault
+use Rattle.ra_automaton.specs.declared.phase.Phase.{Phase}
+use Rattle.ra_automaton.specs.State.{State, IsConsistent, IsInside}
+use Rattle.ra_automaton.specs.Steps.{LeaveStep, LeaveAndRequestStep, greatest_number}
 use Rattle.ra_node.specs.declared.queued_client.Queued.{Queued}
 use Rattle.ra_node.specs.declared.error.LeaveError.{LeaveError}
 use Rattle.ra_node.specs.declared.error.LeaveError.TheVariants.{Memory}
@@ -13,8 +18,9 @@ use Rattle.ra_node.specs.declared.outcome.Outcome.{Outcome}
 use Rattle.ra_node.specs.Faults.{IsLeaveRefusal}
 use Rattle.ra_node.specs.HandedOver.{IsHandedOver}
 use Rattle.ra_node.specs.Resource.{Resource, Holds, entry_of, clients_of}
-use Rattle.ra_node.specs.Turns.{request_marks, next_entry, LeaveTurn, LeavesToNobody, LeavesToNext}
+use Rattle.ra_node.specs.Turns.{request_marks, next_entry, LeaveTurn, LeavesToNext}
 use Rattle.ra_node.proofs.Distinct.{Once, next_may_ask}
+use Rattle.ra_node.proofs.Uses.{granted_inside}
 
 pub hands_over : (old : Resource) (client : ℕ) (entry : Entry) (next : Queued) (sends : List Message) (marks : List Mark) (entered : Bool) (new : Resource) → Once (clients_of old) → Holds old client entry → old.queue ≡ next ∷ new.queue
     → LeaveAndRequestStep old.state next.mode sends entered new.state → new.client ≡ Some next.client → marks ≡ Left entry ∷ request_marks entered (next_entry old next.client next.mode) → LeavesToNext old client sends marks new
@@ -41,12 +47,17 @@ hands_over old client entry next sends marks entered new once holds queue-was st
     }
 
 -- what the automaton did and what was taken out of the queue, at a slot with these parts
-pub parts_handed_over : (state state' : State) (client : Option ℕ) (queue queue' : List Queued) (old : Resource) (next : Queued) (taken : Option Queued) (sends : List Message) (entered : Bool) → record { state = state; client = client; queue = queue } ≡ old
-    → LeaveAndRequestStep state next.mode sends entered state' → take 1 old.queue ≡ next ∷ [] → MatchOption taken ((queue ≡ []) × (queue' ≡ [])) (λ first. queue ≡ first ∷ queue')
-    → IsHandedOver old next sends entered (record { state = state'; client = Some next.client; queue = queue' })
-parts_handed_over state state' client queue queue' old next taken sends entered is step first was =
-    subst (λ (r : Resource). IsHandedOver r next sends entered (record { state = state'; client = Some next.client; queue = queue' })) is
-    (record { step = step; client_is = refl; queue_was = behind taken (ap (λ (r : Resource). take 1 r.queue) is ∙ first) was })
+pub parts_handed_over : (state state' : State) (client : Option ℕ) (queue queue' : List Queued) (old : Resource) (next : Queued) (taken : Option Queued) (sends : List Message) (before marks : List Mark) (entered : Bool) → record { state = state; client = client; queue = queue } ≡ old
+    → LeaveAndRequestStep state next.mode sends entered state' → take 1 old.queue ≡ next ∷ [] → MatchOption taken ((queue ≡ []) × (queue' ≡ [])) (λ first. queue ≡ first ∷ queue') → marks ≡ before ++ request_marks entered (next_entry old next.client next.mode)
+    → IsHandedOver old next sends before marks (record { state = state'; client = Some next.client; queue = queue' })
+parts_handed_over state state' client queue queue' old next taken sends before marks entered is step first was marks-are =
+    record {
+      entered = entered;
+      step = subst (λ (r : Resource). LeaveAndRequestStep r.state next.mode sends entered state') is step;
+      marks_are = marks-are;
+      client_is = refl;
+      queue_was = sym (ap (λ (r : Resource). r.queue) is) ∙ behind taken (ap (λ (r : Resource). take 1 r.queue) is ∙ first) was;
+    }
   where
     same_first : (a b : Queued) → a ∷ [] ≡ b ∷ [] → a ≡ b
     same_first a b e = ap (λ (queued : List Queued). get_or queued 0 a) e
@@ -57,29 +68,39 @@ parts_handed_over state state' client queue queue' old next taken sends entered 
 
 -- ---- How a leave ends
 
-module _ (result : Result Outcome LeaveError) (old new : Resource) (client : ℕ) (held : Entry) (holds : Holds old client held) where
-  -- what a call did, or that memory ran out and nothing changed
-  abbrev Ended : (Outcome → Type 0) → Type 0
-  Ended Did = MatchResult result (λ o. Did o × IsConsistent new.state) (λ fault. (fault ≡ Memory) × (new ≡ old))
+-- what succeeds is not refused
+pub not_refused : {T E : Type 0} (r : Result T E) (e : E) → IsOk r → IsErrOf r e → ⊥
+not_refused (Ok v) e ok is = absurd cc
+not_refused (Err f) e ok is = false≢true ok
 
-  -- how a leave ends
-  abbrev Leave : Type 0
-  Leave = MatchResult result (λ o. LeaveTurn old client o.sends.items o.marks.items new × IsConsistent new.state) (λ fault. IsLeaveRefusal old client fault × (new ≡ old))
+-- and so is no leave of an automaton that is inside, if memory does not run out
+pub never_refused : {T : Type 0} (e : Fault) (phase : Phase) → IsErrOf {T = T} (Err e) fault.NotHeld ↔ (IsInside phase → ⊥) → (IsErrOf {T = T} (Err e) fault.Memory → ⊥) → IsInside phase → ⊥
+never_refused fault.NotHeld phase not_held room inside = not_held.0 refl inside
+never_refused fault.Memory phase not_held room inside = room refl
 
-  ends_as : (Did : Outcome → Type 0) → Ended Did → ((o : Outcome) → Did o → LeaveTurn old client o.sends.items o.marks.items new) → Leave
-  ends_as Did ended turn = left_by result ended
-    where
-      left_by : (r : Result Outcome LeaveError) → MatchResult r (λ o. Did o × IsConsistent new.state) (λ fault. (fault ≡ Memory) × (new ≡ old))
-          → MatchResult r (λ o. LeaveTurn old client o.sends.items o.marks.items new × IsConsistent new.state) (λ fault. IsLeaveRefusal old client fault × (new ≡ old))
-      left_by (Ok o) ended = (turn o ended.0, ended.1)
-      left_by (Err fault) ended = (subst (λ (f : LeaveError). IsLeaveRefusal old client f) (sym ended.0) (held, holds), ended.1)
+module _ (old : Resource) (client : ℕ) (held : Entry) (holds : Holds old client held) where
+  pub holds_inside : IsInside old.state.phase
+  holds_inside =
+      let (seq, mode, is) = granted_inside old.state old.state.phase old.client held holds.granted in
+      subst IsInside (sym is) tt
 
-  pub left_to_nobody : Ended (λ o. LeavesToNobody old held.client o.sends.items o.marks.items new) → Leave
-  left_to_nobody ended =
-      ends_as (λ o. LeavesToNobody old held.client o.sends.items o.marks.items new) ended
-      (λ o did. inl (subst (λ (k : ℕ). LeavesToNobody old k o.sends.items o.marks.items new) holds.client_is did))
+  -- what the automaton did if nobody asks next, at a slot with these parts
+  pub left_to_nobody : (state state' : State) (at : Option ℕ) (queue : List Queued) (sends : List Message) (marks : List Mark) → record { state = state; client = at; queue = queue } ≡ old → LeaveStep state sends state'
+      → (old.queue ≡ []) ⊎ (greatest_number ≤ old.state.highest) → marks ≡ Left held ∷ [] → LeaveTurn old client sends marks (record { state = state'; client = None; queue = queue })
+  left_to_nobody state state' at queue sends marks is step nobody marks-are =
+      inl (record {
+        entry = held;
+        leaves = record { holds = holds; step = subst (λ (r : Resource). LeaveStep r.state sends state') is step; client_is = refl; queue_is = ap (λ (r : Resource). r.queue) is };
+        nobody = nobody;
+        marks_are = marks-are;
+      })
 
-  pub left_to_next : Ended (λ o. LeavesToNext old held.client o.sends.items o.marks.items new) → Leave
-  left_to_next ended =
-      ends_as (λ o. LeavesToNext old held.client o.sends.items o.marks.items new) ended
-      (λ o did. inr (subst (λ (k : ℕ). LeavesToNext old k o.sends.items o.marks.items new) holds.client_is did))
+  -- what the call did by which the next client asks
+  pub left_to_next : (result : Result Outcome LeaveError) (new : Resource) (next : Queued) (before : List Mark) → Once (clients_of old) → before ≡ Left held ∷ []
+      → MatchResult result (λ o. IsHandedOver old next o.sends.items before o.marks.items new × IsConsistent new.state) (λ fault. (fault ≡ Memory) × (new ≡ old))
+      → MatchResult result (λ o. LeaveTurn old client o.sends.items o.marks.items new × IsConsistent new.state) (λ fault. IsLeaveRefusal old client fault × (new ≡ old))
+  left_to_next (Ok o) new next before once is ended =
+      let handed = ended.0 in
+      let marks = handed.marks_are ∙ ap (λ (ms : List Mark). ms ++ request_marks handed.entered (next_entry old next.client next.mode)) is in
+      (inr (hands_over old client held next o.sends.items o.marks.items handed.entered new once holds handed.queue_was handed.step handed.client_is marks), ended.1)
+  left_to_next (Err fault) new next before once is ended = (subst (λ (f : LeaveError). IsLeaveRefusal old client f) (sym ended.0) (held, holds), ended.1)

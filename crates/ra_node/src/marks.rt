@@ -1,5 +1,5 @@
 //! Lists of marks that have room for what will come.
-ghost use Rattle.std.specs.Prelude.{◌≡◌, ◌+◌, ◌≤◌, ◌++◌, ◌∷◌, [], IsOk, IfOk};
+ghost use Rattle.std.specs.Prelude.{◌≡◌, ◌+◌, ◌≤◌, ◌++◌, ◌∷◌, [], IfOk};
 ghost use Rattle.ra_node.specs.Turns.{request_marks};
 
 use ra_stamp::{Entry, Mark, Marks, Memory};
@@ -35,21 +35,5 @@ pub fn marks_for(alloc: Global, room: u64) -> Result<Marks, Memory>
 {
     let mut marks = Marks::new(alloc);
     marks.reserve(room)?;
-    Ok(marks)
-}
-
-/// Makes of an empty list that of the marks of a leave, with room for those of a request that is made and granted after
-/// it. It does not allocate if the list has room for three marks.
-///
-/// # Errors
-///
-/// `Memory`: memory ran out.
-pub fn marks_of_leave(mut marks: Marks, held: Entry) -> Result<Marks, Memory>
-    requires { marks.items ≡ [] }
-    ensures ok { IfOk result (λ marked. (marked.items ≡ Mark.Left held ∷ []) × (2 ≤ marked.spare)) }
-    ensures succeeds { 3 ≤ marks.spare → IsOk result }
-{
-    marks.reserve(3)?;
-    push_reserved(&mut marks, Mark::Left(held));
     Ok(marks)
 }

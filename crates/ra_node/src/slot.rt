@@ -3,12 +3,12 @@ ghost use Rattle.ra_stamp.specs.declared.entry.Entry.{Entry};
 ghost use Rattle.ra_node.specs.Resource.{entry_of};
 ghost use Rattle.ra_node.specs.Room.{IsNothing, HasRoomToLeave};
 
-use crate::marks::{marks_for, marks_of_leave, push_request, push_reserved};
+use crate::marks::{marks_for, push_request, push_reserved};
 use crate::outcome::nothing;
 use crate::queue::Queue;
 use crate::queued_client::Queued;
 use crate::{AskError, LeaveError, Outcome};
-use ra_automaton::{Automaton, Phase, Reaction, ReceiveError};
+use ra_automaton::{Automaton, Phase, ReceiveError};
 use ra_stamp::{Entry, Mark, Marks, Member, Memory, Message, Messages, Mode, Name, NodeId, Stamp};
 use std::alloc::Global;
 use std::marker::Model;
@@ -42,7 +42,7 @@ impl Slot {
     ghost use Rattle.ra_automaton.specs.State.{IsAddressed, IsConsistent, IsInside};
     ghost use Rattle.ra_automaton.specs.Steps.{greatest_number, LetsEnter};
     ghost use Rattle.ra_node.specs.Resource.{unmet, holder_of, waiter_of, Holds, IsBusy, waiting_at, ClientFits, clients_of};
-    ghost use Rattle.ra_node.specs.Turns.{MayAsk, AskTurn, AsksAtOnce, QueuesUp, LeaveTurn, LeavesToNobody, LeavesToNext, ReceiveTurn, next_entry};
+    ghost use Rattle.ra_node.specs.Turns.{MayAsk, AskTurn, AsksAtOnce, QueuesUp, LeaveTurn, ReceiveTurn, next_entry};
     ghost use Rattle.ra_node.specs.Faults.{IsAskRefusal, IsLeaveRefusal};
     ghost use Rattle.ra_node.specs.HandedOver.{IsHandedOver};
     ghost use Rattle.ra_node.specs.Memory.{BringsNothingTo};
@@ -173,9 +173,9 @@ impl Slot {
             (λ fault. IsAskRefusal self.old client fault × (self.new ≡ self.old)) }
     {
         self.may_ask(client)?;
-        if self.automaton.phase() != Phase::Idle {
+        let Phase::Idle = self.automaton.phase() else {
             return self.queue_up(alloc, client, mode);
-        }
+        };
         let Ok(mut marks) = marks_for(alloc, 2) else {
             return Err(AskError::Memory);
         };
@@ -202,13 +202,9 @@ impl Slot {
             (λ outcome. QueuesUp self.old client mode outcome.sends.items outcome.marks.items self.new)
             (λ fault. (fault ≡ AskError.Memory) × (self.new ≡ self.old)) }
     {
-        if self
-            .queue
-            .push_back(alloc, Queued { client, mode })
-            .is_err()
-        {
+        let Ok(()) = self.queue.push_back(alloc, Queued { client, mode }) else {
             return Err(AskError::Memory);
-        }
+        };
         Ok(nothing(alloc))
     }
 
@@ -238,36 +234,15 @@ impl Slot {
         let Some(held) = self.held_by(client) else {
             return Err(LeaveError::NotHeld);
         };
-        match self.next() {
-            Some(next) => self.leave_to_next(alloc, held, next, empty),
-            None => self.leave_to_nobody(alloc, held, empty),
-        }
-    }
-
-    /// Leaves by the request that is granted, and nobody asks.
-    ///
-    /// # Errors
-    ///
-    /// `Memory`, if there was not room to leave: the resource is as before.
-    fn leave_to_nobody(
-        &mut self,
-        alloc: Global,
-        held: Entry,
-        empty: Outcome,
-    ) -> Result<Outcome, LeaveError>
-        requires holds { holder_of self.old ≡ Some held }
-        requires nobody { (self.old.queue ≡ []) ⊎ (greatest_number ≤ self.old.state.highest) }
-        requires nothing { IsNothing empty }
-        ensures left { MatchResult result
-            (λ outcome. LeavesToNobody self.old held.client outcome.sends.items outcome.marks.items self.new
-            × IsConsistent self.new.state)
-            (λ fault. (fault ≡ LeaveError.Memory) × (self.new ≡ self.old)) }
-        ensures room { HasRoomToLeave self.old.state.nodes empty → IsOk result }
-    {
-        let Outcome { sends, marks } = empty;
-        let Ok(marks) = marks_of_leave(marks, held) else {
+        let Outcome { sends, mut marks } = empty;
+        // Those of the request that the next client makes, and that may be granted at once, have room, too.
+        let Ok(()) = marks.reserve(3) else {
             return Err(LeaveError::Memory);
         };
+        push_reserved(&mut marks, Mark::Left(held));
+        if let Some(next) = self.next() {
+            return self.hand_over(alloc, next, sends, marks);
+        }
         let Ok(reaction) = self.automaton.leave_into(alloc, sends) else {
             // Only `Memory` can come if a client holds.
             return Err(LeaveError::Memory);
@@ -279,46 +254,9 @@ impl Slot {
         })
     }
 
-    /// Leaves by the request that is granted, and `next`, the first of the queue, asks. No client may be here twice.
-    ///
-    /// # Errors
-    ///
-    /// `Memory`, if there was not room to leave: the resource is as before.
-    fn leave_to_next(
-        &mut self,
-        alloc: Global,
-        held: Entry,
-        next: Queued,
-        empty: Outcome,
-    ) -> Result<Outcome, LeaveError>
-        requires holds { holder_of self.old ≡ Some held }
-        requires first { take 1 self.old.queue ≡ next ∷ [] }
-        requires number_left { self.old.state.highest < greatest_number }
-        requires once { AllPairs (λ a b. a ≢ b) (clients_of self.old) }
-        requires nothing { IsNothing empty }
-        ensures left { MatchResult result
-            (λ outcome. LeavesToNext self.old held.client outcome.sends.items outcome.marks.items self.new
-            × IsConsistent self.new.state)
-            (λ fault. (fault ≡ LeaveError.Memory) × (self.new ≡ self.old)) }
-        ensures room { HasRoomToLeave self.old.state.nodes empty → IsOk result }
-    {
-        let Outcome { sends, marks } = empty;
-        let Ok(mut marks) = marks_of_leave(marks, held) else {
-            return Err(LeaveError::Memory);
-        };
-        let requested = self.next_entry(next.client, next.mode);
-        let Ok(reaction) = self.hand_over(alloc, next, sends) else {
-            return Err(LeaveError::Memory);
-        };
-        push_request(&mut marks, &requested, reaction.entered);
-        Ok(Outcome {
-            sends: reaction.sends,
-            marks,
-        })
-    }
-
     /// Leaves for the client that holds and asks for `next`, the first of the queue, in one reaction: the deferred REPLYs
-    /// come first. A number must be left, and no client may be here twice. The messages are put into an empty list.
+    /// come first. A number must be left, and no client may be here twice. The messages are put into an empty list, and
+    /// the marks of the request after those that are there.
     ///
     /// # Errors
     ///
@@ -328,18 +266,21 @@ impl Slot {
         alloc: Global,
         next: Queued,
         sends: Messages,
-    ) -> Result<Reaction, LeaveError>
+        mut marks: Marks,
+    ) -> Result<Outcome, LeaveError>
         requires inside { IsInside self.old.state.phase }
         requires first { take 1 self.old.queue ≡ next ∷ [] }
         requires number_left { self.old.state.highest < greatest_number }
         requires once { AllPairs (λ a b. a ≢ b) (clients_of self.old) }
         requires none { sends.items ≡ [] }
+        requires marks { 2 ≤ marks.spare }
         ensures handed { MatchResult result
-            (λ reaction. IsHandedOver self.old next reaction.sends.items reaction.entered self.new
+            (λ outcome. IsHandedOver self.old next outcome.sends.items marks.items outcome.marks.items self.new
             × IsConsistent self.new.state)
             (λ fault. (fault ≡ LeaveError.Memory) × (self.new ≡ self.old)) }
         ensures room { 2 * self.old.state.nodes ≤ sends.spare → IsOk result }
     {
+        let requested = self.next_entry(next.client, next.mode);
         let left = self
             .automaton
             .leave_and_request_into(alloc, next.mode, sends);
@@ -349,7 +290,11 @@ impl Slot {
         };
         self.queue.pop_front();
         self.client = Some(next.client);
-        Ok(handed)
+        push_request(&mut marks, &requested, handed.entered);
+        Ok(Outcome {
+            sends: handed.sends,
+            marks,
+        })
     }
 
     /// Takes a message for this node about this resource, which comes from another node.
@@ -435,11 +380,9 @@ impl Slot {
         ensures held { IfSome result (Holds self.now client) }
         ensures not_held { IsNone result ↔ ((entry : Entry) → Holds self.now client entry → ⊥) }
     {
-        let entry = self.holder()?;
-        if entry.client == client {
-            Some(entry)
-        } else {
-            None
+        match self.holder() {
+            Some(entry) if entry.client == client => Some(entry),
+            _ => None,
         }
     }
 

@@ -1,9 +1,9 @@
-use Rattle.std.proofs.Common.{rules, ◌≡◌, ℕ, Bool, List, Result, Err, Some, MatchResult, refl, sym, ap, subst, inl}
+use Rattle.std.proofs.Common.{rules, ◌≡◌, ◌<◌, ◌∙◌, ℕ, Bool, List, Result, Err, Some, MatchResult, refl, sym, ap, subst, inl}
 use Rattle.ra_stamp.specs.declared.entry.Mark.{Mark}
 use Rattle.ra_stamp.specs.declared.message.Message.{Message}
 use Rattle.ra_stamp.specs.declared.mode.Mode.{Mode}
 use Rattle.ra_automaton.specs.State.{State, IsConsistent}
-use Rattle.ra_automaton.specs.Steps.{RequestStep}
+use Rattle.ra_automaton.specs.Steps.{RequestStep, greatest_number}
 use Rattle.ra_node.specs.declared.error.AskError.{AskError}
 use Rattle.ra_node.specs.declared.outcome.Outcome.{Outcome}
 use Rattle.ra_node.specs.Faults.{IsAskRefusal}
@@ -22,6 +22,22 @@ returns-in_err-may_ask c =
     subst (λ (result : Result Outcome AskError).
     MatchResult result (λ o. AskTurn old c.args.client c.args.mode o.sends.items o.marks.items old × IsConsistent old.state) (λ f. IsAskRefusal old c.args.client f × (old ≡ old)))
     (sym is) (refused, refl)
+
+pub next_entry-requested-requires : goal.next_entry-requested-requires
+next_entry-requested-requires c = (c.in_ok-may_ask.ensures.allowed.0 refl).number_left
+
+pub request_when_idle-requires-clause-number_left : goal.request_when_idle-requires-clause-number_left
+request_when_idle-requires-clause-number_left c = subst (λ (r : Resource). r.state.highest < greatest_number) (sym c.self.view_is) (c.in_ok-may_ask.ensures.allowed.0 refl).number_left
+
+pub returns-in_default-marks_for : goal.returns-in_default-marks_for
+returns-in_default-marks_for c = (c.in_ok-may_ask.ensures.allowed.0 refl, refl)
+
+pub returns-in_default-request_when_idle : goal.returns-in_default-request_when_idle
+returns-in_default-request_when_idle c =
+    let s = c.self.inside in (
+      c.in_ok-may_ask.ensures.allowed.0 refl,
+      (λ i. record { state = c.in_default-request_when_idle.ensures.requested.err i; client = s.client; queue = s.queue }) ∙ c.self.view_is,
+    )
 
 -- the automaton made the request, at a slot with these parts
 asks_at_once : (inside old : Resource) → inside ≡ old → (client : ℕ) (mode : Mode) (sends : List Message) (marks : List Mark) (entered : Bool) (state : State) → MayAsk old client → RequestStep inside.state mode sends entered state

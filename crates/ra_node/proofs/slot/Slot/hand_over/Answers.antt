@@ -1,16 +1,22 @@
-use Rattle.std.proofs.Common.{rules}
-use Rattle.ra_node.proofs.Distinct.{Once, standing, leaves_once}
+use Rattle.std.proofs.Common.{◌≡◌, ◌++◌, sym, ap, ◌∙◌, subst}
+use Rattle.ra_stamp.specs.declared.entry.Entry.{Entry}
+use Rattle.ra_node.specs.Resource.{Resource, clients_of}
+use Rattle.ra_node.specs.Turns.{request_marks, next_entry}
+use Rattle.ra_node.proofs.Distinct.{Once, leaves_once}
 use Rattle.ra_node.proofs.LeaveEndings.{parts_handed_over}
 use Rattle.ra_node.proofs.slot.Slot.hand_over.Goals as goal
 
 pub pop_front-requires : goal.pop_front-requires
-pop_front-requires c =
-    let once : Once (standing c.self.inside.client c.self.inside.queue) = search rules in
-    leaves_once c.self.inside.client c.self.inside.queue once
+pop_front-requires c = leaves_once c.self.inside.client c.self.inside.queue (subst (λ (r : Resource). Once (clients_of r)) (sym c.self.view_is) c.requires.once)
 
 pub returns-clause-handed : goal.returns-clause-handed
 returns-clause-handed c =
-    let s = c.self.inside in (
-      parts_handed_over s.automaton c.leave_and_request_into-left.new.self s.client s.queue c.pop_front.new.self c.args.self.now c.args.next c.pop_front.result c.in-Ok.handed.sends.items c.in-Ok.handed.entered c.self.view_is c.in-Ok.ensures.left.ok c.requires.first c.pop_front.ensures,
+    let s = c.self.inside in
+    let handed = c.in-Ok.handed in
+    let next = c.args.next in
+    let marks : c.push_request.new.marks.items ≡ c.args.marks.items ++ request_marks handed.entered (next_entry c.args.self.now next.client next.mode) =
+    c.push_request.ensures ∙ ap (λ (e : Entry). c.args.marks.items ++ request_marks handed.entered e) c.next_entry-requested.ensures
+    in (
+      parts_handed_over s.automaton c.leave_and_request_into-left.new.self s.client s.queue c.pop_front.new.self c.args.self.now next c.pop_front.result handed.sends.items c.args.marks.items c.push_request.new.marks.items handed.entered c.self.view_is c.in-Ok.ensures.left.ok c.requires.first c.pop_front.ensures marks,
       c.leave_and_request_into-left.ensures.consistent,
     )
