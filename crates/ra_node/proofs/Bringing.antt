@@ -118,11 +118,15 @@ entry_is_brought r message lets brings = (is_quiet r message brings).no_entry le
 pub reply_is_brought : (r : Resource) (message : Message) → IsRepliedAtOnce r.state message → BringsNothingTo r message → ⊥
 reply_is_brought r message answered brings = (is_quiet r message brings).not_answered answered
 
--- a REQUEST about a name that the node has not met is answered at once
-pub first_is_brought : (n : NodeState) (message : Message) (from to : ℕ) (name : List ℕ) (mode : Mode) (seq : ℕ) → message ≡ Request from to name mode seq → finmap.get n.resources (name_of message) ≡ None → BringsNothing n message → ⊥
-first_is_brought n message from to name mode seq is none brings =
+-- a REQUEST is answered at once if the node is idle at its name
+pub idle_is_brought : (n : NodeState) (message : Message) (from to : ℕ) (name : List ℕ) (mode : Mode) (seq : ℕ) → message ≡ Request from to name mode seq → (resource_at n (name_of message)).state.phase ≡ Idle → BringsNothing n message → ⊥
+idle_is_brought n message from to name mode seq is idle brings =
     let r = resource_at n (name_of message) in
-    let idle : r.state.phase ≡ Idle = ap (λ (o : Option Resource). (unwrap_or o (unmet n.me n.nodes (name_of message) n.start)).state.phase) none in
     let answered : IsRepliedAtOnce r.state message = subst (λ (m : Message). IsRepliedAtOnce r.state m) (sym is)
     (subst (λ (p : Phase). OwnGoesFirst p r.state.me from seq mode → ⊥) (sym idle) (λ first. first)) in
     reply_is_brought r message answered (of_node n message r refl brings)
+
+-- and so is one about a name that the node has not met
+pub first_is_brought : (n : NodeState) (message : Message) (from to : ℕ) (name : List ℕ) (mode : Mode) (seq : ℕ) → message ≡ Request from to name mode seq → finmap.get n.resources (name_of message) ≡ None → BringsNothing n message → ⊥
+first_is_brought n message from to name mode seq is none brings =
+    idle_is_brought n message from to name mode seq is (ap (λ (o : Option Resource). (unwrap_or o (unmet n.me n.nodes (name_of message) n.start)).state.phase) none) brings

@@ -1,7 +1,6 @@
 ghost use Rattle.std.specs.Prelude.{◌≡◌, ◌↔◌, None, length, slice_get, IsErrOf, IsOk, IsOkUnless, IfOk, OnOk, OnErr, MatchResult, IsNone, IfSome, IsTrue};
 ghost use Rattle.ra_node.specs.Resource.{unmet};
 ghost use Rattle.ra_node.specs.Room.{IsNothing, HasRoomToLeave};
-ghost use Rattle.ra_node.specs.View.{Finds};
 
 use crate::outcome::nothing;
 use crate::slot::Slot;
@@ -52,19 +51,6 @@ impl Model for Node {
     ghost view = { node_of };
 
     ghost invariant = { IsKept };
-}
-
-/// Inserts the slot of a name, in place of another one if there is one.
-///
-/// # Errors
-///
-/// `Memory`: the slots are as before.
-fn put(slots: &mut HashMap<Name, Slot>, name: Name, slot: Slot) -> Result<(), Memory>
-    ensures ok { OnOk result (Finds slots.old.entries slots.new.entries name slot) }
-    ensures err { OnErr result (slots.new.entries ≡ slots.old.entries) }
-{
-    drop_slot(slots.insert(name, slot)?);
-    Ok(())
 }
 
 /// Drops a slot, if there is one. All that a slot owns is freed here, and in no other function.
@@ -332,8 +318,10 @@ impl Node {
         ensures value { result ≡ holder_of (resource_at self.now name.now) }
         ensures consistent { IsConsistentNode self.now }
     {
-        let slot = self.slot_of(name)?;
-        slot.holder()
+        match self.slot_of(name) {
+            Some(slot) => slot.holder(),
+            None => None,
+        }
     }
 
     /// Returns whether a client holds a name at this node, so that it may leave. It does not allocate.
@@ -352,8 +340,10 @@ impl Node {
         ensures value { result ≡ waiter_of (resource_at self.now name.now) }
         ensures consistent { IsConsistentNode self.now }
     {
-        let slot = self.slot_of(name)?;
-        slot.waiter()
+        match self.slot_of(name) {
+            Some(slot) => slot.waiter(),
+            None => None,
+        }
     }
 
     /// Returns whether this node awaits the REPLY of another node on a name. It does not allocate.
@@ -396,8 +386,10 @@ impl Node {
         ensures value { result ≡ slice_get (resource_at self.now name.now).queue place }
         ensures consistent { IsConsistentNode self.now }
     {
-        let slot = self.slot_of(name)?;
-        slot.queued_at(place)
+        match self.slot_of(name) {
+            Some(slot) => slot.queued_at(place),
+            None => None,
+        }
     }
 
     /// Returns the highest number that this node has met on a name, 0 to 2^64-1. It does not allocate.
@@ -467,9 +459,9 @@ impl Node {
                 return Err(fault);
             }
         };
-        if self.meet(name, slot).is_err() {
+        let Ok(()) = self.meet(name, slot) else {
             return Err(AskError::Memory);
-        }
+        };
         Ok(outcome)
     }
 
@@ -501,9 +493,9 @@ impl Node {
                 return Err(fault);
             }
         };
-        if self.meet(name, slot).is_err() {
+        let Ok(()) = self.meet(name, slot) else {
             return Err(ReceiveError::Memory);
-        }
+        };
         Ok(outcome)
     }
 
@@ -531,7 +523,7 @@ impl Node {
         prove!(self.slots.len() < usize::MAX);
         let waiting = self.waiting + slot.waiting();
         let queued = self.queued + slot.queued() as u128;
-        put(&mut self.slots, name, slot)?;
+        drop_slot(self.slots.insert(name, slot)?);
         self.waiting = waiting;
         self.queued = queued;
         Ok(())

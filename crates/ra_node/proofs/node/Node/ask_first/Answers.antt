@@ -1,8 +1,7 @@
-use Rattle.std.proofs.Common.{rules, ◌≡◌, refl, subst}
+use Rattle.std.proofs.Common.{refl, subst}
 use Rattle.ra_node.specs.Faults.{IsAskRefusal}
 use Rattle.ra_node.specs.Resource.{Resource}
 use Rattle.ra_node.specs.Turns.{MayAsk}
-use Rattle.ra_node.specs.Node.{with_resource}
 use Rattle.ra_node.proofs.After.{first_here, first_ask_kept, first_asked}
 use Rattle.ra_node.proofs.node.Node.ask_first.Goals as goal
 
@@ -15,16 +14,14 @@ meet-requires-clause-consistent c =
 pub returns-clause-asked : goal.returns-clause-asked
 returns-clause-asked c =
     let slot = c.unmet_slot-slot in
-    let met : c.meet.new.self ≡ with_resource c.args.self.now c.args.name c.ask.new.self = search rules in
-    first_asked c.args.self.now c.args.name c.requires slot.result slot.ensures.value c.args.client c.args.mode _ _ c.ask.new.self c.in-Ok.ensures.0 c.meet.new.self met
+    first_asked c.args.self.now c.args.name c.requires slot.result slot.ensures.value c.args.client c.args.mode _ _ c.ask.new.self c.in-Ok.ensures.0 c.meet.new.self c.in-Ok-meet.ensures.met
 
 pub returns-in-Err-clause-asked : goal.returns-in-Err-clause-asked
 returns-in-Err-clause-asked c =
     let slot = c.unmet_slot-slot in
     (subst (λ (r : Resource). IsAskRefusal r c.args.client c.in-Err.fault) (first_here c.args.self.now c.args.name c.requires slot.result slot.ensures.value) c.in-Err.ensures.0, refl)
 
-pub returns-then-is_err-clause-asked : goal.returns-then-is_err-clause-asked
-returns-then-is_err-clause-asked c =
+pub returns-in_default-clause-asked : goal.returns-in_default-clause-asked
+returns-in_default-clause-asked c =
     let slot = c.unmet_slot-slot in
-    let same : c.meet.new.self ≡ c.args.self.now = search rules in
-    (subst (λ (r : Resource). MayAsk r c.args.client) (first_here c.args.self.now c.args.name c.requires slot.result slot.ensures.value) c.in-Ok.ensures.0.0, same)
+    (subst (λ (r : Resource). MayAsk r c.args.client) (first_here c.args.self.now c.args.name c.requires slot.result slot.ensures.value) c.in-Ok.ensures.0.0, c.in_default.ensures.err)

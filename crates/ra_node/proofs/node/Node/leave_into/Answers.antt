@@ -1,9 +1,9 @@
-use Rattle.std.proofs.Common.{rules, ◌≡◌, ℕ, ◌/◌, ◌^◌, List, length, refl, sym, subst, arith}
+use Rattle.std.proofs.Common.{◌≡◌, ℕ, ◌/◌, ◌^◌, List, length, refl, sym, ap, subst, arith}
 use Rattle.std.specs.HashMap.{HashMap}
 use Rattle.ra_node.specs.declared.error.LeaveError.TheVariants.{NotHeld, Memory}
 use Rattle.ra_node.specs.Resource.{Resource, waiting_at}
 use Rattle.ra_node.specs.View.{IsKept}
-use Rattle.ra_node.proofs.After.{left_at, nobody_holds}
+use Rattle.ra_node.proofs.After.{left_at, nobody_holds, same_view}
 use Rattle.ra_node.proofs.NodeLemmas.{found, slot_is_consistent, missing}
 use Rattle.ra_node.specs.Node.{resource_at}
 use Rattle.ra_node.specs.Room.{HasRoomToLeave}
@@ -14,7 +14,7 @@ use Rattle.ra_node.proofs.node.Node.leave_into.Goals as goal
 pub returns-in_default-clause-not_held : goal.returns-in_default-clause-not_held
 returns-in_default-clause-not_held c =
     let n = c.self.inside in
-    let none = missing n.member.node n.member.nodes n.start n.slots.entries c.args.self.now c.self.view_is c.args.name (search rules) in
+    let none = missing n.member.node n.member.nodes n.start n.slots.entries c.args.self.now c.self.view_is c.args.name c.in_default.ensures.value in
     (λ _. nobody_holds _ n.member.node n.member.nodes c.args.name n.start none.0 c.args.client, λ _. refl)
 
 not_memory : NotHeld ≡ Memory → ⊥
@@ -23,7 +23,7 @@ not_memory e = cc
 pub returns-in_default-clause-allowed : goal.returns-in_default-clause-allowed
 returns-in_default-clause-allowed c =
     let n = c.self.inside in
-    let none = missing n.member.node n.member.nodes n.start n.slots.entries c.args.self.now c.self.view_is c.args.name (search rules) in
+    let none = missing n.member.node n.member.nodes n.start n.slots.entries c.args.self.now c.self.view_is c.args.name c.in_default.ensures.value in
     (λ e. absurd (not_memory e), λ held. absurd (nobody_holds _ n.member.node n.member.nodes c.args.name n.start none.0 c.args.client held.0 held.1))
 
 pub leave-outcome-requires-clause-once : goal.leave-outcome-requires-clause-once
@@ -52,6 +52,14 @@ pub invariant_of-self : goal.invariant_of-self
 invariant_of-self c =
     let n = c.self.inside in
     subst (λ (m : HashMap (List ℕ) Resource _). IsKept (record n { slots = m })) (sym c.get_mut.follows.holds-at-none) c.self.invariant
+
+pub returns-in_default-clause-consistent : goal.returns-in_default-clause-consistent
+returns-in_default-clause-consistent c = (invariant_of-self c).consistent
+
+pub returns-in_default-clause-err : goal.returns-in_default-clause-err
+returns-in_default-clause-err c =
+    let n = c.self.inside in
+    same_view n.member.node n.member.nodes n.start n.slots.entries c.get_mut.follows.lender-at-none.entries c.args.self.now (ap (λ (m : HashMap (List ℕ) Resource _). m.entries) c.get_mut.follows.holds-at-none) c.self.view_is
 
 pub invariant_of-self-2 : goal.invariant_of-self-2
 invariant_of-self-2 c =

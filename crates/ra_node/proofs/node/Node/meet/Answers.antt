@@ -18,14 +18,14 @@ overflow_add-queued c =
 pub invariant_of-self : goal.invariant_of-self
 invariant_of-self c =
     let n = c.self.inside in
-    kept_as n (record n { slots = c.put.new.slots }) refl c.in_err-put.ensures.err c.self.invariant
+    kept_as n (record n { slots = c.insert.new.self }) refl c.in_err-insert.ensures.err c.self.invariant
 
 pub invariant_of-self-2 : goal.invariant_of-self-2
 invariant_of-self-2 c =
     let n = c.self.inside in
     let was = c.self.invariant in
-    let slots = c.put.new.slots.entries in
-    let finds = c.in_ok-put.ensures.ok in
+    let slots = c.insert.new.self.entries in
+    let finds = c.in_ok-insert.ensures.updates.0 in
     let more = λ (f : Resource → ℕ). come f n.member.node n.member.nodes n.start n.slots.entries slots c.args.self.now c.args.name c.args.slot c.self.view_is c.requires.first finds in
     let after = after_update n.member.node n.member.nodes n.start n.slots.entries c.args.self.now c.self.view_is c.args.name c.args.slot slots (subst IsConsistentNode c.self.view_is was.consistent) finds c.requires.consistent in
     record {
@@ -38,7 +38,7 @@ invariant_of-self-2 c =
 pub returns-clause-met : goal.returns-clause-met
 returns-clause-met c =
     let n = c.self.inside in
-    (after_update n.member.node n.member.nodes n.start n.slots.entries c.args.self.now c.self.view_is c.args.name c.args.slot c.put.new.slots.entries (subst IsConsistentNode c.self.view_is c.self.invariant.consistent) c.in_ok-put.ensures.ok c.requires.consistent).view
+    (after_update n.member.node n.member.nodes n.start n.slots.entries c.args.self.now c.self.view_is c.args.name c.args.slot c.insert.new.self.entries (subst IsConsistentNode c.self.view_is c.self.invariant.consistent) c.in_ok-insert.ensures.updates.0 c.requires.consistent).view
 
 pub returns-clause-consistent : goal.returns-clause-consistent
 returns-clause-consistent c = (invariant_of-self-2 c).consistent

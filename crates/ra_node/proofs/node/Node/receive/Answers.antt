@@ -40,6 +40,9 @@ receive_first-requires-clause-first c =
     absent_in c.self.inside.slots c.get_mut.follows.lender-at-none (name_of c.args.message.now) c.get_mut.follows.holds-at-none
     (subst (λ (q : List ℕ). None ≡ lookup (bytes_eq q) c.self.inside.slots.entries) c.name.ensures c.in-None.ensures.value)
 
+pub receive_first-requires-clause-addressed : goal.receive_first-requires-clause-addressed
+receive_first-requires-clause-addressed c = c.in_ok-check_address.ensures.addressed.0 refl
+
 pub receive_first-requires-clause-consistent : goal.receive_first-requires-clause-consistent
 receive_first-requires-clause-consistent c =
     let n = c.self.inside in

@@ -1,7 +1,6 @@
-use Rattle.std.proofs.Common.{rules, ◌≡◌, ℕ, List, refl, sym, ap, ◌∙◌}
+use Rattle.std.proofs.Common.{◌≡◌, ℕ, List, refl, sym, ap, ◌∙◌}
 use Rattle.std.specs.FinMap as finmap
 use Rattle.ra_stamp.specs.Message.{name_of}
-use Rattle.ra_node.specs.Node.{with_resource}
 use Rattle.ra_node.proofs.After.{first_receive_kept, first_received, first_stays, request_is_no_stray}
 use Rattle.ra_node.proofs.Bringing.{first_is_brought}
 use Rattle.ra_node.proofs.node.Node.receive_first.Goals as goal
@@ -25,6 +24,14 @@ returns-clause-received c =
     let slot = c.unmet_slot-slot in
     let name-is : c.in-Request.name ≡ name_of c.args.message.now = sym (ap name_of c.in-Request.is) in
     let none = ap (λ (q : List ℕ). finmap.get c.args.self.now.resources q) name-is ∙ c.requires.first in
-    let met : c.meet.new.self ≡ with_resource c.args.self.now c.in-Request.name c.receive.new.self = search rules in
     let no_stray = request_is_no_stray slot.result c.args.message.now _ _ _ _ _ c.in-Request.is in
-    first_received c.args.self.now c.in-Request.name none slot.result slot.ensures.value c.args.message.now _ _ c.receive.new.self name-is c.in-Ok.ensures.received.0 no_stray c.meet.new.self met
+    first_received c.args.self.now c.in-Request.name none slot.result slot.ensures.value c.args.message.now _ _ c.receive.new.self name-is c.in-Ok.ensures.received.0 no_stray c.meet.new.self c.in-Ok-meet.ensures.met
+
+pub meet-requires-clause-first : goal.meet-requires-clause-first
+meet-requires-clause-first c = ap (λ (q : List ℕ). finmap.get c.args.self.now.resources q) (sym (ap name_of c.in-Request.is)) ∙ c.requires.first
+
+pub returns-in_default-meet-clause-received : goal.returns-in_default-meet-clause-received
+returns-in_default-meet-clause-received c = (refl, c.in_default-meet.ensures.err)
+
+pub returns-in_default-meet-clause-brings : goal.returns-in_default-meet-clause-brings
+returns-in_default-meet-clause-brings c = first_is_brought c.args.self.now c.args.message.now _ _ _ _ _ c.in-Request.is c.requires.first
