@@ -1,6 +1,7 @@
 -- Which messages bring nothing: those that are not answered at once and let nobody enter.
-use Rattle.std.proofs.Common.{◌≡◌, Bool, true, false, ℕ, List, [], ◌∷◌, Option, None, Result, Ok, Err, OnErr, refl, sym, ap, ◌∙◌, subst, inl, inr}
+use Rattle.std.proofs.Common.{◌≡◌, Bool, true, false, ℕ, ◌≤◌, List, [], ◌∷◌, Option, None, Result, Ok, Err, OnErr, refl, sym, ap, ◌∙◌, subst, arith, inl, inr}
 use Rattle.std.specs.Prelude.{IsErrOf, IsTrue, not, ◌↔◌, unwrap_or}
+use Rattle.std.specs.Int.{from_bool}
 use Rattle.std.specs.FinMap as finmap
 use Rattle.std.proofs.lemmas.Bool.{false≢true}
 use Rattle.ra_stamp.specs.declared.message.Message.{Message}
@@ -110,6 +111,15 @@ refused_to_bring (Err fault) e is err brings = err brings
 pub tells : (r : Resource) (message : Message) (answered lets : Bool) → IsTrue answered ↔ IsRepliedAtOnce r.state message → IsTrue lets ↔ LetsEnter r.state message → answered ≡ false → IsTrue (not lets) ↔ BringsNothingTo r message
 tells r message answered true a l none = (λ is. absurd (false≢true is), λ brings. absurd ((is_quiet r message brings).no_entry (l.0 refl)))
 tells r message answered false a l none = (λ is. brings_nothing r message (record { not_answered = λ h. false≢true (sym none ∙ a.1 h); no_entry = λ h. false≢true (l.1 h) }), λ brings. refl)
+
+-- the room for the mark of an entry is there if a message lets the node enter, and is refused only then
+pub room_for_entry : (lets : Bool) (count spare : ℕ) → count ≡ from_bool lets → count ≤ spare → lets ≡ true → 1 ≤ spare
+room_for_entry true count spare is room e = omega (arith, is, room)
+room_for_entry false count spare is room e = absurd (false≢true e)
+
+pub refused_for_entry : (lets : Bool) (count spare : ℕ) → count ≡ from_bool lets → (count ≤ spare → ⊥) → lets ≡ true
+refused_for_entry true count spare is refused = refl
+refused_for_entry false count spare is refused = absurd (refused (omega (arith, is)))
 
 -- a message that lets the node enter brings something, and so does one that is answered at once
 pub entry_is_brought : (r : Resource) (message : Message) → LetsEnter r.state message → BringsNothingTo r message → ⊥

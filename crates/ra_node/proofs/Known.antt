@@ -4,7 +4,9 @@ use Rattle.std.specs.Prelude.{nat_eq, IsTrue}
 use Rattle.std.specs.List.{list_any}
 use Rattle.std.specs.Map.{lookup, keys_of}
 use Rattle.std.specs.Option.{is_some}
-use Rattle.std.proofs.Common.{Option, Some, None}
+use Rattle.std.specs.Result.{result_ok}
+use Rattle.std.proofs.Common.{Option, Some, None, Result, Ok, Err, IfOk}
+use Rattle.std.specs.Prelude.{IfSome}
 use Rattle.std.proofs.lemmas.Bool.{eq-eqb, eqb-true}
 use Rattle.std.proofs.lemmas.List.Folds.{Any-from_list_any, list_any-from_Any}
 use Rattle.ra_node.specs.declared.queued_client.Queued.{Queued}
@@ -99,3 +101,10 @@ unlearned known new gone left apart are updates = λ q.
     updates q ∙ neither gone.client q (list_any (nat_eq q) known) (list_any (λ (x : Queued). nat_eq q x.client) left) (are q)
     (λ e. subst (λ (k : ℕ). list_any (λ (x : Queued). nat_eq k x.client) left ≡ false) e
     (none_left gone left apart (list_any (λ (x : Queued). nat_eq gone.client x.client) left) refl))
+
+-- ---- All are learned
+
+-- the box in which they are, if there was memory for it
+pub boxed : {B M E : Type 0} (made : Result B E) (found : Option B) (value : B → M) (P : M → Type 0) (known : M) → IfOk made (λ b. value b ≡ known) → found ≡ result_ok made → P known → IfSome found (λ b. P (value b))
+boxed (Ok b) found value P known made found_is h = subst (λ (o : Option _). IfSome o (λ b. P (value b))) (sym found_is) (subst P (sym made) h)
+boxed (Err e) found value P known made found_is h = subst (λ (o : Option _). IfSome o (λ b. P (value b))) (sym found_is) tt

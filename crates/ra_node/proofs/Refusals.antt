@@ -103,6 +103,36 @@ ask_refusal asking.Busy r client tells = tells.busy.0 refl
 ask_refusal asking.Exhausted r client tells = tells.exhausted.0 refl
 ask_refusal asking.Memory r client tells = absurd (tells.no_memory refl)
 
+module _ (r : Resource) (client : ℕ) where
+  pub busy_tells : IsBusy r client → MayAskTells (Err asking.Busy) r client
+  busy_tells busy =
+      record {
+        allowed = (λ e. absurd (true≢false (sym e)), λ may. absurd (may.not_busy busy));
+        busy = (λ _. busy, λ _. refl);
+        exhausted = (λ e. absurd (busy_is_not_exhausted (same_error asking.Busy asking.Exhausted e)), λ h. absurd (h.0 busy));
+        no_memory = λ e. busy_apart (sym (same_error asking.Busy asking.Memory e));
+      }
+
+  -- no number is left
+  pub exhausted_tells : (IsBusy r client → ⊥) → r.state.highest ≡ greatest_number → MayAskTells (Err asking.Exhausted) r client
+  exhausted_tells free highest =
+      record {
+        allowed = (λ e. absurd (true≢false (sym e)), λ may. absurd (none_left r client may highest));
+        busy = (λ e. absurd (busy_is_not_exhausted (sym (same_error asking.Exhausted asking.Busy e))), λ busy. absurd (free busy));
+        exhausted = (λ _. (free, highest), λ _. refl);
+        no_memory = λ e. exhausted_apart (sym (same_error asking.Exhausted asking.Memory e));
+      }
+
+  -- one is left
+  pub allowed_tells : MayAsk r client → MayAskTells (Ok tt) r client
+  allowed_tells may =
+      record {
+        allowed = (λ _. may, λ _. refl);
+        busy = (λ e. absurd (ok_apart tt asking.Busy e), λ busy. absurd (may.not_busy busy));
+        exhausted = (λ e. absurd (ok_apart tt asking.Exhausted e), λ h. absurd (none_left r client may h.1));
+        no_memory = ok_apart tt asking.Memory;
+      }
+
 -- ---- A resource that nothing was about yet
 
 nobody_is_busy : (r : Resource) (me nodes : ℕ) (name : List ℕ) (start client : ℕ) → r ≡ unmet me nodes name start → IsBusy r client → ⊥
@@ -111,28 +141,13 @@ nobody_is_busy r me nodes name start client is busy =
     absurd (omega (arith, here.1))
 
 module _ (r : Resource) (me nodes : ℕ) (name : List ℕ) (start client : ℕ) (is : r ≡ unmet me nodes name start) where
-  -- no number is left at it
   pub unmet_is_exhausted : start ≡ greatest_number → MayAskTells (Err asking.Exhausted) r client
-  unmet_is_exhausted at =
-      let highest : r.state.highest ≡ greatest_number = ap (λ (x : Resource). x.state.highest) is ∙ at in
-      record {
-        allowed = (λ e. absurd (true≢false (sym e)), λ may. absurd (none_left r client may highest));
-        busy = (λ e. absurd (busy_is_not_exhausted (sym (same_error asking.Exhausted asking.Busy e))), λ busy. absurd (nobody_is_busy r me nodes name start client is busy));
-        exhausted = (λ _. (nobody_is_busy r me nodes name start client is, highest), λ _. refl);
-        no_memory = λ e. exhausted_apart (sym (same_error asking.Exhausted asking.Memory e));
-      }
+  unmet_is_exhausted at = exhausted_tells r client (nobody_is_busy r me nodes name start client is) (ap (λ (x : Resource). x.state.highest) is ∙ at)
 
-  -- one is left
   pub unmet_is_free : start < greatest_number → MayAskTells (Ok tt) r client
   unmet_is_free below =
       let highest : r.state.highest ≡ start = ap (λ (x : Resource). x.state.highest) is in
-      let may : MayAsk r client = record { not_busy = nobody_is_busy r me nodes name start client is; number_left = omega (arith, highest, below) } in
-      record {
-        allowed = (λ _. may, λ _. refl);
-        busy = (λ e. absurd (ok_apart tt asking.Busy e), λ busy. absurd (may.not_busy busy));
-        exhausted = (λ e. absurd (ok_apart tt asking.Exhausted e), λ h. absurd (none_left r client may h.1));
-        no_memory = ok_apart tt asking.Memory;
-      }
+      allowed_tells r client (record { not_busy = nobody_is_busy r me nodes name start client is; number_left = omega (arith, highest, below) })
 
 -- ---- A client leaves
 

@@ -9,7 +9,7 @@ use crate::queue::Queue;
 use crate::queued_client::Queued;
 use crate::{AskError, LeaveError, Outcome};
 use ra_automaton::{Automaton, Phase, ReceiveError};
-use ra_stamp::{Entry, Mark, Marks, Member, Memory, Message, Messages, Mode, Name, NodeId, Stamp};
+use ra_stamp::{Entry, Mark, Marks, Member, Message, Messages, Mode, Name, NodeId, Stamp};
 use std::alloc::Global;
 use std::marker::Model;
 
@@ -302,7 +302,6 @@ impl Slot {
     /// # Errors
     ///
     /// `Memory`, for a message that brings something: the resource is as before.
-    #[tactic(auto, using(crate::proofs::Bringing::entry_is_brought, crate::proofs::Bringing::reply_is_brought))]
     pub fn receive(&mut self, alloc: Global, message: &Message) -> Result<Outcome, ReceiveError>
         requires name { name_of message.now ≡ self.old.state.name }
         requires addressed { IsAddressed self.old.state message.now }
@@ -313,7 +312,10 @@ impl Slot {
             (λ fault. (fault ≡ ReceiveError.Memory) × (self.new ≡ self.old)) }
         ensures brings { OnErr result (BringsNothingTo self.old message.now → ⊥) }
     {
-        let Ok(mut marks) = self.marks_by(alloc, message) else {
+        let mut marks = Marks::new(alloc);
+        // Most messages let nobody enter, and have no mark.
+        let count = u64::from(self.automaton.lets_enter(message));
+        let Ok(()) = marks.reserve(count) else {
             return Err(ReceiveError::Memory);
         };
         let Ok(reaction) = self.automaton.receive_addressed(alloc, message) else {
@@ -328,23 +330,6 @@ impl Slot {
             sends: reaction.sends,
             marks,
         })
-    }
-
-    /// Makes an empty list with room for the mark of a message. Most messages let nobody enter, and have none.
-    ///
-    /// # Errors
-    ///
-    /// `Memory`, for a message that lets the node enter.
-    fn marks_by(&self, alloc: Global, message: &Message) -> Result<Marks, Memory>
-        ensures empty { IfOk result (λ marks. marks.items ≡ []) }
-        ensures room { IfOk result (λ marks. LetsEnter self.now.state message.now → 1 ≤ marks.spare) }
-        ensures err { OnErr result (LetsEnter self.now.state message.now) }
-    {
-        let mut marks = Marks::new(alloc);
-        if self.automaton.lets_enter(message) {
-            marks.reserve(1)?;
-        }
-        Ok(marks)
     }
 
     /// Returns whether nothing is sent and nothing is marked by a message that comes for this node about this resource.

@@ -1,9 +1,11 @@
-use Rattle.std.proofs.Common.{rules, ◌≡◌, ◌<◌, ◌++◌, ◌∷◌, [], ℕ, suc, ◌+◌, arith, nat_eq, Some, cond, take, length, subst, sym, ap, ◌∙◌}
+use Rattle.std.proofs.Common.{rules, ◌≡◌, ◌<◌, ◌≤◌, List, ◌++◌, ◌∷◌, [], ℕ, suc, ◌+◌, arith, nat_eq, Some, cond, take, length, subst, sym, ap, ◌∙◌}
 use Rattle.std.proofs.Math.Seq.{take-suc}
+use Rattle.std.proofs.lemmas.List.{take_all}
 use Rattle.std.specs.Map.{lookup}
-use Rattle.std.specs.HashMap.{keys}
+use Rattle.std.specs.HashMap.{HashMap, keys}
+use Rattle.ra_node.specs.declared.queued_client.Queued.{Queued}
 use Rattle.ra_node.specs.Queue.{AreClients}
-use Rattle.ra_node.proofs.Known.{one_key_more, learned}
+use Rattle.ra_node.proofs.Known.{one_key_more, learned, boxed}
 use Rattle.ra_node.proofs.queue.learn_all.Goals as goal
 
 pub loop-place-preserved : goal.loop-place-preserved
@@ -19,3 +21,10 @@ loop-place-preserved c =
     let next = ap (λ queued. take place clients ++ queued ∷ []) c.index.ensures ∙ sym (take-suc clients place last within) in
     let more = learned (keys old) (keys new) (take place clients) last c.loop-place.invariant.known (one_key_more old.entries new.entries last.client tt updates) in
     record { known = subst (λ (count : ℕ). AreClients (keys new) (take count clients)) one_more (subst (AreClients (keys new)) next more) }
+
+pub returns : goal.returns
+returns c =
+    let clients = c.args.clients.now.items in
+    let end : length clients ≤ c.loop-place.place = search rules in
+    let all = subst (λ (queue : List Queued). AreClients (keys c.loop-place.known) queue) (take_all c.loop-place.place clients end) c.loop-place.invariant.known in
+    boxed c.new.result c.ok.result (λ (b : _). b.value) (λ (m : HashMap _ _ _). AreClients (keys m) clients) c.loop-place.known c.new.ensures.ok c.ok.ensures.value all
