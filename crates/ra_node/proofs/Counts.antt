@@ -13,8 +13,9 @@ use Rattle.ra_automaton.specs.State.{State}
 use Rattle.ra_node.specs.declared.queued_client.Queued.{Queued}
 use Rattle.ra_node.specs.Resource.{Resource, unmet, use_in, held_entry, Holds, ClientFits, clients_of}
 use Rattle.ra_node.specs.Turns.{AskTurn, LeaveTurn, ReceiveTurn}
-use Rattle.ra_node.specs.Node.{NodeState, resource_at, with_resource, clients_count, IsConsistentNode}
+use Rattle.ra_node.specs.Node.{NodeState, opening_node, resource_at, with_resource, clients_count, IsConsistentNode}
 use Rattle.ra_node.specs.Events.{AskEvent, LeaveEvent, ReceiveEvent}
+use Rattle.ra_node.proofs.Named.{sum_of_none}
 use Rattle.ra_node.proofs.Totals.{sum_put, sum_part}
 use Rattle.ra_node.proofs.Updates.{receive_updates}
 
@@ -73,6 +74,9 @@ received old message sends marks new turn =
 
 nobody_yet : (me nodes : ℕ) (name : List ℕ) (start : ℕ) → clients_at (unmet me nodes name start) ≡ 0
 nobody_yet me nodes name start = refl
+
+pub opening_counts : (me nodes start : ℕ) → clients_count (opening_node me nodes start) ≡ 0
+opening_counts me nodes start = sum_of_none (λ r. length (clients_of r))
 
 module _ (old new : NodeState) (name : List ℕ) (r : Resource) (is : new ≡ with_resource old name r) where
   moves : clients_count new + clients_at (resource_at old name) ≡ clients_count old + clients_at r

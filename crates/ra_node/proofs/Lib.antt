@@ -16,7 +16,7 @@ pub mod EventLemmas
 pub mod EventsKept
 pub mod After
 mod Totals
-mod Counts
+pub mod Counts
 mod Refusals
 pub mod Determined
 pub mod Possible
