@@ -26,8 +26,8 @@ impl Departure {
     pub fn new(alloc: Global, nodes: u16) -> Result<Departure, Memory>
         ensures { IfOk result (IsDeparture nodes) }
     {
-        let outcome = Outcome::for_leave(alloc, nodes)?;
         let frames = with_room(alloc, 2 * u64::from(nodes))?;
+        let outcome = Outcome::for_leave(alloc, nodes)?;
         Ok(Departure { outcome, frames })
     }
 }

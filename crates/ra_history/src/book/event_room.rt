@@ -31,30 +31,11 @@ pub fn room_to_ask(
     ensures departure { IfOk result (λ made. IsDeparture nodes made.1) }
     ensures place { IfOk result (λ _. vec_len departures.new + 1 ≤ vec_capacity departures.new) }
 {
-    let departure = departure_for(alloc, nodes, departures)?;
+    departures.reserve(1)?;
     let leaves = departures.len() + 1;
     let frames = make_room(alloc, nodes, events, sent, u64::from(nodes), leaves)?;
+    let departure = Departure::new(alloc, nodes)?;
     Ok((frames, departure))
-}
-
-/// Makes what a leave needs, and room for it among these.
-///
-/// # Errors
-///
-/// `Memory`: memory ran out.
-fn departure_for(
-    alloc: Global,
-    nodes: u16,
-    departures: &mut Vec<Departure>,
-) -> Result<Departure, Memory>
-    ensures same { departures.new.items ≡ departures.old.items }
-    ensures made { IfOk result (IsDeparture nodes) }
-    ensures room { IfOk result (λ _. vec_len departures.new + 1 ≤ vec_capacity departures.new) }
-{
-    if departures.reserve(1).is_err() {
-        return Err(Memory);
-    }
-    Departure::new(alloc, nodes)
 }
 
 /// Makes room for one more event that sends at most this many messages, and after it for this many leaves at one of this
