@@ -169,23 +169,19 @@ flags law book sent node keeps same =
     }
 
 -- the book after its events and frames were taken
-pub all_taken_is : (now book : BookState) → book ≡ now → (first taken : TakenState) (events : List BookEvent) (sent : List Sent)
-    → first ≡ record book.taken { some = true; events = whole_events book }
-    → taken ≡ record first { some = true; sent = first.sent ++ book.sent }
+pub all_taken_is : (now book : BookState) → book ≡ now → (taken : TakenState) (events : List BookEvent) (sent : List Sent)
+    → taken ≡ record { some = true; events = whole_events book; sent = whole_sent book }
     → events ≡ [] → sent ≡ []
     → record book { taken = taken; events = events; sent = sent } ≡ with_all_taken now
-all_taken_is now book is first taken events sent first_is taken_is no_events no_sent =
-    (λ i. record book { taken = taken_is i; events = no_events i; sent = no_sent i })
-    ∙ ap (λ (t : TakenState). record book { taken = record t { some = true; sent = t.sent ++ book.sent }; events = []; sent = [] }) first_is
-    ∙ ap with_all_taken is
+all_taken_is now book is taken events sent taken_is no_events no_sent =
+    (λ i. record book { taken = taken_is i; events = no_events i; sent = no_sent i }) ∙ ap with_all_taken is
 
-pub all_taken : (book : BookState) (node : NodeState) (first taken : TakenState) (events : List BookEvent) (sent : List Sent) → Keeps book node
-    → first ≡ record book.taken { some = true; events = whole_events book }
-    → taken ≡ record first { some = true; sent = first.sent ++ book.sent }
+pub all_taken : (book : BookState) (node : NodeState) (taken : TakenState) (events : List BookEvent) (sent : List Sent) → Keeps book node
+    → taken ≡ record { some = true; events = whole_events book; sent = whole_sent book }
     → events ≡ [] → sent ≡ []
     → Keeps (record book { taken = taken; events = events; sent = sent }) node
-all_taken book node first taken events sent keeps first_is taken_is no_events no_sent =
-    subst (λ (b : BookState). Keeps b node) (sym (all_taken_is book book refl first taken events sent first_is taken_is no_events no_sent))
+all_taken book node taken events sent keeps taken_is no_events no_sent =
+    subst (λ (b : BookState). Keeps b node) (sym (all_taken_is book book refl taken events sent taken_is no_events no_sent))
     (record {
       count = keeps.count;
       member = keeps.member;

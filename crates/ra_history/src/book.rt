@@ -1,4 +1,3 @@
-pub mod accepted_frame;
 pub mod departure;
 pub mod event;
 pub mod event_check;
@@ -17,7 +16,6 @@ ghost use Rattle.ra_frame.specs.declared.error.FrameError.{FrameError};
 ghost use Rattle.ra_node.specs.Resource.{Holds};
 ghost use Rattle.ra_node.specs.Node.{resource_at};
 
-use crate::book::accepted_frame::accept_frame;
 use crate::book::departure::Departure;
 use crate::book::event_check::{check_event, event_refusal};
 use crate::book::event_room::{answers_to, make_room, room_to_ask, sent_for, with_room};
@@ -25,7 +23,7 @@ use crate::book::frame_search::is_kept;
 use crate::book::kept_events::{clock_after, flag_lost, keep};
 use crate::book::taken::{Taken, latest_of};
 use crate::{BookError, BookEvent, BookKind, Events, MarkLostError, NewError, Posted, Sent, Stop};
-use ra_frame::Frame;
+use ra_frame::{Frame, decode};
 use ra_node::{Node, events_count_clients};
 use ra_stamp::{Entry, Memory, Mode, Name, NodeId};
 use std::alloc::Global;
@@ -312,9 +310,7 @@ impl Book {
         ensures value { self.new ≡ record self.old { fault = Some (unwrap_or self.old.fault stop) } }
         ensures history { HasHistory self.new }
     {
-        if self.fault.is_none() {
-            self.fault = Some(stop);
-        }
+        self.fault = Some(self.fault.unwrap_or(stop));
     }
 
     /// Returns the node's number. It does not allocate.
@@ -416,8 +412,7 @@ impl Book {
         let leaves = self.departures.len();
         let events = with_room(alloc, leaves as u64)?;
         let sent = sent_for(alloc, self.nodes, leaves)?;
-        self.taken.take_events(&self.events);
-        self.taken.take_sent(&self.sent);
+        self.taken.take(&self.events, &self.sent);
         let old_events = mem::replace(&mut self.events, events);
         let old_sent = mem::replace(&mut self.sent, sent);
         Ok((old_events, old_sent))
@@ -492,6 +487,13 @@ impl Book {
         if self.fault.is_some() {
             return Err(BookError::Failed);
         }
-        accept_frame(&self.node, self.clock(), bytes)
+        let frame = match decode(bytes) {
+            Ok(frame) => frame,
+            Err(fault) => return Err(BookError::Frame(fault)),
+        };
+        // The event's frame is copied through a borrow, since the proof of a copy of the variable is not told of the type of its message.
+        let heard = &frame;
+        let clock = check_event(&self.node, self.clock(), &BookKind::Got(*heard))?;
+        Ok((frame, clock))
     }
 }

@@ -57,19 +57,12 @@ impl Taken {
         self.clock
     }
 
-    /// Notes that these events are taken, which come after those before.
-    pub fn take_events(&mut self, events: &Events)
-        ensures { self.new ≡ record self.old { some = true; events = self.old.events ++ events.now.items } }
+    /// Notes that these events and frames are taken, which come after those before.
+    pub fn take(&mut self, events: &Events, sent: &Vec<Sent>)
+        ensures { self.new ≡ record { some = true; events = self.old.events ++ events.now.items; sent = self.old.sent ++ sent.now.items } }
     {
         self.clock = latest_of(self.clock, events.as_slice());
         self.events = self.events.and(events);
-        self.some = true;
-    }
-
-    /// Notes that these frames are taken, which were sent after those before.
-    pub fn take_sent(&mut self, sent: &Vec<Sent>)
-        ensures { self.new ≡ record self.old { some = true; sent = self.old.sent ++ sent.now.items } }
-    {
         self.sent = self.sent.and(sent);
         self.some = true;
     }

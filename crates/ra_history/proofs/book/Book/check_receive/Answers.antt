@@ -1,7 +1,11 @@
-use Rattle.ra_history.specs.Keeping.{book_of}
+use Rattle.std.proofs.Common.{◌≡◌, None, Ok, refl}
+use Rattle.ra_history.specs.declared.error.BookError.TheVariants.{Frame}
+use Rattle.ra_history.specs.History.{clock_of}
+use Rattle.ra_history.specs.Book.{whole_events}
+use Rattle.ra_history.specs.Keeping.{book_of, IsFrameFor}
 use Rattle.ra_history.proofs.Kept.{history_of}
 use Rattle.ra_history.proofs.Running.{some_fault, no_fault, checked_failed}
-use Rattle.ra_history.proofs.Hearing.{heard_by, receive_failed, receive_answers, receive_checked}
+use Rattle.ra_history.proofs.Hearing.{heard, not_heard, unheard, not_taken, heard_by, receive_failed, receive_answers, receive_checked}
 use Rattle.ra_history.proofs.KeptLaws.{kept_histories_go_on}
 use Rattle.ra_history.proofs.book.Book.check_receive.Goals as goal
 
@@ -11,21 +15,52 @@ returns-then-is_some-clause-checked c = checked_failed c.args.self.now _ (histor
 pub returns-then-is_some-clause-answers : goal.returns-then-is_some-clause-answers
 returns-then-is_some-clause-answers c = receive_failed c.args.self.now c.args.bytes.now (some_fault c.self.view_is c.if-is_some.ensures)
 
-pub returns-clause-checked : goal.returns-clause-checked
-returns-clause-checked c =
+pub returns-in-Err : goal.returns-in-Err
+returns-in-Err c =
     let now = c.args.self.now in
-    let book = book_of c.self.inside in
-    let node = c.self.inside.node in
-    let same = kept_histories_go_on.node book node c.self.invariant.keeps in
-    receive_checked now c.args.bytes.now (no_fault c.self.view_is c.if-is_some.ensures) c.clock.result c.clock.ensures.value c.accept_frame.result
-    (heard_by node book now c.clock.result c.args.bytes.now c.accept_frame.result same c.self.view_is c.accept_frame.ensures)
-    (history_of now _ _ c.self.invariant.keeps c.self.view_is)
+    let none : now.fault ≡ None = no_fault c.self.view_is c.if-is_some.ensures in
+    let clock = clock_of (whole_events now) in
+    let heard = not_heard now.me now.nodes clock c.args.bytes.now c.decode.result c.decode.ensures.only c.decode.ensures.fault (Frame c.in-Err.fault)
+    ((c.in-Err.ensures.fault c.in-Err.fault).0 refl)
+    in
+    record {
+      checked = receive_checked now c.args.bytes.now none clock refl _ heard (history_of now _ _ c.self.invariant.keeps c.self.view_is);
+      answers = receive_answers now c.args.bytes.now none clock refl _ heard;
+    }
 
-pub returns-clause-answers : goal.returns-clause-answers
-returns-clause-answers c =
+pub returns-in_err-clock : goal.returns-in_err-clock
+returns-in_err-clock c =
     let now = c.args.self.now in
+    let none : now.fault ≡ None = no_fault c.self.view_is c.if-is_some.ensures in
+    let bytes = c.args.bytes.now in
     let book = book_of c.self.inside in
     let node = c.self.inside.node in
-    let same = kept_histories_go_on.node book node c.self.invariant.keeps in
-    receive_answers now c.args.bytes.now (no_fault c.self.view_is c.if-is_some.ensures) c.clock.result c.clock.ensures.value c.accept_frame.result
-    (heard_by node book now c.clock.result c.args.bytes.now c.accept_frame.result same c.self.view_is c.accept_frame.ensures)
+    let clock = c.clock.result in
+    let why = c.in_err-clock.field-0.0 in
+    let refused = not_taken node clock bytes c.in-Ok.frame c.in-Ok.ensures.found c.in-Ok.ensures.fits why c.in_err-clock.ensures.no_memory c.in_err-clock.ensures.checked in
+    let heard = heard_by node book now clock bytes c.from_residual.result (kept_histories_go_on.node book node c.self.invariant.keeps) c.self.view_is
+    (unheard node.me node.nodes clock bytes c.decode.result c.decode.ensures.only c.decode.ensures.fault why refused c.from_residual.result c.from_residual.ensures.1)
+    in
+    record {
+      checked = receive_checked now bytes none clock c.clock.ensures.value c.from_residual.result heard (history_of now _ _ c.self.invariant.keeps c.self.view_is);
+      answers = receive_answers now bytes none clock c.clock.ensures.value c.from_residual.result heard;
+    }
+
+pub returns : goal.returns
+returns c =
+    let now = c.args.self.now in
+    let none : now.fault ≡ None = no_fault c.self.view_is c.if-is_some.ensures in
+    let bytes = c.args.bytes.now in
+    let book = book_of c.self.inside in
+    let node = c.self.inside.node in
+    let clock = c.clock.result in
+    let frame = c.in-Ok.frame in
+    let can = c.in_ok-clock.ensures.checked in
+    let is : IsFrameFor node.me node.nodes bytes frame = record { text = c.in-Ok.ensures.found; for_it = can.may; fits = c.in-Ok.ensures.fits } in
+    let hears = heard_by node book now clock bytes (Ok (frame, c.in_ok-clock.clock)) (kept_histories_go_on.node book node c.self.invariant.keeps) c.self.view_is
+    (heard node.me node.nodes clock bytes c.decode.result c.decode.ensures.only c.decode.ensures.fault frame is c.in_ok-clock.clock (can.next_is, can.has_clock))
+    in
+    record {
+      checked = receive_checked now bytes none clock c.clock.ensures.value _ hears (history_of now _ _ c.self.invariant.keeps c.self.view_is);
+      answers = receive_answers now bytes none clock c.clock.ensures.value _ hears;
+    }

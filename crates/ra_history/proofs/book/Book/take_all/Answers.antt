@@ -24,8 +24,8 @@ invariant_of-self c =
     let capacity : vec_capacity sent ≡ vec_capacity made = ap (λ (s : _). vec_capacity s) c.replace-old_sent.ensures.after in
     let room : length departures.items * (2 * nodes) ≤ vec_capacity made = subst (λ (k : ℕ). k * (2 * nodes) ≤ vec_capacity made) leaves c.in_ok-sent.ensures.room in
     record {
-      keeps = all_taken (book_of c.self.inside) node c.take_events.new.self c.take_sent.new.self events.items sent.items c.self.invariant.keeps
-          c.take_events.ensures c.take_sent.ensures
+      keeps = all_taken (book_of c.self.inside) node c.take.new.self events.items sent.items c.self.invariant.keeps
+          c.take.ensures
           (ap (λ (e : _). e.items) c.replace-old_events.ensures.after ∙ c.in_ok-events.ensures.0)
           (ap (λ (s : _). s.items) c.replace-old_sent.ensures.after ∙ c.in_ok-sent.ensures.items);
       reserved = sent_anew nodes node events.spare (vec_len c.self.inside.sent) (vec_len sent) (vec_capacity c.self.inside.sent) (vec_capacity sent) departures.items
@@ -36,9 +36,9 @@ invariant_of-self c =
 
 pub returns-clause-ok : goal.returns-clause-ok
 returns-clause-ok c =
-    all_taken_is c.args.self.now (book_of c.self.inside) c.self.view_is c.take_events.new.self c.take_sent.new.self
+    all_taken_is c.args.self.now (book_of c.self.inside) c.self.view_is c.take.new.self
     c.replace-old_events.new.dest.items c.replace-old_sent.new.dest.items
-    c.take_events.ensures c.take_sent.ensures
+    c.take.ensures
     (ap (λ (e : _). e.items) c.replace-old_events.ensures.after ∙ c.in_ok-events.ensures.0)
     (ap (λ (s : _). s.items) c.replace-old_sent.ensures.after ∙ c.in_ok-sent.ensures.items)
 

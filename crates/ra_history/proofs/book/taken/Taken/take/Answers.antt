@@ -1,7 +1,7 @@
 use Rattle.std.proofs.Common.{sym}
 use Rattle.std.proofs.lemmas.Bool.{false≢true}
 use Rattle.ra_history.proofs.TakenEvents.{clock_after_taking}
-use Rattle.ra_history.proofs.book.taken.Taken.take_events.Goals as goal
+use Rattle.ra_history.proofs.book.taken.Taken.take.Goals as goal
 
 pub invariant_of-self : goal.invariant_of-self
 invariant_of-self c = record {
