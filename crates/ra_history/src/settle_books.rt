@@ -14,7 +14,7 @@ ghost use Rattle.ra_world.specs.World.{Reports};
 ghost use Rattle.ra_world.specs.MainTheorem.{MainTheorem};
 ghost use Rattle.ra_history.specs.Book.{IsWhole};
 ghost use Rattle.ra_history.specs.Settled.{IsCluster, IsSettledOrder, IsSettledRun, Placed, settled_steps, start_of, IsGranted, HasUnsent, HasTwice, BooksFit, Repeats};
-ghost use Rattle.ra_history.specs.SettlingParts.{HasRun, Settles, SettlesBooks, Refuses};
+ghost use Rattle.ra_history.specs.SettlingParts.{HasRun, Settles, Refuses};
 
 use crate::settle_books::event_merge::steps_in_order;
 use crate::settle_books::flagged_losses::push_losses;
@@ -119,24 +119,11 @@ fn settle_with(alloc: Global, books: &[Book], grants: &[Grant]) -> Result<Settle
     requires fit { BooksFit books.now }
     ensures { MatchResult result (Settles books.now grants.now) (Refuses books.now grants.now) }
 {
-    let settled = settle_books(alloc, books)?;
-    check_grants(alloc, grants, settled.report.marks.as_slice())?;
-    Ok(settled)
-}
-
-/// Settles books that fit together.
-///
-/// # Errors
-///
-/// `Memory`: memory ran out.
-fn settle_books(alloc: Global, books: &[Book]) -> Result<Settled, SettleError>
-    requires cluster { IsCluster books.now }
-    requires fit { BooksFit books.now }
-    ensures { MatchResult result (SettlesBooks books.now) (λ e. e ≡ SettleError.Memory) }
-{
     let mut steps = steps_in_order(alloc, books)?;
     push_losses(&mut steps, books)?;
-    run_steps(alloc, books, steps)
+    let settled = run_steps(alloc, books, steps)?;
+    check_grants(alloc, grants, settled.report.marks.as_slice())?;
+    Ok(settled)
 }
 
 /// Runs steps, which are a run of the cluster of these books.
