@@ -1,5 +1,5 @@
 -- Drafts to which parts are added.
-use Rattle.std.proofs.Common.{◌≡◌, ℕ, true, List, [], ◌++◌, sym, ap, ◌∙◌, append_assoc, append-nil, string_bytes}
+use Rattle.std.proofs.Common.{◌≡◌, ℕ, true, List, [], ◌++◌, sym, ap, subst, ◌∙◌, append_assoc, append-nil, string_bytes}
 use Rattle.std.proofs.lemmas.Bool.{false≢true}
 use Rattle.ra_world.specs.declared.text.draft.Draft.{Draft}
 use Rattle.ra_world.specs.Drafting.{Adds}
@@ -11,6 +11,10 @@ adds_nothing {a} = record { says = λ before is kept. is kept ∙ sym (append-ni
 -- an equal part was added
 pub adds_as : {a b : Draft} {x y : List ℕ} → Adds a x b → x ≡ y → Adds a y b
 adds_as {a} {b} {x} {y} adds same = record { says = λ before is kept. adds.says before is kept ∙ ap (λ (part : List ℕ). before ++ part) same }
+
+-- the draft to which a part was added, by another name
+pub adds_to : {a b c : Draft} {x : List ℕ} → c ≡ b → Adds a x b → Adds a x c
+adds_to {a} {b} {c} {x} same adds = subst (λ (d : Draft). Adds a x d) (sym same) adds
 
 -- one part was added, and then another one
 pub adds_both : {a b c : Draft} {x y : List ℕ} → Adds a x b → Adds b y c → Adds a (x ++ y) c

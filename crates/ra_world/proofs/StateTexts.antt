@@ -1,6 +1,6 @@
 -- Lines of numbered things and of listed ones, one more at a time.
 use Rattle.std.proofs.Common.{◌≡◌, ℕ, zero, suc, ◌+◌, ◌-◌, ◌<◌, List, [], ◌∷◌, ◌++◌, flat_map, take, length, get_or, Some, refl, sym, ap, ◌∙◌, subst, arith, append_assoc}
-use Rattle.std.specs.Prelude.{Bool, Option, None, if◌then◌else◌, slice_get}
+use Rattle.std.specs.Prelude.{Bool, true, Option, None, is_some, not, if◌then◌else◌, slice_get}
 use Rattle.std.specs.List.{range_with_len}
 use Rattle.std.specs.Ordering.{nat_cmp}
 use Rattle.std.specs.FinSet as set
@@ -92,6 +92,11 @@ node_at nodes place state within is =
     ap (λ (k : ℕ). get_or nodes k (opening_node 0 0 0)) at ∙ get_or_default nodes place (opening_node 0 0 0) state within ∙ sym is
 
 -- ---- Nobody is awaited or deferred
+
+-- what is not something is nothing
+pub nothing : {X : Type 0} (found : Option X) (none : Bool) → is_some found ≡ not none → none ≡ true → found ≡ None
+nothing None none is holds = refl
+nothing (Some x) none is holds = absurd (false≢true (sym (is ∙ ap not holds)))
 
 none_of : (f : ℕ → List ℕ) (xs : List ℕ) → ((x : ℕ) → f x ≡ []) → flat_map f xs ≡ []
 none_of f [] none = refl

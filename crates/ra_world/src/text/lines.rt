@@ -1,6 +1,6 @@
 //! The lines of a report. Those calls that write parts of a line are public, since traces have the same fields and mark lines, and nothing
 //! is to be allocated for each line.
-ghost use Rattle.std.specs.Prelude.{◌≡◌, ◌++◌, codes, flat_map, string_bytes, IfOk, OnOk, OnErr};
+ghost use Rattle.std.specs.Prelude.{◌≡◌, ◌++◌, codes, string_bytes, IfOk, OnOk, OnErr};
 ghost use Rattle.ra_world.specs.Lines as spec;
 ghost use Rattle.ra_world.specs.Drafting.{Adds};
 
@@ -87,18 +87,6 @@ pub fn push_total_line(text: &mut Draft, word: &str, total: u128)
     text.end_line();
 }
 
-/// Adds the lines of the totals.
-fn push_totals(text: &mut Draft, report: &Report)
-    ensures { Adds text.old (spec.total_lines report.now) text.new }
-{
-    push_total_line(text, "requests", report.requests);
-    push_total_line(text, "messages", report.sent);
-    push_total_line(text, "under-way", report.under_way);
-    push_total_line(text, "lost", report.lost);
-    push_total_line(text, "waiting", report.waiting);
-    push_total_line(text, "queued", report.queued);
-}
-
 /// Returns the line of a mark, its line feed at the end, in time linear in it.
 ///
 /// # Errors
@@ -112,15 +100,6 @@ pub fn mark_line(alloc: Global, mark: &Mark) -> Result<String, Memory>
     Ok(line)
 }
 
-/// Adds the lines of marks, in order.
-fn push_mark_lines(text: &mut Draft, marks: &[Mark])
-    ensures { Adds text.old (flat_map spec.mark_line marks.now) text.new }
-{
-    for mark in marks {
-        text.push_mark_line(mark);
-    }
-}
-
 /// Returns the lines of a report: one for each mark, in order, and then those of the six totals. The cost is linear in
 /// the text.
 ///
@@ -131,7 +110,15 @@ pub fn report_text(alloc: Global, report: &Report) -> Result<String, Memory>
     ensures { IfOk result (λ text. string_bytes text ≡ spec.report_text report.now) }
 {
     let mut text = Draft::new(alloc);
-    push_mark_lines(&mut text, report.marks.as_slice());
-    push_totals(&mut text, report);
+    let marks = report.marks.as_slice();
+    for mark in marks {
+        text.push_mark_line(mark);
+    }
+    push_total_line(&mut text, "requests", report.requests);
+    push_total_line(&mut text, "messages", report.sent);
+    push_total_line(&mut text, "under-way", report.under_way);
+    push_total_line(&mut text, "lost", report.lost);
+    push_total_line(&mut text, "waiting", report.waiting);
+    push_total_line(&mut text, "queued", report.queued);
     text.finish()
 }

@@ -1,8 +1,8 @@
 //! The lines of a state: what the nodes know of names, the messages under way, and the requests that wait and hold.
-ghost use Rattle.std.specs.Prelude.{◌≡◌, ◌++◌, codes, flat_map, length, None, string_bytes, IsFalse, IfOk};
+ghost use Rattle.std.specs.Prelude.{◌≡◌, ◌++◌, codes, flat_map, length, string_bytes, IfOk};
 ghost use Rattle.ra_stamp.specs.NodeId.{IsNodeNumber};
-ghost use Rattle.ra_node.specs.Node.{resource_at, IsConsistentNode};
-ghost use Rattle.ra_node.specs.Resource.{use_of, waiter_of, holder_of};
+ghost use Rattle.ra_node.specs.Node.{resource_at};
+ghost use Rattle.ra_node.specs.Resource.{use_of};
 ghost use Rattle.ra_world.specs.Keeping.{nodes_of};
 ghost use Rattle.ra_world.specs.Lines as lines;
 ghost use Rattle.ra_world.specs.Drafting.{Adds};
@@ -11,7 +11,7 @@ ghost use Rattle.ra_world.specs.StateLines as spec;
 use crate::text::draft::Draft;
 use crate::text::lines::push_total_line;
 use ra_bag::Bag;
-use ra_node::{Node, Queued};
+use ra_node::Node;
 use ra_stamp::{Entry, Memory, Message, Name, NodeCount, NodeId};
 use std::alloc::Global;
 
@@ -47,90 +47,31 @@ fn push_use(text: &mut Draft, node: &Node, name: &Name)
     text.push_field("idle");
 }
 
-/// Adds the first line of a name at a node.
-fn push_node_line(text: &mut Draft, me: NodeId, node: &Node, name: &Name)
-    ensures { Adds text.old (spec.node_line me name.now (resource_at node.now name.now)) text.new }
-{
-    push_at(text, "node", me, name);
-    text.push_number(node.highest(name));
-    push_use(text, node, name);
-    text.end_line();
-}
-
-/// Adds the line of another node, if its REPLY is awaited.
-fn push_awaited(text: &mut Draft, me: NodeId, node: &Node, name: &Name, other: NodeId)
-    ensures { Adds text.old (spec.awaited_line me name.now (resource_at node.now name.now).state other) text.new }
-{
-    if !node.waits_for(name, other) {
-        return;
-    }
-    push_at(text, "awaits", me, name);
-    text.push_number(other.get());
-    text.end_line();
-}
-
-/// Adds the lines of the nodes whose REPLY is awaited.
-fn push_awaited_lines(text: &mut Draft, nodes: NodeCount, me: NodeId, node: &Node, name: &Name)
-    ensures { Adds text.old (spec.awaited_lines nodes me name.now (resource_at node.now name.now).state) text.new }
-{
-    for place in 0..nodes.get() {
-        let other = NodeId::at(usize::from(place));
-        push_awaited(text, me, node, name, other);
-    }
-}
-
-/// Adds the line of another node, if its REPLY is deferred.
-fn push_deferred(text: &mut Draft, me: NodeId, node: &Node, name: &Name, other: NodeId)
-    ensures { Adds text.old (spec.deferred_line me name.now (resource_at node.now name.now).state other) text.new }
-{
-    let Some(number) = node.deferred(name, other) else {
-        return;
-    };
-    push_at(text, "defers", me, name);
-    text.push_number(other.get());
-    text.push_number(number);
-    text.end_line();
-}
-
-/// Adds the lines of the nodes whose REPLY is deferred.
-fn push_deferred_lines(text: &mut Draft, nodes: NodeCount, me: NodeId, node: &Node, name: &Name)
-    ensures { Adds text.old (spec.deferred_lines nodes me name.now (resource_at node.now name.now).state) text.new }
-{
-    for place in 0..nodes.get() {
-        let other = NodeId::at(usize::from(place));
-        push_deferred(text, me, node, name, other);
-    }
-}
-
-/// Returns whether a request of a node waits or is granted on a name.
-fn has_request(node: &Node, name: &Name) -> bool
-    ensures none { IsFalse result → (waiter_of (resource_at node.now name.now) ≡ None)
-        × (holder_of (resource_at node.now name.now) ≡ None) }
-    ensures consistent { IsConsistentNode node.now }
-{
-    node.waiter(name).is_some() || node.holder(name).is_some()
-}
-
 /// Adds the lines of the nodes whose REPLY is awaited, and of those whose REPLY is deferred. Without a request of its own, which
 /// is the rule, a node awaits and defers none, and no other node is looked at.
 fn push_others(text: &mut Draft, nodes: NodeCount, me: NodeId, node: &Node, name: &Name)
     ensures { Adds text.old (spec.others_lines nodes me name.now (resource_at node.now name.now).state) text.new }
 {
-    if !has_request(node, name) {
+    if node.waiter(name).is_none() && node.holder(name).is_none() {
         return;
     }
-    push_awaited_lines(text, nodes, me, node, name);
-    push_deferred_lines(text, nodes, me, node, name);
-}
-
-/// Adds the line of a queued client.
-fn push_queued(text: &mut Draft, me: NodeId, name: &Name, queued: Queued)
-    ensures { Adds text.old (spec.queued_line me name.now queued) text.new }
-{
-    push_at(text, "queued", me, name);
-    text.push_number(queued.client);
-    text.push_field(queued.mode.word());
-    text.end_line();
+    for awaited in 0..nodes.get() {
+        let other = NodeId::at(usize::from(awaited));
+        if node.waits_for(name, other) {
+            push_at(text, "awaits", me, name);
+            text.push_number(other.get());
+            text.end_line();
+        }
+    }
+    for deferred in 0..nodes.get() {
+        let other = NodeId::at(usize::from(deferred));
+        if let Some(number) = node.deferred(name, other) {
+            push_at(text, "defers", me, name);
+            text.push_number(other.get());
+            text.push_number(number);
+            text.end_line();
+        }
+    }
 }
 
 /// Adds the lines of the clients that are queued on a name.
@@ -141,25 +82,24 @@ fn push_queue(text: &mut Draft, me: NodeId, node: &Node, name: &Name)
         let Some(queued) = node.queued_at(name, place) else {
             unreachable!()
         };
-        push_queued(text, me, name, queued);
+        push_at(text, "queued", me, name);
+        text.push_number(queued.client);
+        text.push_field(queued.mode.word());
+        text.end_line();
     }
 }
 
-/// Adds the lines of a name at a node.
-fn push_resource(text: &mut Draft, nodes: NodeCount, me: NodeId, node: &Node, name: &Name)
-    ensures { Adds text.old (spec.resource_lines nodes me name.now (resource_at node.now name.now)) text.new }
-{
-    push_node_line(text, me, node, name);
-    push_others(text, nodes, me, node, name);
-    push_queue(text, me, node, name);
-}
-
-/// Adds the lines of names at a node.
+/// Adds the lines of names at a node: of each its first line, those of other nodes, and those of queued clients.
 fn push_names(text: &mut Draft, nodes: NodeCount, me: NodeId, node: &Node, names: &[Name])
     ensures { Adds text.old (spec.lines_at nodes names.now me node.now) text.new }
 {
     for name in names {
-        push_resource(text, nodes, me, node, name);
+        push_at(text, "node", me, name);
+        text.push_number(node.highest(name));
+        push_use(text, node, name);
+        text.end_line();
+        push_others(text, nodes, me, node, name);
+        push_queue(text, me, node, name);
     }
 }
 
@@ -204,16 +144,6 @@ fn push_message_fields(text: &mut Draft, message: &Message)
     }
 }
 
-/// Adds the line of a message under way at a place.
-fn push_message(text: &mut Draft, place: u64, message: &Message)
-    ensures { Adds text.old (spec.message_line place message.now) text.new }
-{
-    text.push("message");
-    text.push_number(place);
-    push_message_fields(text, message);
-    text.end_line();
-}
-
 /// Adds the lines of the messages under way.
 fn push_messages(text: &mut Draft, under_way: &Bag)
     ensures { Adds text.old (spec.message_lines 0 under_way.now.items) text.new }
@@ -222,28 +152,23 @@ fn push_messages(text: &mut Draft, under_way: &Bag)
         let Some(message) = under_way.at(place) else {
             unreachable!()
         };
-        push_message(text, place, &message);
+        text.push("message");
+        text.push_number(place);
+        push_message_fields(text, &message);
+        text.end_line();
     }
 }
 
-/// Adds the line of the request of a node on a name, if there is one.
-fn push_table_line(text: &mut Draft, node: &Node, name: &Name)
-    ensures { Adds text.old (spec.table_line (use_of (resource_at node.now name.now))) text.new }
-{
-    if let Some(entry) = node.waiter(name) {
-        return text.push_entry_line("waiting", &entry);
-    }
-    if let Some(entry) = node.holder(name) {
-        return text.push_entry_line("holding", &entry);
-    }
-}
-
-/// Adds the lines of the requests of a node on names.
+/// Adds the lines of the requests of a node on names, of which there is at most one on each.
 fn push_table_at(text: &mut Draft, node: &Node, names: &[Name])
     ensures { Adds text.old (spec.table_lines_at names.now node.now) text.new }
 {
     for name in names {
-        push_table_line(text, node, name);
+        if let Some(entry) = node.waiter(name) {
+            text.push_entry_line("waiting", &entry);
+        } else if let Some(entry) = node.holder(name) {
+            text.push_entry_line("holding", &entry);
+        }
     }
 }
 

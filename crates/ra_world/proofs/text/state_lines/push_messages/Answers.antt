@@ -1,3 +1,4 @@
+-- proofs/text/state_lines/push_messages/Answers.antt
 use Rattle.std.proofs.Common.{[], take, refl, sym}
 use Rattle.ra_world.specs.StateLines.{message_lines}
 use Rattle.ra_world.proofs.Drafts.{adds_nothing, adds_as, adds_both}
@@ -12,5 +13,6 @@ loop-place-preserved c =
     let items = c.args.under_way.now.items in
     let place = c.loop-place.place in
     let at = at_place items place c.in-Some.message (sym c.in-Some.ensures) in
-    adds_as (adds_both c.loop-place.invariant c.push_message.ensures)
+    adds_as (adds_both c.loop-place.invariant
+    (adds_both (adds_both (adds_both c.push.ensures c.push_number.ensures) c.push_message_fields.ensures) c.end_line.ensures))
     (next_message [] (message_lines 0 (take place items)) _ items place c.in-Some.message refl at.0 at.1 refl)

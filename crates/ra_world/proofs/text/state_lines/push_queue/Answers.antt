@@ -1,5 +1,7 @@
-use Rattle.std.proofs.Common.{[], flat_map, take, refl, sym}
+-- proofs/text/state_lines/push_queue/Answers.antt
+use Rattle.std.proofs.Common.{[], flat_map, take, refl, sym, ap}
 use Rattle.ra_node.specs.Node.{resource_at}
+use Rattle.ra_world.specs.Lines.{field}
 use Rattle.ra_world.specs.StateLines.{queued_line}
 use Rattle.ra_world.proofs.Drafts.{adds_nothing, adds_as, adds_both}
 use Rattle.ra_world.proofs.StateTexts.{at_place, next_item}
@@ -15,5 +17,6 @@ loop-place-preserved c =
     let place = c.loop-place.place in
     let line = queued_line c.args.me name in
     let at = at_place queue place c.in-Some.queued (sym c.in-Some.ensures.value) in
-    adds_as (adds_both c.loop-place.invariant c.push_queued.ensures)
+    adds_as (adds_both c.loop-place.invariant
+    (adds_both (adds_both (adds_both c.push_at.ensures c.push_number.ensures) (adds_as c.push_field.ensures (ap field c.word.ensures))) c.end_line.ensures))
     (next_item line [] (flat_map line (take place queue)) _ queue place c.in-Some.queued refl at.0 at.1 refl)
