@@ -65,38 +65,41 @@ impl Note {
         self.number(client);
     }
 
-    /// Adds a character.
+    /// Adds a character, or `?` in place of a control character.
     fn letter(&mut self, letter: char) {
-        let pushed = self.text.push(letter);
+        let shown = if letter.is_control() { '?' } else { letter };
+        let pushed = self.text.push(shown);
         self.refuse_if(pushed.is_err());
     }
 
     /// Adds a text, with `?` in place of each control character, since that could end the line.
     pub fn shown(&mut self, text: &str) {
         for letter in text.chars() {
-            self.letter(if letter.is_control() { '?' } else { letter });
+            self.letter(letter);
         }
     }
 
     /// Adds the lines of a text, with a colon between two, and with `?` in place of each other control character.
     pub fn lines(&mut self, text: &str) {
-        for (place, line) in text.split('\n').enumerate() {
-            if place > 0 {
-                self.push(": ");
+        for letter in text.chars() {
+            match letter {
+                '\n' => self.push(": "),
+                _ => self.letter(letter),
             }
-            self.shown(line);
         }
     }
 
     /// Adds a text of an input in quotes, and only its first 60 characters, with `?` in place of each control character.
     pub fn quoted_text(&mut self, text: &str) {
         self.push("'");
-        for (place, letter) in text.chars().enumerate() {
-            if place == MAX_QUOTED {
+        let mut left = MAX_QUOTED;
+        for letter in text.chars() {
+            if left == 0 {
                 self.push("..");
                 break;
             }
-            self.letter(if letter.is_control() { '?' } else { letter });
+            left -= 1;
+            self.letter(letter);
         }
         self.push("'");
     }
