@@ -11,13 +11,13 @@ ghost use Rattle.ra_stamp.specs.declared.message.Message.{Message};
 use crate::text::report::Figures;
 use crate::text::state_lines::state_text;
 use crate::world::at_node::{ask_at, leave_at, receive_at};
-use crate::world::kept_steps::{KeptSteps, copy_of};
+use crate::world::kept_steps::KeptSteps;
 use crate::world::node_places::{opening_nodes, place_of, queued_at, waiting_at};
-use crate::world::step_log::StepLog;
+use crate::world::step_log::{StepLog, append};
 use crate::{NewError, Report, Step, StepError};
 use ra_bag::Bag;
 use ra_node::{Node, Outcome};
-use ra_stamp::{Memory, Message, Mode, Name, NodeCount, NodeId};
+use ra_stamp::{Marks, Memory, Message, Mode, Name, NodeCount, NodeId};
 use std::alloc::Global;
 use std::marker::Model;
 
@@ -155,8 +155,14 @@ impl<const KEEPS_MARKS: u8> WorldOf<KEEPS_MARKS> {
                 client,
                 name,
                 ..
-            } => self.may_ask(node, client, &name),
-            Step::Leave { node, client, name } => self.may_leave(node, client, &name),
+            } => match place_of(&self.nodes, node) {
+                Some(place) => self.nodes[place].may_ask(client, &name).is_ok(),
+                None => false,
+            },
+            Step::Leave { node, client, name } => match place_of(&self.nodes, node) {
+                Some(place) => self.nodes[place].is_held_by(client, &name),
+                None => false,
+            },
             Step::Deliver(message) | Step::Lose(message) | Step::Repeat(message) => {
                 self.kept.under_way.contains(&message)
             }
@@ -219,7 +225,7 @@ impl<const KEEPS_MARKS: u8> WorldOf<KEEPS_MARKS> {
         ensures run { IsRun self.now.count self.now.start self.now.moves }
         ensures count { IsNodeNumber self.now.count }
     {
-        self.kept.log.requests()
+        self.kept.log.counts().requests
     }
 
     /// Returns how many messages were sent. It does not allocate.
@@ -228,7 +234,7 @@ impl<const KEEPS_MARKS: u8> WorldOf<KEEPS_MARKS> {
         ensures run { IsRun self.now.count self.now.start self.now.moves }
         ensures count { IsNodeNumber self.now.count }
     {
-        self.kept.log.sent()
+        self.kept.log.counts().sent
     }
 
     /// Returns the lines of the state after the steps so far: how many they were, what each node knows of each of these names,
@@ -378,32 +384,6 @@ impl<const KEEPS_MARKS: u8> WorldOf<KEEPS_MARKS> {
         self.kept.under_way.again(message).unwrap();
         Ok(self.kept.keep_nothing(alloc, step))
     }
-
-    /// Returns whether a client may ask for a name at a node.
-    fn may_ask(&self, node: NodeId, client: u32, name: &Name) -> bool
-        ensures value { (mode : Mode) → IsTrue result
-            ↔ GoesOn self.now.count self.now.start self.now.moves (Step.Ask node client name.now mode) }
-        ensures run { IsRun self.now.count self.now.start self.now.moves }
-        ensures count { IsNodeNumber self.now.count }
-    {
-        match place_of(&self.nodes, node) {
-            Some(place) => self.nodes[place].may_ask(client, name).is_ok(),
-            None => false,
-        }
-    }
-
-    /// Returns whether a client may leave a name at a node.
-    fn may_leave(&self, node: NodeId, client: u32, name: &Name) -> bool
-        ensures value { IsTrue result
-            ↔ GoesOn self.now.count self.now.start self.now.moves (Step.Leave node client name.now) }
-        ensures run { IsRun self.now.count self.now.start self.now.moves }
-        ensures count { IsNodeNumber self.now.count }
-    {
-        match place_of(&self.nodes, node) {
-            Some(place) => self.nodes[place].is_held_by(client, name),
-            None => false,
-        }
-    }
 }
 
 impl WorldOf<1> {
@@ -427,7 +407,10 @@ impl WorldOf<1> {
         ensures main_theorem { IfOk result (MainTheorem self.now.count) }
     {
         let figures = self.figures();
-        let marks = copy_of(alloc, self.kept.log.marks())?;
+        let kept = self.kept.log.marks();
+        let mut marks = Marks::new(alloc);
+        marks.reserve(kept.len())?;
+        append(&mut marks, kept.as_slice());
         Ok(figures.with_marks(marks))
     }
 
@@ -454,12 +437,13 @@ impl WorldOf<1> {
     {
         // There are at most as many queued clients as steps, so their count fits.
         let _steps = self.kept.log.len();
+        let counts = self.kept.log.counts();
         Figures {
-            sent: self.kept.log.sent(),
-            requests: self.kept.log.requests(),
+            sent: counts.sent,
+            requests: counts.requests,
             under_way: u128::from(self.kept.under_way.len()),
-            lost: u128::from(self.kept.log.lost()),
-            repeated: u128::from(self.kept.log.repeated()),
+            lost: u128::from(counts.lost),
+            repeated: u128::from(counts.repeated),
             waiting: waiting_at(&self.nodes),
             queued: queued_at(&self.nodes),
         }

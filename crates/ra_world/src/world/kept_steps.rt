@@ -1,11 +1,11 @@
 //! What a world keeps of its steps: the messages that they left under way, and the log of what came of them.
-ghost use Rattle.std.specs.Prelude.{◌≡◌, ◌+◌, ◌≤◌, ◌<◌, ◌⊎◌, ◌∷◌, ◌++◌, [], List, Contains, length, IfOk, OnOk, OnErr};
+ghost use Rattle.std.specs.Prelude.{◌≡◌, ◌+◌, ◌≤◌, ◌<◌, ◌⊎◌, ◌∷◌, ◌++◌, [], List, Contains, length, OnOk, OnErr};
 ghost use Rattle.ra_stamp.specs.declared.message.Message.{Message};
 ghost use Rattle.ra_stamp.specs.declared.entry.Mark.{Mark};
 ghost use Rattle.ra_node.specs.Carried.{replies_at_most, entries_at_most};
 
 use crate::Step;
-use crate::world::step_log::{StepLog, append};
+use crate::world::step_log::StepLog;
 use ra_bag::{Bag, Found};
 use ra_node::{Node, Outcome};
 use ra_stamp::{Marks, Memory, Message, Messages};
@@ -61,7 +61,8 @@ impl<const KEEPS_MARKS: u8> KeptSteps<KEEPS_MARKS> {
             → (length sends ≤ self.new.under_way.spare) × HasRoom self.new.log (length marks)) }
         ensures err { OnErr result ((BringsNothing receiver.now message.now → ⊥) ⊎ IsFull self.old.log.moves) }
     {
-        if let Ok(()) = self.make_room(most_replies(message), most_entries(message)) {
+        let (replies, entries) = most_brought(message);
+        if let Ok(()) = self.make_room(replies, entries) {
             return Ok(());
         }
         if !receiver.brings_nothing(message) {
@@ -109,7 +110,7 @@ impl<const KEEPS_MARKS: u8> KeptSteps<KEEPS_MARKS> {
         ensures spare { self.old.under_way.spare ≤ self.new.under_way.spare }
         ensures log { self.new.log ≡ self.old.log }
     {
-        if self.log.repeated() == 0 {
+        if self.log.counts().repeated == 0 {
             self.under_way.take_from(found, message);
         } else {
             self.under_way.take(message);
@@ -117,32 +118,13 @@ impl<const KEEPS_MARKS: u8> KeptSteps<KEEPS_MARKS> {
     }
 }
 
-/// Returns the most REPLYs that a message can make its node send.
-fn most_replies(message: &Message) -> u64
-    ensures { result ≡ replies_at_most message.now }
+/// Returns the most REPLYs that a message can make its node send, and the most requests that it can let enter.
+fn most_brought(message: &Message) -> (u64, u64)
+    ensures replies { result.0 ≡ replies_at_most message.now }
+    ensures entries { result.1 ≡ entries_at_most message.now }
 {
     match message {
-        Message::Request { .. } => 1,
-        Message::Reply { .. } => 0,
+        Message::Request { .. } => (1, 0),
+        Message::Reply { .. } => (0, 1),
     }
-}
-
-/// Returns the most requests that a message can let enter.
-fn most_entries(message: &Message) -> u64
-    ensures { result ≡ entries_at_most message.now }
-{
-    match message {
-        Message::Request { .. } => 0,
-        Message::Reply { .. } => 1,
-    }
-}
-
-/// Copies marks.
-pub fn copy_of(alloc: Global, marks: &Marks) -> Result<Marks, Memory>
-    ensures { IfOk result (λ copy. copy.items ≡ marks.now.items) }
-{
-    let mut copy = Marks::new(alloc);
-    copy.reserve(marks.len())?;
-    append(&mut copy, marks.as_slice());
-    Ok(copy)
 }

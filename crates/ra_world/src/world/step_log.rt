@@ -3,7 +3,6 @@ ghost use Rattle.std.specs.Prelude.{◌≡◌, ◌+◌, ◌≤◌, ◌⊎◌, []
 ghost use Rattle.ra_stamp.specs.declared.entry.Mark.{Mark};
 ghost use Rattle.ra_world.specs.Traffic.{lost_in, repeated_in};
 ghost use Rattle.ra_world.specs.Quiet.{requests_in};
-ghost use Rattle.ra_world.specs.StepLog.{room_of};
 
 use crate::Step;
 use ra_node::Outcome;
@@ -29,6 +28,19 @@ pub struct StepLog<const KEEPS_MARKS: u8> {
     repeated: u64,
     /// Each step with what came of it, for proofs alone.
     made: GhostList<(Step, Outcome)>,
+}
+
+/// What a log counts of its steps.
+#[derive(Clone, Copy)]
+pub struct Counts {
+    /// How many messages the steps sent.
+    pub sent: u128,
+    /// How many requests they made.
+    pub requests: u128,
+    /// How many messages were lost.
+    pub lost: u64,
+    /// How many copies of messages were put under way.
+    pub repeated: u64,
 }
 
 impl<const KEEPS_MARKS: u8> Model for StepLog<KEEPS_MARKS> {
@@ -73,32 +85,20 @@ impl<const KEEPS_MARKS: u8> StepLog<KEEPS_MARKS> {
         self.steps
     }
 
-    /// Returns how many messages the steps sent.
-    pub fn sent(&self) -> u128
-        ensures { result ≡ length (sent_by self.now.moves) }
+    /// Returns what is counted of the steps beside how many there were.
+    #[inline(always)]
+    pub fn counts(&self) -> Counts
+        ensures sent { result.sent ≡ length (sent_by self.now.moves) }
+        ensures requests { result.requests ≡ requests_in (marks_of self.now.moves) }
+        ensures lost { result.lost ≡ length (lost_by self.now.moves) }
+        ensures repeated { result.repeated ≡ length (repeated_by self.now.moves) }
     {
-        self.sent
-    }
-
-    /// Returns how many requests the steps made.
-    pub fn requests(&self) -> u128
-        ensures { result ≡ requests_in (marks_of self.now.moves) }
-    {
-        self.requests
-    }
-
-    /// Returns how many messages were lost.
-    pub fn lost(&self) -> u64
-        ensures { result ≡ length (lost_by self.now.moves) }
-    {
-        self.lost
-    }
-
-    /// Returns how many copies of messages were put under way.
-    pub fn repeated(&self) -> u64
-        ensures { result ≡ length (repeated_by self.now.moves) }
-    {
-        self.repeated
+        Counts {
+            sent: self.sent,
+            requests: self.requests,
+            lost: self.lost,
+            repeated: self.repeated,
+        }
     }
 
     /// Returns the marks of the steps, in order, if they are kept.
@@ -129,7 +129,10 @@ impl<const KEEPS_MARKS: u8> StepLog<KEEPS_MARKS> {
         if self.steps == u64::MAX {
             return Err(Memory);
         }
-        reserve_marks::<KEEPS_MARKS>(&mut self.marks, marks)
+        if KEEPS_MARKS != 1 || marks == 0 {
+            return Ok(());
+        }
+        self.marks.reserve(marks)
     }
 
     /// Adds a step with what came of it, for which there is room.
@@ -167,22 +170,6 @@ fn repeats_of(step: &Step) -> u64
         Step::Repeat(_) => 1,
         Step::Ask { .. } | Step::Leave { .. } | Step::Deliver(_) | Step::Lose(_) => 0,
     }
-}
-
-/// Makes room for more marks, if they are kept.
-///
-/// # Errors
-///
-/// `Memory`, which is not answered for no mark.
-fn reserve_marks<const KEEPS_MARKS: u8>(kept: &mut Marks, marks: u64) -> Result<(), Memory>
-    ensures same { kept.new.items ≡ kept.old.items }
-    ensures ok { OnOk result (marks ≤ room_of KEEPS_MARKS kept.new.spare) }
-    ensures err { OnErr result (1 ≤ marks) }
-{
-    if KEEPS_MARKS != 1 || marks == 0 {
-        return Ok(());
-    }
-    kept.reserve(marks)
 }
 
 /// Adds the marks of a step to those that are kept, if any are. There is room for them.

@@ -1,18 +1,78 @@
-use Rattle.std.proofs.Common.{◌≡◌, ◌↔◌, ◌⊎◌, Contains, length, sym, subst, rules}
+use Rattle.std.proofs.Common.{◌≡◌, ◌↔◌, ◌<◌, ◌⊎◌, Bool, false, Contains, length, refl, ap, sym, subst, arith, rules}
 use Rattle.std.specs.Prelude.{IsTrue}
+use Rattle.ra_stamp.specs.declared.entry.Entry.{Entry}
 use Rattle.ra_stamp.specs.declared.message.Message.{Message}
+use Rattle.ra_node.specs.Node.{NodeState, resource_at}
+use Rattle.ra_node.specs.Resource.{Holds}
+use Rattle.ra_node.specs.Turns.{MayAsk}
 use Rattle.ra_world.specs.declared.step.Step.{Step}
-use Rattle.ra_world.specs.declared.step.Step.TheVariants.{Deliver, Lose, Repeat}
+use Rattle.ra_world.specs.declared.step.Step.TheVariants.{Ask, Leave, Deliver, Lose, Repeat}
 use Rattle.ra_world.specs.Run.{GoesOn}
 use Rattle.ra_world.specs.World.{WorldState}
-use Rattle.ra_world.proofs.Worlds.{accepted_message}
-use Rattle.ra_world.proofs.WorldLaws.{kept_runs_go_on, deliver_allowed, lose_allowed, repeat_allowed}
+use Rattle.ra_world.specs.Keeping.{nodes_of}
+use Rattle.ra_world.proofs.Worlds.{accepted_at, accepted_message, refused_above}
+use Rattle.ra_world.proofs.GoingOn.{ask_goes_on, leave_goes_on}
+use Rattle.ra_world.proofs.WorldLaws.{laws_below, kept_runs_go_on, deliver_allowed, lose_allowed, repeat_allowed}
 use Rattle.ra_world.proofs.world.WorldOf.accepts.Goals as goal
 
-pub returns-in-Ask-clause-value : goal.returns-in-Ask-clause-value
-returns-in-Ask-clause-value g c =
-    let w = c.args.self.now in
-    subst (λ (step : Step). IsTrue c.may_ask.result ↔ GoesOn w.count w.start w.moves step) (sym c.in-Ask.is) (c.may_ask.ensures.value c.in-Ask.mode)
+-- ---- An ask
+
+pub returns-in-Some-clause-value : goal.returns-in-Some-clause-value
+returns-in-Some-clause-value g c =
+    let w = c.self.inside in
+    let k = c.self.invariant in
+    let ask = c.in-Ask in
+    let step = Ask ask.node ask.client ask.name ask.mode in
+    let law = ask_goes_on laws_below (length w.nodes.items) w.start w.kept.log.moves (nodes_of w.nodes.items) k.count k.run k.ends ask.node ask.client ask.name ask.mode in
+    let within : c.in-Some.place < length w.nodes.items = omega (arith, c.in-Some.ensures.some.1, ap length c.deref.ensures.value) in
+    subst (λ (s : WorldState). IsTrue c.is_ok.result ↔ GoesOn s.count s.start s.moves c.args.step.now) c.self.view_is
+    (subst (λ (s : Step). IsTrue c.is_ok.result ↔ GoesOn (length w.nodes.items) w.start w.kept.log.moves s) (sym ask.is)
+    (accepted_at w.start w.nodes.items w.kept.log.moves step c.in-Some.place ask.node c.index.result.now
+    (λ (n : NodeState). MayAsk (resource_at n ask.name) ask.client) c.is_ok.result
+    law c.in-Some.ensures.some.0 within c.index.ensures
+    (subst (λ (b : Bool). IsTrue b ↔ MayAsk (resource_at c.index.result.now ask.name) ask.client) (sym c.is_ok.ensures.value) c.may_ask.ensures.allowed)))
+
+pub returns-in-None-clause-value : goal.returns-in-None-clause-value
+returns-in-None-clause-value g c =
+    let w = c.self.inside in
+    let k = c.self.invariant in
+    let ask = c.in-Ask in
+    let step = Ask ask.node ask.client ask.name ask.mode in
+    let law = ask_goes_on laws_below (length w.nodes.items) w.start w.kept.log.moves (nodes_of w.nodes.items) k.count k.run k.ends ask.node ask.client ask.name ask.mode in
+    let above : length w.nodes.items < ask.node = omega (arith, c.in-None.ensures.none.0 refl, ap length c.deref.ensures.value) in
+    subst (λ (s : WorldState). IsTrue false ↔ GoesOn s.count s.start s.moves c.args.step.now) c.self.view_is
+    (subst (λ (s : Step). IsTrue false ↔ GoesOn (length w.nodes.items) w.start w.kept.log.moves s) (sym ask.is)
+    (refused_above (length w.nodes.items) w.start w.kept.log.moves step ask.node _ law above))
+
+-- ---- A leave
+
+pub returns-in-Some-place_of-clause-value : goal.returns-in-Some-place_of-clause-value
+returns-in-Some-place_of-clause-value g c =
+    let w = c.self.inside in
+    let k = c.self.invariant in
+    let leave = c.in-Leave in
+    let step = Leave leave.node leave.client leave.name in
+    let law = leave_goes_on laws_below (length w.nodes.items) w.start w.kept.log.moves (nodes_of w.nodes.items) k.count k.run k.ends leave.node leave.client leave.name in
+    let within : c.in-Some-place_of.place < length w.nodes.items = omega (arith, c.in-Some-place_of.ensures.some.1, ap length c.deref-in-Leave.ensures.value) in
+    subst (λ (s : WorldState). IsTrue c.is_held_by.result ↔ GoesOn s.count s.start s.moves c.args.step.now) c.self.view_is
+    (subst (λ (s : Step). IsTrue c.is_held_by.result ↔ GoesOn (length w.nodes.items) w.start w.kept.log.moves s) (sym leave.is)
+    (accepted_at w.start w.nodes.items w.kept.log.moves step c.in-Some-place_of.place leave.node c.index-in-Some-place_of.result.now
+    (λ (n : NodeState). (entry : Entry) × Holds (resource_at n leave.name) leave.client entry) c.is_held_by.result
+    law c.in-Some-place_of.ensures.some.0 within c.index-in-Some-place_of.ensures c.is_held_by.ensures.held))
+
+pub returns-in-None-place_of-clause-value : goal.returns-in-None-place_of-clause-value
+returns-in-None-place_of-clause-value g c =
+    let w = c.self.inside in
+    let k = c.self.invariant in
+    let leave = c.in-Leave in
+    let step = Leave leave.node leave.client leave.name in
+    let law = leave_goes_on laws_below (length w.nodes.items) w.start w.kept.log.moves (nodes_of w.nodes.items) k.count k.run k.ends leave.node leave.client leave.name in
+    let above : length w.nodes.items < leave.node = omega (arith, c.in-None-place_of.ensures.none.0 refl, ap length c.deref-in-Leave.ensures.value) in
+    subst (λ (s : WorldState). IsTrue false ↔ GoesOn s.count s.start s.moves c.args.step.now) c.self.view_is
+    (subst (λ (s : Step). IsTrue false ↔ GoesOn (length w.nodes.items) w.start w.kept.log.moves s) (sym leave.is)
+    (refused_above (length w.nodes.items) w.start w.kept.log.moves step leave.node _ law above))
+
+-- ---- A message
 
 pub returns-in-Deliver-clause-value : goal.returns-in-Deliver-clause-value
 returns-in-Deliver-clause-value g c =
