@@ -1,5 +1,6 @@
 mod Deciding
 pub mod Lists
+mod OneMore
 mod Dialogs
 mod Members
 mod Protocol

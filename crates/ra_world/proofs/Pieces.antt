@@ -33,6 +33,10 @@ pub no_bytes : {T : Type 0} (r : Result T ReadFault) (P : ReadFault → Type 0) 
 no_bytes (Ok v) P Q h = absurd h
 no_bytes (Err e) P Q h = tt
 
+-- a value is no fault
+pub no_fault : {T E : Type 0} {v : T} {e : E} → ◌≡◌ {A = Result T E} (Ok v) (Err e) → ⊥
+no_fault is = absurd cc
+
 -- and if that is for lack of memory, it is not that the reader failed
 pub not_read : {T : Type 0} (r : Result T ReadFault) → IsErrAnd r (λ e. e ≡ Memory) → IsErrOf r Read → ⊥
 not_read (Ok v) h is = absurd h

@@ -3,7 +3,7 @@ use Rattle.std.proofs.Common.{◌≡◌, ◌≤◌, ◌+◌, ◌++◌, List, [],
 use Rattle.std.proofs.lemmas.Bool.{false≢true}
 use Rattle.ra_world.specs.Input.{Reads}
 use Rattle.std.specs.Io.KnownBytes.{Consumes}
-use Rattle.ra_world.proofs.Pieces.{consumed_both, consumed_none, consumed_before, no_bytes, not_read, is_read, is_room, then_came, less_than, one_turn_more, all_turns, no_room, reads_all, reads_to_end, is_piece}
+use Rattle.ra_world.proofs.Pieces.{consumed_both, consumed_none, consumed_before, no_bytes, no_fault, not_read, is_read, is_room, then_came, less_than, one_turn_more, all_turns, no_room, reads_all, reads_to_end, is_piece}
 use Rattle.ra_world.proofs.io.limited_input.read_from.Goals as goal
 use Rattle.ra_world.proofs.io.limited_input.read_from.Goals.{else-loop-turn-test, then-loop-turn-test+then-left-eq0, then-loop-turn-test+else-left-eq0+in_ok-count+then-count-eq0}
 
@@ -146,6 +146,6 @@ returns g c =
       same_reference = told.0;
       bytes = told.2;
       at_most = (bytes, told.2.at_most, told.2.taken);
-      failed = λ is. absurd cc;
-      fault = (λ is. absurd cc, λ failed. absurd (false≢true (sym told.1 ∙ failed)));
+      failed = λ is. absurd (no_fault is);
+      fault = (λ is. absurd (no_fault is), λ failed. absurd (false≢true (sym told.1 ∙ failed)));
     }

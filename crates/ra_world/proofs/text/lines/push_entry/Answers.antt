@@ -103,3 +103,17 @@ returns-in_err-push_number-3-clause-err c =
     let p = err_from_is_err_and c.from_residual-in_err-push_number-3.result c.from_residual-in_err-push_number-3.ensures.1 in
     rw (p.1)
     (added_behind old mid_4 new (four e) (number e) is_4 added)
+
+pub returns-clause-ok : goal.returns-clause-ok
+returns-clause-ok c =
+    let e = c.args.entry.now in
+    let old = string_bytes c.args.text.now in
+    let mid_1 = string_bytes c.push_number.new.text in
+    let is_1 : mid_1 ≡ old ++ node e = c.in_ok-push_number.ensures.ok ∙ ap (λ (n : ℕ). old ++ field (decimal n)) c.get.ensures.value in
+    let mid_2 = string_bytes c.push_number-2.new.text in
+    let is_2 : mid_2 ≡ old ++ (two e) = both_added old mid_1 mid_2 (node e) (client e) is_1 c.in_ok-push_number-2.ensures.ok in
+    let mid_3 = string_bytes c.push_field.new.text in
+    let is_3 : mid_3 ≡ old ++ (three e) = both_added old mid_2 mid_3 (two e) (name e) is_2 (c.in_ok-push_field.ensures.ok ∙ ap (λ (xs : List ℕ). mid_2 ++ field xs) c.as_str.ensures) in
+    let mid_4 = string_bytes c.push_field-2.new.text in
+    let is_4 : mid_4 ≡ old ++ (four e) = both_added old mid_3 mid_4 (three e) (mode e) is_3 (c.in_ok-push_field-2.ensures.ok ∙ ap (λ (xs : List ℕ). mid_3 ++ field xs) c.word.ensures) in
+    both_added old mid_4 (string_bytes c.push_number-3.new.text) (four e) (number e) is_4 c.in_ok-push_number-3.ensures.ok

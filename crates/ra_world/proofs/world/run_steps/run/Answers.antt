@@ -1,4 +1,4 @@
-use Rattle.std.proofs.Common.{◌≡◌, ℕ, List, Result, map, sym, subst}
+use Rattle.std.proofs.Common.{◌≡◌, ℕ, List, Result, map, refl, sym, ap, subst}
 use Rattle.std.specs.Prelude.{◌↔◌, IfOk, OnOk, IsErrOf, IsOkUnless}
 use Rattle.std.proofs.lemmas.Result.{on_ok_weaker}
 use Rattle.ra_stamp.specs.NodeId.{IsNodeNumber}
@@ -62,3 +62,23 @@ returns-clause-allowed c number run =
     (subst (λ (w : WorldState). WorldRun w.count w.start c.as_slice.result.now → IsOkUnless c.step_through-stepped.result Memory) c.in_ok-world.ensures.ok
     c.step_through-stepped.ensures.allowed) in
     subst (λ (q : Result Report RunError). IsOkUnless q Memory) (sym c.and.ensures) (unless_and c.step_through-stepped.result report Memory (stepped run))
+
+pub step_through-stepped-requires : goal.step_through-stepped-requires
+step_through-stepped-requires c =
+    let ok = c.in_ok-world.ensures.ok in
+    record {
+      opening = record {
+        number = subst IsNodeNumber (sym (ap (λ (w : WorldState). w.count) ok)) c.in_ok-world.ensures.count;
+        count = refl;
+        start_is = refl;
+        made = ap (λ (w : WorldState). map (λ (move : Move). move.step) w.moves) ok;
+        run = c.in_ok-world.ensures.run;
+      };
+    }
+
+pub returns-clause-count : goal.returns-clause-count
+returns-clause-count c =
+    let report = c.into_report-report.result in
+    subst (λ (q : Result Report RunError). OnOk q (IsNodeNumber c.args.nodes)) (sym c.and.ensures)
+    (ok_and c.step_through-stepped.result report (λ _. IsNodeNumber c.args.nodes)
+    (on_ok_weaker c.step_through-stepped.result (λ _. c.in_ok-world.ensures.count) c.step_through-stepped.ensures.ok))

@@ -1,7 +1,10 @@
-use Rattle.std.proofs.Common.{◌≡◌, ◌+◌, ℕ, sym, subst, refl, inl, inr}
+use Rattle.std.proofs.Common.{◌≡◌, ◌+◌, ℕ, sym, ◌∙◌, subst, refl, inl, inr}
+use Rattle.std.proofs.lemmas.Result.{IfOk-at_ok}
+use Rattle.ra_node.specs.declared.outcome.Outcome.{Outcome}
+use Rattle.ra_world.specs.World.{with_move}
 use Rattle.ra_world.specs.declared.error.StepError.{StepError}
 use Rattle.ra_world.specs.Refused.{IsRefusedAt}
-use Rattle.ra_world.proofs.Refusing.{memory_or_not, no_run, refused_there, stops_before}
+use Rattle.ra_world.proofs.Refusing.{memory_or_not, one_end, one_refusal, no_refusal, made_next, no_run, refused_there, stops_before}
 use Rattle.ra_world.proofs.Runs.{prefix_of_steps, steps_go_on}
 use Rattle.ra_world.proofs.WorldLaws.{laws_below}
 use Rattle.ra_world.proofs.world.run_steps.step_through.Goals as goal
@@ -12,11 +15,11 @@ returns-in-Err-clause-refused c place cause is =
     let made = c.loop-place.invariant in
     let told = c.in-Err.ensures in
     elim (memory_or_not c.in-Err.cause) [
-      | inl same ↦ let ends = c.at.ensures.memory same in cc
+      | inl same ↦ absurd (no_refusal (sym (c.at.ensures.memory same) ∙ one_end is))
       | inr other ↦
-          let ends = c.at.ensures.refused other in
-          let here : place ≡ c.loop-place.place + 1 = cc in
-          let this : c.in-Err.cause ≡ cause = cc in
+          let ends = one_refusal (sym (c.at.ensures.refused other) ∙ one_end is) in
+          let here : place ≡ c.loop-place.place + 1 = sym ends.0 in
+          let this : c.in-Err.cause ≡ cause = ends.1 in
           let why = (told.refused c.in-Err.cause other).0 refl in
           let there =
           refused_there (prefix_of_steps laws_below.splits) (steps_go_on laws_below) c.args.world.now.count c.args.world.now.start c.loop-place.place all c.index-steps-place.result c.loop-place.world made
@@ -41,5 +44,13 @@ returns-in-Err-clause-memory c is =
       | inl same ↦
           stops_before c.args.world.now.count c.args.world.now.start c.loop-place.place c.args.steps.now c.index-steps-place.result c.loop-place.world c.step.new.self
           c.loop-place.invariant c.loop-place-test.true c.index-steps-place.is (c.in-Err.ensures.allowed.0 same) c.in-Err.ensures.err
-      | inr other ↦ let ends = c.at.ensures.refused other in absurd cc
+      | inr other ↦ absurd (no_refusal (sym (one_end is) ∙ c.at.ensures.refused other))
     ]
+
+pub loop-place-preserved : goal.loop-place-preserved
+loop-place-preserved c =
+    let outcome = c.in_default.field-0 in
+    let moved =
+    IfOk-at_ok (λ (o : Outcome). c.step.new.self ≡ with_move c.loop-place.world c.index-steps-place.result o.sends.items o.marks.items) c.in_default.is c.step.ensures.ok in
+    made_next c.args.world.now.count c.args.world.now.start c.loop-place.place c.args.steps.now c.index-steps-place.result c.loop-place.world c.step.new.self
+    outcome.sends.items outcome.marks.items c.loop-place.invariant c.loop-place-test.true c.index-steps-place.is moved c.step.ensures.run

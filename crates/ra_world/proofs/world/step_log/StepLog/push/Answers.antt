@@ -1,8 +1,10 @@
-use Rattle.std.proofs.Common.{arith, ◌≡◌, ◌<◌, ◌≤◌, ◌++◌, List, length, ap, ◌∙◌, subst, sym, refl}
+use Rattle.std.proofs.Common.{arith, ◌≡◌, ◌<◌, ◌≤◌, ◌++◌, ◌∷◌, [], List, length, ap, ◌∙◌, subst, sym, refl}
 use Rattle.ra_stamp.specs.declared.entry.Mark.{Mark}
 use Rattle.ra_world.specs.Quiet.{requests_in}
-use Rattle.ra_world.specs.StepLog.{LogState, moves_of}
-use Rattle.ra_world.proofs.LogCounts.{lost-le, repeated-le, lost_in_le, repeated_in_le, pushed}
+use Rattle.ra_node.specs.declared.outcome.Outcome.{Outcome}
+use Rattle.ra_world.specs.declared.step.Step.{Step}
+use Rattle.ra_world.specs.StepLog.{LogState, move_of, moves_of}
+use Rattle.ra_world.proofs.LogCounts.{lost-le, repeated-le, lost_in_le, repeated_in_le, made_more, pushed}
 use Rattle.ra_world.proofs.world.step_log.StepLog.push.Goals as goal
 
 pub overflow_add-self : goal.overflow_add-self
@@ -67,3 +69,10 @@ invariant_of-self g c =
     (c.from-2.ensures ∙ made)
     c.losses_of.ensures
     c.repeats_of.ensures
+
+pub returns : goal.returns
+returns g c =
+    let one : Step × Outcome = (c.args.step.now, c.args.outcome.now) in
+    ap moves_of c.and_pair-self-inside.ensures
+    ∙ made_more c.self.inside.made.items one
+    ∙ ap (λ (s : LogState). s.moves ++ move_of one ∷ []) c.self.view_is

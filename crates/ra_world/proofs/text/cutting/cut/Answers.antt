@@ -1,0 +1,17 @@
+use Rattle.std.proofs.Common.{◌≢◌, ℕ, get_or, sym, subst}
+use Rattle.std.specs.Prelude.{All, take}
+use Rattle.std.proofs.lemmas.List.{take_more, take_all}
+use Rattle.std.proofs.lemmas.List.Elements.{All-push}
+use Rattle.ra_world.proofs.text.cutting.cut.Goals as goal
+
+pub loop-place-preserved : goal.loop-place-preserved
+loop-place-preserved c =
+    let text = c.args.text.now in
+    let place = c.loop-place.place in
+    let P : ℕ → Type 0 = λ other. other ≢ c.args.byte in
+    subst (All P) (sym (take_more text place 0 c.loop-place-test.true)) (All-push P (take place text) (get_or text place 0) c.loop-place.invariant c.if-text-place.false)
+
+pub returns-clause-before : goal.returns-clause-before
+returns-clause-before c =
+    let P : ℕ → Type 0 = λ other. other ≢ c.args.byte in
+    subst (All P) (take_all c.loop-place.place c.args.text.now c.loop-place-test.false) c.loop-place.invariant

@@ -1,0 +1,16 @@
+use Rattle.std.proofs.Common.{[], codes, string_bytes}
+use Rattle.std.proofs.lemmas.Result.{err_from_is_err_and}
+use Rattle.ra_world.specs.Lines.{field}
+use Rattle.ra_world.proofs.Adding.{none_added, some_behind, both_added}
+use Rattle.ra_world.proofs.text.lines.push_field.Goals as goal
+
+pub returns-in_err-push_str-clause-err : goal.returns-in_err-push_str-clause-err
+returns-in_err-push_str-clause-err c =
+    let old = string_bytes c.args.text.now in
+    let p = err_from_is_err_and c.from_residual.result c.from_residual.ensures.1 in
+    rw (p.1) (none_added old (string_bytes c.push_str.new.self) (field c.args.field.now) c.in_err-push_str.ensures.bytes (some_behind [] 32 c.args.field.now))
+
+pub returns-clause-ok : goal.returns-clause-ok
+returns-clause-ok c =
+    both_added (string_bytes c.args.text.now) (string_bytes c.push_str.new.self) (string_bytes c.push_str-2.new.self) (codes " ") c.args.field.now
+    c.in_ok-push_str.ensures.bytes c.in_ok-push_str-2.ensures.bytes
