@@ -1,7 +1,7 @@
 use Rattle.std.proofs.Common.{ℕ, ◌<◌, slice_index_or}
 use Rattle.std.specs.Prelude.{IsTrue}
 use Rattle.ra_schedule.specs.declared.driver.client_progress.Progress.{Progress}
-use Rattle.ra_schedule.proofs.driver.begun.someone_waits.Given as goal
+use Rattle.ra_schedule.proofs.driver.begun.is_stuck.Given as goal
 
 -- none of those so far waits
 abbrev pub invariant-loop-progress : goal.invariant-loop-progress

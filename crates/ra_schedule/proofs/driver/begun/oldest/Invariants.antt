@@ -1,6 +1,6 @@
 use Rattle.std.proofs.Common.{ℕ, ◌<◌, ◌+◌}
 use Rattle.ra_schedule.specs.Shrinking.{CanGoOn}
-use Rattle.ra_schedule.proofs.driver.begun.first_to_go_on.Given as goal
+use Rattle.ra_schedule.proofs.driver.begun.oldest.Given as goal
 
 -- none of the clients so far can go on
 abbrev pub invariant-loop-place : goal.invariant-loop-place
