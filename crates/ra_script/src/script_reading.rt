@@ -4,7 +4,6 @@ pub mod operation;
 pub mod shape_note;
 
 ghost use Rattle.std.specs.Prelude.{◌≡◌, ◌<◌, ◌≤◌, ℕ, List, [], ◌∷◌, ◌++◌, Ok, length, map, IsTrue, OnOk, IfOk, IfErr, IsErrOf, MatchResult};
-ghost use Rattle.std.specs.List.{list_all};
 ghost use Rattle.toml.specs.View.{table_view};
 ghost use Rattle.ra_stamp.specs.NodeId.{IsNodeNumber};
 ghost use Rattle.ra_schedule.specs.declared.script.Op.{Op};
@@ -109,7 +108,10 @@ fn add_client(
     }
     script.add_client(alloc, node)?;
     for &string in strings {
-        add_op(script, string)?;
+        match add_op(script, string) {
+            Ok(()) => {}
+            Err(fault) => return Err(fault),
+        }
     }
     Ok(())
 }
@@ -121,13 +123,6 @@ fn are_placed(nodes: u16, clients: &[ClientRef<'_>]) -> bool
     if clients.is_empty() || clients.len() > Script::MAX_CLIENTS {
         return false;
     }
-    are_at_nodes(nodes, clients)
-}
-
-/// Returns whether each client is at one of the nodes. It does not allocate.
-fn are_at_nodes(nodes: u16, clients: &[ClientRef<'_>]) -> bool
-    ensures { result ≡ list_all (λ client. spec.is_up_to nodes client.node) clients.now }
-{
     for client in clients {
         match client.node_up_to(nodes) {
             Some(_) => {}
@@ -180,7 +175,10 @@ fn script_with(alloc: Global, nodes: u16, clients: &[ClientRef<'_>]) -> Result<S
     for client in clients {
         // Each client is at one of the nodes.
         let node = client.node_up_to(nodes).unwrap();
-        add_client(alloc, &mut script, node, &client.ops)?;
+        match add_client(alloc, &mut script, node, &client.ops) {
+            Ok(()) => {}
+            Err(fault) => return Err(fault),
+        }
     }
     Ok(script)
 }
@@ -216,7 +214,13 @@ pub fn read_script(alloc: Global, text: &[u8]) -> Result<Script, ScriptError>
     ensures only { (script : ScriptState) → Means text.now script
         → MatchResult result (λ read. read ≡ script) (λ fault. fault ≡ ScriptError.Memory) }
 {
-    let tree = tree_of(alloc, text)?;
-    let document = document_of(alloc, &tree)?;
+    let tree = match tree_of(alloc, text) {
+        Ok(tree) => tree,
+        Err(fault) => return Err(fault),
+    };
+    let document = match document_of(alloc, &tree) {
+        Ok(document) => document,
+        Err(fault) => return Err(fault),
+    };
     script_in(alloc, &document)
 }

@@ -101,7 +101,10 @@ fn strings_of<'a>(alloc: Global, items: &'a Array) -> Result<Vec<&'a str>, Scrip
 {
     let mut strings = Vec::new(alloc);
     for item in items {
-        push_string(&mut strings, item)?;
+        match push_string(&mut strings, item) {
+            Ok(()) => {}
+            Err(fault) => return Err(fault),
+        }
     }
     Ok(strings)
 }
@@ -172,7 +175,10 @@ fn clients_of<'a>(alloc: Global, tables: &'a Array) -> Result<Vec<ClientRef<'a>>
 {
     let mut clients = Vec::new(alloc);
     for table in tables {
-        push_client(alloc, &mut clients, table)?;
+        match push_client(alloc, &mut clients, table) {
+            Ok(()) => {}
+            Err(fault) => return Err(fault),
+        }
     }
     Ok(clients)
 }

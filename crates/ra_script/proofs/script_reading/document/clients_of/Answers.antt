@@ -1,5 +1,4 @@
 use Rattle.std.proofs.Common.{map}
-use Rattle.std.proofs.lemmas.Result.{err_from_is_err_and}
 use Rattle.ra_script.specs.Document.{client_of, client_table}
 use Rattle.ra_script.proofs.Trees.{IsReadTo-none, IsReadTo-more, IsReadTo-all, IsReadTo-err}
 use Rattle.ra_script.proofs.script_reading.document.clients_of.Goals as goal
@@ -7,18 +6,16 @@ use Rattle.ra_script.proofs.script_reading.document.clients_of.Goals as goal
 pub loop-table-init : goal.loop-table-init
 loop-table-init c = rw c.new-clients.ensures.items (IsReadTo-none client_of c.args.tables.now.items)
 
-pub returns-in_err-push_client-clause-err : goal.returns-in_err-push_client-clause-err
-returns-in_err-push_client-clause-err c =
-    let p = err_from_is_err_and c.from_residual.result c.from_residual.ensures.1 in
+pub returns-in-Err-clause-err : goal.returns-in-Err-clause-err
+returns-in-Err-clause-err c =
     let lt = rw c.deref-table-items.ensures.value at c.loop-table-test.true in
     let is = rw c.deref-table-items.ensures.value at c.table-item.is in
-    rw (p.1, p.2)
-    (IsReadTo-err client_of c.args.tables.now.items c.loop-table.table-index (map client_table c.loop-table.clients.items) c.table-item.result c.in_err-push_client.field-0.0
-    lt is c.in_err-push_client.ensures.err c.loop-table.invariant)
+    (IsReadTo-err client_of c.args.tables.now.items c.loop-table.table-index (map client_table c.loop-table.clients.items) c.table-item.result c.in-Err.fault
+    lt is c.in-Err.ensures.err c.loop-table.invariant)
 
 pub loop-table-preserved : goal.loop-table-preserved
 loop-table-preserved c =
-    let (client, seen, grown) = c.in_ok-push_client.ensures.ok in
+    let (client, seen, grown) = c.in-Ok.ensures.ok in
     let lt = rw c.deref-table-items.ensures.value at c.loop-table-test.true in
     let is = rw c.deref-table-items.ensures.value at c.table-item.is in
     rw grown

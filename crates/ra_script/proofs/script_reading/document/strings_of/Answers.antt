@@ -1,4 +1,3 @@
-use Rattle.std.proofs.lemmas.Result.{err_from_is_err_and}
 use Rattle.toml.specs.Data.{as_str}
 use Rattle.ra_script.specs.Document.{texts}
 use Rattle.ra_script.proofs.Trees.{IsReadTo-none, IsReadTo-more, IsReadTo-all, IsReadTo-err}
@@ -7,18 +6,16 @@ use Rattle.ra_script.proofs.script_reading.document.strings_of.Goals as goal
 pub loop-item-init : goal.loop-item-init
 loop-item-init c = rw c.new-strings.ensures.items (IsReadTo-none as_str c.args.items.now.items)
 
-pub returns-in_err-push_string-clause-err : goal.returns-in_err-push_string-clause-err
-returns-in_err-push_string-clause-err c =
-    let p = err_from_is_err_and c.from_residual.result c.from_residual.ensures.1 in
+pub returns-in-Err-clause-err : goal.returns-in-Err-clause-err
+returns-in-Err-clause-err c =
     let lt = rw c.deref-item-items.ensures.value at c.loop-item-test.true in
     let is = rw c.deref-item-items.ensures.value at c.item-item.is in
-    rw (p.1, p.2)
-    (IsReadTo-err as_str c.args.items.now.items c.loop-item.item-index (texts c.loop-item.strings.items) c.item-item.result c.in_err-push_string.field-0.0
-    lt is c.in_err-push_string.ensures.err c.loop-item.invariant)
+    (IsReadTo-err as_str c.args.items.now.items c.loop-item.item-index (texts c.loop-item.strings.items) c.item-item.result c.in-Err.fault
+    lt is c.in-Err.ensures.err c.loop-item.invariant)
 
 pub loop-item-preserved : goal.loop-item-preserved
 loop-item-preserved c =
-    let (string, seen, grown) = c.in_ok-push_string.ensures.ok in
+    let (string, seen, grown) = c.in-Ok.ensures.ok in
     let lt = rw c.deref-item-items.ensures.value at c.loop-item-test.true in
     let is = rw c.deref-item-items.ensures.value at c.item-item.is in
     rw grown

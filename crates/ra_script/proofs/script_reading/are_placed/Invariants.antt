@@ -1,7 +1,7 @@
 use Rattle.std.proofs.Common.{◌≡◌, true, take}
 use Rattle.std.specs.List.{list_all}
 use Rattle.ra_script.specs.ScriptText.{is_up_to}
-use Rattle.ra_script.proofs.script_reading.are_at_nodes.Given as goal
+use Rattle.ra_script.proofs.script_reading.are_placed.Given as goal
 
 -- each client so far is at one of the nodes
 abbrev pub invariant-loop-client : goal.invariant-loop-client
