@@ -3,6 +3,7 @@ pub mod TraceLaws
 pub mod Cuts
 pub mod Decimals
 pub mod Befores
+pub mod FieldReads
 pub mod Lines
 pub mod Names
 pub mod Rows
@@ -13,6 +14,7 @@ pub mod Refusing
 pub mod Prefixes
 pub mod Verdicts
 pub mod Deliveries
+pub mod Fitting
 pub mod Due
 pub mod Taking
 pub mod Lengths

@@ -348,23 +348,27 @@ no_more laws prefix lines r s why w right h = at h.more h.longer_is h.left_is
 
 -- ---- A whole trace
 
+-- what begins with a byte is not empty
+some_byte : (byte : ℕ) (bytes : List ℕ) → [] ≡ byte ∷ bytes → ⊥
+some_byte byte bytes e = cc
+
 mark_has_bytes : (mark : Mark) (rest : List ℕ) → [] ≡ mark_line mark ++ rest → ⊥
-mark_has_bytes (Requested entry) rest e = cc
-mark_has_bytes (Entered entry) rest e = cc
-mark_has_bytes (Left entry) rest e = cc
+mark_has_bytes (Requested entry) rest e = some_byte _ _ e
+mark_has_bytes (Entered entry) rest e = some_byte _ _ e
+mark_has_bytes (Left entry) rest e = some_byte _ _ e
 
 step_has_bytes : (step : Step) (rest : List ℕ) → [] ≡ step_line step ++ rest → ⊥
-step_has_bytes (Ask node client name mode) rest e = cc
-step_has_bytes (Leave node client name) rest e = cc
-step_has_bytes (Deliver message) rest e = cc
-step_has_bytes (Lose message) rest e = cc
-step_has_bytes (Repeat message) rest e = cc
+step_has_bytes (Ask node client name mode) rest e = some_byte _ _ e
+step_has_bytes (Leave node client name) rest e = some_byte _ _ e
+step_has_bytes (Deliver message) rest e = some_byte _ _ e
+step_has_bytes (Lose message) rest e = some_byte _ _ e
+step_has_bytes (Repeat message) rest e = some_byte _ _ e
 
 pub line_has_bytes : (line : Line) (rest : List ℕ) → [] ≡ line_text line ++ rest → ⊥
-line_has_bytes (First version nodes start) rest e = cc
+line_has_bytes (First version nodes start) rest e = some_byte _ _ e
 line_has_bytes (Stepped step) rest e = step_has_bytes step rest e
 line_has_bytes (Marked mark) rest e = mark_has_bytes mark rest e
-line_has_bytes Last rest e = cc
+line_has_bytes Last rest e = some_byte _ _ e
 
 -- if nothing is left there are no more lines
 nothing_left : (prefix lines : List Line) (s : List ℕ) → Longer prefix lines [] s → SameEnd prefix lines [] s

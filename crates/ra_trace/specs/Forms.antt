@@ -6,6 +6,7 @@ use Rattle.std.specs.Char.{is_ascii_digit}
 use Rattle.std.specs.List.{list_all}
 use Rattle.std.specs.Str.{bytes_eq}
 use Rattle.std.specs.Str.Parse.{digits_value}
+use Rattle.ra_stamp.specs.Mark.{entry_of_mark}
 use Rattle.ra_stamp.specs.Name.{is_name_byte}
 use Rattle.ra_stamp.specs.declared.mode.Mode.{Mode}
 use Rattle.ra_stamp.specs.declared.mode.Mode.TheVariants.{Shared, Exclusive, IntentShared, IntentExclusive, SharedIntentExclusive}
@@ -224,9 +225,7 @@ allows_entry version entry = has_node version entry.stamp.node && has_mode versi
 
 -- whether a version allows a mark: the node and the mode of its request
 abbrev pub allows_mark : Version → Mark → Bool
-allows_mark version (Requested entry) = allows_entry version entry
-allows_mark version (Entered entry) = allows_entry version entry
-allows_mark version (Left entry) = allows_entry version entry
+allows_mark version mark = allows_entry version (entry_of_mark mark)
 
 -- whether a version allows a message: its two nodes, and the mode of a REQUEST
 abbrev pub allows_message : Version → Message → Bool

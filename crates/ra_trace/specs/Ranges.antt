@@ -1,10 +1,10 @@
 -- What the types of messages, entries, marks and steps say of the ranges of their fields in what is written: everything
 -- but that numbers are 1 or more.
 use Rattle.std.specs.Prelude.{◌≤◌}
+use Rattle.ra_stamp.specs.Mark.{entry_of_mark}
 use Rattle.ra_stamp.specs.Message.{seq_of}
 use Rattle.ra_stamp.specs.declared.entry.Entry.{Entry}
 use Rattle.ra_stamp.specs.declared.entry.Mark.{Mark}
-use Rattle.ra_stamp.specs.declared.entry.Mark.TheVariants.{Requested, Entered, Left}
 use Rattle.ra_stamp.specs.declared.message.Message.{Message}
 use Rattle.ra_world.specs.declared.step.Step.{Step}
 use Rattle.ra_world.specs.declared.step.Step.TheVariants.{Ask, Leave, Deliver, Lose, Repeat}
@@ -17,9 +17,7 @@ EntryFits entry = 1 ≤ entry.stamp.seq → IsEntryLine Two entry
 
 -- if the number of the mark's request is 1 or more, each field of the mark is in its range in version 2
 abbrev pub MarkFits : Mark → Type 0
-MarkFits (Requested entry) = EntryFits entry
-MarkFits (Entered entry) = EntryFits entry
-MarkFits (Left entry) = EntryFits entry
+MarkFits mark = EntryFits (entry_of_mark mark)
 
 -- if the message's number is 1 or more, each of its fields is in its range in version 2
 abbrev pub MessageFits : Message → Type 0

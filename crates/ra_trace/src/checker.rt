@@ -16,7 +16,7 @@ use crate::line::Line;
 use crate::line::version::Version;
 use crate::marked_table::{allows, try_mark};
 use crate::{Cause, TraceError, Verdict};
-use ra_stamp::{Mark, Marks, NodeId, equal_is_same};
+use ra_stamp::{Mark, Marks, equal_is_same};
 use ra_table::Table;
 use ra_world::{MarklessWorld, Step, StepError};
 use std::alloc::Global;
@@ -47,7 +47,7 @@ pub enum Judgement {
 }
 
 impl Checker {
-    ghost use Rattle.ra_trace.specs.Checking.{due_of, HasSameDue, IsOpening, Judged, IsCheckerOf};
+    ghost use Rattle.ra_trace.specs.Checking.{due_of, HasSameDue, Judged, IsCheckerOf};
     ghost use Rattle.ra_trace.specs.Reading.{HasBegun};
 
     /// Makes the checker after this line, or answers `None` if it is not a first line of its version.
@@ -74,38 +74,18 @@ impl Checker {
         if !version.has_node(*nodes) {
             return Ok(None);
         }
-        match Checker::opening(alloc, *version, *nodes, *start) {
-            Ok(checker) => Ok(Some(checker)),
-            Err(fault) => Err(fault),
-        }
-    }
-
-    /// Makes the checker after the first line of a trace of this many nodes.
-    ///
-    /// # Errors
-    ///
-    /// `Memory`: memory ran out.
-    fn opening(
-        alloc: Global,
-        version: Version,
-        nodes: NodeId,
-        start: u64,
-    ) -> Result<Checker, TraceError>
-        ensures ok { IfOk result (IsOpening version nodes start) }
-        ensures err { IfErr result (λ fault. fault ≡ TraceError.Memory) }
-    {
         // There are 1 to 64 nodes, so only `Memory` can come.
-        let Ok(world) = MarklessWorld::new(alloc, nodes.get(), start) else {
+        let Ok(world) = MarklessWorld::new(alloc, nodes.get(), *start) else {
             return Err(TraceError::Memory);
         };
         match Table::new(alloc) {
-            Ok(table) => Ok(Checker {
-                version,
+            Ok(table) => Ok(Some(Checker {
+                version: *version,
                 world,
                 table,
                 marks: Marks::new(alloc),
                 come: 0,
-            }),
+            })),
             Err(_) => {
                 // By a call, since to drop each of its parts here is long to prove.
                 drop(world);
@@ -208,7 +188,11 @@ impl Checker {
             }
             return Ok(Judgement::Wrong(Cause::Table));
         }
-        match try_mark(&mut self.table, mark)? {
+        let refused = match try_mark(&mut self.table, mark) {
+            Ok(refused) => refused,
+            Err(fault) => return Err(fault),
+        };
+        match refused {
             Some(_) => Ok(Judgement::Wrong(Cause::Table)),
             None => {
                 self.come += 1;

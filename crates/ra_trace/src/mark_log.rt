@@ -41,60 +41,7 @@ enum MarkJudgement {
 }
 
 impl MarkLog {
-    /// Makes the log of no marks.
-    ///
-    /// # Errors
-    ///
-    /// `Memory`: memory ran out.
-    fn new(alloc: Global) -> Result<MarkLog, TraceError>
-        ensures ok { IfOk result IsNewLog }
-        ensures err { IfErr result (λ fault. fault ≡ TraceError.Memory) }
-    {
-        let Ok(table) = Table::new(alloc) else {
-            return Err(TraceError::Memory);
-        };
-        Ok(MarkLog {
-            table,
-            requests: 0,
-            grants: 0,
-        })
-    }
-
-    /// Takes a mark that the lock table made, into the counts.
-    fn count(&mut self, mark: &Mark)
-        requires requests { self.old.requests < 16777217 }
-        requires grants { self.old.grants < 16777217 }
-        ensures table { self.new.table ≡ self.old.table }
-        ensures requests { self.new.requests ≡ self.old.requests + requests_in (mark.now ∷ []) }
-        ensures grants { self.new.grants ≡ self.old.grants + grants_in (mark.now ∷ []) }
-    {
-        match mark {
-            Mark::Requested(_) => self.requests += 1,
-            Mark::Entered(_) => self.grants += 1,
-            Mark::Left(_) => {}
-        }
-    }
-
-    /// Takes the next mark, and says what it is. After a wrong mark, or without memory, nothing is promised of the log.
-    ///
-    /// # Errors
-    ///
-    /// `Memory`: memory ran out.
-    fn take(&mut self, mark: &Mark) -> Result<MarkJudgement, TraceError>
-        requires requests { self.old.requests < 16777217 }
-        requires grants { self.old.grants < 16777217 }
-        ensures { JudgedMark self.old mark.now self.new result }
-    {
-        match try_mark(&mut self.table, mark)? {
-            Some(cause) => Ok(MarkJudgement::Wrong(cause)),
-            None => {
-                self.count(mark);
-                Ok(MarkJudgement::Right)
-            }
-        }
-    }
-
-    /// Takes the next line, and says what it is.
+    /// Takes the next line, and says what it is. After a wrong mark, or without memory, nothing is promised of the log.
     ///
     /// # Errors
     ///
@@ -104,12 +51,22 @@ impl MarkLog {
         requires grants { self.old.grants < 16777217 }
         ensures { JudgedLine self.old line.now self.new result }
     {
-        match line {
-            Line::Marked(mark) => self.take(mark),
-            Line::First { .. } | Line::Stepped(_) | Line::Last => {
-                Ok(MarkJudgement::Wrong(MarkCause::Line))
-            }
+        let Line::Marked(mark) = line else {
+            return Ok(MarkJudgement::Wrong(MarkCause::Line));
+        };
+        let refused = match try_mark(&mut self.table, mark) {
+            Ok(refused) => refused,
+            Err(fault) => return Err(fault),
+        };
+        if let Some(cause) = refused {
+            return Ok(MarkJudgement::Wrong(cause));
         }
+        match mark {
+            Mark::Requested(_) => self.requests += 1,
+            Mark::Entered(_) => self.grants += 1,
+            Mark::Left(_) => {}
+        }
+        Ok(MarkJudgement::Right)
     }
 }
 
@@ -133,7 +90,10 @@ fn take_next<R: Read, S: LineSource<R>>(
         → TurnsMarks limit left old (R.remaining reader.new) log.new number taken.new result }
     ensures some { IfOk result (λ next. SomeMarkTaken left taken.new next) }
 {
-    S::next_line(reader, room, taken, left)?;
+    match S::next_line(reader, room, taken, left) {
+        Ok(()) => {}
+        Err(fault) => return Err(fault),
+    }
     match &room.line {
         Some(line) => log.take_line(line),
         None if *taken == 0 => Ok(MarkJudgement::End),
@@ -160,7 +120,10 @@ fn verdict_after<R: Read, S: LineSource<R>>(
     let mut left = limit;
     let mut line = 1;
     loop {
-        let next = take_next::<R, S>(reader, &mut room, &mut taken, log, left)?;
+        let next = match take_next::<R, S>(reader, &mut room, &mut taken, log, left) {
+            Ok(next) => next,
+            Err(fault) => return Err(fault),
+        };
         if let MarkJudgement::Wrong(cause) = next {
             return Ok(MarksVerdict::Invalid { line, cause });
         }
@@ -188,7 +151,14 @@ fn check_by<R: Read, S: LineSource<R>>(
     requires { limit ≤ 16777216 }
     ensures { ChecksLog limit (R.remaining reader.old) (R.remaining reader.new) result }
 {
-    let mut log = MarkLog::new(alloc)?;
+    let Ok(table) = Table::new(alloc) else {
+        return Err(TraceError::Memory);
+    };
+    let mut log = MarkLog {
+        table,
+        requests: 0,
+        grants: 0,
+    };
     let verdict = verdict_after::<R, S>(reader, &mut log, limit as usize);
     // By a call, since to drop each of its parts here is long to prove.
     drop(log);

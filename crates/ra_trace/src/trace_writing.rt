@@ -24,46 +24,39 @@ use ra_world::{
 use std::alloc::Global;
 use std::io::Write;
 
-/// Adds a word and two numbers.
-fn push_numbers(text: &mut String, word: &str, first: u64, second: u64) -> Result<(), Memory>
-    ensures { OnOk result (string_bytes text.new
-        ≡ string_bytes text.old ++ word.now ++ field (decimal first) ++ field (decimal second)) }
-{
-    text.push_str(word)?;
-    push_number(text, first)?;
-    push_number(text, second)
-}
-
 /// Adds the first line of a trace.
 fn push_first_line(text: &mut String, nodes: u16, start: u64) -> Result<(), Memory>
     ensures { OnOk result (string_bytes text.new ≡ string_bytes text.old ++ spec.line_text (Line.First Version.Two nodes start)) }
 {
-    push_numbers(text, "trace 2", u64::from(nodes), start)?;
+    text.push_str("trace 2")?;
+    push_number(text, nodes)?;
+    push_number(text, start)?;
     text.push_str("\n")?;
     Ok(())
 }
 
-/// Adds a word, sender, receiver and name.
-fn push_route(
+/// Adds a word, a node, a number and a name. The number is that of a client, or of the node that gets a message.
+fn push_start(
     text: &mut String,
     word: &str,
-    from: NodeId,
-    to: NodeId,
+    node: NodeId,
+    second: u64,
     name: &Name,
 ) -> Result<(), Memory>
     ensures { OnOk result (string_bytes text.new
-        ≡ string_bytes text.old ++ field word.now ++ field (decimal from) ++ field (decimal to) ++ field name.now) }
+        ≡ string_bytes text.old ++ word.now ++ field (decimal node) ++ field (decimal second) ++ field name.now) }
 {
-    push_field(text, word)?;
-    push_number(text, from.get())?;
-    push_number(text, to.get())?;
+    text.push_str(word)?;
+    push_number(text, node.get())?;
+    push_number(text, second)?;
     push_field(text, name.as_str())
 }
 
-/// Adds the fields of a message.
-fn push_message(text: &mut String, message: &Message) -> Result<(), Memory>
-    ensures { OnOk result (string_bytes text.new ≡ string_bytes text.old ++ spec.message_fields message.now) }
+/// Adds a word and the fields of a message.
+fn push_sent(text: &mut String, word: &str, message: &Message) -> Result<(), Memory>
+    ensures { OnOk result (string_bytes text.new ≡ string_bytes text.old ++ word.now ++ spec.message_fields message.now) }
 {
+    text.push_str(word)?;
     match message {
         Message::Request {
             from,
@@ -72,7 +65,7 @@ fn push_message(text: &mut String, message: &Message) -> Result<(), Memory>
             mode,
             seq,
         } => {
-            push_route(text, "request", *from, *to, name)?;
+            push_start(text, " request", *from, u64::from(to.get()), name)?;
             push_field(text, mode.word())?;
             push_number(text, *seq)
         }
@@ -82,33 +75,10 @@ fn push_message(text: &mut String, message: &Message) -> Result<(), Memory>
             name,
             seq,
         } => {
-            push_route(text, "reply", *from, *to, name)?;
+            push_start(text, " reply", *from, u64::from(to.get()), name)?;
             push_number(text, *seq)
         }
     }
-}
-
-/// Adds a word, node, client and name.
-fn push_asker(
-    text: &mut String,
-    word: &str,
-    node: NodeId,
-    client: u32,
-    name: &Name,
-) -> Result<(), Memory>
-    ensures { OnOk result (string_bytes text.new
-        ≡ string_bytes text.old ++ word.now ++ field (decimal node) ++ field (decimal client) ++ field name.now) }
-{
-    push_numbers(text, word, u64::from(node.get()), u64::from(client))?;
-    push_field(text, name.as_str())
-}
-
-/// Adds a word and a message.
-fn push_sent(text: &mut String, word: &str, message: &Message) -> Result<(), Memory>
-    ensures { OnOk result (string_bytes text.new ≡ string_bytes text.old ++ word.now ++ spec.message_fields message.now) }
-{
-    text.push_str(word)?;
-    push_message(text, message)
 }
 
 /// Adds the words and fields of a step.
@@ -122,26 +92,16 @@ fn push_step(text: &mut String, step: &Step) -> Result<(), Memory>
             name,
             mode,
         } => {
-            push_asker(text, "ask", *node, *client, name)?;
+            push_start(text, "ask", *node, u64::from(*client), name)?;
             push_field(text, mode.word())
         }
-        Step::Leave { node, client, name } => push_asker(text, "release", *node, *client, name),
+        Step::Leave { node, client, name } => {
+            push_start(text, "release", *node, u64::from(*client), name)
+        }
         Step::Deliver(message) => push_sent(text, "deliver", message),
         Step::Lose(message) => push_sent(text, "lose", message),
         Step::Repeat(message) => push_sent(text, "repeat", message),
     }
-}
-
-/// Adds the lines of marks.
-fn push_marks(text: &mut String, marks: &Marks) -> Result<(), Memory>
-    ensures text { OnOk result (string_bytes text.new ≡ string_bytes text.old ++ flat_map mark_line marks.now.items) }
-    ensures fit { OnOk result (All MarkFits marks.now.items) }
-{
-    for mark in marks.as_slice() {
-        mark_fits(mark);
-        push_mark_line(text, mark)?;
-    }
-    Ok(())
 }
 
 /// Adds the lines of a step and of its marks.
@@ -153,7 +113,11 @@ fn push_move(text: &mut String, step: &Step, marks: &Marks) -> Result<(), Memory
     step_fits(step);
     push_step(text, step)?;
     text.push_str("\n")?;
-    push_marks(text, marks)
+    for mark in marks.as_slice() {
+        mark_fits(mark);
+        push_mark_line(text, mark)?;
+    }
+    Ok(())
 }
 
 /// Returns the refusal of a trace that a refusal of its run is.
@@ -233,7 +197,10 @@ fn trace_steps(
         → (place : ℕ) × (place < length steps.now.items) × WorldRun n start (take (place + 1) steps.now.items) }
 {
     for (place, step) in steps.as_slice().iter().enumerate() {
-        trace_step(alloc, text, world, place, step)?;
+        match trace_step(alloc, text, world, place, step) {
+            Ok(()) => {}
+            Err(fault) => return Err(fault),
+        }
     }
     Ok(())
 }
@@ -258,7 +225,10 @@ fn trace_run(
     let Ok(()) = push_first_line(text, nodes, start) else {
         return Err(WriteTraceError::Memory);
     };
-    trace_steps(alloc, text, world, steps)?;
+    match trace_steps(alloc, text, world, steps) {
+        Ok(()) => {}
+        Err(fault) => return Err(fault),
+    }
     let Ok(()) = text.push_str("end\n") else {
         return Err(WriteTraceError::Memory);
     };
@@ -296,13 +266,18 @@ pub fn trace_text(
         → IsOkUnless result WriteTraceError.Memory }
     ensures early { IfErr result (λ fault. fault ≢ WriteTraceError.Write) }
 {
-    let mut world = opening_world(alloc, nodes, start)?;
+    let mut world = match opening_world(alloc, nodes, start) {
+        Ok(world) => world,
+        Err(fault) => return Err(fault),
+    };
     let mut text = String::new(alloc);
     let written = trace_run(alloc, &mut text, &mut world, nodes, start, steps);
-    // By a call, and before the `?`, since to drop each of its parts here is long to prove.
+    // By a call, and before any exit, since to drop each of its parts here is long to prove.
     drop(world);
-    written?;
-    Ok(text)
+    match written {
+        Ok(()) => Ok(text),
+        Err(fault) => Err(fault),
+    }
 }
 
 /// Writes the trace of a run, as [`trace_text`] gives it: the whole run is made first. No write that failed is tried again.

@@ -10,7 +10,7 @@ ghost use Rattle.ra_trace.specs.NextLine.{EndsText};
 ghost use Rattle.ra_trace.specs.Reading.{Answers};
 
 use crate::checker::{Checker, Judgement};
-use crate::line_source::byte_lines::is_at_end;
+use crate::line_source::byte_lines::next_byte;
 use crate::line_source::{ByBytes, FromBuffer, LineRoom, LineSource};
 use crate::text_limits::MAX_TEXT;
 use crate::{Cause, TraceError, Verdict};
@@ -18,21 +18,12 @@ use ra_stamp::Mark;
 use std::alloc::Global;
 use std::io::{BufRead, Read};
 
-/// Returns that this line is not one that may be there.
-fn wrong_at(line: u64) -> Verdict
-    ensures { result ≡ Verdict.Invalid line Cause.Line }
-{
-    Verdict::Invalid {
-        line,
-        cause: Cause::Line,
-    }
-}
-
-/// Returns the verdict after a right last line. A line after it would have this number, and the text may still have `left` bytes.
+/// Returns the verdict after a right last line, for which it reads one byte. A line after it would have this number, and the text may
+/// still have `left` bytes.
 ///
 /// # Errors
 ///
-/// `Read`, `Limit`.
+/// `Read`: the reader failed. `Limit`: a byte came, and none is left.
 fn ending<R: Read>(
     reader: &mut R,
     checker: &Checker,
@@ -41,10 +32,14 @@ fn ending<R: Read>(
 ) -> Result<Verdict, TraceError>
     ensures { EndsText left (R.remaining reader.old) (R.remaining reader.new) checker.now number result }
 {
-    if is_at_end(reader, left)? {
-        Ok(checker.totals())
-    } else {
-        Ok(wrong_at(number))
+    match next_byte(reader) {
+        Ok(None) => Ok(checker.totals()),
+        Ok(Some(_)) if left == 0 => Err(TraceError::Limit),
+        Ok(Some(_)) => Ok(Verdict::Invalid {
+            line: number,
+            cause: Cause::Line,
+        }),
+        Err(fault) => Err(fault),
     }
 }
 
@@ -64,7 +59,10 @@ fn take_first<R: Read, S: LineSource<R>>(
     ensures within { IfOk result (λ opened. taken.new ≤ limit) }
 {
     let mut room = LineRoom::new();
-    S::next_line(reader, &mut room, taken, limit)?;
+    match S::next_line(reader, &mut room, taken, limit) {
+        Ok(()) => {}
+        Err(fault) => return Err(fault),
+    }
     match &room.line {
         Some(line) => Checker::after_first(alloc, line),
         None => Ok(None),
@@ -91,7 +89,10 @@ fn take_next<R: Read, S: LineSource<R>>(
     ensures some { IfOk result (λ next. SomeTaken left taken.new next) }
     ensures due { IfOk result (λ next. (cause : Cause) → next ≡ Judgement.Wrong cause → HasSameDue checker.old checker.new) }
 {
-    S::next_line(reader, room, taken, left)?;
+    match S::next_line(reader, room, taken, left) {
+        Ok(()) => {}
+        Err(fault) => return Err(fault),
+    }
     match &room.line {
         Some(line) => checker.take(alloc, line),
         None => Ok(Judgement::Wrong(Cause::Line)),
@@ -126,7 +127,10 @@ fn verdict_after<R: Read, S: LineSource<R>>(
     let mut taken = 0;
     let mut room = LineRoom::new();
     loop {
-        let next = take_next::<R, S>(alloc, reader, &mut room, &mut taken, checker, left)?;
+        let next = match take_next::<R, S>(alloc, reader, &mut room, &mut taken, checker, left) {
+            Ok(next) => next,
+            Err(fault) => return Err(fault),
+        };
         if let Judgement::Wrong(cause) = next {
             *due = checker.due();
             return Ok(Verdict::Invalid {
@@ -160,14 +164,21 @@ fn check_by<R: Read, S: LineSource<R>>(
 {
     let limit = limit as usize;
     let mut taken = 0;
-    match take_first::<R, S>(alloc, reader, &mut taken, limit)? {
+    let opened = match take_first::<R, S>(alloc, reader, &mut taken, limit) {
+        Ok(opened) => opened,
+        Err(fault) => return Err(fault),
+    };
+    match opened {
         Some(mut checker) => {
             let verdict = verdict_after::<R, S>(alloc, reader, taken, &mut checker, limit, due);
             // By a call, since to drop each of its parts here is long to prove.
             drop(checker);
             verdict
         }
-        None => Ok(wrong_at(1)),
+        None => Ok(Verdict::Invalid {
+            line: 1,
+            cause: Cause::Line,
+        }),
     }
 }
 

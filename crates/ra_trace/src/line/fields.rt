@@ -33,8 +33,13 @@ fn value_of(digits: &[u8]) -> Option<u64>
         if !byte.is_ascii_digit() {
             return None;
         }
-        let tenfold = value.checked_mul(10)?;
-        value = tenfold.checked_add(u64::from(byte - b'0'))?;
+        let Some(tenfold) = value.checked_mul(10) else {
+            return None;
+        };
+        let Some(more) = tenfold.checked_add(u64::from(byte - b'0')) else {
+            return None;
+        };
+        value = more;
     }
     Some(value)
 }
@@ -64,7 +69,9 @@ fn number_if_within(low: u64, high: u64, digits: &[u8], number: u64) -> Option<u
 fn number_within(low: u64, high: u64, digits: &[u8]) -> Option<u64>
     ensures { result ≡ spec.number_within low high digits.now }
 {
-    let number = value_of(digits)?;
+    let Some(number) = value_of(digits) else {
+        return None;
+    };
     number_if_within(low, high, digits, number)
 }
 
@@ -79,14 +86,21 @@ pub fn number_before(low: u64, high: u64, text: &[u8]) -> Option<(u64, &[u8])>
     let mut number = 0u64;
     for (end, &byte) in text.iter().enumerate() {
         if byte == b' ' {
-            let number = number_if_within(low, high, &text[..end], number)?;
+            let Some(number) = number_if_within(low, high, &text[..end], number) else {
+                return None;
+            };
             return Some((number, &text[end + 1..]));
         }
         if !byte.is_ascii_digit() {
             return None;
         }
-        let tenfold = number.checked_mul(10)?;
-        number = tenfold.checked_add(u64::from(byte - b'0'))?;
+        let Some(tenfold) = number.checked_mul(10) else {
+            return None;
+        };
+        let Some(more) = tenfold.checked_add(u64::from(byte - b'0')) else {
+            return None;
+        };
+        number = more;
     }
     None
 }
@@ -95,7 +109,9 @@ pub fn number_before(low: u64, high: u64, text: &[u8]) -> Option<(u64, &[u8])>
 pub fn node_of(field: &[u8]) -> Option<NodeId>
     ensures { result ≡ spec.node_of field.now }
 {
-    let number = number_within(1, u64::from(NodeId::MAX), field)?;
+    let Some(number) = number_within(1, u64::from(NodeId::MAX), field) else {
+        return None;
+    };
     NodeId::new(number as u16)
 }
 
@@ -103,7 +119,9 @@ pub fn node_of(field: &[u8]) -> Option<NodeId>
 pub fn client_of(field: &[u8]) -> Option<u32>
     ensures { result ≡ spec.client_of field.now }
 {
-    let number = number_within(0, u64::from(u32::MAX), field)?;
+    let Some(number) = number_within(0, u64::from(u32::MAX), field) else {
+        return None;
+    };
     Some(number as u32)
 }
 

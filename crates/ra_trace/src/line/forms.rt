@@ -28,8 +28,12 @@ fn node_before(text: &[u8]) -> Option<(NodeId, &[u8])>
     ensures { MatchOption result (spec.before spec.node_of text.now ≡ None)
         (λ prefix. spec.before spec.node_of text.now ≡ Some (prefix.0, prefix.1.now)) }
 {
-    let (number, rest) = number_before(1, u64::from(NodeId::MAX), text)?;
-    let node = NodeId::new(number as u16)?;
+    let Some((number, rest)) = number_before(1, u64::from(NodeId::MAX), text) else {
+        return None;
+    };
+    let Some(node) = NodeId::new(number as u16) else {
+        return None;
+    };
     Some((node, rest))
 }
 
@@ -39,30 +43,33 @@ fn client_before(text: &[u8]) -> Option<(u32, &[u8])>
     ensures { MatchOption result (spec.before spec.client_of text.now ≡ None)
         (λ prefix. spec.before spec.client_of text.now ≡ Some (prefix.0, prefix.1.now)) }
 {
-    let (number, rest) = number_before(0, u64::from(u32::MAX), text)?;
+    let Some((number, rest)) = number_before(0, u64::from(u32::MAX), text) else {
+        return None;
+    };
     Some((number as u32, rest))
 }
 
-/// Reads a mode and a number.
-#[inline(always)]
-fn mode_and_seq_of(text: &[u8]) -> Option<(Mode, u64)>
-    ensures { result ≡ spec.fields spec.mode_of spec.seq_of text.now }
-{
-    let (mode, seq) = cut(b' ', text)?;
-    let mode = mode_of(mode)?;
-    let seq = seq_of(seq)?;
-    Some((mode, seq))
-}
-
-/// Reads a name, and a mode and a number.
+/// Reads a name, a mode and a number.
 #[inline(always)]
 fn name_mode_and_seq_of(text: &[u8]) -> Option<(Name, (Mode, u64))>
     ensures { result ≡ spec.fields spec.name_of (spec.fields spec.mode_of spec.seq_of) text.now }
 {
-    let (name, rest) = cut(b' ', text)?;
-    let name = name_of(name)?;
-    let rest = mode_and_seq_of(rest)?;
-    Some((name, rest))
+    let Some((name, rest)) = cut(b' ', text) else {
+        return None;
+    };
+    let Some(name) = name_of(name) else {
+        return None;
+    };
+    let Some((mode, seq)) = cut(b' ', rest) else {
+        return None;
+    };
+    let Some(mode) = mode_of(mode) else {
+        return None;
+    };
+    let Some(seq) = seq_of(seq) else {
+        return None;
+    };
+    Some((name, (mode, seq)))
 }
 
 /// Reads how many nodes there are, and the number that each resource begins with, in the first line of this version.
@@ -72,7 +79,9 @@ fn first_of(version: Version, text: &[u8]) -> Option<Line>
     let Some((nodes, start)) = node_before(text) else {
         return None;
     };
-    let start = start_of(start)?;
+    let Some(start) = start_of(start) else {
+        return None;
+    };
     Some(Line::First {
         version,
         nodes,
@@ -91,9 +100,15 @@ fn ask_of(text: &[u8]) -> Option<Line>
     let Some((client, rest)) = client_before(rest) else {
         return None;
     };
-    let (name, mode) = cut(b' ', rest)?;
-    let name = name_of(name)?;
-    let mode = mode_of(mode)?;
+    let Some((name, mode)) = cut(b' ', rest) else {
+        return None;
+    };
+    let Some(name) = name_of(name) else {
+        return None;
+    };
+    let Some(mode) = mode_of(mode) else {
+        return None;
+    };
     Some(Line::Stepped(Step::Ask {
         node,
         client,
@@ -113,7 +128,9 @@ fn leave_of(text: &[u8]) -> Option<Line>
     let Some((client, name)) = client_before(rest) else {
         return None;
     };
-    let name = name_of(name)?;
+    let Some(name) = name_of(name) else {
+        return None;
+    };
     Some(Line::Stepped(Step::Leave { node, client, name }))
 }
 
@@ -128,7 +145,9 @@ fn request_of(text: &[u8]) -> Option<Message>
     let Some((to, rest)) = node_before(rest) else {
         return None;
     };
-    let (name, (mode, seq)) = name_mode_and_seq_of(rest)?;
+    let Some((name, (mode, seq))) = name_mode_and_seq_of(rest) else {
+        return None;
+    };
     Some(Message::Request {
         from,
         to,
@@ -149,9 +168,15 @@ fn reply_of(text: &[u8]) -> Option<Message>
     let Some((to, rest)) = node_before(rest) else {
         return None;
     };
-    let (name, seq) = cut(b' ', rest)?;
-    let name = name_of(name)?;
-    let seq = seq_of(seq)?;
+    let Some((name, seq)) = cut(b' ', rest) else {
+        return None;
+    };
+    let Some(name) = name_of(name) else {
+        return None;
+    };
+    let Some(seq) = seq_of(seq) else {
+        return None;
+    };
     Some(Message::Reply {
         from,
         to,
@@ -171,7 +196,9 @@ fn entry_of(text: &[u8]) -> Option<Entry>
     let Some((client, rest)) = client_before(rest) else {
         return None;
     };
-    let (name, (mode, seq)) = name_mode_and_seq_of(rest)?;
+    let Some((name, (mode, seq))) = name_mode_and_seq_of(rest) else {
+        return None;
+    };
     Some(Entry {
         name,
         stamp: Stamp { seq, node },

@@ -1,9 +1,9 @@
 //! The versions of traces, and what each allows.
 ghost use Rattle.std.specs.Prelude.{◌≡◌};
 ghost use Rattle.ra_trace.specs.Version as spec;
-ghost use Rattle.ra_trace.specs.Forms.{allows_entry, allows_mark, allows_message, allows_step, has_node};
+ghost use Rattle.ra_trace.specs.Forms.{allows_mark, allows_message, allows_step, has_node};
 
-use ra_stamp::{Entry, Mark, Message, Mode, NodeId};
+use ra_stamp::{Mark, Message, Mode, NodeId};
 use ra_world::Step;
 
 /// A version of the form of traces. Each is read, and the last one is written.
@@ -36,22 +36,12 @@ impl Version {
         }
     }
 
-    /// Returns whether the fields of an entry are in the ranges of this version.
-    fn allows_entry(self, entry: &Entry) -> bool
-        ensures { result ≡ allows_entry self entry.now }
-    {
-        self.has_node(entry.stamp.node) && self.has_mode(entry.mode)
-    }
-
     /// Returns whether the fields of a mark are in the ranges of this version. It does not allocate.
     pub fn allows_mark(self, mark: &Mark) -> bool
         ensures { result ≡ allows_mark self mark.now }
     {
-        match mark {
-            Mark::Requested(entry) => self.allows_entry(entry),
-            Mark::Entered(entry) => self.allows_entry(entry),
-            Mark::Left(entry) => self.allows_entry(entry),
-        }
+        let entry = mark.entry();
+        self.has_node(entry.stamp.node) && self.has_mode(entry.mode)
     }
 
     /// Returns whether the fields of a message are in the ranges of this version.

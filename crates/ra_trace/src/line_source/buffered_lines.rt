@@ -85,7 +85,11 @@ fn take_byte<R: Read>(
         → ReadsSoFar left old (R.remaining reader.new) bytes.new.items result }
     ensures grows { IfOk result (λ end. IsNone end → length bytes.old.items < length bytes.new.items) }
 {
-    let Some(byte) = next_byte(reader)? else {
+    let came = match next_byte(reader) {
+        Ok(came) => came,
+        Err(fault) => return Err(fault),
+    };
+    let Some(byte) = came else {
         return Ok(Some(LineEnd::Input));
     };
     if bytes.len() >= left {
@@ -113,7 +117,11 @@ fn take_some<B: BufRead>(
     ensures grows { IfOk result (λ end. IsNone end → length bytes.old.items < length bytes.new.items) }
 {
     let most = left.min(MAX_LINE) - bytes.len();
-    match take_part(reader, bytes, most)? {
+    let taken = match take_part(reader, bytes, most) {
+        Ok(taken) => taken,
+        Err(fault) => return Err(fault),
+    };
+    match taken {
         // Nothing may be taken, or the input is at its end: one read says which. By the contract of `BufRead`, that nothing is shown does not
         // mean the end; that a read gives nothing does.
         (0, _) => take_byte(reader, bytes, left),
@@ -160,7 +168,11 @@ fn take_rest<B: BufRead>(
         → ReadsLine left old (B.remaining reader.new) bytes.new.items result }
 {
     loop {
-        if let Some(end) = take_some(reader, bytes, left)? {
+        let end = match take_some(reader, bytes, left) {
+            Ok(end) => end,
+            Err(fault) => return Err(fault),
+        };
+        if let Some(end) = end {
             return Ok(end);
         }
     }
@@ -182,7 +194,11 @@ fn take_from_part<B: BufRead>(
     ensures { (old : Option (List ℕ)) → Consumes old (B.remaining reader.old) bytes.old.items
         → ReadsLine left old (B.remaining reader.new) bytes.new.items result }
 {
-    match end_or_byte(reader, bytes, left)? {
+    let end = match end_or_byte(reader, bytes, left) {
+        Ok(end) => end,
+        Err(fault) => return Err(fault),
+    };
+    match end {
         Some(end) => Ok(end),
         None => take_rest(reader, bytes, left),
     }
@@ -206,7 +222,10 @@ fn next_line_in_parts<B: BufRead>(
     ensures { (old : Option (List ℕ)) → Consumes old (B.remaining reader.old) room.old.bytes.items
         → ReadsSome left old (B.remaining reader.new) taken.new room.new.line result }
 {
-    let end = take_from_part(reader, &mut room.bytes, left)?;
+    let end = match take_from_part(reader, &mut room.bytes, left) {
+        Ok(end) => end,
+        Err(fault) => return Err(fault),
+    };
     *taken = room.bytes.len();
     read_line_at(end, &room.bytes, &mut room.line);
     Ok(())

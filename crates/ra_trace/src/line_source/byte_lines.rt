@@ -62,7 +62,11 @@ pub fn read_line<R: Read>(
 {
     bytes.clear();
     for _turn in 0..MAX_LINE {
-        let Some(byte) = next_byte(reader)? else {
+        let came = match next_byte(reader) {
+            Ok(came) => came,
+            Err(fault) => return Err(fault),
+        };
+        let Some(byte) = came else {
             return Ok(LineEnd::Input);
         };
         if bytes.len() >= left {
@@ -103,27 +107,11 @@ pub fn next_read_line<R: Read>(
 ) -> Result<(), TraceError>
     ensures { ReadsSome left (R.remaining reader.old) (R.remaining reader.new) taken.new room.new.line result }
 {
-    let end = read_line(reader, &mut room.bytes, left)?;
+    let end = match read_line(reader, &mut room.bytes, left) {
+        Ok(end) => end,
+        Err(fault) => return Err(fault),
+    };
     *taken = room.bytes.len();
     read_line_at(end, &room.bytes, &mut room.line);
     Ok(())
-}
-
-/// Returns whether the input is at its end, for which it reads one byte. A text may still have `left` bytes.
-///
-/// # Errors
-///
-/// `Read`: the reader failed. `Limit`: a byte came, and none is left.
-pub fn is_at_end<R: Read>(reader: &mut R, left: usize) -> Result<bool, TraceError>
-    ensures ended { IfOk result (λ ended. ended ≡ true
-        → Consumes (R.remaining reader.old) (R.remaining reader.new) [] × IsAtEnd (R.remaining reader.new)) }
-    ensures more { IfOk result (λ ended. ended ≡ false
-        → (1 ≤ left) × ((byte : ℕ) × Consumes (R.remaining reader.old) (R.remaining reader.new) (byte ∷ []))) }
-    ensures failed { IfErr result (FailsWithin left (R.remaining reader.old) (R.remaining reader.new) []) }
-{
-    match next_byte(reader)? {
-        None => Ok(true),
-        Some(_) if left == 0 => Err(TraceError::Limit),
-        Some(_) => Ok(false),
-    }
 }

@@ -1,14 +1,20 @@
-use Rattle.std.proofs.Common.{◌++◌, ℕ, List, ap, ◌∙◌}
-use Rattle.std.specs.Prelude.{flat_map}
-use Rattle.std.proofs.lemmas.Result.{on_ok_weaker}
-use Rattle.ra_world.specs.Lines.{mark_line}
+use Rattle.std.proofs.Common.{ap, sym, ◌∙◌, subst, append_assoc, arith}
+use Rattle.std.proofs.lemmas.Grind.{common_steps}
+use Rattle.std.proofs.lemmas.List.{append-nil}
+use Rattle.std.proofs.lemmas.List.Elements.{All-nil, All-more}
+use Rattle.ra_trace.specs.Ranges.{MarkFits}
 use Rattle.ra_trace.proofs.trace_writing.push_move.Goals as goal
 
-pub returns-clause-text : goal.returns-clause-text
-returns-clause-text c =
-    on_ok_weaker c.push_marks.result
-    (λ is. is ∙ ap (λ (text : List ℕ). text ++ flat_map mark_line c.args.marks.now.items) (c.in_ok-push_str.ensures.bytes ∙ c.in_ok-push_step.ensures))
-    c.push_marks.ensures.text
+pub loop-mark-init : goal.loop-mark-init
+loop-mark-init c = record {
+  text_is = (c.in_ok-push_str.ensures.bytes ∙ c.in_ok-push_step.ensures) ∙ sym (append-nil _);
+  fit = All-nil MarkFits;
+}
 
-pub returns-clause-fit : goal.returns-clause-fit
-returns-clause-fit c = on_ok_weaker c.push_marks.result (λ fit. (c.step_fits.ensures, fit)) c.push_marks.ensures.fit
+pub loop-mark-preserved : goal.loop-mark-preserved
+loop-mark-preserved c =
+    let items = c.as_slice-mark-items.result.now in
+    record {
+      text_is = grind (arith, common_steps, append_assoc);
+      fit = All-more MarkFits items c.loop-mark.mark-index c.mark-item.result c.loop-mark-test.true c.loop-mark.invariant.fit (subst MarkFits c.mark-item.is c.mark_fits.ensures);
+    }

@@ -1,5 +1,4 @@
 use Rattle.std.proofs.Common.{rules, ◌≡◌, ◌++◌, ℕ, List, codes, string_bytes, sym, ap, ◌∙◌, subst, arith}
-use Rattle.std.proofs.lemmas.Result.{err_from_is_err_and}
 use Rattle.ra_trace.specs.declared.line.Line.TheVariants.{First}
 use Rattle.ra_trace.specs.declared.line.version.Version.TheVariants.{Two}
 use Rattle.ra_trace.specs.TraceText.{IsTrace, line_text}
@@ -9,14 +8,13 @@ use Rattle.ra_trace.proofs.TraceLaws.{traces_rest_on_runs}
 use Rattle.ra_trace.proofs.Traced.{traced_none, repeats_are_numbered, traced_all}
 use Rattle.ra_trace.proofs.trace_writing.trace_run.Goals as goal
 
-pub returns-in_err-trace_steps : goal.returns-in_err-trace_steps
-returns-in_err-trace_steps c empty opened =
+pub returns-in-Err : goal.returns-in-Err
+returns-in-Err c empty opened =
     let n = c.args.nodes in
     let start = c.args.start in
-    let p = err_from_is_err_and c.from_residual.result c.from_residual.ensures.1 in
     let first : string_bytes c.push_first_line.new.text ≡ line_text (First Two n start) =
     c.in-Ok.ensures ∙ ap (λ (prefix : List ℕ). prefix ++ line_text (First Two n start)) empty in
-    rw (p.1, p.2) (c.in_err-trace_steps.ensures.traced n start (traced_none n start c.args.world.now (string_bytes c.push_first_line.new.text) opened first))
+    c.in-Err.ensures.traced n start (traced_none n start c.args.world.now (string_bytes c.push_first_line.new.text) opened first)
 
 pub returns : goal.returns
 returns c empty opened =
@@ -27,7 +25,7 @@ returns c empty opened =
     let text = string_bytes c.trace_steps.new.text in
     let first : string_bytes c.push_first_line.new.text ≡ line_text (First Two n start) =
     c.in-Ok.ensures ∙ ap (λ (prefix : List ℕ). prefix ++ line_text (First Two n start)) empty in
-    let traced = c.in_ok-trace_steps.ensures.traced n start (traced_none n start c.args.world.now (string_bytes c.push_first_line.new.text) opened first) in
+    let traced = c.in-Ok-trace_steps.ensures.traced n start (traced_none n start c.args.world.now (string_bytes c.push_first_line.new.text) opened first) in
     let longer : string_bytes c.push_str.new.self ≡ text ++ codes "end\n" = search rules in
     let repeated = repeats_are_numbered traces_rest_on_runs.prefixes
     (λ n start moves message count run was. (is_traffic laws_below n start moves count run message was).numbered) n start traced.number

@@ -1,7 +1,7 @@
-use Rattle.std.proofs.Common.{◌≡◌, ◌<◌, ◌+◌, ℕ, List, Err, length, take, take_all, ap, subst, ◌∙◌}
-use Rattle.std.proofs.lemmas.Result.{err_from_is_err_and}
+use Rattle.std.proofs.Common.{◌≡◌, ◌<◌, ◌+◌, ℕ, List, Result, Err, length, take, take_all, ap, subst, ◌∙◌}
 use Rattle.ra_world.specs.declared.step.Step.{Step}
 use Rattle.ra_world.specs.Run.{WorldRun}
+use Rattle.ra_trace.specs.declared.error.WriteTraceError.{WriteTraceError}
 use Rattle.ra_trace.specs.declared.error.WriteTraceError.TheVariants.{Memory}
 use Rattle.std.proofs.Common.{string_bytes}
 use Rattle.ra_world.proofs.Runs.{steps_go_on}
@@ -10,22 +10,23 @@ use Rattle.ra_trace.specs.Writing.{HasTraced}
 use Rattle.ra_trace.proofs.Traced.{goes_there}
 use Rattle.ra_trace.proofs.trace_writing.trace_steps.Goals as goal
 
-pub returns-in_err-trace_step-clause-memory : goal.returns-in_err-trace_step-clause-memory
-returns-in_err-trace_step-clause-memory c n start opened is =
-    let p = err_from_is_err_and c.from_residual.result c.from_residual.ensures.1 in
-    let ends = rw (p.1, p.2) at is in
-    let why : c.in_err-trace_step.field-0.0 ≡ Memory = cc in
+same_fault : (fault other : WriteTraceError) → ◌≡◌ {A = Result (Unit {0}) WriteTraceError} (Err fault) (Err other) → fault ≡ other
+same_fault fault other e = cc
+
+pub returns-in-Err-clause-memory : goal.returns-in-Err-clause-memory
+returns-in-Err-clause-memory c n start opened is =
+    let why : c.in-Err.fault ≡ Memory = same_fault c.in-Err.fault Memory is in
     let place = c.loop-place.place in
     let items = c.as_slice-step-items.result.now in
     let run : WorldRun n start (take (place + 1) items) =
     goes_there (steps_go_on laws_below) n start place items c.step-item.result c.loop-place.world (string_bytes c.loop-place.text)
-    (c.loop-place.invariant n start opened) c.loop-place-test.true c.step-item.is (c.in_err-trace_step.ensures.memory (ap Err why)) in
+    (c.loop-place.invariant n start opened) c.loop-place-test.true c.step-item.is (c.in-Err.ensures.memory (ap Err why)) in
     subst (λ (steps : List Step). (k : ℕ) × (k < length steps) × WorldRun n start (take (k + 1) steps)) c.as_slice-step-items.ensures
     (place, c.loop-place-test.true, run)
 
 pub loop-place-preserved : goal.loop-place-preserved
 loop-place-preserved c n start opened =
-    c.in_ok-trace_step.ensures.traced n start c.as_slice-step-items.result.now c.loop-place-test.true c.step-item.is (c.loop-place.invariant n start opened)
+    c.in-Ok.ensures.traced n start c.as_slice-step-items.result.now c.loop-place-test.true c.step-item.is (c.loop-place.invariant n start opened)
 
 pub returns-clause-traced : goal.returns-clause-traced
 returns-clause-traced c n start opened =

@@ -1,16 +1,14 @@
-use Rattle.std.proofs.Common.{Err, ap, ◌∙◌}
-use Rattle.std.proofs.lemmas.Result.{err_from_is_err_and, IfOk-from_err}
+use Rattle.std.proofs.Common.{Err, refl}
 use Rattle.ra_trace.proofs.Refusing.{unopened, stopped, all_made}
 use Rattle.ra_trace.proofs.trace_writing.trace_text.Goals as goal
 
 -- ---- The world is not made
 
-pub returns-in_err-world : goal.returns-in_err-world
-returns-in_err-world c =
-    let p = err_from_is_err_and c.from_residual.result c.from_residual.ensures.1 in
-    let tells = unopened c.args.nodes c.args.start c.args.steps.now.items c.from_residual.result c.in_err-world.field-0.0 (p.1 ∙ ap Err p.2) c.in_err-world.ensures in
+pub returns-in-Err : goal.returns-in-Err
+returns-in-Err c =
+    let tells = unopened c.args.nodes c.args.start c.args.steps.now.items (Err c.in-Err.fault) c.in-Err.fault refl c.in-Err.ensures in
     record {
-      ok = IfOk-from_err c.from_residual.result _ c.from_residual.ensures.0;
+      ok = tt;
       bad_count = tells.bad_count;
       refused = tells.refused;
       never = tells.never;
@@ -21,15 +19,13 @@ returns-in_err-world c =
 
 -- ---- A step is not made
 
-pub returns-in_err-written : goal.returns-in_err-written
-returns-in_err-written c =
-    let result = c.from_residual-in_err-written.result in
-    let p = err_from_is_err_and result c.from_residual-in_err-written.ensures.1 in
-    let opened = c.in_ok-world.ensures in
-    let tells = stopped c.args.nodes c.args.start c.args.steps.now.items result c.in_err-written.field-0.0 (p.1 ∙ ap Err p.2) opened.number
-    (c.in_err-written.ensures c.new-text.ensures.bytes opened) in
+pub returns-in-Err-written : goal.returns-in-Err-written
+returns-in-Err-written c =
+    let opened = c.in-Ok.ensures in
+    let tells = stopped c.args.nodes c.args.start c.args.steps.now.items (Err c.in-Err-written.fault) c.in-Err-written.fault refl opened.number
+    (c.in-Err-written.ensures c.new-text.ensures.bytes opened) in
     record {
-      ok = IfOk-from_err result _ c.from_residual-in_err-written.ensures.0;
+      ok = tt;
       bad_count = tells.bad_count;
       refused = tells.refused;
       never = tells.never;
@@ -40,12 +36,12 @@ returns-in_err-written c =
 
 -- ---- All steps are made
 
-pub returns : goal.returns
-returns c =
-    let opened = c.in_ok-world.ensures in
+pub returns-in-Ok-written : goal.returns-in-Ok-written
+returns-in-Ok-written c =
+    let opened = c.in-Ok.ensures in
     let tells = all_made c.args.nodes c.args.start c.args.steps.now.items c.trace_run-written.new.text opened.number in
     record {
-      ok = c.in_ok-written.ensures c.new-text.ensures.bytes opened;
+      ok = c.in-Ok-written.ensures c.new-text.ensures.bytes opened;
       bad_count = tells.bad_count;
       refused = tells.refused;
       never = tells.never;

@@ -1,4 +1,4 @@
-use Rattle.std.proofs.Common.{◌≡◌, true, sym, ◌∙◌}
+use Rattle.std.proofs.Common.{◌≡◌, true, refl, sym, ◌∙◌}
 use Rattle.ra_trace.specs.Forms.{has_node}
 use Rattle.ra_trace.proofs.TraceLaws.{traces_rest_on_runs}
 use Rattle.ra_trace.proofs.Taking.{opens, opens_not, first_may_come}
@@ -9,15 +9,26 @@ returns-then-not-has_node-clause-none c =
     rw c.in-First.is (λ none version is first.
     opens_not c.in-First.version c.in-First.nodes c.in-First.start (sym c.has_node.ensures ∙ c.if-not-has_node.true) version is)
 
-pub returns-in-Ok-clause-some : goal.returns-in-Ok-clause-some
-returns-in-Ok-clause-some c =
+pub returns-in-Ok-new-clause-some : goal.returns-in-Ok-new-clause-some
+returns-in-Ok-new-clause-some c =
     let has : has_node c.in-First.version c.in-First.nodes ≡ true = sym c.has_node.ensures ∙ c.if-not-has_node.false in
     rw c.in-First.is
-    (opens traces_rest_on_runs c.in-First.version c.in-First.nodes c.in-First.start c.in-Ok.checker c.in-Ok.ensures.ok has)
+    (opens traces_rest_on_runs c.in-First.version c.in-First.nodes c.in-First.start _ (record {
+      version_is = refl;
+      world_is = rw c.get.ensures.value at c.in-Ok.ensures.ok;
+      run = c.in-Ok.ensures.run;
+      table_is = c.in-Ok-new.ensures.empty;
+      none = c.new-in-Ok-new.ensures;
+    }) has)
+
+-- ---- There is no memory for it
+
+pub returns-in_default-new-clause-err : goal.returns-in_default-new-clause-err
+returns-in_default-new-clause-err c =
+    let has : has_node c.in-First.version c.in-First.nodes ≡ true = sym c.has_node.ensures ∙ c.if-not-has_node.false in
+    (refl, rw c.in-First.is (first_may_come traces_rest_on_runs c.in-First.version c.in-First.nodes c.in-First.start has))
 
 pub returns-in-Err-clause-err : goal.returns-in-Err-clause-err
 returns-in-Err-clause-err c =
-    let has : has_node c.in-First.version c.in-First.nodes ≡ true = sym c.has_node.ensures ∙ c.if-not-has_node.false in (
-      c.in-Err.ensures.err,
-      rw c.in-First.is (first_may_come traces_rest_on_runs c.in-First.version c.in-First.nodes c.in-First.start has),
-    )
+    let has : has_node c.in-First.version c.in-First.nodes ≡ true = sym c.has_node.ensures ∙ c.if-not-has_node.false in
+    (refl, rw c.in-First.is (first_may_come traces_rest_on_runs c.in-First.version c.in-First.nodes c.in-First.start has))

@@ -1,5 +1,4 @@
 use Rattle.std.proofs.Common.{refl, sym, ◌∙◌, arith, inl, inr}
-use Rattle.std.proofs.lemmas.Result.{err_from_is_err_and}
 use Rattle.std.proofs.lemmas.Bool.{false≢true}
 use Rattle.ra_trace.specs.declared.checker.verdict.Cause.TheVariants.{Marks, Table}
 use Rattle.ra_trace.proofs.MarkRefusals.{refused_is_not_allowed}
@@ -24,16 +23,14 @@ returns-then-not-is_due-clause-judged c =
 pub returns-in-Some-clause-judged : goal.returns-in-Some-clause-judged
 returns-in-Some-clause-judged c =
     table_refuses traces_rest_on_runs c.args.self.now c.args.mark.now (sym c.allows_mark.ensures ∙ c.if-not-allows_mark.false)
-    (refused_is_not_allowed c.args.self.now.table c.args.mark.now _ (rw c.in-Some.is at c.in_ok-try_mark.ensures.tries))
+    (refused_is_not_allowed c.args.self.now.table c.args.mark.now _ (rw c.in-Some.is at c.in-Ok.ensures.tries))
 
-pub returns-in_err-try_mark-clause-judged : goal.returns-in_err-try_mark-clause-judged
-returns-in_err-try_mark-clause-judged c =
-    let p = err_from_is_err_and c.from_residual.result c.from_residual.ensures.1 in
-    rw (p.1, p.2) (
-      c.in_err-try_mark.ensures.tries.0,
-      mark_may_come c.args.self.now c.args.mark.now _ (sym c.allows_mark.ensures ∙ c.if-not-allows_mark.false)
-          (c.is_due.ensures.next c.if-not-is_due.false),
-    )
+pub returns-in-Err-clause-judged : goal.returns-in-Err-clause-judged
+returns-in-Err-clause-judged c = (
+  c.in-Err.ensures.tries.0,
+  mark_may_come c.args.self.now c.args.mark.now _ (sym c.allows_mark.ensures ∙ c.if-not-allows_mark.false)
+      (c.is_due.ensures.next c.if-not-is_due.false),
+)
 
 pub overflow_add-self : goal.overflow_add-self
 overflow_add-self c = omega (arith, c.is_due.ensures.fits c.if-not-is_due.false)
@@ -42,5 +39,5 @@ pub returns-in-None-clause-judged : goal.returns-in-None-clause-judged
 returns-in-None-clause-judged c = (
   mark_is_not_last c.args.mark.now,
   mark_is_taken traces_rest_on_runs c.args.self.now c.args.mark.now c.try_mark.new.table
-      (sym c.allows_mark.ensures ∙ c.if-not-allows_mark.false) (rw c.in-None.is at c.in_ok-try_mark.ensures.tries) (c.is_due.ensures.next c.if-not-is_due.false),
+      (sym c.allows_mark.ensures ∙ c.if-not-allows_mark.false) (rw c.in-None.is at c.in-Ok.ensures.tries) (c.is_due.ensures.next c.if-not-is_due.false),
 )

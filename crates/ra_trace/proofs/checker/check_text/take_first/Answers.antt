@@ -1,5 +1,4 @@
 use Rattle.std.proofs.Common.{◌≤◌, ℕ, Result, Ok, Err, IfOk, subst}
-use Rattle.std.proofs.lemmas.Result.{err_from_is_err_and}
 use Rattle.ra_trace.specs.Along.{Opens}
 use Rattle.ra_trace.proofs.Along.{fails_first, none_first, opens_by}
 use Rattle.ra_trace.proofs.checker.check_text.take_first.Goals as goal
@@ -9,16 +8,14 @@ if_ok : {A E : Type 0} (r : Result A E) (P : Type 0) → P → IfOk r (λ _. P)
 if_ok (Ok x) P p = p
 if_ok (Err e) P p = tt
 
-pub returns-in_err-next_line-clause-opened : goal.returns-in_err-next_line-clause-opened
-returns-in_err-next_line-clause-opened g c =
-    let p = err_from_is_err_and c.from_residual.result c.from_residual.ensures.1 in
-    let (bytes, failed) = c.in_err-next_line.ensures in
-    rw (p.1, p.2)
-    (fails_first c.args.limit (g.R.Read.remaining c.args.reader.now) (g.R.Read.remaining c.next_line.new.reader) bytes c.in_err-next_line.field-0.0 failed)
+pub returns-in-Err-clause-opened : goal.returns-in-Err-clause-opened
+returns-in-Err-clause-opened g c =
+    let (bytes, failed) = c.in-Err.ensures in
+    (fails_first c.args.limit (g.R.Read.remaining c.args.reader.now) (g.R.Read.remaining c.next_line.new.reader) bytes c.in-Err.fault failed)
 
 pub returns-in-Some-clause-opened : goal.returns-in-Some-clause-opened
 returns-in-Some-clause-opened g c =
-    let (bytes, count, some) = rw c.in-Some.is at c.in_ok-next_line.ensures in
+    let (bytes, count, some) = rw c.in-Some.is at c.in-Ok.ensures in
     let old = g.R.Read.remaining c.args.reader.now in
     let new = g.R.Read.remaining c.next_line.new.reader in
     subst (λ (n : ℕ). Opens c.args.limit old new n c.after_first.result) count
@@ -27,15 +24,15 @@ returns-in-Some-clause-opened g c =
 
 pub returns-in-Some-clause-within : goal.returns-in-Some-clause-within
 returns-in-Some-clause-within g c =
-    let (bytes, count, some) = rw c.in-Some.is at c.in_ok-next_line.ensures in
+    let (bytes, count, some) = rw c.in-Some.is at c.in-Ok.ensures in
     if_ok c.after_first.result _ (subst (λ (n : ℕ). n ≤ c.args.limit) count some.0.1)
 
 pub returns-in-None-clause-opened : goal.returns-in-None-clause-opened
 returns-in-None-clause-opened g c =
-    let (bytes, count, none) = rw c.in-None.is at c.in_ok-next_line.ensures in
+    let (bytes, count, none) = rw c.in-None.is at c.in-Ok.ensures in
     none_first c.args.limit (g.R.Read.remaining c.args.reader.now) (g.R.Read.remaining c.next_line.new.reader) bytes none.0 none.1
 
 pub returns-in-None-clause-within : goal.returns-in-None-clause-within
 returns-in-None-clause-within g c =
-    let (bytes, count, none) = rw c.in-None.is at c.in_ok-next_line.ensures in
+    let (bytes, count, none) = rw c.in-None.is at c.in-Ok.ensures in
     subst (λ (n : ℕ). n ≤ c.args.limit) count none.0.1

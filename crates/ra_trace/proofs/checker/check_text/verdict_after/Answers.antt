@@ -1,5 +1,4 @@
 use Rattle.std.proofs.Common.{◌+◌, ◌-◌, ◌∙◌}
-use Rattle.std.proofs.lemmas.Result.{err_from_is_err_and}
 use Rattle.ra_trace.proofs.Along.{answers_at_end, right_turns, some_taken, at_first, few_taken, fewer_left, still_short}
 use Rattle.ra_trace.proofs.Telling.{tells_at, none_at_end, none_at_fault}
 use Rattle.ra_trace.proofs.checker.check_text.verdict_after.Goals as goal
@@ -12,11 +11,11 @@ loop-next-init g c = record { along = λ old first. first; short = at_first c.ar
 
 pub overflow_sub-left-in-loop-next : goal.overflow_sub-left-in-loop-next
 overflow_sub-left-in-loop-next g c =
-    few_taken _ _ (some_taken c.loop-next.left c.take_next.new.taken c.in_ok-next.next c.in_ok-next.ensures.some c.in_default.not-Wrong)
+    few_taken _ _ (some_taken c.loop-next.left c.take_next.new.taken c.in-Ok.next c.in-Ok.ensures.some c.in_default.not-Wrong)
 
 pub loop-next-smaller : goal.loop-next-smaller
 loop-next-smaller g c =
-    fewer_left _ _ (some_taken c.loop-next.left c.take_next.new.taken c.in_ok-next.next c.in_ok-next.ensures.some c.in_default.not-Wrong)
+    fewer_left _ _ (some_taken c.loop-next.left c.take_next.new.taken c.in-Ok.next c.in-Ok.ensures.some c.in_default.not-Wrong)
 
 pub loop-next-preserved : goal.loop-next-preserved
 loop-next-preserved g c =
@@ -28,38 +27,36 @@ loop-next-preserved g c =
     let number = c.loop-next.number in
     record {
       along = λ old first.
-          right_turns limit left old new after number count c.in_ok-next.next (c.in_ok-next.ensures.turned limit number old (c.loop-next.invariant.along old first))
+          right_turns limit left old new after number count c.in-Ok.next (c.in-Ok.ensures.turned limit number old (c.loop-next.invariant.along old first))
           c.in_default.not-Wrong c.in_default-next.not-Last;
-      short = still_short _ _ (some_taken left count c.in_ok-next.next c.in_ok-next.ensures.some c.in_default.not-Wrong) number limit
+      short = still_short _ _ (some_taken left count c.in-Ok.next c.in-Ok.ensures.some c.in_default.not-Wrong) number limit
           c.loop-next.invariant.short;
     }
 
-pub returns-in_err-next-clause-answers : goal.returns-in_err-next-clause-answers
-returns-in_err-next-clause-answers g c old first =
-    let p = err_from_is_err_and c.from_residual.result c.from_residual.ensures.1 in
-    rw (p.1, p.2) (c.in_err-next.ensures.turned c.args.limit c.loop-next.number old (c.loop-next.invariant.along old first))
+pub returns-in-Err-clause-answers : goal.returns-in-Err-clause-answers
+returns-in-Err-clause-answers g c old first =
+    c.in-Err.ensures.turned c.args.limit c.loop-next.number old (c.loop-next.invariant.along old first)
 
 pub returns-in-Wrong-clause-answers : goal.returns-in-Wrong-clause-answers
 returns-in-Wrong-clause-answers g c old first =
-    rw c.in-Wrong.is at (c.in_ok-next.ensures.turned c.args.limit c.loop-next.number old (c.loop-next.invariant.along old first))
+    rw c.in-Wrong.is at (c.in-Ok.ensures.turned c.args.limit c.loop-next.number old (c.loop-next.invariant.along old first))
 
 pub returns-in-Last-clause-answers : goal.returns-in-Last-clause-answers
 returns-in-Last-clause-answers g c old first =
     let after = c.take_next.new.checker in
     let remaining = g.R.Read.remaining c.take_next.new.reader in
-    let done = rw c.in-Last.is at (c.in_ok-next.ensures.turned c.args.limit c.loop-next.number old (c.loop-next.invariant.along old first)) in
+    let done = rw c.in-Last.is at (c.in-Ok.ensures.turned c.args.limit c.loop-next.number old (c.loop-next.invariant.along old first)) in
     answers_at_end c.args.limit (c.loop-next.left - c.take_next.new.taken) old remaining (g.R.Read.remaining c.ending.new.reader) after (c.loop-next.number + 1)
     c.ending.result done c.ending.ensures
 
-pub returns-in_err-next-clause-due : goal.returns-in_err-next-clause-due
-returns-in_err-next-clause-due g c old first =
-    let p = err_from_is_err_and c.from_residual.result c.from_residual.ensures.1 in
-    rw (p.1, p.2) (none_at_fault old _ _)
+pub returns-in-Err-clause-due : goal.returns-in-Err-clause-due
+returns-in-Err-clause-due g c old first =
+    none_at_fault old _ _
 
 pub returns-in-Wrong-clause-due : goal.returns-in-Wrong-clause-due
 returns-in-Wrong-clause-due g c old first =
     tells_at c.args.limit c.loop-next.left old (g.R.Read.remaining c.loop-next.reader) c.loop-next.checker c.loop-next.number c.in-Wrong.cause c.due.result
-    (c.loop-next.invariant.along old first) (c.due.ensures ∙ c.in_ok-next.ensures.due c.in-Wrong.cause c.in-Wrong.is)
+    (c.loop-next.invariant.along old first) (c.due.ensures ∙ c.in-Ok.ensures.due c.in-Wrong.cause c.in-Wrong.is)
 
 pub returns-in-Last-clause-due : goal.returns-in-Last-clause-due
 returns-in-Last-clause-due g c old first =

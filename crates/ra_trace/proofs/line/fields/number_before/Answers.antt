@@ -8,16 +8,15 @@ use Rattle.ra_trace.proofs.line.fields.number_before.Goals as goal
 
 -- ---- The first space is here
 
-pub returns-in_err-number-clause-value : goal.returns-in_err-number-clause-value
-returns-in_err-number-clause-value c =
-    rw c.from_residual.ensures (before_here c.args.low c.args.high c.args.text.now c.loop-end.end None c.loop-end-test.true c.if-byte-eq32.true c.loop-end.invariant.free
-    c.in_err-number.ensures.value)
+pub returns-in_default-clause-value : goal.returns-in_default-clause-value
+returns-in_default-clause-value c =
+    before_here c.args.low c.args.high c.args.text.now c.loop-end.end None c.loop-end-test.true c.if-byte-eq32.true c.loop-end.invariant.free c.in_default.ensures.value
 
 pub returns-then-byte-eq32-clause-value : goal.returns-then-byte-eq32-clause-value
 returns-then-byte-eq32-clause-value c =
     let text = c.args.text.now in
-    let is = before_here c.args.low c.args.high text c.loop-end.end (Some c.in_ok-number.number) c.loop-end-test.true c.if-byte-eq32.true c.loop-end.invariant.free
-    c.in_ok-number.ensures.value in
+    let is = before_here c.args.low c.args.high text c.loop-end.end (Some c.in-Some.number) c.loop-end-test.true c.if-byte-eq32.true c.loop-end.invariant.free
+    c.in-Some.ensures.value in
     rw (is, to_end text c.loop-end.end)
 
 -- ---- A byte is neither a space nor a digit, or the number does not fit
@@ -30,23 +29,21 @@ returns-then-not-is_ascii_digit-clause-value c =
     before_unread c.args.low c.args.high text (end + 1) (search rules) (free_more text end c.loop-end.invariant.free c.if-byte-eq32.false)
     (λ each. absurd (not_all text end c.loop-end-test.true other each))
 
-pub returns-in_err-tenfold-clause-value : goal.returns-in_err-tenfold-clause-value
-returns-in_err-tenfold-clause-value c =
+pub returns-in_default-checked_mul-clause-value : goal.returns-in_default-checked_mul-clause-value
+returns-in_default-checked_mul-clause-value c =
     let text = c.args.text.now in
     let end = c.loop-end.end in
     let more = one_more text end c.loop-end.number c.loop-end-test.true (search rules) c.loop-end.invariant.digits c.loop-end.invariant.value in
     let large : 2 ^ 64 ≤ digits_value 10 (take (end + 1) text) = grind (arith, more.1) in
-    rw c.from_residual-in_err-tenfold.ensures
-    (before_unread c.args.low c.args.high text (end + 1) (search rules) (free_more text end c.loop-end.invariant.free c.if-byte-eq32.false) (λ each. large))
+    before_unread c.args.low c.args.high text (end + 1) (search rules) (free_more text end c.loop-end.invariant.free c.if-byte-eq32.false) (λ each. large)
 
-pub returns-in_err-number-2-clause-value : goal.returns-in_err-number-2-clause-value
-returns-in_err-number-2-clause-value c =
+pub returns-in_default-checked_add-clause-value : goal.returns-in_default-checked_add-clause-value
+returns-in_default-checked_add-clause-value c =
     let text = c.args.text.now in
     let end = c.loop-end.end in
     let more = one_more text end c.loop-end.number c.loop-end-test.true (search rules) c.loop-end.invariant.digits c.loop-end.invariant.value in
     let large : 2 ^ 64 ≤ digits_value 10 (take (end + 1) text) = grind (arith, more.1) in
-    rw c.from_residual-in_err-number-2.ensures
-    (before_unread c.args.low c.args.high text (end + 1) (search rules) (free_more text end c.loop-end.invariant.free c.if-byte-eq32.false) (λ each. large))
+    before_unread c.args.low c.args.high text (end + 1) (search rules) (free_more text end c.loop-end.invariant.free c.if-byte-eq32.false) (λ each. large)
 
 pub loop-end-preserved : goal.loop-end-preserved
 loop-end-preserved c =
@@ -59,14 +56,3 @@ loop-end-preserved c =
 
 pub returns-clause-value : goal.returns-clause-value
 returns-clause-value c = before_none c.args.low c.args.high c.args.text.now (λ k inside. c.loop-end.invariant.free k (omega arith))
-
--- ---- No number is there
-
-pub returns-in_err-number-clause-within : goal.returns-in_err-number-clause-within
-returns-in_err-number-clause-within c = rw c.from_residual.ensures tt
-
-pub returns-in_err-tenfold-clause-within : goal.returns-in_err-tenfold-clause-within
-returns-in_err-tenfold-clause-within c = rw c.from_residual-in_err-tenfold.ensures tt
-
-pub returns-in_err-number-2-clause-within : goal.returns-in_err-number-2-clause-within
-returns-in_err-number-2-clause-within c = rw c.from_residual-in_err-number-2.ensures tt

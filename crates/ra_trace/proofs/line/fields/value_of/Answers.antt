@@ -9,21 +9,21 @@ pub returns-then-not-is_ascii_digit-clause-none : goal.returns-then-not-is_ascii
 returns-then-not-is_ascii_digit-clause-none c = λ each.
     absurd (true≢false (sym each ∙ list_all_at is_ascii_digit c.args.digits.now c.loop-byte.byte-index 0 c.loop-byte-test.true (search rules)))
 
-pub returns-in_err-tenfold-clause-none : goal.returns-in_err-tenfold-clause-none
-returns-in_err-tenfold-clause-none c =
+pub returns-in_default-clause-none : goal.returns-in_default-clause-none
+returns-in_default-clause-none c =
     let digits = c.args.digits.now in
     let more = one_more digits c.loop-byte.byte-index c.loop-byte.value c.loop-byte-test.true (search rules) c.loop-byte.invariant.digits c.loop-byte.invariant.value in
     let most = first_below digits (c.loop-byte.byte-index + 1) in
     let large : 2 ^ 64 ≤ digits_value 10 digits = grind (arith, more.1, most) in
-    rw c.from_residual.ensures (λ each. large)
+    λ each. large
 
-pub returns-in_err-value-clause-none : goal.returns-in_err-value-clause-none
-returns-in_err-value-clause-none c =
+pub returns-in_default-checked_add-clause-none : goal.returns-in_default-checked_add-clause-none
+returns-in_default-checked_add-clause-none c =
     let digits = c.args.digits.now in
     let more = one_more digits c.loop-byte.byte-index c.loop-byte.value c.loop-byte-test.true (search rules) c.loop-byte.invariant.digits c.loop-byte.invariant.value in
     let most = first_below digits (c.loop-byte.byte-index + 1) in
     let large : 2 ^ 64 ≤ digits_value 10 digits = grind (arith, more.1, most) in
-    rw c.from_residual-in_err-value.ensures (λ each. large)
+    λ each. large
 
 pub loop-byte-preserved : goal.loop-byte-preserved
 loop-byte-preserved c =
@@ -34,9 +34,3 @@ pub returns-clause-some : goal.returns-clause-some
 returns-clause-some c =
     let whole = take_all c.loop-byte.byte-index c.args.digits.now (omega arith) in
     (rw whole at c.loop-byte.invariant.digits, rw whole at c.loop-byte.invariant.value)
-
-pub returns-in_err-tenfold-clause-some : goal.returns-in_err-tenfold-clause-some
-returns-in_err-tenfold-clause-some c = rw c.from_residual.ensures tt
-
-pub returns-in_err-value-clause-some : goal.returns-in_err-value-clause-some
-returns-in_err-value-clause-some c = rw c.from_residual-in_err-value.ensures tt

@@ -2,7 +2,6 @@ use Rattle.std.proofs.Common.{◌∷◌, [], ℕ, IfSome, sym, ap, subst}
 use Rattle.std.specs.Option.{is_some}
 use Rattle.std.specs.Io.KnownBytes.{Consumes}
 use Rattle.std.proofs.KnownBytes.{Consumes-nil}
-use Rattle.std.proofs.lemmas.Result.{err_from_is_err_and}
 use borrow.Author.Count.{falls}
 use Rattle.ra_trace.proofs.Shown.{input_ends, reader_fails, passes_left, small, just_left, is_short, pushed_within, pushed_count, open_so_far, no_byte_yet, joined, ends_at_feed, no_feed_more, all_turns}
 use Rattle.ra_trace.proofs.line_source.byte_lines.read_line.Goals as goal
@@ -20,18 +19,17 @@ loop-turn-init g c =
 
 -- ---- No byte came
 
-pub returns-in_err-byte : goal.returns-in_err-byte
-returns-in_err-byte g c =
-    let p = err_from_is_err_and c.from_residual.result c.from_residual.ensures.1 in
+pub returns-in-Err : goal.returns-in-Err
+returns-in-Err g c =
     let so_far = c.loop-turn.invariant in
-    let e = c.in_err-byte.ensures in
-    rw (p.1, p.2) (reader_fails c.args.left (g.R.Read.remaining c.args.reader.now) (g.R.Read.remaining c.loop-turn.reader) (g.R.Read.remaining c.next_byte.new.reader)
-    c.loop-turn.bytes.items c.in_err-byte.field-0.0 e.err so_far.taken e.untaken (open_so_far _ _ so_far.count c.loop-turn-test.true so_far.none) so_far.at_most)
+    let e = c.in-Err.ensures in
+    (reader_fails c.args.left (g.R.Read.remaining c.args.reader.now) (g.R.Read.remaining c.loop-turn.reader) (g.R.Read.remaining c.next_byte.new.reader)
+    c.loop-turn.bytes.items c.in-Err.fault e.err so_far.taken e.untaken (open_so_far _ _ so_far.count c.loop-turn-test.true so_far.none) so_far.at_most)
 
 pub returns-in_default : goal.returns-in_default
 returns-in_default g c =
     let so_far = c.loop-turn.invariant in
-    let ends = c.in_ok-byte.ensures.none (ap is_some c.in_default.is) in
+    let ends = c.in-Ok.ensures.none (ap is_some c.in_default.is) in
     input_ends c.args.left (g.R.Read.remaining c.args.reader.now) (g.R.Read.remaining c.loop-turn.reader) (g.R.Read.remaining c.next_byte.new.reader)
     c.loop-turn.bytes.items so_far.taken ends.0 ends.1 (open_so_far _ _ so_far.count c.loop-turn-test.true so_far.none) so_far.at_most
 
@@ -42,7 +40,7 @@ returns-then-len-left g c =
     let so_far = c.loop-turn.invariant in
     let mid = g.R.Read.remaining c.loop-turn.reader in
     let new = g.R.Read.remaining c.next_byte.new.reader in
-    let later = subst (λ came. IfSome came (λ (b : ℕ). Consumes mid new (b ∷ []))) c.in-Some.is c.in_ok-byte.ensures.some in
+    let later = subst (λ came. IfSome came (λ (b : ℕ). Consumes mid new (b ∷ []))) c.in-Some.is c.in-Ok.ensures.some in
     passes_left c.args.left (g.R.Read.remaining c.args.reader.now) mid new c.loop-turn.bytes.items c.in-Some.byte so_far.taken later
     (open_so_far _ _ so_far.count c.loop-turn-test.true so_far.none) (just_left _ _ _ so_far.at_most c.len.ensures.value c.if-len-left.true)
 
@@ -56,7 +54,7 @@ returns-then-byte-eq10 g c =
     let so_far = c.loop-turn.invariant in
     let mid = g.R.Read.remaining c.loop-turn.reader in
     let new = g.R.Read.remaining c.next_byte.new.reader in
-    let later = subst (λ came. IfSome came (λ (b : ℕ). Consumes mid new (b ∷ []))) c.in-Some.is c.in_ok-byte.ensures.some in
+    let later = subst (λ came. IfSome came (λ (b : ℕ). Consumes mid new (b ∷ []))) c.in-Some.is c.in-Ok.ensures.some in
     ends_at_feed c.args.left (g.R.Read.remaining c.args.reader.now) mid new c.loop-turn.bytes.items c.push.new.self.items c.in-Some.byte c.push.ensures.items
     c.if-byte-eq10.true (open_so_far _ _ so_far.count c.loop-turn-test.true so_far.none) so_far.taken later
     (is_short _ _ _ c.len.ensures.value c.if-len-left.false)
@@ -72,7 +70,7 @@ loop-turn-preserved g c =
     let byte = c.in-Some.byte in
     let mid = g.R.Read.remaining c.loop-turn.reader in
     let new = g.R.Read.remaining c.next_byte.new.reader in
-    let later = subst (λ came. IfSome came (λ (b : ℕ). Consumes mid new (b ∷ []))) c.in-Some.is c.in_ok-byte.ensures.some in
+    let later = subst (λ came. IfSome came (λ (b : ℕ). Consumes mid new (b ∷ []))) c.in-Some.is c.in-Ok.ensures.some in
     record {
       count = pushed_count before bytes byte c.push.ensures.items c.loop-turn._turn so_far.count;
       at_most = pushed_within before bytes byte c.push.ensures.items c.args.left (is_short _ _ _ c.len.ensures.value c.if-len-left.false);

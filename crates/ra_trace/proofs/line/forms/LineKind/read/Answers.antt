@@ -1,0 +1,22 @@
+use Rattle.ra_trace.proofs.line.forms.LineKind.read.Goals as goal
+
+pub returns-in-First : goal.returns-in-First
+returns-in-First c = rw c.in-First.is c.first_of.ensures
+
+pub returns-in-Ask : goal.returns-in-Ask
+returns-in-Ask c = rw c.in-Ask.is c.ask_of.ensures
+
+pub returns-in-Leave : goal.returns-in-Leave
+returns-in-Leave c = rw c.in-Leave.is c.leave_of.ensures
+
+pub returns-in-Request : goal.returns-in-Request
+returns-in-Request c = rw c.in-Request.is c.read_request.ensures
+
+pub returns-in-Reply : goal.returns-in-Reply
+returns-in-Reply c = rw c.in-Reply.is c.read_reply.ensures
+
+pub returns-in-Mark : goal.returns-in-Mark
+returns-in-Mark c = rw c.in-Mark.is c.read_mark.ensures
+
+pub returns-in-Last : goal.returns-in-Last
+returns-in-Last c = rw c.in-Last.is c.last_of.ensures
