@@ -1,6 +1,6 @@
 -- What is read of a line is what it says.
 use Rattle.std.proofs.Common.{◌≡◌, ◌<◌, ◌≤◌, ◌^◌, ◌%◌, ◌/◌, ◌==◌, ◌↔◌, ℕ, true, false, inl, inr, List, ◌∷◌, ◌++◌, length, Option, Some, None, Result, Ok, Err, option_map, refl, sym, ap, subst, ◌∙◌, codes, append_assoc, arith, eq-eqb}
-use Rattle.std.specs.Prelude.{IsErrOf, MatchResult, MatchOption, is_ok}
+use Rattle.std.specs.Prelude.{IsErrOf}
 use Rattle.std.specs.Fmt.{decimal}
 use Rattle.std.proofs.lemmas.Bool.{cases_Bool}
 use Rattle.std.proofs.lemmas.Option.{same_Some}
@@ -18,7 +18,6 @@ use Rattle.ra_trace.proofs.Cuts.{mapped, rest_after-append}
 use Rattle.ra_trace.proofs.Spelled.{Reads, reads_fields, reads_node, reads_client, reads_start, reads_name, reads_mode}
 use Rattle.ra_history.specs.declared.book.event.BookKind.{BookKind}
 use Rattle.ra_history.specs.declared.book.event.BookKind.TheVariants.{Asked, Gave}
-use Rattle.ra_book.specs.declared.next_line.first_line.FirstLine.{FirstLine}
 use Rattle.ra_book.specs.BookText.{Form, HasForm, form_text, first_text, IsFirst, IsEvent}
 use Rattle.ra_book.specs.BookText.Form.{Ask, Release, Receive}
 use Rattle.ra_book.specs.Fields.{ask_of, release_of, first_of}
@@ -155,24 +154,11 @@ first_above line rest is f e above node nodes start h =
 pub no_book : (line : List ℕ) → rest_after (codes "book 1 ") line ≡ None → (node nodes start : ℕ) → IsFirst line node nodes start → ⊥
 no_book line none node nodes start h = clash (codes "book 1 ") (first_tail (node, (nodes, start))) line (book_text node nodes start ∙ sym h.text_is) none
 
--- by `decode_to_slice`
-pub decoded : {E : Type 0} (digits room new : List ℕ) (r : Result (Unit {0}) E) (o : Result (List ℕ) E) → MatchResult o (λ bytes. (r ≡ Ok tt) × (new ≡ bytes)) (λ e. r ≡ Err e)
-    → ((is_ok r ≡ true → o ≡ Ok new) × (is_ok r ≡ false → (others : List ℕ) → o ≡ Ok others → ⊥))
-decoded digits room new r (Ok bytes) h = (λ e. ap Ok (sym h.1), λ e others same. let ok : true ≡ false = rw h.0 at e in absurd cc)
-decoded digits room new r (Err fault) h = (λ e. absurd (let ok : false ≡ true = rw h at e in cc), λ e others same. cc)
-
 -- a node that is no member of a cluster of 1 to 64 nodes is above their number
 pub no_member : {T : Type 0} (e : MemberError) (node nodes : ℕ) → IsNodeNumber nodes → IsErrOf {T = T} (Err e) BadCount ↔ (IsNodeNumber nodes → ⊥)
     → IsErrOf {T = T} (Err e) BadNode ↔ (IsNodeNumber nodes × (nodes < node)) → nodes < node
 no_member BadCount node nodes count bad_count bad_node = absurd (bad_count.0 refl count)
 no_member BadNode node nodes count bad_count bad_node = (bad_node.0 refl).1
-
--- by the number of nodes
-pub within_read : (line rest : List ℕ) (f : ℕ × (ℕ × ℕ)) (made : Option FirstLine) → line ≡ codes "book 1 " ++ rest → length line ≤ 256 → first_of rest ≡ Some f
-    → MatchOption made (f.1.0 < f.0) (λ m. (m.member.node ≡ f.0) × (m.member.nodes ≡ f.1.0) × (m.start ≡ f.1.1) × (f.0 ≤ f.1.0))
-    → MatchOption made ((node nodes start : ℕ) → IsFirst line node nodes start → ⊥) (λ m. IsFirst line m.member.node m.member.nodes m.start)
-within_read line rest f None is short e above = first_above line rest is f e above
-within_read line rest f (Some m) is short e h = rw (h.0, h.1, h.2) (first_read line rest is short f e h.3)
 
 -- ---- One line is one event
 

@@ -33,43 +33,10 @@ fn opened_by(alloc: Global, line: &KeptLine) -> Option<TimedNode>
     if line.is_long {
         return None;
     }
-    let first = FirstLine::parse(line.bytes.as_slice())?;
+    let Some(first) = FirstLine::parse(line.bytes.as_slice()) else {
+        return None;
+    };
     Some(TimedNode::new(alloc, first.member, first.start))
-}
-
-/// Puts out that a first line is not that of a book.
-fn put_no_book<W: Write>(writer: &mut W, out: &mut Output)
-    ensures { Puts (W.contents writer.old) (W.contents writer.new) out.old out.new (refused_line Refusal.Line) }
-{
-    put(writer, out, refused_line(Refusal::Line).as_bytes());
-}
-
-/// Makes the node of a book that begins with this line, and puts out the answer.
-///
-/// # Errors
-///
-/// `Line`: it is no first line. This was put out.
-fn open_by<W: Write>(
-    alloc: Global,
-    line: &KeptLine,
-    writer: &mut W,
-    out: &mut Output,
-) -> Result<TimedNode, BookFault>
-    ensures opens { (read : List ℕ) → IsKeptLine read line.now.bytes.items line.now.is_long
-        → (text : List ℕ) × OpensBy read text result
-        × Puts (W.contents writer.old) (W.contents writer.new) out.old out.new text }
-    ensures no_fault { (IsErrOf result BookFault.Read → ⊥) × (IsErrOf result BookFault.Write → ⊥) }
-{
-    match opened_by(alloc, line) {
-        Some(node) => {
-            put(writer, out, b"ok\n");
-            Ok(node)
-        }
-        None => {
-            put_no_book(writer, out);
-            Err(BookFault::Line)
-        }
-    }
 }
 
 /// Reads the first line, makes its node, and puts out the answer.
@@ -96,11 +63,20 @@ fn take_first<B: BufRead, W: Write>(
         Ok(is_there) => is_there,
         Err(fault) => return Err(fault),
     };
-    if is_there {
-        open_by(alloc, &input.line, writer, out)
+    let opened = if is_there {
+        opened_by(alloc, &input.line)
     } else {
-        put_no_book(writer, out);
-        Err(BookFault::Line)
+        None
+    };
+    match opened {
+        Some(node) => {
+            put(writer, out, b"ok\n");
+            Ok(node)
+        }
+        None => {
+            put(writer, out, refused_line(Refusal::Line).as_bytes());
+            Err(BookFault::Line)
+        }
     }
 }
 

@@ -13,7 +13,7 @@ ghost use Rattle.ra_book.specs.declared.book_writing.WriteBookError.{WriteBookEr
 
 use ra_frame::{Frame, MAX_FRAME, encoded};
 use ra_history::{Book, BookEvent, BookKind};
-use ra_stamp::{Memory, Mode, Name, NodeId};
+use ra_stamp::{Memory, Name, NodeId};
 use ra_world::{push_field, push_number};
 use std::alloc::{AllocError, Global};
 use std::fmt;
@@ -99,25 +99,6 @@ fn push_frame(text: &mut String, frame: &Frame) -> Result<(), WriteBookError>
     Ok(())
 }
 
-/// Adds the line of an ask.
-fn push_ask(text: &mut String, client: u32, name: &Name, mode: Mode) -> Result<(), Memory>
-    ensures { OnOk result (AddsEvent (string_bytes text.old) (string_bytes text.new) (BookKind.Asked client name.now mode)) }
-{
-    push_client(text, "ask", client, name)?;
-    push_field(text, mode.word())?;
-    text.push_str("\n")?;
-    Ok(())
-}
-
-/// Adds the line of a leave.
-fn push_release(text: &mut String, client: u32, name: &Name) -> Result<(), Memory>
-    ensures { OnOk result (AddsEvent (string_bytes text.old) (string_bytes text.new) (BookKind.Gave client name.now)) }
-{
-    push_client(text, "release", client, name)?;
-    text.push_str("\n")?;
-    Ok(())
-}
-
 /// Adds the line of an event.
 ///
 /// # Errors
@@ -128,8 +109,17 @@ fn push_event(text: &mut String, kind: &BookKind) -> Result<(), WriteBookError>
     ensures unfit { IsErrOf result WriteBookError.Unfit → IsUnfit kind.now }
 {
     match kind {
-        BookKind::Asked { client, name, mode } => Ok(push_ask(text, *client, name, *mode)?),
-        BookKind::Gave { client, name } => Ok(push_release(text, *client, name)?),
+        BookKind::Asked { client, name, mode } => {
+            push_client(text, "ask", *client, name)?;
+            push_field(text, mode.word())?;
+            text.push_str("\n")?;
+            Ok(())
+        }
+        BookKind::Gave { client, name } => {
+            push_client(text, "release", *client, name)?;
+            text.push_str("\n")?;
+            Ok(())
+        }
         BookKind::Got(frame) => push_frame(text, frame),
     }
 }

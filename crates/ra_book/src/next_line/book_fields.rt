@@ -10,9 +10,15 @@ use ra_trace::{client_of, cut, mode_of, name_of, node_of, start_of};
 fn name_and_mode_of(text: &[u8]) -> Option<(Name, Mode)>
     ensures { result ≡ spec.name_and_mode_of text.now }
 {
-    let (name, mode) = cut(b' ', text)?;
-    let name = name_of(name)?;
-    let mode = mode_of(mode)?;
+    let Some((name, mode)) = cut(b' ', text) else {
+        return None;
+    };
+    let Some(name) = name_of(name) else {
+        return None;
+    };
+    let Some(mode) = mode_of(mode) else {
+        return None;
+    };
     Some((name, mode))
 }
 
@@ -20,9 +26,15 @@ fn name_and_mode_of(text: &[u8]) -> Option<(Name, Mode)>
 pub fn ask_of(text: &[u8]) -> Option<BookKind>
     ensures { result ≡ spec.ask_of text.now }
 {
-    let (client, rest) = cut(b' ', text)?;
-    let client = client_of(client)?;
-    let (name, mode) = name_and_mode_of(rest)?;
+    let Some((client, rest)) = cut(b' ', text) else {
+        return None;
+    };
+    let Some(client) = client_of(client) else {
+        return None;
+    };
+    let Some((name, mode)) = name_and_mode_of(rest) else {
+        return None;
+    };
     Some(BookKind::Asked { client, name, mode })
 }
 
@@ -30,9 +42,15 @@ pub fn ask_of(text: &[u8]) -> Option<BookKind>
 pub fn release_of(text: &[u8]) -> Option<BookKind>
     ensures { result ≡ spec.release_of text.now }
 {
-    let (client, name) = cut(b' ', text)?;
-    let client = client_of(client)?;
-    let name = name_of(name)?;
+    let Some((client, name)) = cut(b' ', text) else {
+        return None;
+    };
+    let Some(client) = client_of(client) else {
+        return None;
+    };
+    let Some(name) = name_of(name) else {
+        return None;
+    };
     Some(BookKind::Gave { client, name })
 }
 
@@ -40,9 +58,15 @@ pub fn release_of(text: &[u8]) -> Option<BookKind>
 fn nodes_and_start_of(text: &[u8]) -> Option<(NodeId, u64)>
     ensures { result ≡ spec.nodes_and_start_of text.now }
 {
-    let (nodes, start) = cut(b' ', text)?;
-    let nodes = node_of(nodes)?;
-    let start = start_of(start)?;
+    let Some((nodes, start)) = cut(b' ', text) else {
+        return None;
+    };
+    let Some(nodes) = node_of(nodes) else {
+        return None;
+    };
+    let Some(start) = start_of(start) else {
+        return None;
+    };
     Some((nodes, start))
 }
 
@@ -50,8 +74,14 @@ fn nodes_and_start_of(text: &[u8]) -> Option<(NodeId, u64)>
 pub fn first_of(text: &[u8]) -> Option<(NodeId, (NodeId, u64))>
     ensures { result ≡ spec.first_of text.now }
 {
-    let (node, rest) = cut(b' ', text)?;
-    let node = node_of(node)?;
-    let rest = nodes_and_start_of(rest)?;
+    let Some((node, rest)) = cut(b' ', text) else {
+        return None;
+    };
+    let Some(node) = node_of(node) else {
+        return None;
+    };
+    let Some(rest) = nodes_and_start_of(rest) else {
+        return None;
+    };
     Some((node, rest))
 }

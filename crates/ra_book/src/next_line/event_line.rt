@@ -1,13 +1,12 @@
 //! A line of a book as the event that it is.
 ghost use Rattle.std.specs.Prelude.{◌≡◌, ◌≤◌, ◌/◌, ◌++◌, ℕ, List, true, false, length, codes, IfOk, MatchResult};
-ghost use Rattle.ra_frame.specs.Fits.{Fits};
-ghost use Rattle.ra_book.specs.BookText.{IsEvent, IsUnread, HasBytes, IsFrameOf, IsNoFrame};
+ghost use Rattle.ra_book.specs.BookText.{IsEvent, IsUnread, HasBytes};
 ghost use Rattle.ra_book.specs.Timed.{CanCome};
 ghost use Rattle.ra_book.specs.declared.answering.line_refusal.Refusal.{Refusal};
 
 use crate::Refusal;
 use crate::next_line::book_fields::{ask_of, release_of};
-use ra_frame::{Frame, decode};
+use ra_frame::decode;
 use ra_history::BookKind;
 use ra_trace::rest_after;
 
@@ -16,38 +15,6 @@ pub const MAX_LINE: usize = 256;
 
 /// The most bytes that the digits of a line stand for.
 const MAX_BYTES: usize = MAX_LINE / 2;
-
-/// Returns the event that client, name and mode are, after `ask `. It does not allocate.
-///
-/// # Errors
-///
-/// `Line`: they are not that.
-fn ask_line(rest: &[u8]) -> Result<BookKind, Refusal>
-    ensures read { (line : List ℕ) → line ≡ codes "ask " ++ rest.now → length line ≤ 256
-        → MatchResult result (IsEvent line) (IsUnread line) }
-    ensures can_come { IfOk result CanCome }
-{
-    match ask_of(rest) {
-        Some(kind) => Ok(kind),
-        None => Err(Refusal::Line),
-    }
-}
-
-/// Returns the event that client and name are, after `release `. It does not allocate.
-///
-/// # Errors
-///
-/// `Line`: they are not that.
-fn release_line(rest: &[u8]) -> Result<BookKind, Refusal>
-    ensures read { (line : List ℕ) → line ≡ codes "release " ++ rest.now → length line ≤ 256
-        → MatchResult result (IsEvent line) (IsUnread line) }
-    ensures can_come { IfOk result CanCome }
-{
-    match release_of(rest) {
-        Some(kind) => Ok(kind),
-        None => Err(Refusal::Line),
-    }
-}
 
 /// Puts the bytes that digits stand for into room for half as many, and returns whether there are any. It does not allocate.
 fn are_bytes(digits: &[u8], bytes: &mut [u8]) -> bool
@@ -58,7 +25,7 @@ fn are_bytes(digits: &[u8], bytes: &mut [u8]) -> bool
     hex::decode_to_slice(digits, bytes).is_ok()
 }
 
-/// Returns the frame whose text digits stand for. It does not allocate.
+/// Returns the event that digits are, after `receive `: the frame whose text they stand for comes. It does not allocate.
 ///
 /// # Errors
 ///
@@ -66,10 +33,11 @@ fn are_bytes(digits: &[u8], bytes: &mut [u8]) -> bool
 ///
 /// 1. `Hex`: they are an odd number, or not hexadecimal.
 /// 2. `Frame`: the bytes are no frame, with the fault that [`decode`] names.
-fn frame_of(digits: &[u8]) -> Result<Frame, Refusal>
+fn receive_line(digits: &[u8]) -> Result<BookKind, Refusal>
     requires { length digits.now ≤ 256 }
-    ensures read { MatchResult result (IsFrameOf digits.now) (IsNoFrame digits.now) }
-    ensures fits { IfOk result Fits }
+    ensures read { (line : List ℕ) → line ≡ codes "receive " ++ digits.now → length line ≤ 256
+        → MatchResult result (IsEvent line) (IsUnread line) }
+    ensures can_come { IfOk result CanCome }
 {
     let mut room = [0; MAX_BYTES];
     let bytes = &mut room[..digits.len() / 2];
@@ -77,25 +45,8 @@ fn frame_of(digits: &[u8]) -> Result<Frame, Refusal>
         return Err(Refusal::Hex);
     }
     match decode(bytes) {
-        Ok(frame) => Ok(frame),
-        Err(fault) => Err(Refusal::Frame(fault)),
-    }
-}
-
-/// Returns the event that digits are, after `receive `. It does not allocate.
-///
-/// # Errors
-///
-/// Those of `frame_of`.
-fn receive_line(digits: &[u8]) -> Result<BookKind, Refusal>
-    requires { length digits.now ≤ 256 }
-    ensures read { (line : List ℕ) → line ≡ codes "receive " ++ digits.now → length line ≤ 256
-        → MatchResult result (IsEvent line) (IsUnread line) }
-    ensures can_come { IfOk result CanCome }
-{
-    match frame_of(digits) {
         Ok(frame) => Ok(BookKind::Got(frame)),
-        Err(why) => Err(why),
+        Err(fault) => Err(Refusal::Frame(fault)),
     }
 }
 
@@ -119,10 +70,16 @@ pub fn event_of(line: &[u8]) -> Result<BookKind, Refusal>
         return receive_line(digits);
     }
     if let Some(rest) = rest_after(b"ask ", line) {
-        return ask_line(rest);
+        return match ask_of(rest) {
+            Some(kind) => Ok(kind),
+            None => Err(Refusal::Line),
+        };
     }
     match rest_after(b"release ", line) {
-        Some(rest) => release_line(rest),
+        Some(rest) => match release_of(rest) {
+            Some(kind) => Ok(kind),
+            None => Err(Refusal::Line),
+        },
         None => Err(Refusal::Line),
     }
 }

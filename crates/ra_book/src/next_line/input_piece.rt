@@ -108,7 +108,11 @@ fn next_byte<R: Read>(reader: &mut R) -> Result<Option<u8>, ReadFailed>
 fn take_byte<R: Read>(reader: &mut R, line: &mut KeptLine) -> Result<Piece, ReadFailed>
     ensures { TakesPiece (R.remaining reader.old) (R.remaining reader.new) line.old line.new result }
 {
-    let Some(byte) = next_byte(reader)? else {
+    let came = match next_byte(reader) {
+        Ok(came) => came,
+        Err(why) => return Err(why),
+    };
+    let Some(byte) = came else {
         return Ok(Piece::End);
     };
     if byte == b'\n' {
@@ -148,7 +152,10 @@ fn take_some<B: BufRead>(
 ) -> Result<Piece, ReadFailed>
     ensures { TakesPiece (B.remaining reader.old) (B.remaining reader.new) line.old line.new result }
 {
-    let taken = take_shown(reader, line)?;
+    let taken = match take_shown(reader, line) {
+        Ok(taken) => taken,
+        Err(why) => return Err(why),
+    };
     *is_drained = taken.is_all;
     if taken.is_over {
         Ok(Piece::Over)

@@ -4,7 +4,7 @@ ghost use Rattle.std.specs.List.{Any};
 ghost use Rattle.ra_book.specs.BookText.{IsFirst};
 ghost use Rattle.ra_history.specs.Book.{HasHistory, opening_book};
 ghost use Rattle.ra_book.specs.Texts.{IsBeside};
-ghost use Rattle.ra_book.specs.Gathering.{TakesEvent, TakesFirst, TakesLine, books_of};
+ghost use Rattle.ra_book.specs.Gathering.{TakesEvent, TakesFirst, TakesLine};
 
 use crate::text_settling::came_frames::{CameList, note};
 use crate::text_settling::happening::happen;
@@ -70,18 +70,6 @@ fn are_beside(books: &[Book], first: &FirstLine) -> bool
 }
 
 impl Gathered {
-    /// Returns whether each of the books is beside this first line. It does not allocate.
-    fn is_beside(&self, first: &FirstLine) -> bool
-        ensures { MatchBool result (All (IsBeside first.now.member.node first.now.member.nodes first.now.start) (books_of self.now))
-            (Any (λ book. IsBeside first.now.member.node first.now.member.nodes first.now.start book → ⊥) (books_of self.now)) }
-    {
-        if is_beside(&self.last, first) {
-            are_beside(&self.earlier, first)
-        } else {
-            false
-        }
-    }
-
     /// Begins a book.
     ///
     /// # Errors
@@ -91,7 +79,10 @@ impl Gathered {
         ensures { (line : List ℕ) → IsFirst line first.now.member.node first.now.member.nodes first.now.start
             → TakesFirst self.old line self.new result }
     {
-        if !self.is_beside(first) {
+        if !is_beside(&self.last, first) {
+            return Err(LineFault::Wrong(TextCause::Books));
+        }
+        if !are_beside(&self.earlier, first) {
             return Err(LineFault::Wrong(TextCause::Books));
         }
         if self.earlier.reserve(1).is_err() {

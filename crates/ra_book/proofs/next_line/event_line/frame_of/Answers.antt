@@ -1,9 +1,0 @@
-use Rattle.std.proofs.Common.{refl}
-use Rattle.ra_book.proofs.next_line.event_line.frame_of.Goals as goal
-
-pub returns-in-Ok-clause-read : goal.returns-in-Ok-clause-read
-returns-in-Ok-clause-read c = (c.are_bytes.new.bytes, c.are_bytes.ensures.some c.if-not-are_bytes.false, c.in-Ok.ensures.found)
-
-pub returns-in-Err-clause-read : goal.returns-in-Err-clause-read
-returns-in-Err-clause-read c =
-    (c.are_bytes.new.bytes, c.are_bytes.ensures.some c.if-not-are_bytes.false, (c.in-Err.ensures.fault c.in-Err.fault).0 refl)
