@@ -1,20 +1,23 @@
 //! The first lines of the books of a text.
 use ra_book::FirstLine;
+use ra_stamp::Member;
 use ra_world::cut;
 
 /// How many numbers there are from 0 to the highest node.
 const NODE_NUMBERS: usize = 65;
 
-/// The first line of a book, its number, counted from 1, and the text after it.
-#[derive(Drop)]
+/// What the first line of a book says, its number, counted from 1, and the text after it.
+#[derive(Clone, Copy)]
 pub struct Opening<'a> {
-    pub first: FirstLine,
+    /// The node whose book it is, and how many nodes there are.
+    pub member: Member,
+    pub start: u64,
     pub line: u64,
     pub after: &'a [u8],
 }
 
 /// The first lines of books.
-#[derive(Drop)]
+#[derive(Clone, Copy)]
 pub struct Openings<'a> {
     /// The first of them, if there is one.
     pub first: Option<Opening<'a>>,
@@ -22,18 +25,6 @@ pub struct Openings<'a> {
     pub last: Option<Opening<'a>>,
     /// The line at which the book of each node begins, by its number, or 0 if it has none.
     lines: [u64; NODE_NUMBERS],
-}
-
-impl<'a> Opening<'a> {
-    /// Makes that of a first line of this number, after which comes this text.
-    fn new(first: &FirstLine, line: u64, after: &'a [u8]) -> Opening<'a> {
-        let (member, start) = (first.member, first.start);
-        Opening {
-            first: FirstLine { member, start },
-            line,
-            after,
-        }
-    }
 }
 
 impl<'a> Openings<'a> {
@@ -52,9 +43,19 @@ impl<'a> Openings<'a> {
             };
             if let Some(first) = FirstLine::parse(shown) {
                 if openings.first.is_none() {
-                    openings.first = Some(Opening::new(&first, line, after));
+                    openings.first = Some(Opening {
+                        member: first.member,
+                        start: first.start,
+                        line,
+                        after,
+                    });
                 }
-                openings.last = Some(Opening::new(&first, line, after));
+                openings.last = Some(Opening {
+                    member: first.member,
+                    start: first.start,
+                    line,
+                    after,
+                });
                 openings.lines[usize::from(first.member.node().get())] = line;
             }
             rest = after;

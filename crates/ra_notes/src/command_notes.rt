@@ -26,11 +26,12 @@ pub fn write_arguments_note<N: Write>(fault: CommandFault, notes: &mut N) {
 /// Writes the note on a fault of the output, if there was one. A pipe that is no longer read gets no note, since that
 /// is usual, for example with `| head`. It does not allocate, and ignores a failure of the writer.
 pub fn write_output_note<N: Write>(fault: Option<OutputFault>, notes: &mut N) {
-    match fault {
-        Some(OutputFault::Full) => write_line(notes, NO_SPACE),
-        Some(OutputFault::Other) => write_line(notes, NO_OUTPUT),
-        Some(OutputFault::Unread) | None => {}
-    }
+    let text = match fault {
+        Some(OutputFault::Full) => NO_SPACE,
+        Some(OutputFault::Other) => NO_OUTPUT,
+        Some(OutputFault::Unread) | None => return,
+    };
+    write_line(notes, text);
 }
 
 /// Returns what there is to say about the end of a trace in which this many messages were sent, or of a mark log.
@@ -90,14 +91,14 @@ fn first_no_choice(alloc: Global, text: &str) -> &str {
 
 /// Returns what there is to say about a script that is not performed.
 pub fn of_performance(why: PerformError) -> Notice {
-    match why {
-        PerformError::Read => Notice::Text(NO_INPUT),
-        PerformError::Drive(DriveError::TurnLimit) => Notice::Text(TOO_MANY_TURNS),
-        PerformError::Script(_) | PerformError::Drive(_) => Notice::Text(UNEXPLAINED),
-        PerformError::Choice => Notice::Text(NO_WORD),
-        PerformError::Memory => Notice::Text(NO_MEMORY),
-        PerformError::Write => Notice::Nothing,
-    }
+    Notice::Text(match why {
+        PerformError::Read => NO_INPUT,
+        PerformError::Drive(DriveError::TurnLimit) => TOO_MANY_TURNS,
+        PerformError::Script(_) | PerformError::Drive(_) => UNEXPLAINED,
+        PerformError::Choice => NO_WORD,
+        PerformError::Memory => NO_MEMORY,
+        PerformError::Write => return Notice::Nothing,
+    })
 }
 
 /// Returns what there is to say about a text that has no verdict.
@@ -111,9 +112,9 @@ pub fn of_check(why: TraceError) -> Notice {
 
 /// Returns what there is to say about an input that is not drawn.
 pub fn of_drawing(alloc: Global, asked: &Command<'_>, why: DrawError) -> Notice {
-    match why {
-        DrawError::Read => Notice::Text(NO_INPUT),
-        DrawError::Limit => Notice::Text(TOO_MANY_BYTES),
+    Notice::Text(match why {
+        DrawError::Read => NO_INPUT,
+        DrawError::Limit => TOO_MANY_BYTES,
         DrawError::NoLines { lines } => {
             let mut note = Note::new(alloc);
             if lines == 0 {
@@ -123,10 +124,10 @@ pub fn of_drawing(alloc: Global, asked: &Command<'_>, why: DrawError) -> Notice 
             }
             let unit = if lines == 1 { " line" } else { " lines" };
             push_number_in(&mut note, ": standard input has ", lines, unit);
-            Notice::of(note)
+            return Notice::of(note);
         }
-        DrawError::TooLong => Notice::Text(TOO_LONG),
-        DrawError::Memory => Notice::Text(NO_MEMORY),
-        DrawError::Write => Notice::Nothing,
-    }
+        DrawError::TooLong => TOO_LONG,
+        DrawError::Memory => NO_MEMORY,
+        DrawError::Write => return Notice::Nothing,
+    })
 }

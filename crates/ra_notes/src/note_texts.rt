@@ -74,62 +74,46 @@ pub fn cluster_text(fault: ClusterError) -> &'static str {
     }
 }
 
+/// What is said about the first wrong line of a text that is not a trace, in the order of `Cause`.
+const CAUSES: [&str; 5] = [
+    "not a line that a trace may have here (see ra check --help); each line ends with a line feed alone, and the last line is end",
+    "the client may not ask or release here: the node does not exist, the client already waits, is queued or holds the name, it releases a name that it does not hold, or no number is left",
+    "this message is not under way: it was never sent, or was already delivered or lost",
+    "these are not the marks of the step: one is missing before this line, or this one does not belong here",
+    "the lock table does not allow this mark: a conflicting request holds the name or came earlier, its own request does not wait or hold, its node already waits or holds, or its number is not above every number granted",
+];
+
+/// What is said about the first wrong line of a log that is not a run of the lock table, in the order of `MarkCause`.
+const MARK_CAUSES: [&str; 7] = [
+    "not a mark: expected request, enter or leave and then NODE CLIENT NAME MODE SEQ, separated by single spaces and ended by a line feed alone",
+    "the node of this request already waits for the name or holds it",
+    "the number of this request is not above every number granted for the name",
+    "no such request waits for the name",
+    "a conflicting request holds the name",
+    "a conflicting request waits for the name with a lower number, or with the same number at a lower node",
+    "no such request holds the name",
+];
+
+/// What is said about the line at which a text of books is wrong, in the order of `TextCause`.
+const TEXT_CAUSES: [&str; 5] = [
+    "not a line of a book (see ra settle --help); each line ends with a line feed alone, and the text begins with the first line of a book",
+    "a node has two books, or books name different numbers of nodes or starts, or the book of a node is missing: expected one book of each node, with one NODES and one START",
+    "the node of this book does not take this event: give the book to ra node to see why",
+    "its sender's book did not send this frame with this clock: expected one that ra node prints for that book",
+    "this message came by an earlier line: expected each message once, unless --repeats is given",
+];
+
 /// Returns what is said about the first wrong line of a text that is not a trace.
 pub fn cause_text(cause: Cause) -> &'static str {
-    match cause {
-        Cause::Line => {
-            "not a line that a trace may have here (see ra check --help); each line ends with a line feed alone, and the last line is end"
-        }
-        Cause::Refused => {
-            "the client may not ask or release here: the node does not exist, the client already waits, is queued or holds the name, it releases a name that it does not hold, or no number is left"
-        }
-        Cause::NotUnderWay =>
-            "this message is not under way: it was never sent, or was already delivered or lost",
-        Cause::Marks => {
-            "these are not the marks of the step: one is missing before this line, or this one does not belong here"
-        }
-        Cause::Table => {
-            "the lock table does not allow this mark: a conflicting request holds the name or came earlier, its own request does not wait or hold, its node already waits or holds, or its number is not above every number granted"
-        }
-    }
+    CAUSES[cause as usize]
 }
 
 /// Returns what is said about the first wrong line of a log that is not a run of the lock table.
 pub fn mark_cause_text(cause: MarkCause) -> &'static str {
-    match cause {
-        MarkCause::Line => {
-            "not a mark: expected request, enter or leave and then NODE CLIENT NAME MODE SEQ, separated by single spaces and ended by a line feed alone"
-        }
-        MarkCause::NodeBusy => "the node of this request already waits for the name or holds it",
-        MarkCause::NotAbove => {
-            "the number of this request is not above every number granted for the name"
-        }
-        MarkCause::NotWaiting => "no such request waits for the name",
-        MarkCause::Held => "a conflicting request holds the name",
-        MarkCause::Earlier => {
-            "a conflicting request waits for the name with a lower number, or with the same number at a lower node"
-        }
-        MarkCause::NotHeld => "no such request holds the name",
-    }
+    MARK_CAUSES[cause as usize]
 }
 
 /// Returns what is said about the line at which a text of books is wrong.
 pub fn text_cause_text(cause: TextCause) -> &'static str {
-    match cause {
-        TextCause::Line => {
-            "not a line of a book (see ra settle --help); each line ends with a line feed alone, and the text begins with the first line of a book"
-        }
-        TextCause::Books => {
-            "a node has two books, or books name different numbers of nodes or starts, or the book of a node is missing: expected one book of each node, with one NODES and one START"
-        }
-        TextCause::Refused => {
-            "the node of this book does not take this event: give the book to ra node to see why"
-        }
-        TextCause::NotSent => {
-            "its sender's book did not send this frame with this clock: expected one that ra node prints for that book"
-        }
-        TextCause::Twice => {
-            "this message came by an earlier line: expected each message once, unless --repeats is given"
-        }
-    }
+    TEXT_CAUSES[cause as usize]
 }

@@ -57,31 +57,21 @@ impl Seen {
         }
     }
 
-    /// Remembers bytes after those that are known, as far as there is room.
-    fn keep(&mut self, more: &[u8]) {
-        let room = self.most.saturating_sub(self.bytes.len());
-        let kept = &more[..more.len().min(room)];
-        // What comes after bytes for which there was no memory would be at a wrong place.
-        self.is_whole = self.is_whole && self.bytes.extend_from_slice(kept).is_ok();
-    }
-
     /// Returns how many bytes are known that were shown and not read yet.
     #[inline(always)]
     fn ahead(&self) -> usize {
         self.bytes.len().saturating_sub(self.taken)
     }
 
-    /// Returns whether all that was shown is read. Until then a reader with a buffer shows the same, as for most lines.
-    #[inline(always)]
-    fn is_all_read(&self) -> bool {
-        self.ahead() == 0
-    }
-
-    /// Remembers what is read next, as far as it was not shown before.
+    /// Remembers what is read next, as far as it was not shown before and there is room.
     fn show(&mut self, next: &[u8]) {
         let known = self.ahead();
         if known < next.len() {
-            self.keep(&next[known..]);
+            let room = self.most.saturating_sub(self.bytes.len());
+            let end = known.saturating_add(room).min(next.len());
+            // What comes after bytes for which there was no memory would be at a wrong place.
+            self.is_whole = self.is_whole
+                && self.bytes.extend_from_slice(&next[known..end]).is_ok();
         }
     }
 
@@ -136,7 +126,8 @@ impl<R: BufRead> BufRead for RecordingReader<R> {
 
     #[inline(always)]
     fn fill_buf(&mut self) -> io::Result<&[u8]> {
-        if self.seen.is_all_read() {
+        // Until all that was shown is read, a reader with a buffer shows the same, as for most lines.
+        if self.seen.ahead() == 0 {
             let shown = self.inner.fill_buf()?;
             self.seen.show(shown);
             if shown.is_empty() {

@@ -104,8 +104,7 @@ pub fn refused_event(
     line: &[u8],
     number: u64,
 ) -> Option<(Refusal, Option<Standing>)> {
-    let first = &opening.first;
-    let mut node = TimedNode::new(alloc, first.member, first.start);
+    let mut node = TimedNode::new(alloc, opening.member, opening.start);
     let mut standing = match &event_of(line) {
         // Before the first line of the book, the client has not asked.
         Ok(BookKind::Asked { client, name, .. } | BookKind::Gave { client, name }) => {

@@ -9,21 +9,6 @@ use ra_world::Note;
 use std::alloc::Global;
 use std::io::Write;
 
-/// Returns whether a run was found that ends as it should: a finished one if the command was done, and otherwise one
-/// that is stuck. It does not allocate.
-fn is_found(find: Option<Search>, is_done: bool) -> bool {
-    match find {
-        Some(
-            Search {
-                ending: Ending::Finished,
-                ..
-            },
-        ) => is_done,
-        Some(_) => !is_done,
-        None => false,
-    }
-}
-
 /// Writes which seed made the run that was found, and perhaps shrunk, unless memory runs out. It ignores a failure of
 /// the writer.
 fn write_seed<N: Write>(alloc: Global, shrinks: bool, seed: u64, notes: &mut N) {
@@ -72,8 +57,10 @@ pub fn write_hints<N: Write>(
         }
         Task::Survey(ref survey) => {
             write_unused_options(arguments, notes);
+            // A run was found if a finished one was looked for and the command was done, or a stuck one and it was not.
             if let Some(seed) = last_seed
-                && is_found(survey.find, is_done)
+                && let Some(Search { ending, .. }) = survey.find
+                && matches!(ending, Ending::Finished) == is_done
             {
                 write_seed(alloc, asked.shrinks(), seed, notes);
             }

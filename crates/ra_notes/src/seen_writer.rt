@@ -15,15 +15,6 @@ pub enum OutputFault {
     Other,
 }
 
-/// Returns which fault an error is.
-fn fault_of(error: &io::Error) -> OutputFault {
-    match error.kind() {
-        ErrorKind::BrokenPipe => OutputFault::Unread,
-        ErrorKind::StorageFull => OutputFault::Full,
-        _ => OutputFault::Other,
-    }
-}
-
 /// A writer that remembers how it failed last. What it takes is what the writer in it takes.
 #[derive(Drop)]
 pub struct SeenWriter<W> {
@@ -44,11 +35,15 @@ impl<W> SeenWriter<W> {
         self.fault
     }
 
-    /// Remembers that the writer failed.
-    fn remember(&mut self, fault: OutputFault)
+    /// Remembers that the writer failed with this error.
+    fn remember(&mut self, error: &io::Error)
         ensures { self.new.inner ≡ self.old.inner }
     {
-        self.fault = Some(fault);
+        self.fault = Some(match error.kind() {
+            ErrorKind::BrokenPipe => OutputFault::Unread,
+            ErrorKind::StorageFull => OutputFault::Full,
+            _ => OutputFault::Other,
+        });
     }
 }
 
@@ -58,12 +53,12 @@ impl<W: Write> Write for SeenWriter<W> {
     fn write(&mut self, buf: &[u8]) -> io::Result<usize> {
         match self.inner.write(buf) {
             Ok(0) if !buf.is_empty() => {
-                self.remember(OutputFault::Other);
+                self.fault = Some(OutputFault::Other);
                 Ok(0)
             }
             Ok(count) => Ok(count),
             Err(error) => {
-                self.remember(fault_of(&error));
+                self.remember(&error);
                 Err(error)
             }
         }
@@ -73,7 +68,7 @@ impl<W: Write> Write for SeenWriter<W> {
         match self.inner.flush() {
             Ok(()) => Ok(()),
             Err(error) => {
-                self.remember(fault_of(&error));
+                self.remember(&error);
                 Err(error)
             }
         }
@@ -83,7 +78,7 @@ impl<W: Write> Write for SeenWriter<W> {
         match self.inner.write_all(buf) {
             Ok(()) => Ok(()),
             Err(error) => {
-                self.remember(fault_of(&error));
+                self.remember(&error);
                 Err(error)
             }
         }

@@ -1,31 +1,25 @@
 //! The notes on a run that was shrunk: by how much, and what is left to do in the shorter run, whose choices were printed.
-use crate::input_places::policy_by;
+use crate::input_places::{PlaceNote, policy_by};
 use crate::note_texts::UNEXPLAINED;
-use crate::run_notes::shrunk::{ShrunkNotes, shrunk_notes};
+use crate::run_notes::shrunk::shrunk_note;
+use ra_stamp::Memory;
 use ra_task::{Command, write_line};
 use std::alloc::Global;
 use std::io::Write;
 
-/// Returns what is said of the run that was shrunk, or `None` if memory ran out.
-fn notes_on(
+/// Returns what is said of the run that was shrunk, or that memory ran out, as it also does if the script or the run is not known.
+fn note_on(
     alloc: Global,
     asked: &Command<'_>,
     script: Option<&[u8]>,
     last_seed: Option<u64>,
-) -> Option<ShrunkNotes> {
+) -> PlaceNote {
     let Some(script) = script else {
-        return None;
+        return Err(Memory);
     };
-    let Some(policy) = policy_by(alloc, asked, last_seed) else {
-        return None;
-    };
-    shrunk_notes(alloc, script, &policy).ok()
-}
-
-/// Writes a text as a line, if there is one. It ignores a failure of the writer.
-fn write_if<N: Write>(notes: &mut N, text: &Option<String>) {
-    if let Some(text) = text {
-        write_line(notes, text.as_str());
+    match &policy_by(alloc, asked, last_seed) {
+        Some(policy) => shrunk_note(alloc, script, policy),
+        None => Err(Memory),
     }
 }
 
@@ -38,11 +32,9 @@ pub fn write_shrunk_notes<N: Write>(
     last_seed: Option<u64>,
     notes: &mut N,
 ) {
-    match notes_on(alloc, asked, script, last_seed) {
-        Some(said) => {
-            write_if(notes, &said.counts);
-            write_if(notes, &said.left);
-        }
-        None => write_line(notes, UNEXPLAINED),
+    match note_on(alloc, asked, script, last_seed) {
+        Ok(Some(text)) => write_line(notes, text.as_str()),
+        Ok(None) => {}
+        Err(Memory) => write_line(notes, UNEXPLAINED),
     }
 }

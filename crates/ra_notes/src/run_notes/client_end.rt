@@ -29,15 +29,6 @@ pub enum ClientEnd {
 }
 
 impl ClientEnd {
-    /// Returns whether the client has something left to do, and waits or is queued if `waits`, and otherwise does not.
-    pub fn is_left(&self, waits: bool) -> bool {
-        match self {
-            ClientEnd::Done => false,
-            ClientEnd::Waits(_) | ClientEnd::Queued { .. } => waits,
-            ClientEnd::Idle(_) => !waits,
-        }
-    }
-
     /// Adds the state of the client.
     pub fn push(&self, note: &mut Note) {
         match self {
@@ -70,10 +61,12 @@ impl<'a> RunEnd<'a> {
         report: &'a Report,
     ) -> RunEnd<'a> {
         let mut requests = OpenText::new(alloc);
-        for (before, mark) in report.marks.as_slice().iter().enumerate() {
+        let mut place = 0;
+        for mark in report.marks.as_slice() {
+            place = u64::saturating_add(place, 1);
             let since = match requests.request_of(mark.entry()) {
                 Some(request) => request.since,
-                None => (before as u64).saturating_add(1),
+                None => place,
             };
             requests.take_mark(mark, since);
         }

@@ -8,14 +8,8 @@ use ra_stamp::Memory;
 use ra_world::Note;
 use std::alloc::Global;
 
-/// What is said of a run that was shrunk if it was stuck.
-#[derive(Drop)]
-pub struct ShrunkNotes {
-    /// By how much, if it was stuck.
-    pub counts: Option<String>,
-    /// What is left to do at the end of the shorter run or, if it was not stuck, of the run itself.
-    pub left: Option<String>,
-}
+/// What comes between two lines of a note.
+const NEXT_LINE: &str = "\nra: ";
 
 /// Returns the choices to which a policy's run of a script is shrunk, or `None` if it is not stuck or refused. If memory ran out,
 /// the note records it.
@@ -41,45 +35,33 @@ fn push_shorter(alloc: Global, note: &mut Note, script: &Script, policy: &Policy
     }
 }
 
-/// Adds by how much a policy's run of a script is shrunk, and what is left to do then.
-fn push_shrunk(
-    alloc: Global,
-    counts: &mut Note,
-    left: &mut Note,
-    script: &Script,
-    policy: &Policy,
-) {
-    match shorter(alloc, counts, script, policy) {
+/// Adds by how much a policy's run of a script is shrunk, and on a line of its own what is left to do then.
+fn push_shrunk(alloc: Global, note: &mut Note, script: &Script, policy: &Policy) {
+    match shorter(alloc, note, script, policy) {
         Some(choices) => {
-            push_shorter(alloc, counts, script, policy, choices.len());
-            push_run(alloc, left, script, &Policy::Listed(choices));
+            push_shorter(alloc, note, script, policy, choices.len());
+            note.push(NEXT_LINE);
+            push_run(alloc, note, script, &Policy::Listed(choices));
         }
-        None => push_run(alloc, left, script, policy),
+        None => push_run(alloc, note, script, policy),
     }
 }
 
-/// Returns two notes that are made.
-///
-/// # Errors
-///
-/// `Memory`: memory ran out for one of them.
-fn finish(counts: Note, left: Note) -> Result<ShrunkNotes, Memory> {
-    let counts = counts.finish()?;
-    let left = left.finish()?;
-    Ok(ShrunkNotes { counts, left })
-}
-
-/// Returns what is said of a policy's run of the script in a text, which is shrunk if it is stuck: by how much, and, as
-/// [`unfinished_note`](crate::unfinished_note) says it, what is left to do. It costs as much as to shrink the run.
+/// Returns what is said of a policy's run of the script in a text. If it is stuck, it is shrunk, and a line says by how much. Then comes,
+/// as [`unfinished_note`](crate::unfinished_note) says it, what is left to do in the shorter run or, if it is not stuck, in the run itself.
+/// It costs as much as to shrink the run.
 ///
 /// # Errors
 ///
 /// `Memory`: memory ran out.
-pub fn shrunk_notes(alloc: Global, script: &[u8], policy: &Policy) -> Result<ShrunkNotes, Memory> {
-    let mut counts = Note::new(alloc);
-    let mut left = Note::new(alloc);
-    if let Some(script) = script_in(alloc, &mut left, script) {
-        push_shrunk(alloc, &mut counts, &mut left, &script, policy);
+pub fn shrunk_note(
+    alloc: Global,
+    script: &[u8],
+    policy: &Policy,
+) -> Result<Option<String>, Memory> {
+    let mut note = Note::new(alloc);
+    if let Some(script) = script_in(alloc, &mut note, script) {
+        push_shrunk(alloc, &mut note, &script, policy);
     }
-    finish(counts, left)
+    note.finish()
 }

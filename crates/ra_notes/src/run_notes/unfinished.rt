@@ -38,7 +38,12 @@ fn push_clients(note: &mut Note, ending: &RunEnd<'_>, waits: bool, before: u64) 
     for place in 0..ending.script.clients() {
         let client = place + 1;
         let client_end = &ending.client_end(client);
-        if client_end.is_left(waits) {
+        let is_left = match client_end {
+            ClientEnd::Done => false,
+            ClientEnd::Waits(_) | ClientEnd::Queued { .. } => waits,
+            ClientEnd::Idle(_) => !waits,
+        };
+        if is_left {
             if let Some(node) = ending.script.node_of(client)
                 && count < MAX_CLIENTS
             {
