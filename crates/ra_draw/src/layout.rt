@@ -81,7 +81,7 @@ impl Layout {
         }
     }
 
-    /// Lays it out.
+    /// Lays it out: the lanes are from left to right, each after its bars.
     pub fn fill(&mut self, alloc: Global, spans: &[LockSpan]) -> Result<(), Memory> {
         for _node in 0..self.nodes {
             self.lanes.push(NodeLane::new(alloc))?;
@@ -89,7 +89,13 @@ impl Layout {
         for span in spans {
             self.add_bar(span)?;
         }
-        self.place_lanes();
+        let gap = self.gap();
+        let mut x = LEFT_MARGIN.saturating_add(self.label);
+        for lane in &mut self.lanes {
+            x = u64::saturating_add(x, lane.gutter());
+            lane.x = x;
+            x = u64::saturating_add(x, gap);
+        }
         Ok(())
     }
 
@@ -112,17 +118,6 @@ impl Layout {
             end,
         })?;
         Ok(())
-    }
-
-    /// Places the lanes from left to right, each after its bars.
-    fn place_lanes(&mut self) {
-        let gap = self.gap();
-        let mut x = LEFT_MARGIN.saturating_add(self.label);
-        for lane in &mut self.lanes {
-            x = u64::saturating_add(x, lane.gutter());
-            lane.x = x;
-            x = u64::saturating_add(x, gap);
-        }
     }
 
     /// Returns the width between a lane and the bars of the next one.

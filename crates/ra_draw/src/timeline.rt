@@ -113,16 +113,6 @@ impl Timeline {
         Ok(())
     }
 
-    /// Notes what a step does with the message that it takes.
-    fn note_message(&mut self, alloc: Global, step: &Step) -> Result<(), Memory> {
-        match step {
-            Step::Deliver(message) => self.paths.end(message, self.now, false),
-            Step::Lose(message) => self.paths.end(message, self.now, true),
-            Step::Repeat(message) => self.paths.begin(alloc, message, self.now, true),
-            Step::Ask { .. } | Step::Leave { .. } => Ok(()),
-        }
-    }
-
     /// Notes the messages that a step sends, and the deferrals that it begins and ends: a delivered REQUEST without a REPLY is
     /// deferred, and a client that leaves sends what was deferred.
     fn note_sends(&mut self, alloc: Global, step: &Step, sends: &[Message]) -> Result<(), Memory> {
@@ -156,7 +146,13 @@ impl Timeline {
         world: &mut Option<MarklessWorld>,
         step: &Step,
     ) -> Result<(), Memory> {
-        self.note_message(alloc, step)?;
+        let noted = match step {
+            Step::Deliver(message) => self.paths.end(message, self.now, false),
+            Step::Lose(message) => self.paths.end(message, self.now, true),
+            Step::Repeat(message) => self.paths.begin(alloc, message, self.now, true),
+            Step::Ask { .. } | Step::Leave { .. } => Ok(()),
+        };
+        noted?;
         let Some(world) = world else {
             return Ok(());
         };

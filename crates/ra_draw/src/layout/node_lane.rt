@@ -57,15 +57,25 @@ impl NodeLane {
         (Some(place), false)
     }
 
-    /// Adds a column for a client, after this one if it had any, with a bar down to this row. Returns which.
-    fn add(&mut self, client: u32, before: Option<u32>, end: u32) -> Result<u32, Memory> {
+    /// Takes a column for a bar of this client over these rows, and returns which: one that is free, and otherwise one more, after the
+    /// last one of the client if it has any.
+    pub fn take(&mut self, client: u32, first: u32, last: u32) -> Result<u32, Memory> {
+        let (known, is_free) = self.find(client, first);
+        if let Some(place) = known
+            && is_free
+        {
+            if let Some(column) = self.columns.get_mut(place as usize) {
+                column.end = last;
+            }
+            return Ok(place);
+        }
         let place = short(self.columns.len());
         self.columns.push(Column {
             client,
-            end,
+            end: last,
             next: None,
         })?;
-        if let Some(before) = before {
+        if let Some(before) = known {
             if let Some(column) = self.columns.get_mut(before as usize) {
                 column.next = Some(place);
             }
@@ -73,19 +83,6 @@ impl NodeLane {
             self.firsts.insert(client, place)?;
         }
         Ok(place)
-    }
-
-    /// Takes a column for a bar of this client over these rows, and returns which.
-    pub fn take(&mut self, client: u32, first: u32, last: u32) -> Result<u32, Memory> {
-        match self.find(client, first) {
-            (Some(place), true) => {
-                if let Some(column) = self.columns.get_mut(place as usize) {
-                    column.end = last;
-                }
-                Ok(place)
-            }
-            (before, _) => self.add(client, before, last),
-        }
     }
 
     /// Returns how wide its bars are, with what is between them and it.

@@ -5,7 +5,7 @@ use crate::layout::sizes::{
 };
 use crate::svg::svg_writer::PatternValue::{Node, Number, Short, Text, Whole};
 use crate::svg::svg_writer::SvgWriter;
-use crate::svg::wording::mode_text;
+use crate::svg::wording::MODE_TEXTS;
 use crate::timeline::{ClientAct, LockKey, Moment, Timeline};
 use ra_stamp::{Memory, NodeId};
 use std::alloc::Global;
@@ -98,34 +98,21 @@ impl Layers {
         }
     }
 
-    /// Draws the lanes, and after them that from which copies come.
-    fn draw_lanes(&mut self, layout: &Layout) {
-        for number in 0..layout.nodes {
-            if let Some(node) = NodeId::new(number + 1) {
-                self.draw_node(layout, node);
-            }
-        }
-        if layout.has_copies {
-            let x = layout.copies_x();
-            self.shapes.put(b"<g><title>copies</title>");
-            self.draw_lane(layout, x, "copies");
-            self.begin_text(x, NODES_Y);
-            self.labels.put(b"node\">copies</text>\n");
-        }
-    }
-
     /// Draws a dot where a client asks for a name in a mode or leaves it, and labels it.
     fn draw_act(&mut self, layout: &Layout, act: &ClientAct, row: u32) {
         let key = &act.key;
         let place = layout.at(key.node, row);
-        let (what, class, word) = match act.mode {
-            Some(_) => ("asks for", "ask", "asks"),
-            None => ("leaves", "leave", "leaves"),
+        let class = match act.mode {
+            Some(mode) => {
+                self.begin_act(key, "asks for");
+                self.shapes.write(", $", &[Text(MODE_TEXTS[mode as usize])]);
+                "ask"
+            }
+            None => {
+                self.begin_act(key, "leaves");
+                "leave"
+            }
         };
-        self.begin_act(key, what);
-        if let Some(mode) = act.mode {
-            self.shapes.write(", $", &[Text(mode_text(mode))]);
-        }
         // First comes a larger dot that is not seen, so that a pointer hits it easily.
         self.shapes.write(
             "</title><circle cx=\"$\" cy=\"$\" r=\"10\" class=\"touch\"/><circle cx=\"$\" cy=\"$\" r=\"4\" class=\"$\"/></g>\n",
@@ -139,8 +126,8 @@ impl Layers {
         );
         self.begin_text(place.x.saturating_add(8), place.y.saturating_sub(4));
         self.labels.write(
-            "label to-right\">$ $",
-            &[Text(word), Short(&key.name, layout.cut)],
+            "label to-right\">$s $",
+            &[Text(class), Short(&key.name, layout.cut)],
         );
         if let Some(mode) = act.mode {
             self.labels.write(" $", &[Text(mode.word())]);
@@ -172,9 +159,20 @@ impl Layers {
         }
     }
 
-    /// Draws all that there is on the page.
+    /// Draws all that there is on the page: first the lanes, and after those of the nodes that from which copies come.
     pub fn draw(&mut self, layout: &Layout, timeline: &Timeline) {
-        self.draw_lanes(layout);
+        for number in 0..layout.nodes {
+            if let Some(node) = NodeId::new(number + 1) {
+                self.draw_node(layout, node);
+            }
+        }
+        if layout.has_copies {
+            let x = layout.copies_x();
+            self.shapes.put(b"<g><title>copies</title>");
+            self.draw_lane(layout, x, "copies");
+            self.begin_text(x, NODES_Y);
+            self.labels.put(b"node\">copies</text>\n");
+        }
         for bar in &layout.bars {
             self.draw_lock_bar(layout, bar);
         }

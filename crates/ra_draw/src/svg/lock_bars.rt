@@ -3,7 +3,7 @@ use crate::layout::sizes::{COLUMN_WIDTH, WIDE_LETTER};
 use crate::layout::{Layout, LockBar};
 use crate::svg::layers::Layers;
 use crate::svg::svg_writer::PatternValue::{Number, Short, Text};
-use crate::svg::wording::mode_text;
+use crate::svg::wording::MODE_TEXTS;
 use crate::timeline::Moment;
 
 /// A phase of a bar: what the client does then, and how that looks.
@@ -58,7 +58,7 @@ impl Layers {
             self.begin_act(&bar.span.key, phase.what);
             self.shapes.write(
                 ", $, from line $",
-                &[Text(mode_text(bar.span.mode)), Number(first.line)],
+                &[Text(MODE_TEXTS[bar.span.mode as usize]), Number(first.line)],
             );
             self.end_title(last);
             let x = layout.column_x(bar.span.key.node, bar.column);

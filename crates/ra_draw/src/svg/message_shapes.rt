@@ -3,7 +3,7 @@ use crate::layout::{Layout, Point};
 use crate::svg::layers::Layers;
 use crate::svg::svg_writer::PatternValue;
 use crate::svg::svg_writer::PatternValue::{Node, Number, Short, Text, Whole};
-use crate::svg::wording::{kind_of, mode_text};
+use crate::svg::wording::{MODE_TEXTS, kind_of};
 use crate::timeline::{MessageEnd, MessagePath, Moment};
 use ra_stamp::{Message, Name};
 
@@ -92,7 +92,8 @@ impl Layers {
             ],
         );
         if let Message::Request { mode, .. } = message {
-            self.shapes.write(", $", &[Text(mode_text(*mode))]);
+            self.shapes
+                .write(", $", &[Text(MODE_TEXTS[*mode as usize])]);
         }
         let start = if path.copied { "repeated" } else { "sent" };
         self.shapes

@@ -1,16 +1,14 @@
 //! What shapes say in words.
-use ra_stamp::{Message, Mode};
+use ra_stamp::Message;
 
-/// Returns a mode in words.
-pub fn mode_text(mode: Mode) -> &'static str {
-    match mode {
-        Mode::Shared => "shared",
-        Mode::Exclusive => "exclusive",
-        Mode::IntentShared => "intent shared",
-        Mode::IntentExclusive => "intent exclusive",
-        Mode::SharedIntentExclusive => "shared and intent exclusive",
-    }
-}
+/// Each mode in words, in the order of `Mode`.
+pub const MODE_TEXTS: [&str; 5] = [
+    "shared",
+    "exclusive",
+    "intent shared",
+    "intent exclusive",
+    "shared and intent exclusive",
+];
 
 /// Returns the kind of a message.
 pub fn kind_of(message: &Message) -> &'static str {

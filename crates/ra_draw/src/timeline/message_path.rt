@@ -75,8 +75,12 @@ impl MessagePaths {
 
     /// Takes the first of these messages, and returns when it came under way, and whether it is a copy.
     fn take(&mut self, message: &Message) -> Option<(Moment, bool)> {
-        let equals = self.under_way.get_mut(message)?;
-        let start = *equals.starts.get(equals.taken)?;
+        let Some(equals) = self.under_way.get_mut(message) else {
+            return None;
+        };
+        let Some(&start) = equals.starts.get(equals.taken) else {
+            return None;
+        };
         equals.taken = equals.taken.saturating_add(1);
         if equals.taken == equals.starts.len() {
             self.under_way.swap_remove(message);
