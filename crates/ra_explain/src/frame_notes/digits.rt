@@ -15,31 +15,22 @@ pub fn part(digits: &[u8], place: usize, width: usize) -> &[u8] {
     }
 }
 
-/// Returns the value of a hexadecimal digit, or 0 for another byte.
-fn digit_value(digit: u8) -> u8 {
-    match digit {
-        b'0'..=b'9' => digit - b'0',
-        b'a'..=b'f' => digit - b'a' + 10,
-        b'A'..=b'F' => digit - b'A' + 10,
-        _ => 0,
+/// Returns the number that these bytes of a frame are, as many as there are, or 0 if there is none.
+pub fn number_at(digits: &[u8], place: usize, width: usize) -> u64 {
+    let mut number: u64 = 0;
+    for digit in part(digits, place, width) {
+        let value = char::from(*digit).to_digit(16).unwrap_or(0);
+        number = number.wrapping_mul(16).wrapping_add(u64::from(value));
     }
-}
-
-/// Returns the byte of a frame at this place, or 0 if there is none.
-pub fn byte_at(digits: &[u8], place: usize) -> u8 {
-    match part(digits, place, 1) {
-        [high, low] => digit_value(*high)
-            .wrapping_mul(16)
-            .wrapping_add(digit_value(*low)),
-        _ => 0,
-    }
+    number
 }
 
 /// Returns the place of the first of these bytes that no name has, or the place after them.
 pub fn no_name_byte(digits: &[u8], place: usize, width: usize) -> usize {
     let end = place.saturating_add(width);
     for place in place..end {
-        if Name::new(&[byte_at(digits, place)]).is_err() {
+        let [byte, ..] = number_at(digits, place, 1).to_le_bytes();
+        if Name::of(&[byte]).is_none() {
             return place;
         }
     }

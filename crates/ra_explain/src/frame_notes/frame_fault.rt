@@ -1,19 +1,18 @@
 //! Where the fault of a frame is in its line of digits.
 use crate::frame_notes::digits::{no_name_byte, part};
-use crate::frame_notes::frame_field::{NAME, extent_of, index_of, name_of, range_of};
+use crate::frame_notes::frame_field::{FAULTY, FrameField, NAME, field_at};
 use crate::note_parts::{push_number_in, push_numbered};
 use ra_frame::FrameError;
 use ra_stamp::Memory;
 use ra_world::{Note, cut};
 use std::alloc::Global;
 
-/// Adds the name of a field and the offsets of its bytes, of which there are `width` from `place` on.
-fn push_offsets(note: &mut Note, name: &str, extent: (usize, usize)) {
-    let (place, width) = extent;
-    note.push(name);
-    let last = place.saturating_add(width).saturating_sub(1);
-    let joint = if place < last {
-        push_numbered(note, " at offsets ", place);
+/// Adds the name of a field and the offsets of its bytes.
+fn push_offsets(note: &mut Note, field: &FrameField) {
+    note.push(field.name);
+    let last = field.place.saturating_add(field.width).saturating_sub(1);
+    let joint = if field.place < last {
+        push_numbered(note, " at offsets ", field.place);
         " to "
     } else {
         " at offset "
@@ -22,58 +21,54 @@ fn push_offsets(note: &mut Note, name: &str, extent: (usize, usize)) {
 }
 
 /// Adds the name of a field, the offsets of its bytes, and what they are.
-pub fn push_field(note: &mut Note, digits: &[u8], name: &str, extent: (usize, usize)) {
-    push_offsets(note, name, extent);
+pub fn push_field(note: &mut Note, digits: &[u8], field: &FrameField) {
+    push_offsets(note, field);
     note.push("is ");
-    note.bytes(part(digits, extent.0, extent.1));
+    note.bytes(part(digits, field.place, field.width));
 }
 
-/// Returns the index of the first field that is incomplete, or of the name if all before it are complete.
-fn short_index(digits: &[u8]) -> usize {
+/// Returns the first field that is incomplete, or the name if all before it are complete.
+fn short_field(digits: &[u8]) -> FrameField {
     for index in 0..NAME {
-        let (place, width) = extent_of(digits, index);
-        if part(digits, place, width).len() < width.saturating_mul(2) {
-            return index;
+        let field = field_at(digits, index);
+        if part(digits, field.place, field.width).len() < field.width.saturating_mul(2) {
+            return field;
         }
     }
-    NAME
-}
-
-/// Adds the field at which a frame ends, this text, and the number of bytes in the frame.
-fn push_end(note: &mut Note, digits: &[u8], index: usize, text: &str) {
-    push_offsets(note, name_of(index), extent_of(digits, index));
-    let bytes = digits.len() / 2;
-    let unit = if bytes == 1 { " byte" } else { " bytes" };
-    push_number_in(note, text, bytes, unit);
+    field_at(digits, NAME)
 }
 
 /// Adds the description of a frame's fault: which field of these hexadecimal digits it is, where its bytes are, what they are, and
 /// what is allowed there.
 pub fn push_frame_fault(note: &mut Note, digits: &[u8], fault: FrameError) {
-    match fault {
+    let mut field = field_at(digits, FAULTY[fault as usize]);
+    let ending = match fault {
         FrameError::Short => {
-            let text = "is missing or incomplete: the frame has ";
-            push_end(note, digits, short_index(digits), text);
+            field = short_field(digits);
+            Some("is missing or incomplete: the frame has ")
         }
-        FrameError::Trailing => {
-            push_end(note, digits, NAME, "is the last field, but the frame has ");
+        FrameError::Trailing => Some("is the last field, but the frame has "),
+        FrameError::NameByte => {
+            field.place = no_name_byte(digits, field.place, field.width);
+            field.width = 1;
+            field.name = "the name byte";
+            None
         }
-        _ => {
-            let index = index_of(fault);
-            let extent = extent_of(digits, index);
-            if let FrameError::NameByte = fault {
-                let wrong = no_name_byte(digits, extent.0, extent.1);
-                push_field(note, digits, "the name byte", (wrong, 1));
-            } else {
-                push_field(note, digits, name_of(index), extent);
-            }
-            if let FrameError::SameNode = fault {
-                note.push(", the same as the sender: a node sends no message to itself");
-            } else {
-                note.push(": ");
-                note.push(range_of(digits, index));
-            }
-        }
+        _ => None,
+    };
+    if let Some(text) = ending {
+        push_offsets(note, &field);
+        let bytes = digits.len() / 2;
+        let unit = if bytes == 1 { " byte" } else { " bytes" };
+        push_number_in(note, text, bytes, unit);
+        return;
+    }
+    push_field(note, digits, &field);
+    if let FrameError::SameNode = fault {
+        note.push(", the same as the sender: a node sends no message to itself");
+    } else {
+        note.push(": ");
+        note.push(field.range);
     }
 }
 

@@ -1,9 +1,23 @@
 //! The fields of a frame, where they are, and what they may contain.
-use crate::frame_notes::digits::byte_at;
-use ra_frame::{Format, FrameError, format_of};
+use crate::frame_notes::digits::number_at;
+use ra_frame::{Format, format_of};
+
+/// The indices of some fields in the order of all.
+pub const SENDER: usize = 2;
+
+pub const RECEIVER: usize = 3;
+
+const MODE: usize = 4;
+
+pub const CLOCK: usize = 6;
 
 /// The number of fields before the name, and so the index of the name.
 pub const NAME: usize = 8;
+
+/// The index of the field that each fault is in, in the order of `FrameError`. It is that of the name if none before it has the fault.
+pub const FAULTY: [usize; 12] = [
+    NAME, 0, 1, SENDER, RECEIVER, RECEIVER, MODE, 5, CLOCK, 7, NAME, NAME,
+];
 
 /// The names of the fields, in their order.
 const NAMES: [&str; 9] = [
@@ -37,48 +51,36 @@ const NODE_1: &str = "must be 01 to 10 (nodes 1 to 16) in version 1";
 /// What a mode must be in version 1.
 const MODE_1: &str = "must be 00 or 01 in a REQUEST, and 00 in a REPLY, in version 1";
 
-/// Returns the version of a frame with these digits, or the newest if they name none.
-fn format_in(digits: &[u8]) -> Format {
-    format_of(&[byte_at(digits, 0)]).unwrap_or(Format::V2)
+/// A field of a frame, or a part of one.
+#[derive(Clone, Copy)]
+pub struct FrameField {
+    pub name: &'static str,
+    /// Where it begins, in bytes counted from 0.
+    pub place: usize,
+    /// How many bytes it has.
+    pub width: usize,
+    /// What it may contain.
+    pub range: &'static str,
 }
 
-/// Returns the name of the field with this index.
-pub fn name_of(index: usize) -> &'static str {
-    NAMES.get(index).unwrap_or(&"")
-}
-
-/// Returns what the field with this index may contain in the frame of these digits.
-pub fn range_of(digits: &[u8], index: usize) -> &'static str {
-    match (format_in(digits), index) {
-        (Format::V1, 2 | 3) => NODE_1,
-        (Format::V1, 4) => MODE_1,
-        _ => RANGES.get(index).unwrap_or(&""),
-    }
-}
-
-/// Returns where the field with this index begins in the frame of these digits, in bytes counted from 0, and how many bytes it has. The
+/// Returns the field with this index in the frame of these digits. If they name no version, it is that of a frame of the newest one. The
 /// name is as long as the byte before it says.
-pub fn extent_of(digits: &[u8], index: usize) -> (usize, usize) {
-    let places = format_in(digits).places();
+pub fn field_at(digits: &[u8], index: usize) -> FrameField {
+    let [version, ..] = number_at(digits, 0, 1).to_le_bytes();
+    let format = format_of(&[version]).unwrap_or(Format::V2);
+    let places = format.places();
     let place = *places.get(index).unwrap_or(&0);
-    let width = match places.get(index.saturating_add(1)) {
-        Some(next) => next.saturating_sub(place),
-        None => usize::from(byte_at(digits, place.saturating_sub(1))),
-    };
-    (place, width)
-}
-
-/// Returns the index of the field that has the fault, which is that of the name if none before it has.
-pub fn index_of(fault: FrameError) -> usize {
-    match fault {
-        FrameError::Version => 0,
-        FrameError::Kind => 1,
-        FrameError::From => 2,
-        FrameError::To | FrameError::SameNode => 3,
-        FrameError::Mode => 4,
-        FrameError::Seq => 5,
-        FrameError::Clock => 6,
-        FrameError::NameLength => 7,
-        FrameError::Short | FrameError::NameByte | FrameError::Trailing => NAME,
+    FrameField {
+        name: NAMES.get(index).unwrap_or(&""),
+        place,
+        width: match places.get(index.saturating_add(1)) {
+            Some(next) => next.saturating_sub(place),
+            None => number_at(digits, place.saturating_sub(1), 1) as usize,
+        },
+        range: match (format, index) {
+            (Format::V1, SENDER | RECEIVER) => NODE_1,
+            (Format::V1, MODE) => MODE_1,
+            _ => RANGES.get(index).unwrap_or(&""),
+        },
     }
 }

@@ -1,9 +1,8 @@
 //! Which field of a frame is the reason that a node does not answer it.
-use crate::frame_notes::digits::byte_at;
+use crate::frame_notes::digits::number_at;
 use crate::frame_notes::frame_fault::push_field;
-use crate::frame_notes::frame_field::{extent_of, index_of, name_of};
+use crate::frame_notes::frame_field::{CLOCK, RECEIVER, SENDER, field_at};
 use crate::note_parts::push_number_in;
-use ra_frame::FrameError;
 use ra_stamp::Memory;
 use ra_world::{Note, cut};
 use std::alloc::Global;
@@ -17,18 +16,6 @@ pub enum Unanswered {
     Stranger,
     /// There is no clock above its own.
     ClockFull,
-}
-
-/// Returns the number that these bytes of a frame are.
-fn number_at(digits: &[u8], extent: (usize, usize)) -> u64 {
-    let (place, width) = extent;
-    let mut number: u64 = 0;
-    for place in place..place.saturating_add(width) {
-        number = number
-            .wrapping_mul(256)
-            .wrapping_add(u64::from(byte_at(digits, place)));
-    }
-    number
 }
 
 /// Returns a note on why a node does not answer the frame in an input of hexadecimal digits. It says which field is the
@@ -47,34 +34,24 @@ pub fn unanswered_note(
 ) -> Result<Option<String>, Memory> {
     let mut note = Note::new(alloc);
     let (digits, _) = cut(input, b'\n');
-    let index = index_of(match why {
-        Unanswered::WrongNode => FrameError::To,
-        Unanswered::Stranger => FrameError::From,
-        Unanswered::ClockFull => FrameError::Clock,
-    });
-    let extent = extent_of(digits, index);
-    push_field(&mut note, digits, name_of(index), extent);
-    let number = number_at(digits, extent);
-    match why {
-        Unanswered::WrongNode => {
-            push_number_in(
-                &mut note,
-                ": the frame is for node ",
-                number,
-                ", but --node is ",
-            );
-            note.push(node);
-        }
+    let (index, before, after) = match why {
+        Unanswered::WrongNode => (RECEIVER, ": the frame is for node ", ", but --node is "),
         // The sender is not this node: a frame from its own receiver is faulty, and one for another node is not
         // answered.
-        Unanswered::Stranger => {
-            push_number_in(
-                &mut note,
-                ": the frame is from node ",
-                number,
-                ", but --nodes is ",
-            );
-            note.push(nodes);
+        Unanswered::Stranger => (SENDER, ": the frame is from node ", ", but --nodes is "),
+        Unanswered::ClockFull => (CLOCK, "", ""),
+    };
+    let field = field_at(digits, index);
+    push_field(&mut note, digits, &field);
+    let number = number_at(digits, field.place, field.width);
+    match why {
+        Unanswered::WrongNode | Unanswered::Stranger => {
+            push_number_in(&mut note, before, number, after);
+            note.push(if let Unanswered::WrongNode = why {
+                node
+            } else {
+                nodes
+            });
         }
         Unanswered::ClockFull => note.push(", the greatest: no clock is left for an answer"),
     }

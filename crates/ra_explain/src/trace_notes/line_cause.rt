@@ -5,6 +5,7 @@ use crate::trace_notes::line_text::{push_mark_text, push_trace_text};
 use crate::trace_notes::not_under_way::push_not_under_way;
 use crate::trace_notes::obstacle::push_obstacle;
 use crate::trace_notes::refused_step::push_refused;
+use crate::trace_notes::replay::Replay;
 use crate::trace_notes::text_line::TextLine;
 use ra_stamp::{Mark, Memory};
 use ra_trace::{Cause, MarkCause};
@@ -20,19 +21,26 @@ pub enum LineCause {
     Marks(MarkCause),
 }
 
+/// Adds why a line is wrong after those before it, which are gone through once more for that, or `other` if nothing more precise is
+/// found. It is a step that is refused, a message that is not under way, or a mark.
+fn push_after(alloc: Global, note: &mut Note, line: &TextLine<'_>, cause: LineCause, other: &str) {
+    let replay = Replay::of(alloc, line.before, line.bytes);
+    match cause {
+        LineCause::Trace(Cause::Refused) => push_refused(note, line, &replay, other),
+        LineCause::Trace(Cause::NotUnderWay) => push_not_under_way(note, line, &replay, other),
+        LineCause::Marks(why) => push_obstacle(alloc, note, line, &replay, Some(why), other),
+        _ => push_obstacle(alloc, note, line, &replay, None, other),
+    }
+}
+
 /// Adds why a line is wrong, which is `other` if nothing more precise is found.
 fn push_cause(alloc: Global, note: &mut Note, line: &TextLine<'_>, cause: LineCause, other: &str) {
     match cause {
-        LineCause::Trace(cause) => match cause {
-            Cause::Line => push_trace_text(note, line, other),
-            Cause::Marks => note.push(other),
-            Cause::Refused => push_refused(alloc, note, line, other),
-            Cause::NotUnderWay => push_not_under_way(alloc, note, line, other),
-            Cause::Table => push_obstacle(alloc, note, line, None, other),
-        },
+        LineCause::Trace(Cause::Line) => push_trace_text(note, line, other),
+        LineCause::Trace(Cause::Marks) => note.push(other),
         LineCause::Due(due) => push_due(alloc, note, line, &due),
         LineCause::Marks(MarkCause::Line) => push_mark_text(note, line, other),
-        LineCause::Marks(why) => push_obstacle(alloc, note, line, Some(why), other),
+        _ => push_after(alloc, note, line, cause, other),
     }
 }
 

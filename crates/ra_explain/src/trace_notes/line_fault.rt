@@ -1,6 +1,6 @@
 //! Which field of a line of a trace or mark log is wrong, and what it may contain.
 use crate::hint::TAB;
-use crate::trace_notes::line_field::{field_name, field_range, may_be};
+use crate::trace_notes::line_field::{NAMES, field_range, may_be};
 use crate::trace_notes::line_form::{kind_of, words_of};
 use ra_trace::{Field, LineKind, Version};
 use ra_world::{Note, cut};
@@ -12,7 +12,7 @@ fn push_expected(note: &mut Note, wrong: &str, kind: LineKind) {
     note.push(words_of(kind));
     for field in kind.fields() {
         note.push(" ");
-        note.push(field_name(*field));
+        note.push(NAMES[*field as usize]);
     }
 }
 
@@ -22,7 +22,7 @@ fn push_wrong(note: &mut Note, field: Field, text: &[u8], version: Option<Versio
         note.push(TAB);
         return;
     }
-    note.push(field_name(field));
+    note.push(NAMES[field as usize]);
     if text.is_empty() {
         note.push(" is empty (a single space separates fields)");
     } else {
@@ -47,7 +47,7 @@ pub fn push_line_fault(
     };
     for field in kind.fields() {
         let Some(left) = rest else {
-            note.push(field_name(*field));
+            note.push(NAMES[*field as usize]);
             push_expected(note, " is missing", kind);
             return true;
         };

@@ -1,20 +1,10 @@
 //! The fields of the lines of traces and mark logs, as a person is told of them.
 use ra_trace::{Field, Version, client_of, mode_of, name_of, node_of, seq_of, start_of};
 
-/// Returns what a field is called.
-pub fn field_name(field: Field) -> &'static str {
-    match field {
-        Field::Nodes => "NODES",
-        Field::Start => "START",
-        Field::Node => "NODE",
-        Field::From => "FROM",
-        Field::To => "TO",
-        Field::Client => "CLIENT",
-        Field::Name => "NAME",
-        Field::Mode => "MODE",
-        Field::Seq => "SEQ",
-    }
-}
+/// What each field is called, in the order of `Field`.
+pub const NAMES: [&str; 9] = [
+    "NODES", "START", "NODE", "FROM", "TO", "CLIENT", "NAME", "MODE", "SEQ",
+];
 
 /// Returns what a field may contain in this version, or in each version if the version is not known.
 pub fn field_range(field: Field, version: Option<Version>) -> &'static str {

@@ -50,9 +50,11 @@ pub fn kind_of<'a>(kinds: &[LineKind], line: &'a [u8]) -> Option<(LineKind, Opti
 
 /// Returns the version that the first line of a text names, or `None` if it does not name one.
 pub fn version_of(text: &[u8]) -> Option<Version> {
-    for version in [Version::One, Version::Two] {
-        if text.starts_with(LineKind::First(version).words().as_bytes()) {
-            return Some(version);
+    for kind in FIRST_LINES {
+        if let LineKind::First(version) = kind
+            && text.starts_with(kind.words().as_bytes())
+        {
+            return Some(*version);
         }
     }
     None

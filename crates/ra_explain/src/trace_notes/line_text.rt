@@ -45,40 +45,43 @@ fn unless_tab<'a>(line: &[u8], text: &'a str) -> &'a str {
     if line.contains(&b'\t') { TAB } else { text }
 }
 
-/// Adds the text for a later line of a trace, or `other` if nothing is found.
-fn push_later_line(note: &mut Note, text: &[u8], version: Option<Version>, other: &str) {
-    if kind_of(FIRST_LINES, text).is_some() {
-        note.push(FIRST_AGAIN);
-    } else if matches!(version, Some(Version::One)) && text.starts_with(b"repeat ") {
-        note.push(NO_REPEATS);
-    } else if kind_of(LATER_LINES, text).is_none() {
-        note.push(unless_tab(text, hint_at(&[AT_LATER], text, WORDS)));
-    } else if !push_line_fault(note, LATER_LINES, text, version) {
-        note.push(other);
-    }
-}
-
 /// Adds the text for a line that does not belong in a trace or is out of place, or `other` if nothing is found.
 pub fn push_trace_text(note: &mut Note, line: &TextLine<'_>, other: &str) {
-    if line.is_after_end {
-        note.push("nothing may follow end, the last line of a trace");
-    } else if let Some(text) = end_text(line) {
-        note.push(text);
+    let text = line.bytes;
+    let said = if line.is_after_end {
+        "nothing may follow end, the last line of a trace"
+    } else if let Some(ending) = end_text(line) {
+        ending
     } else if line.number == 1 {
-        if !push_line_fault(note, FIRST_LINES, line.bytes, version_of(line.bytes)) {
-            note.push(hint_at(&[AT_BOTH, AT_FIRST], line.bytes, NOT_FIRST));
+        if push_line_fault(note, FIRST_LINES, text, version_of(text)) {
+            return;
         }
+        hint_at(&[AT_BOTH, AT_FIRST], text, NOT_FIRST)
+    } else if kind_of(FIRST_LINES, text).is_some() {
+        FIRST_AGAIN
+    } else if text.starts_with(b"repeat ")
+        && matches!(version_of(line.before), Some(Version::One))
+    {
+        NO_REPEATS
+    } else if kind_of(LATER_LINES, text).is_none() {
+        unless_tab(text, hint_at(&[AT_LATER], text, WORDS))
+    } else if push_line_fault(note, LATER_LINES, text, version_of(line.before)) {
+        return;
     } else {
-        push_later_line(note, line.bytes, version_of(line.before), other);
-    }
+        other
+    };
+    note.push(said);
 }
 
 /// Adds the text for a line that is not a mark, or `other` if nothing is found.
 pub fn push_mark_text(note: &mut Note, line: &TextLine<'_>, other: &str) {
-    if let Some(text) = end_text(line) {
-        note.push(text);
-    } else if !push_line_fault(note, MARKS, line.bytes, Some(Version::Two)) {
-        let otherwise = unless_tab(line.bytes, other);
-        note.push(hint_at(&[AT_BOTH, AT_MARKS], line.bytes, otherwise));
-    }
+    let text = line.bytes;
+    let said = if let Some(ending) = end_text(line) {
+        ending
+    } else if push_line_fault(note, MARKS, text, Some(Version::Two)) {
+        return;
+    } else {
+        hint_at(&[AT_BOTH, AT_MARKS], text, unless_tab(text, other))
+    };
+    note.push(said);
 }

@@ -8,7 +8,6 @@ use crate::trace_notes::text_line::TextLine;
 use ra_stamp::Message;
 use ra_trace::Version;
 use ra_world::Note;
-use std::alloc::Global;
 
 /// What is said of a message for which there is no reason to be sent.
 const NEVER_SENT: &str = "it was never sent";
@@ -37,21 +36,28 @@ fn push_awaited(note: &mut Note, replay: &Replay, reply: &Message, answered: &Op
     }
 }
 
-/// Adds in which line the message was last taken that is not under way at this line, and whether it was lost there.
-fn push_taken(note: &mut Note, line: &TextLine<'_>, number: u64, is_lost: bool) {
-    if is_lost {
-        push_numbered(note, "it was lost in line ", number);
+/// Adds why the message is not under way that a line of a trace delivers, loses or repeats, or `other` if the line does none of these: in
+/// which line it was last delivered or lost, or why it was never sent. Of a REPLY it adds why it was not, although the request that
+/// it answers waits or holds.
+pub fn push_not_under_way(note: &mut Note, line: &TextLine<'_>, replay: &Replay, other: &str) {
+    let Some(message) = &replay.message else {
+        note.push(other);
+        return;
+    };
+    note.push("this message is not under way: ");
+    if let Some((number, is_lost)) = replay.taken {
+        let text = if is_lost {
+            "it was lost in line "
+        } else {
+            "it was last delivered in line "
+        };
+        push_numbered(note, text, number);
+        // Version 1 has no repeats.
+        if !is_lost && !matches!(version_of(line.before), Some(Version::One)) {
+            note.push("; a copy needs a repeat line before that");
+        }
         return;
     }
-    push_numbered(note, "it was last delivered in line ", number);
-    // Version 1 has no repeats.
-    if !matches!(version_of(line.before), Some(Version::One)) {
-        note.push("; a copy needs a repeat line before that");
-    }
-}
-
-/// Adds why a message was never sent: of a REPLY, why it was not although the request that it answers waits or holds.
-fn push_never_sent(note: &mut Note, replay: &Replay, message: &Message) {
     let sought = Sought::AtNode(message.to(), message.name());
     match replay.open.next_of(0, &sought) {
         Some(request)
@@ -60,23 +66,5 @@ fn push_never_sent(note: &mut Note, replay: &Replay, message: &Message) {
             push_awaited(note, replay, message, request);
         }
         _ => note.push(NEVER_SENT),
-    }
-}
-
-/// Adds why the message is not under way that a line of a trace delivers, loses or repeats, or `other` if the line does none of these.
-/// Without memory for what waits, is queued and holds before it, it only adds of a REPLY that it was never sent. The cost is linear
-/// in the lines before.
-pub fn push_not_under_way(alloc: Global, note: &mut Note, line: &TextLine<'_>, other: &str) {
-    let replay = Replay::of(alloc, line.before, line.bytes);
-    let taken = replay.taken;
-    match &replay.message {
-        Some(message) => {
-            note.push("this message is not under way: ");
-            match taken {
-                Some((number, is_lost)) => push_taken(note, line, number, is_lost),
-                None => push_never_sent(note, &replay, message),
-            }
-        }
-        None => note.push(other),
     }
 }

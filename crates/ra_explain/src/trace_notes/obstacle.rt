@@ -5,10 +5,22 @@ use crate::trace_notes::open_text::{OpenText, Sought};
 use crate::trace_notes::replay::Replay;
 use crate::trace_notes::table_steps::refusal_after;
 use crate::trace_notes::text_line::TextLine;
-use ra_stamp::{Entry, Mark};
+use ra_stamp::Entry;
 use ra_trace::{Line, MarkCause};
 use ra_world::Note;
 use std::alloc::Global;
+
+/// What is said of a mark of a trace that a lock table does not allow, in the order of `MarkCause`. If a request is in the way, it is
+/// named after that.
+const IN_TABLE: [&str; 7] = [
+    "the lock table does not allow this mark",
+    "the lock table does not allow this mark: its node already waits for the name or holds it",
+    "the lock table does not allow this mark: its number is not above every number granted for the name",
+    "the lock table does not allow this mark: no such request waits for the name",
+    "the lock table does not allow this mark",
+    "the lock table does not allow this mark",
+    "the lock table does not allow this mark: no such request holds the name",
+];
 
 /// Adds a request that is in the way of another one, with its number, if there is one. Returns whether there is.
 fn push_other(note: &mut Note, joint: &str, request: Option<&OpenRequest>) -> bool {
@@ -83,57 +95,33 @@ fn push_details(note: &mut Note, entry: &Entry, replay: &Replay, cause: MarkCaus
     }
 }
 
-/// Adds that a lock table does not allow a mark of a trace, for this cause.
-fn push_cause(note: &mut Note, cause: MarkCause) {
-    note.push("the lock table does not allow this mark");
-    note.push(match cause {
-        MarkCause::NodeBusy => ": its node already waits for the name or holds it",
-        MarkCause::NotAbove => ": its number is not above every number granted for the name",
-        MarkCause::NotWaiting => ": no such request waits for the name",
-        MarkCause::NotHeld => ": no such request holds the name",
-        // The request in the way is named.
-        _ => "",
-    });
-}
-
-/// Adds why a mark is wrong and what is in its way, given what the lines before say of it, or `other` if that is not known.
-fn push_reason(
-    alloc: Global,
-    note: &mut Note,
-    line: &TextLine<'_>,
-    mark: &Mark,
-    replay: &Replay,
-    log_cause: Option<MarkCause>,
-    other: &str,
-) {
-    let cause = match log_cause {
-        _ if !replay.open.is_whole => None,
-        Some(_) => log_cause,
-        None => refusal_after(alloc, line.before, mark),
-    };
-    match cause {
-        Some(cause) if log_cause.is_none() => push_cause(note, cause),
-        _ => note.push(other),
-    }
-    if let Some(cause) = cause {
-        push_details(note, mark.entry(), replay, cause);
-    }
-}
-
-/// Adds why the mark in a line is wrong and what is in its way, or `other` if that is not known since there is no memory for what waits,
+/// Adds why the mark in a line is wrong and what is in its way, or `other` if that is not known since there was no memory for what waits,
 /// is queued and holds before it. In a mark log, `other` says why, and this is the cause; in a trace, the lock table after the marks
-/// before it says the cause. The cost is linear in the lines before, and that of a lock table for their marks.
+/// before it says the cause. The cost is linear in what waits, is queued and holds, and in a trace that of a lock table for the marks.
 pub fn push_obstacle(
     alloc: Global,
     note: &mut Note,
     line: &TextLine<'_>,
+    replay: &Replay,
     log_cause: Option<MarkCause>,
     other: &str,
 ) {
-    if let Some(Line::Marked(mark)) = &Line::parse(line.bytes) {
-        let replay = Replay::of(alloc, line.before, line.bytes);
-        push_reason(alloc, note, line, mark, &replay, log_cause, other);
-    } else {
-        note.push(other);
+    let mark = match Line::parse(line.bytes) {
+        Some(Line::Marked(mark)) if replay.open.is_whole => mark,
+        _ => {
+            note.push(other);
+            return;
+        }
+    };
+    let (cause, text) = match log_cause {
+        Some(_) => (log_cause, other),
+        None => match refusal_after(alloc, line.before, &mark) {
+            Some(cause) => (Some(cause), IN_TABLE[cause as usize]),
+            None => (None, other),
+        },
+    };
+    note.push(text);
+    if let Some(cause) = cause {
+        push_details(note, mark.entry(), replay, cause);
     }
 }

@@ -7,7 +7,6 @@ use crate::trace_notes::text_line::TextLine;
 use ra_stamp::{Mode, Name, NodeId};
 use ra_trace::Line;
 use ra_world::{Note, Step};
-use std::alloc::Global;
 
 /// Adds what a client at a stage has done with a name, in which mode, at which node if that is told, and since which line.
 pub fn push_stage(
@@ -47,10 +46,20 @@ pub fn push_exhausted(note: &mut Note, name: &Name) {
     note.push(": the greatest is 18446744073709551615");
 }
 
-/// Adds why a node that there is refuses what the client of a key wants, which is to ask for the name or to leave it.
-fn push_client(note: &mut Note, replay: &Replay, key: &ClientKey, is_ask: bool) {
+/// Adds why a node refuses what the client of a key wants, which is to ask for the name or to leave it, or `other` if that is not known.
+fn push_refusal(note: &mut Note, replay: &Replay, key: &ClientKey, is_ask: bool, other: &str) {
     let (node, client, name) = key;
+    if replay.nodes == 0 {
+        note.push(other);
+        return;
+    }
+    if node.get() > replay.nodes {
+        push_numbered(note, "there is no node ", node.get());
+        push_numbered(note, ": the highest node of the trace is ", replay.nodes);
+        return;
+    }
     match replay.open.clients.get(key) {
+        _ if !replay.open.is_whole => note.push(other),
         Some(open) => {
             let mode = open.entry.mode;
             push_stage(
@@ -73,39 +82,21 @@ fn push_client(note: &mut Note, replay: &Replay, key: &ClientKey, is_ask: bool) 
     }
 }
 
-/// Adds why a node refuses what the client of a key wants, which is to ask for the name or to leave it, or `other` if that is not known.
-fn push_refusal(note: &mut Note, replay: &Replay, key: &ClientKey, is_ask: bool, other: &str) {
-    let (node, _, _) = key;
-    if node.get() > replay.nodes && replay.nodes > 0 {
-        push_numbered(note, "there is no node ", node.get());
-        push_numbered(note, ": the highest node of the trace is ", replay.nodes);
-    } else if replay.nodes > 0 && replay.open.is_whole {
-        push_client(note, replay, key, is_ask);
+/// Adds why the step in a line of a trace is refused, or `other` if that is not known since there was no memory for what waits, is
+/// queued and holds before it.
+pub fn push_refused(note: &mut Note, line: &TextLine<'_>, replay: &Replay, other: &str) {
+    if let Some(Line::Stepped(step)) = &Line::parse(line.bytes)
+        && let Step::Ask {
+            node,
+            client,
+            name,
+            ..
+        }
+        | Step::Leave { node, client, name } = step
+    {
+        let key = (*node, *client, *name);
+        push_refusal(note, replay, &key, matches!(step, Step::Ask { .. }), other);
     } else {
         note.push(other);
     }
-}
-
-/// Adds why the step in a line of a trace is refused, or `other` if that is not known since there is no memory for what waits, is
-/// queued and holds before it. The cost is linear in the lines before.
-pub fn push_refused(alloc: Global, note: &mut Note, line: &TextLine<'_>, other: &str) {
-    let (key, is_ask) = match &Line::parse(line.bytes) {
-        Some(
-            Line::Stepped(
-                Step::Ask {
-                    node,
-                    client,
-                    name,
-                    ..
-                },
-            ),
-        ) => ((*node, *client, *name), true),
-        Some(Line::Stepped(Step::Leave { node, client, name })) => ((*node, *client, *name), false),
-        _ => {
-            note.push(other);
-            return;
-        }
-    };
-    let replay = Replay::of(alloc, line.before, line.bytes);
-    push_refusal(note, &replay, &key, is_ask, other);
 }

@@ -34,15 +34,6 @@ pub struct Replay {
     pub came: Option<u64>,
 }
 
-/// Returns whether a message is the REQUEST that this REPLY answers.
-fn is_answered_by(request: &Message, reply: &Message) -> bool {
-    matches!(request, Message::Request { .. })
-        && request.from() == reply.to()
-        && request.to() == reply.from()
-        && request.name() == reply.name()
-        && request.seq() == reply.seq()
-}
-
 impl Replay {
     /// Goes through these lines for what they say of the one after them, or of their end if that is empty. The cost is linear in them.
     pub fn of(alloc: Global, lines: &[u8], subject: &[u8]) -> Replay {
@@ -76,55 +67,68 @@ impl Replay {
         replay
     }
 
-    /// Takes the line with this number.
+    /// Takes the line with this number. Until its request is made, a client that asks is queued.
     fn take(&mut self, line: &[u8], number: u64) {
         match &Line::parse(line) {
             Some(Line::First { nodes, .. }) => self.nodes = nodes.get(),
-            Some(Line::Stepped(step)) => self.take_step(step, number),
-            Some(Line::Marked(mark)) => {
-                self.open.take_mark(mark, number);
-                self.take_mark(mark, number);
-            }
-            Some(Line::Last) | None => {}
-        }
-    }
-
-    /// Takes the step in the line with this number. Until its request is made, a client that asks is queued.
-    fn take_step(&mut self, step: &Step, number: u64) {
-        match step {
-            Step::Ask {
-                node,
-                client,
-                name,
-                mode,
-            } => {
-                let stamp = Stamp {
-                    seq: 1,
-                    node: *node,
-                };
+            Some(
+                Line::Stepped(
+                    Step::Ask {
+                        node,
+                        client,
+                        name,
+                        mode,
+                    },
+                ),
+            ) => {
                 let queued = Entry {
                     name: *name,
-                    stamp,
+                    stamp: Stamp {
+                        seq: 1,
+                        node: *node,
+                    },
                     client: *client,
                     mode: *mode,
                 };
                 self.open.keep(&queued, Stage::Queued, number);
             }
-            Step::Deliver(message) => {
+            Some(Line::Stepped(Step::Deliver(message))) => {
                 self.take_message(message, number, false);
                 self.take_reply(message);
             }
-            Step::Lose(message) => self.take_message(message, number, true),
-            Step::Repeat(_) | Step::Leave { .. } => {}
+            Some(Line::Stepped(Step::Lose(message))) => self.take_message(message, number, true),
+            Some(Line::Marked(mark)) => {
+                self.open.take_mark(mark, number);
+                self.take_mark(mark, number);
+            }
+            _ => {}
         }
     }
 
     /// Takes that a message is delivered or lost in the line with this number.
     fn take_message(&mut self, message: &Message, number: u64, is_lost: bool) {
-        if let Some(sought) = &self.message {
-            if *message == *sought {
-                self.taken = Some((number, is_lost));
-            } else if !is_lost && is_answered_by(message, sought) {
+        let Some(sought) = self.message else {
+            return;
+        };
+        if *message == sought {
+            self.taken = Some((number, is_lost));
+        } else if let Message::Request {
+            from,
+            to,
+            name,
+            seq,
+            ..
+        } = *message
+            && !is_lost
+        {
+            // The message may be the REPLY to this REQUEST.
+            let reply = Message::Reply {
+                from: to,
+                to: from,
+                name,
+                seq,
+            };
+            if sought == reply {
                 self.came = Some(number);
             }
         }
@@ -132,30 +136,48 @@ impl Replay {
 
     /// Takes that a message is delivered, which may be a REPLY to the request of the entry.
     fn take_reply(&mut self, message: &Message) {
-        if let Some(entry) = &self.entry
-            && matches!(message, Message::Reply { .. })
-            && message.to() == entry.stamp.node
-            && message.name() == entry.name
-            && message.seq() == entry.stamp.seq
-            && let Some(has) = self.replied.get_mut(usize::from(message.from().get()))
+        let from = message.from();
+        let reply = match &self.entry {
+            Some(entry) => Message::Reply {
+                from,
+                to: entry.stamp.node,
+                name: entry.name,
+                seq: entry.stamp.seq,
+            },
+            None => return,
+        };
+        if *message == reply
+            && let Some(has) = self.replied.get_mut(usize::from(from.get()))
         {
             *has = true;
         }
     }
 
-    /// Takes the mark in the line with this number, for what is over on the name of the entry.
+    /// Takes the mark in the line with this number, for what is over on the name of the entry. A release by the node of the entry says
+    /// more than those before, but for that of the entry itself.
     fn take_mark(&mut self, mark: &Mark, number: u64) {
-        if let Some(entry) = self.entry {
-            match mark {
-                Mark::Requested(_) => {}
-                Mark::Entered(granted) => {
-                    if granted.name == entry.name && granted.stamp.seq > self.granted {
-                        self.granted = granted.stamp.seq;
-                        self.granted_at = number;
-                    }
-                }
-                Mark::Left(released) => self.take_release(released, &entry, number),
+        let Some(entry) = self.entry else {
+            return;
+        };
+        let made = mark.entry();
+        if made.name != entry.name {
+            return;
+        }
+        match mark {
+            Mark::Entered(_) if made.stamp.seq > self.granted => {
+                self.granted = made.stamp.seq;
+                self.granted_at = number;
             }
+            Mark::Left(_)
+                if made.stamp.node == entry.stamp.node
+                    && (*made == entry || self.release_of(&entry).is_none()) => {
+                self.released = Some(OpenRequest {
+                    entry: *made,
+                    stage: Stage::Queued,
+                    since: number,
+                });
+            }
+            _ => {}
         }
     }
 
@@ -164,21 +186,6 @@ impl Replay {
         match &self.released {
             Some(released) if released.entry == *entry => Some(released),
             _ => None,
-        }
-    }
-
-    /// Takes a release in the line with this number, if it is by the node of the entry and of its name. It says more than those
-    /// before, but for the entry.
-    fn take_release(&mut self, released: &Entry, entry: &Entry, number: u64) {
-        if released.name == entry.name
-            && released.stamp.node == entry.stamp.node
-            && (*released == *entry || self.release_of(entry).is_none())
-        {
-            self.released = Some(OpenRequest {
-                entry: *released,
-                stage: Stage::Queued,
-                since: number,
-            });
         }
     }
 

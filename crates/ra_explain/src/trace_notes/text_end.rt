@@ -4,7 +4,7 @@ ghost use Rattle.std.specs.Prelude.{◌≤◌, length};
 use crate::note_parts::push_number_in;
 use crate::trace_notes::blockers::{ByLine, MAX_CLIENTS, push_blockers, want_text};
 use crate::trace_notes::line_form::version_of;
-use crate::trace_notes::open_request::{OpenRequest, Stage};
+use crate::trace_notes::open_request::Stage;
 use crate::trace_notes::open_text::{OpenText, Sought};
 use crate::trace_notes::replay::Replay;
 use memchr::memchr;
@@ -17,8 +17,8 @@ use std::simd::prelude::*;
 #[derive(Clone, Copy)]
 struct LeftOver {
     /// How many messages and copies are under way, and how many were lost.
-    under_way: u128,
-    lost: u128,
+    under_way: u64,
+    lost: u64,
     /// How many requests wait and hold, and how many clients are queued.
     waiting: u64,
     queued: u64,
@@ -95,16 +95,19 @@ impl LineCounts {
         }
     }
 
-    /// Counts the first line of a text. Its first letters tell which one it is.
+    /// Counts the first line of a text. Its first three letters tell which one it is, and each line has as many.
     fn add(&mut self, text: &[u8]) {
-        match text {
-            [b'd', ..] => self.deliveries = self.deliveries.saturating_add(1),
-            [b'r', _, b'q', ..] => self.requests = self.requests.saturating_add(1),
-            [b'e', _, b't', ..] => self.enters = self.enters.saturating_add(1),
-            [b'l', b'e', ..] => self.leaves = self.leaves.saturating_add(1),
-            [b'a', ..] => self.asks = self.asks.saturating_add(1),
-            [b'l', b'o', ..] => self.losses = self.losses.saturating_add(1),
-            [b'r', _, b'p', ..] => self.repeats = self.repeats.saturating_add(1),
+        let [first, second, third, ..] = text else {
+            return;
+        };
+        match (*first, *second, *third) {
+            (b'd', _, _) => self.deliveries = self.deliveries.saturating_add(1),
+            (b'r', _, b'q') => self.requests = self.requests.saturating_add(1),
+            (b'e', _, b't') => self.enters = self.enters.saturating_add(1),
+            (b'l', b'e', _) => self.leaves = self.leaves.saturating_add(1),
+            (b'a', _, _) => self.asks = self.asks.saturating_add(1),
+            (b'l', b'o', _) => self.losses = self.losses.saturating_add(1),
+            (b'r', _, b'p') => self.repeats = self.repeats.saturating_add(1),
             // That a client releases shows in its mark.
             _ => {}
         }
@@ -112,13 +115,11 @@ impl LineCounts {
 
     /// Returns how much is left, if this many messages were sent. A client that asked is queued until its request is made, which
     /// waits until it is granted. In a mark log nobody asks.
-    fn left(&self, sent: u128) -> LeftOver {
-        let copied = sent.saturating_add(u128::from(self.repeats));
-        let lost = u128::from(self.losses);
-        let taken = lost.saturating_add(u128::from(self.deliveries));
+    fn left(&self, sent: u64) -> LeftOver {
+        let taken = self.losses.saturating_add(self.deliveries);
         LeftOver {
-            under_way: copied.saturating_sub(taken),
-            lost,
+            under_way: sent.saturating_add(self.repeats).saturating_sub(taken),
+            lost: self.losses,
             waiting: self.requests.saturating_sub(self.enters),
             queued: self.asks.saturating_sub(self.requests),
             holding: self.enters.saturating_sub(self.leaves),
@@ -126,28 +127,8 @@ impl LineCounts {
     }
 }
 
-/// Adds what a request waits for: `want` if no other one blocks it.
-fn push_wants(note: &mut Note, open: &OpenText, request: &OpenRequest, want: &str) {
-    let entry = &request.entry;
-    match request.stage {
-        Stage::Waits => {
-            if !push_blockers(note, open, &Sought::Blocking(*entry), &ByLine) {
-                note.push(want);
-            }
-        }
-        Stage::Queued => {
-            push_blockers(
-                note,
-                open,
-                &Sought::AtNode(entry.stamp.node, entry.name),
-                &ByLine,
-            );
-        }
-        Stage::Holds => {}
-    }
-}
-
-/// Adds the first clients at a stage. Returns how many clients are named then, if this many are named before.
+/// Adds the first clients at a stage, and what is in the way of those that wait or are queued: `want` if no other client blocks one that
+/// waits. Returns how many clients are named then, if this many are named before.
 fn push_clients(note: &mut Note, open: &OpenText, stage: Stage, before: u64, want: &str) -> u64 {
     let (mut after, mut named) = (0, before);
     for _ in 0..MAX_CLIENTS {
@@ -156,7 +137,17 @@ fn push_clients(note: &mut Note, open: &OpenText, stage: Stage, before: u64, wan
         };
         note.push(if named == 0 { ": " } else { "; " });
         request.push(note, stage.done(), " since line ");
-        push_wants(note, open, request, want);
+        let entry = &request.entry;
+        let in_the_way = match stage {
+            Stage::Waits => Some((Sought::Blocking(*entry), want)),
+            Stage::Queued => Some((Sought::AtNode(entry.stamp.node, entry.name), "")),
+            Stage::Holds => None,
+        };
+        if let Some((sought, otherwise)) = in_the_way {
+            if !push_blockers(note, open, &sought, &ByLine) {
+                note.push(otherwise);
+            }
+        }
         after = request.since;
         named = u64::saturating_add(named, 1);
     }
@@ -165,13 +156,7 @@ fn push_clients(note: &mut Note, open: &OpenText, stage: Stage, before: u64, wan
 
 /// Adds how many things are left and what they do, after this text, if there are any. Returns the text after which more things are
 /// added.
-fn push_count<'a>(
-    note: &mut Note,
-    joint: &'a str,
-    count: u128,
-    thing: &str,
-    does: &str,
-) -> &'a str {
+fn push_count<'a>(note: &mut Note, joint: &'a str, count: u64, thing: &str, does: &str) -> &'a str {
     if count == 0 {
         return joint;
     }
@@ -190,9 +175,9 @@ fn push_counts(note: &mut Note, left: &LeftOver, is_trace: bool) {
     };
     joint = push_count(note, joint, left.under_way, " message", "under way");
     joint = push_count(note, joint, left.lost, " message", "lost");
-    joint = push_count(note, joint, u128::from(left.waiting), " request", "waiting");
-    joint = push_count(note, joint, u128::from(left.queued), " client", "queued");
-    push_count(note, joint, u128::from(left.holding), " request", "holding");
+    joint = push_count(note, joint, left.waiting, " request", "waiting");
+    joint = push_count(note, joint, left.queued, " client", "queued");
+    push_count(note, joint, left.holding, " request", "holding");
 }
 
 /// Adds what is left at the end of a text: how much, and the first clients at each stage, or that there was no memory for them.
@@ -200,16 +185,16 @@ fn push_end(alloc: Global, note: &mut Note, text: &[u8], left: &LeftOver) {
     let is_trace = version_of(text).is_some();
     push_counts(note, left, is_trace);
     let want = if is_trace {
-        want_text(left.under_way, left.lost)
+        want_text(u128::from(left.under_way), u128::from(left.lost))
     } else {
         ": no client blocks it"
     };
     let replay = Replay::of(alloc, text, b"");
     if replay.open.is_whole {
-        let mut named = 0;
-        for stage in [Stage::Waits, Stage::Queued, Stage::Holds] {
-            named = push_clients(note, &replay.open, stage, named, want);
-        }
+        let open = &replay.open;
+        let waiting = push_clients(note, open, Stage::Waits, 0, want);
+        let queued = push_clients(note, open, Stage::Queued, waiting, want);
+        push_clients(note, open, Stage::Holds, queued, want);
     } else {
         note.push("; there was no room to name them");
     }
@@ -226,6 +211,12 @@ fn push_end(alloc: Global, note: &mut Note, text: &[u8], left: &LeftOver) {
 /// `Memory`: memory ran out.
 pub fn end_note(alloc: Global, text: &[u8], sent: u128) -> Result<Option<String>, Memory> {
     let mut note = Note::new(alloc);
+    // A run of a text sends far fewer than the greatest `u64`.
+    let sent = if sent < 1 << 64 {
+        sent as u64
+    } else {
+        u64::MAX
+    };
     let left = LineCounts::of(text).left(sent);
     if text.is_empty() {
         note.push("the log has no mark, so nothing was judged");

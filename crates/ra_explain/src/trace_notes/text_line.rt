@@ -1,5 +1,5 @@
 //! The line of a text that is wrong.
-use ra_trace::{Line, MAX_LINE};
+use ra_trace::MAX_LINE;
 use ra_world::cut;
 
 /// A line of a text.
@@ -35,7 +35,7 @@ impl<'a> TextLine<'a> {
             before: &text[..text.len().saturating_sub(rest.len())],
             bytes,
             has_feed: after.is_some(),
-            is_after_end: number > 1 && matches!(Line::parse(last), Some(Line::Last)),
+            is_after_end: number > 1 && last == b"end".as_slice(),
         }
     }
 }
