@@ -1,4 +1,4 @@
-use Rattle.std.proofs.Common.{rules, ◌≡◌, ◌↔◌, sym, ◌∙◌}
+use Rattle.std.proofs.Common.{rules, ◌≡◌, ◌↔◌, refl, sym, ◌∙◌}
 use Rattle.std.specs.Prelude.{IsTrue}
 use Rattle.std.proofs.lemmas.Bool.{false≢true}
 use Rattle.ra_stamp.specs.declared.entry.Entry.{Entry}
@@ -6,6 +6,14 @@ use Rattle.ra_table.specs.Refusals.{SharesNodeAndName}
 use Rattle.ra_table.proofs.Places.{no_more, not_any}
 use Rattle.ra_table.proofs.entry_lists.has_node_of.Goals as goal
 use Rattle.ra_table.proofs.entry_lists.has_node_of.Goals.{else-eq-via-then-eq+else-eq-2, else-eq-via-else-eq}
+
+pub returns-then-eq-2 : goal.returns-then-eq-2
+returns-then-eq-2 c =
+    let name : IsTrue c.eq.result ↔ (c.other-item.result.name ≡ c.args.entry.now.name) = search rules in
+    let node : IsTrue c.eq-then-eq.result ↔ (c.other-item.result.stamp.node ≡ c.args.entry.now.stamp.node) = search rules in (
+      λ _. (c.loop-other.other-index, c.other-item.result, c.loop-other-test.true, sym c.other-item.is, (name.0 c.if-eq.true, node.0 c.if-eq-2.true)),
+      λ _. refl,
+    )
 
 pub loop-other-preserved : goal.loop-other-preserved
 loop-other-preserved c =
