@@ -1,5 +1,6 @@
 use Rattle.std.proofs.Common.{◌≡◌, ◌≤◌, ℕ, suc, not, arith, add-one}
 use Rattle.std.specs.Prelude.{◌==◌}
+use Rattle.std.proofs.lemmas.Bool.{false≢true}
 use Rattle.ra_stamp.specs.declared.message.Message.TheVariants.{Request}
 use Rattle.ra_automaton.proofs.Sent.{to_passing, to_failing, is_other, is_itself}
 use Rattle.ra_automaton.proofs.sends.push_requests.Goals as goal
@@ -27,5 +28,4 @@ pub returns-in_err-push-clause-succeeds : goal.returns-in_err-push-clause-succee
 returns-in_err-push-clause-succeeds c roomy =
     let all : c.nodes-nodes.result ≤ c.args.sends.now.spare = omega (arith, c.nodes-nodes.ensures.value, roomy) in
     let room : 1 ≤ c.loop-place.sends.spare = omega (arith, all, c.loop-place.invariant.1 all, c.loop-place-test.true) in
-    let never = c.in_err-push.ensures.succeeds room in
-    absurd cc
+    absurd (false≢true (c.in_err-push.ensures.succeeds room))

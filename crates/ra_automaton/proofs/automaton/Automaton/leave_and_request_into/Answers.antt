@@ -5,6 +5,7 @@ use Rattle.ra_stamp.specs.declared.message.Message.{Message}
 use Rattle.ra_stamp.specs.declared.message.Message.TheVariants.{Request, Reply}
 use Rattle.ra_automaton.specs.declared.phase.Phase.TheVariants.{Idle}
 use Rattle.ra_automaton.specs.Steps.{LeaveAndRequestStep, Begins, greatest_number, others_of}
+use Rattle.ra_automaton.specs.NodeSet.{nobody_of}
 use Rattle.ra_automaton.specs.State.{State, IsConsistent, IsInside}
 use Rattle.ra_automaton.proofs.Consistent.{consistent_end, consistent_begins, inside_is}
 use Rattle.ra_automaton.proofs.automaton.Automaton.leave_and_request_into.Goals as goal
@@ -47,3 +48,6 @@ returns-clause-consistent c =
     let inside = c.is_inside.ensures.value.0 c.if-not-is_inside.false in
     let between = subst IsConsistent (sym ended) (consistent_end c.args.self.now c.is_inside.ensures.consistent inside) in
     consistent_begins c.end-room.new.self c.args.mode c.begin-entered.result c.begin-entered.new.self between (ap (λ (s : State). s.phase) ended) c.begin-entered.ensures
+
+pub begin-entered-requires-clause-room : goal.begin-entered-requires-clause-room
+begin-entered-requires-clause-room c = c.end-room.ensures.room ∙ sym (ap (λ (s : State). nobody_of s.nodes) c.end-room.ensures.ended)

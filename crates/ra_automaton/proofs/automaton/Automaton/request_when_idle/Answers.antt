@@ -1,7 +1,11 @@
-use Rattle.std.proofs.Common.{rules, subst}
-use Rattle.ra_automaton.specs.State.{IsConsistent}
+use Rattle.std.proofs.Common.{rules, subst, ap, ◌∙◌}
+use Rattle.ra_automaton.specs.NodeSet.{nobody_of}
+use Rattle.ra_automaton.specs.State.{State, IsConsistent}
 use Rattle.ra_automaton.proofs.Consistent.{consistent_begins}
 use Rattle.ra_automaton.proofs.automaton.Automaton.request_when_idle.Goals as goal
+
+pub begin-entered-requires-clause-room : goal.begin-entered-requires-clause-room
+begin-entered-requires-clause-room c = c.in_ok-room.ensures ∙ ap (λ (s : State). nobody_of s.nodes) c.self.view_is
 
 pub returns-clause-requested : goal.returns-clause-requested
 returns-clause-requested c =
