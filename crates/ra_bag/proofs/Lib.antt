@@ -4,3 +4,4 @@ pub mod Numbers
 pub mod Told
 pub mod Bits
 mod Calls
+mod Results

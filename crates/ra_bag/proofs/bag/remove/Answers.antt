@@ -1,4 +1,4 @@
-use Rattle.std.proofs.Common.{List, Option, sym, ap, ◌∙◌, subst, arith}
+use Rattle.std.proofs.Common.{List, Option, length, sym, ap, ◌∙◌, subst, arith}
 use Rattle.ra_stamp.specs.declared.message.Message.{Message}
 use Rattle.ra_bag.specs.Bag.{messages_in, HasEmpty}
 use Rattle.ra_bag.proofs.Emptied.{closed_up, none_empty}
@@ -11,3 +11,7 @@ returns-then-empty-most_empty-clause-items c =
 pub returns-then-empty-most_empty-clause-count : goal.returns-then-empty-most_empty-clause-count
 returns-then-empty-most_empty-clause-count c =
     subst (λ (l : List (Option Message)). HasEmpty l 0) (sym c.close_up.ensures.items) (omega (arith, none_empty c.remove_slot.new.slots.items))
+
+-- nothing is known any more
+pub returns-then-empty-most_empty-clause-told : goal.returns-then-empty-most_empty-clause-told
+returns-then-empty-most_empty-clause-told c known = absurd (known (ap length c.forget.ensures.numbers))
