@@ -1,4 +1,7 @@
-use Rattle.std.proofs.Common.{rules, ◌≡◌, ◌+◌, ◌<◌, Bool, List, ◌++◌, map, refl, sym, ap, ◌∙◌, subst}
+use Rattle.std.proofs.Common.{rules, ◌≡◌, ◌+◌, ◌<◌, Bool, List, ◌++◌, map, Err, IsErrOf, refl, sym, ap, ◌∙◌, subst}
+use Rattle.std.proofs.lemmas.Bool.{false≢true}
+use Rattle.ra_automaton.specs.declared.reaction.Reaction.{Reaction}
+use Rattle.ra_automaton.specs.declared.error.LeaveError.TheVariants.{Memory, NotHeld}
 use Rattle.std.specs.FinMap as finmap
 use Rattle.ra_stamp.specs.declared.mode.Mode.{Mode}
 use Rattle.ra_stamp.specs.declared.message.Message.{Message}
@@ -51,3 +54,24 @@ returns-clause-consistent c =
 
 pub begin-entered-requires-clause-room : goal.begin-entered-requires-clause-room
 begin-entered-requires-clause-room c = c.end-room.ensures.room ∙ sym (ap (λ (s : State). nobody_of s.nodes) c.end-room.ensures.ended)
+
+-- ---- It is refused, and nothing changes
+
+memory_apart : IsErrOf {T = Reaction} (Err Memory) NotHeld → ⊥
+memory_apart e = cc
+
+pub returns-then-not-is_inside-clause-left : goal.returns-then-not-is_inside-clause-left
+returns-then-not-is_inside-clause-left c =
+    let outside : IsInside c.args.self.now.phase → ⊥ = λ inside. false≢true (sym c.if-not-is_inside.true ∙ c.is_inside.ensures.value.1 inside) in
+    record { ok = tt; not_held = (λ _. outside, λ _. refl); err = refl }
+
+pub returns-then-is_err-clause-left : goal.returns-then-is_err-clause-left
+returns-then-is_err-clause-left c =
+    let inside : IsInside c.args.self.now.phase = c.is_inside.ensures.value.0 c.if-not-is_inside.false in
+    record { ok = tt; not_held = (λ e. absurd (memory_apart e), λ outside. absurd (outside inside)); err = refl }
+
+pub end-room-requires : goal.end-room-requires
+end-room-requires c = c.is_inside.ensures.value.0 c.if-not-is_inside.false
+
+pub begin-entered-requires-clause-number_left : goal.begin-entered-requires-clause-number_left
+begin-entered-requires-clause-number_left c = subst (λ (s : State). s.highest < greatest_number) (sym c.end-room.ensures.ended) c.requires.number_left

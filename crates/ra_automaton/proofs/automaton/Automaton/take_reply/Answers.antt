@@ -1,4 +1,4 @@
-use Rattle.std.proofs.Common.{◌≡◌, inl, inr, refl, subst, sym, ap, ◌∙◌}
+use Rattle.std.proofs.Common.{◌≡◌, inr, refl, subst, sym, ap, ◌∙◌}
 use Rattle.std.specs.FinSet as set
 use Rattle.ra_automaton.specs.State.{State, IsConsistent, IsWaiting}
 use Rattle.ra_automaton.specs.View.{state_of}
