@@ -1,5 +1,5 @@
 -- Which books are a cluster, one by one.
-use Rattle.std.proofs.Common.{◌≡◌, ℕ, ◌+◌, ◌<◌, List, [], ◌∷◌, map, length, get_or, Some, sym, ap, ◌∙◌, subst, inl, inr, arith}
+use Rattle.std.proofs.Common.{◌≡◌, ℕ, ◌+◌, ◌<◌, List, [], ◌∷◌, map, length, get_or, Some, None, sym, ap, ◌∙◌, subst, inl, inr, arith}
 use Rattle.std.specs.Prelude.{slice_get}
 use Rattle.std.specs.List.{range_with_len}
 use Rattle.std.proofs.lemmas.List.{get_or-map, get_or_default, length-map, same_lists}
@@ -50,3 +50,8 @@ cluster_of books first is start from i all members =
 
 pub member_of : (books : List BookState) (first : BookState) → slice_get books 0 ≡ Some first → IsCluster books → (k : ℕ) (d : BookState) → k < length books → IsMember (get_or books k d) k (length books) first.start
 member_of books first is cluster k d within = (number_at books cluster k d within, cluster.one_count k d within, cluster.one_start k d within ∙ sym (start_is books first is), cluster.whole k d within)
+
+-- there is no first book
+pub no_cluster : (books : List BookState) → None ≡ slice_get books 0 → IsCluster books → ⊥
+no_cluster [] none cluster = absurd (omega (arith, cluster.some))
+no_cluster (b ∷ books) none cluster = none-some b none

@@ -77,6 +77,10 @@ pub is_not_refused : {X : Type 0} (result : Result X LeaveError) (fault : LeaveE
 is_not_refused (Ok x) fault is allowed room = absurd cc
 is_not_refused {X} (Err e) fault is allowed room = room (subst (λ (f : LeaveError). IsErrOf {T = X} (Err f) Memory) (sym allowed) refl)
 
+-- what succeeds is not refused
+pub is_no_refusal : {X : Type 0} (v : X) (e : BookError) → IsErrOf (Ok v) e → ⊥
+is_no_refusal v e is = cc
+
 same_error : {X : Type 0} (e f : BookError) → IsErrOf {T = X} (Err e) f → e ≡ f
 same_error e f h = cc
 

@@ -32,8 +32,10 @@ pub fn is_kept(sent: &[Sent], frame: &Frame) -> bool
     requires { Ascends sent.now }
     ensures { IsTrue result ↔ Contains sent.now (record { frame = frame.now; lost = false }) }
 {
-    if is_kept_at(sent, likely_place(sent, frame), frame) {
-        return true;
+    if let Some(likely) = sent.get(likely_place(sent, frame)) {
+        if is_kept_of(likely, frame) {
+            return true;
+        }
     }
     for place in first_at(sent, frame.clock)..sent.len() {
         let other = &sent[place];
@@ -72,16 +74,6 @@ fn rank_of(message: &Message) -> u16 {
     match *message {
         Message::Reply { to, .. } => to.get(),
         Message::Request { to, .. } => NodeId::MAX + to.get(),
-    }
-}
-
-/// Returns whether it is this frame that is at this place, and it is not flagged lost.
-fn is_kept_at(sent: &[Sent], place: usize, frame: &Frame) -> bool
-    ensures { IsTrue result → Contains sent.now (record { frame = frame.now; lost = false }) }
-{
-    match sent.get(place) {
-        Some(other) => is_kept_of(other, frame),
-        None => false,
     }
 }
 

@@ -2,8 +2,11 @@ use Rattle.std.proofs.Common.{◌≡◌, length, Some, refl, sym, ◌∙◌, sub
 use Rattle.std.specs.Prelude.{slice_get}
 use Rattle.std.proofs.lemmas.Bool.{false≢true}
 use Rattle.ra_history.specs.Book.{BookState}
-use Rattle.ra_history.proofs.Clusters.{IsMember, cluster_of, member_of, members_more}
+use Rattle.ra_history.proofs.Clusters.{IsMember, no_cluster, cluster_of, member_of, members_more}
 use Rattle.ra_history.proofs.settle_books.is_cluster.Goals as goal
+
+pub returns-in_default : goal.returns-in_default
+returns-in_default c = (λ is. absurd (false≢true is), λ cluster. absurd (no_cluster c.args.books.now c.in_default.ensures.value cluster))
 
 pub returns-then-not-is_member : goal.returns-then-not-is_member
 returns-then-not-is_member c = (

@@ -3,10 +3,11 @@ use Rattle.ra_stamp.specs.declared.entry.Entry.{Entry}
 use Rattle.ra_node.specs.Resource.{Holds}
 use Rattle.ra_node.specs.Room.{HasRoomToLeave}
 use Rattle.ra_node.specs.Node.{resource_at}
+use Rattle.ra_history.specs.declared.error.BookError.TheVariants.{Memory}
 use Rattle.ra_history.specs.declared.book.event.BookKind.TheVariants.{Gave}
 use Rattle.ra_history.specs.Book.{HasClock}
 use Rattle.ra_history.specs.Keeping.{book_of}
-use Rattle.ra_history.proofs.Departing.{passed_memory, reserved_left, taken_out, is_not_refused, room_to_leave}
+use Rattle.ra_history.proofs.Departing.{passed_memory, is_no_refusal, reserved_left, taken_out, is_not_refused, room_to_leave}
 use Rattle.ra_history.proofs.Kept.{history_of}
 use Rattle.ra_history.proofs.Running.{runs_is, leave_passed, leave_added, not_ok, on_err}
 use Rattle.ra_history.proofs.Adding as adding
@@ -116,7 +117,7 @@ returns c =
       failed = made.failed;
       not_held = made.not_held;
       clock_full = made.clock_full;
-      no_memory = λ is. absurd cc;
+      no_memory = is_no_refusal posted Memory;
       allowed = made.allowed;
       err = tt;
     }

@@ -10,15 +10,17 @@ loop-place-init c = none_kept_below c.args.sent.now c.args.frame.now c.first_at-
 pub loop-place-preserved : goal.loop-place-preserved
 loop-place-preserved c =
     none_kept_more c.args.sent.now c.args.frame.now c.loop-place.place c.index-sent-place.result c.loop-place-test.true c.index-sent-place.is c.loop-place.invariant
-    (λ same. false≢true (sym c.if-is_kept_of.false ∙ c.is_kept_of.ensures.1 same))
-
-pub returns-then-is_kept_at : goal.returns-then-is_kept_at
-returns-then-is_kept_at c = yes (c.is_kept_at.ensures c.if-is_kept_at.true)
+    (λ same. false≢true (sym c.if-is_kept_of-2.false ∙ c.is_kept_of-in-loop-place.ensures.1 same))
 
 pub returns-then-is_kept_of : goal.returns-then-is_kept_of
 returns-then-is_kept_of c =
-    yes (stands_kept c.args.sent.now c.args.frame.now c.loop-place.place c.index-sent-place.result c.loop-place-test.true c.index-sent-place.is
+    yes (stands_kept c.args.sent.now c.args.frame.now c.likely_place.result c.in-Some.likely.now c.in-Some.ensures.lookup.3.0 c.in-Some.ensures.lookup.1
     (c.is_kept_of.ensures.0 c.if-is_kept_of.true))
+
+pub returns-then-is_kept_of-2 : goal.returns-then-is_kept_of-2
+returns-then-is_kept_of-2 c =
+    yes (stands_kept c.args.sent.now c.args.frame.now c.loop-place.place c.index-sent-place.result c.loop-place-test.true c.index-sent-place.is
+    (c.is_kept_of-in-loop-place.ensures.0 c.if-is_kept_of-2.true))
 
 pub returns-then-frame-other : goal.returns-then-frame-other
 returns-then-frame-other c =
