@@ -31,3 +31,7 @@ returns-clause-history c =
     subst (λ (t : TakenState). HasHistory (record opened { taken = t; events = c.new-2.result.items; sent = c.new-3.result.items })) (sym c.nothing.ensures)
     (same_history opened _ c.new-2.result.items c.new-3.result.items
     (kept_histories_go_on.opened c.args.me c.args.nodes c.args.start count member) c.new-2.ensures c.new-3.ensures.items)
+
+pub returns-clause-ok : goal.returns-clause-ok
+returns-clause-ok c = λ i.
+    record (opening_book c.args.me c.args.nodes c.args.start) { taken = c.nothing.ensures i; events = c.new-2.ensures i; sent = c.new-3.ensures.items i }
