@@ -117,6 +117,9 @@ impl Table {
         })
     }
 
+    /// Frees its memory, so that a caller in another crate need not prove how each of its parts is dropped.
+    pub fn discard(self) {}
+
     /// Lets the entry wait, in expected time linear in the number of entries that wait and hold on its name. Now and
     /// then it moves all that is kept by names into more memory, which is constant on average.
     ///

@@ -87,11 +87,23 @@ impl Checker {
                 come: 0,
             })),
             Err(_) => {
-                // By a call, since to drop each of its parts here is long to prove.
-                drop(world);
+                world.discard();
                 Err(TraceError::Memory)
             }
         }
+    }
+
+    /// Frees its memory, as its parts do in their own crates.
+    pub fn discard(self) {
+        let Checker {
+            version: _,
+            world,
+            table,
+            marks: _marks,
+            come: _,
+        } = self;
+        world.discard();
+        table.discard();
     }
 
     /// Takes the next line, and answers what it is. It steps the world and the lock table itself, and believes neither steps nor

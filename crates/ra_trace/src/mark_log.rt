@@ -160,8 +160,8 @@ fn check_by<R: Read, S: LineSource<R>>(
         grants: 0,
     };
     let verdict = verdict_after::<R, S>(reader, &mut log, limit as usize);
-    // By a call, since to drop each of its parts here is long to prove.
-    drop(log);
+    let MarkLog { table, .. } = log;
+    table.discard();
     verdict
 }
 

@@ -272,8 +272,8 @@ pub fn trace_text(
     };
     let mut text = String::new(alloc);
     let written = trace_run(alloc, &mut text, &mut world, nodes, start, steps);
-    // By a call, and before any exit, since to drop each of its parts here is long to prove.
-    drop(world);
+    // Before any exit, so that it is not to be dropped at each.
+    world.discard();
     match written {
         Ok(()) => Ok(text),
         Err(fault) => Err(fault),

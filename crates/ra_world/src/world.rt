@@ -92,6 +92,12 @@ impl<const KEEPS_MARKS: u8> WorldOf<KEEPS_MARKS> {
         })
     }
 
+    /// Frees its memory, so that a caller in another crate need not prove how each of its parts is dropped.
+    pub fn discard(self) {
+        let kept = self.kept;
+        let _marks = kept.log.into_marks();
+    }
+
     /// Makes a step, and returns what came of it: the messages that it sent, which are now under way, and its marks. A
     /// loss or a repeat sends and marks nothing. The cost is that of the node's event, plus an amortized constant for
     /// finding and taking a message; it does not depend on the steps so far. If the message is not under way, or there

@@ -171,8 +171,7 @@ fn check_by<R: Read, S: LineSource<R>>(
     match opened {
         Some(mut checker) => {
             let verdict = verdict_after::<R, S>(alloc, reader, taken, &mut checker, limit, due);
-            // By a call, since to drop each of its parts here is long to prove.
-            drop(checker);
+            checker.discard();
             verdict
         }
         None => Ok(Verdict::Invalid {
