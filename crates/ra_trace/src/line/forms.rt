@@ -76,9 +76,10 @@ fn name_mode_and_seq_of(text: &[u8]) -> Option<(Name, (Mode, u64))>
 fn first_of(version: Version, text: &[u8]) -> Option<Line>
     ensures { result ≡ spec.first_in version text.now }
 {
-    let Some((nodes, start)) = node_before(text) else {
+    let Some(prefix) = node_before(text) else {
         return None;
     };
+    let (nodes, start) = prefix;
     let Some(start) = start_of(start) else {
         return None;
     };
@@ -94,9 +95,10 @@ fn first_of(version: Version, text: &[u8]) -> Option<Line>
 fn ask_of(text: &[u8]) -> Option<Line>
     ensures { result ≡ spec.read_as LineKind.Ask text.now }
 {
-    let Some((node, rest)) = node_before(text) else {
+    let Some(prefix) = node_before(text) else {
         return None;
     };
+    let (node, rest) = prefix;
     let Some((client, rest)) = client_before(rest) else {
         return None;
     };
@@ -122,9 +124,10 @@ fn ask_of(text: &[u8]) -> Option<Line>
 fn leave_of(text: &[u8]) -> Option<Line>
     ensures { result ≡ spec.read_as LineKind.Leave text.now }
 {
-    let Some((node, rest)) = node_before(text) else {
+    let Some(prefix) = node_before(text) else {
         return None;
     };
+    let (node, rest) = prefix;
     let Some((client, name)) = client_before(rest) else {
         return None;
     };
@@ -190,9 +193,10 @@ fn reply_of(text: &[u8]) -> Option<Message>
 fn entry_of(text: &[u8]) -> Option<Entry>
     ensures { result ≡ spec.entry_in text.now }
 {
-    let Some((node, rest)) = node_before(text) else {
+    let Some(prefix) = node_before(text) else {
         return None;
     };
+    let (node, rest) = prefix;
     let Some((client, rest)) = client_before(rest) else {
         return None;
     };
