@@ -36,8 +36,7 @@ pub fn refusal_after(alloc: Global, lines: &[u8], mark: &Mark) -> Option<MarkCau
         return None;
     };
     let refusal = refusal_in(&mut table, lines, mark);
-    // By a call, since to drop each of its parts here is long to prove.
-    drop(table);
+    table.discard();
     match refusal {
         Ok(cause) => cause,
         Err(_) => None,
