@@ -1,6 +1,4 @@
-//! How refusals print as words. `ra` prints lines of its own in place of these, some only if threads or memory fail, and one
-//! never.
-use ra_cli::AnswerError;
+//! How refusals print as words. `ra` prints lines of its own in place of these, some only if threads or memory fail.
 use ra_cluster::{ClusterError, Stop};
 use ra_script::ScriptError;
 use std::fmt::Display;
@@ -14,12 +12,6 @@ fn assert_prints<R: Abort + AllocGlobal, T: Display>(rt: &R, rows: &[(T, &str)])
     }
 }
 
-/// Why a frame is not answered.
-const ANSWERS: &[(AnswerError, &str)] = &[
-    (AnswerError::Memory, "Memory"),
-    (AnswerError::Write, "Write"),
-];
-
 /// Why a node was stopped, which is not told.
 const FAULTS: &[(ClusterError, &str)] = &[
     (ClusterError::Fault(Stop::Send), "Fault"),
@@ -31,7 +23,6 @@ const SCRIPTS: &[(ScriptError, &str)] = &[(ScriptError::Limit, "Limit")];
 
 #[test]
 fn refusals_print_as_their_words(rt: HostRuntime) {
-    assert_prints(&rt, ANSWERS);
     assert_prints(&rt, FAULTS);
     assert_prints(&rt, SCRIPTS);
 }

@@ -116,6 +116,5 @@ fn of_run(why: RunScriptError) -> Notice {
         RunScriptError::Cluster(fault) => Notice::Text(cluster_text(fault)),
         RunScriptError::Choice => Notice::Text(NO_WORD),
         RunScriptError::Memory => Notice::Text(NO_MEMORY),
-        RunScriptError::Write => Notice::Nothing,
     }
 }

@@ -1,6 +1,6 @@
 -- What comes of a script that threads run, told of the input.
 use Rattle.std.proofs.Common.{◌≡◌, ◌↔◌, ℕ, List, Option, Some, None, Ok, Err, Result, refl}
-use Rattle.std.specs.Prelude.{IfSome, IsErrOf}
+use Rattle.std.specs.Prelude.{IfErr, IfSome, IsErrOf}
 use Rattle.std.specs.Io.KnownBytes.{Consumes, Appends}
 use Rattle.ra_schedule.specs.Script.{ScriptState}
 use Rattle.ra_script.specs.ScriptText.{script_of}
@@ -15,15 +15,32 @@ pub of_known : (old : Option (List ℕ)) (P Q : List ℕ → Type 0) → ((input
 of_known None P Q f h = tt
 of_known (Some input) P Q f h = f input h
 
--- what is printed of a run of the script of a text
-pub runs_cluster : (printed : ClusterOutput) (old new before after : Option (List ℕ)) (script : ScriptState) (output : List ℕ)
-    → IfSome old (λ input. (script_of input ≡ Ok script) × Consumes old new input) → (text : List ℕ) × (script_of text ≡ Ok script)
-    → SaysScript printed script output → Appends before after output → RunsCluster printed old new before after
-runs_cluster printed old new before after script output known some says appends = (
-  of_known old (λ input. (script_of input ≡ Ok script) × Consumes old new input)
+-- what is printed of a run of the script of a text is printed of the input
+pub runs_input : (printed : ClusterOutput) (old new : Option (List ℕ)) (script : ScriptState) (output : List ℕ)
+    → IfSome old (λ input. (script_of input ≡ Ok script) × Consumes old new input) → SaysScript printed script output
+    → IfSome old (λ input. IsClusterRun printed input output × Consumes old new input)
+runs_input printed old new script output known says =
+    of_known old (λ input. (script_of input ≡ Ok script) × Consumes old new input) (λ input. IsClusterRun printed input output × Consumes old new input)
+    (λ input h. ((script, h.0, says), h.1)) known
+
+-- why the script of a text is refused is why the input is
+pub refuses_known : {X E : Type 0} (result : Result X E) (old new : Option (List ℕ)) (script : ScriptState) (Refuses : List ℕ → E → Type 0)
+    → IfSome old (λ input. (script_of input ≡ Ok script) × Consumes old new input)
+    → IfErr result (λ why. (input : List ℕ) → script_of input ≡ Ok script → Refuses input why)
+    → IfErr result (λ why. IfSome old (λ input. Refuses input why))
+refuses_known (Ok answer) old new script Refuses known h = tt
+refuses_known (Err why) old new script Refuses known h =
+    of_known old (λ input. (script_of input ≡ Ok script) × Consumes old new input) (λ input. Refuses input why) (λ input k. h input k.0) known
+
+-- what is printed of the input was written
+pub runs_cluster : (printed : ClusterOutput) (old new before after : Option (List ℕ)) (output : List ℕ)
+    → IfSome old (λ input. IsClusterRun printed input output × Consumes old new input) → (text : List ℕ) × IsClusterRun printed text output
+    → Appends before after output → RunsCluster printed old new before after
+runs_cluster printed old new before after output known some appends = (
+  of_known old (λ input. IsClusterRun printed input output × Consumes old new input)
       (λ input. (out : List ℕ) × IsClusterRun printed input out × Consumes old new input × Appends before after out)
-      (λ input h. (output, (script, h.0, says), h.1, appends)) known,
-  (some.0, output, (script, some.1, says), appends),
+      (λ input h. (output, h.0, h.1, appends)) known,
+  (some.0, output, some.1, appends),
 )
 
 -- a refusal that is not one of the two first

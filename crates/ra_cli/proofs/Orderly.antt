@@ -191,7 +191,6 @@ refused_for_memory laws (task.Survey survey) input why orderly faithful plain re
     of_survey (run.Cluster wrong) is h = absurd h
     of_survey run.Choice is h = absurd (none_wordless laws survey survey.find input faithful.0 faithful.1 h)
     of_survey run.Memory is h = refl
-    of_survey run.Write is h = absurd (writer (inr (inr (inl is))))
 refused_for_memory laws task.Check input why orderly faithful plain reader writer cause = absurd faithful
 refused_for_memory laws task.CheckMarks input why orderly faithful plain reader writer cause = absurd faithful
 refused_for_memory laws (task.Draw kind part) input why orderly faithful plain reader writer cause = absurd faithful

@@ -19,10 +19,6 @@ passed (Err e) x P is h = subst P (sym is) h
 
 -- ---- That of a reader
 
-pub read_no_write : (why : ReadFault) → of_read why ≢ fault.Write
-read_no_write read.Read e = absurd cc
-read_no_write read.Memory e = absurd cc
-
 pub read_no_cluster : (why : ReadFault) (other : ClusterError) → of_read why ≢ fault.Cluster other
 read_no_cluster read.Read other e = absurd cc
 read_no_cluster read.Memory other e = absurd cc
@@ -71,27 +67,8 @@ cluster_no_read cluster.Lost e = absurd cc
 cluster_no_read cluster.UnderWay e = absurd cc
 cluster_no_read cluster.Memory e = absurd cc
 
-pub cluster_no_write : {A : Type 0} (why : ClusterError) → of_cluster why ≡ fault.Write → A
-cluster_no_write cluster.OutOfOrder e = absurd cc
-cluster_no_write cluster.Unreleased e = absurd cc
-cluster_no_write (cluster.Fault stop) e = absurd cc
-cluster_no_write cluster.Settle e = absurd cc
-cluster_no_write cluster.PlanUnmet e = absurd cc
-cluster_no_write cluster.Lost e = absurd cc
-cluster_no_write cluster.UnderWay e = absurd cc
-cluster_no_write cluster.Memory e = absurd cc
-
--- ---- That of a writer
-
-pub write_no_read : {A : Type 0} → fault.Write ≡ fault.Read → A
-write_no_read e = absurd cc
-
 -- ---- That of choices without words
 
 pub choices_no_read : {A : Type 0} (why : ChoicesError) → of_choices why ≡ fault.Read → A
 choices_no_read choices.Choice e = absurd cc
 choices_no_read choices.Memory e = absurd cc
-
-pub choices_no_write : {A : Type 0} (why : ChoicesError) → of_choices why ≡ fault.Write → A
-choices_no_write choices.Choice e = absurd cc
-choices_no_write choices.Memory e = absurd cc

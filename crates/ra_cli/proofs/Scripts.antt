@@ -1,5 +1,5 @@
 -- What holds of the bytes that were read holds of the whole input: one of which 65,537 bytes were read is no script.
-use Rattle.std.proofs.Common.{◌≡◌, ◌≢◌, ℕ, ◌≤◌, Bool, true, false, List, length, Option, Some, None, Ok, Err, refl, sym, ap, subst, ◌∙◌, arith, inl, inr}
+use Rattle.std.proofs.Common.{◌≡◌, ℕ, ◌≤◌, Bool, true, false, List, length, Option, Some, None, Ok, Err, refl, sym, ap, subst, ◌∙◌, arith, inl, inr}
 use Rattle.std.specs.Prelude.{IfSome, if◌then◌else◌, ok_or}
 use Rattle.std.specs.Io.KnownBytes.{Consumes}
 use Rattle.std.proofs.lemmas.Bool.{lt-ltb}
@@ -29,23 +29,22 @@ long_is_refused text long =
 no_long_script : (text : List ℕ) (script : ScriptState) → 65537 ≤ length text → script_of text ≡ Ok script → ⊥
 no_long_script text script long is = let not : script_of text ≡ Err Limit = long_is_refused text long in absurd cc
 
-too_long : (taken input : List ℕ) (why : RunScriptError) → why ≢ fault.Write → 65537 ≤ length taken → 65537 ≤ length input
+too_long : (taken input : List ℕ) (why : RunScriptError) → 65537 ≤ length taken → 65537 ≤ length input
     → RefusesRun taken why → RefusesRun input why
-too_long taken input fault.Read early t i h = h
-too_long taken input (fault.Script why) early t i h = (h.0, long_is_refused input i ∙ sym (long_is_refused taken t) ∙ h.1)
-too_long taken input (fault.Cluster why) early t i (script, is, stops) = absurd (no_long_script taken script t is)
-too_long taken input fault.Choice early t i h = h
-too_long taken input fault.Memory early t i h = h
-too_long taken input fault.Write early t i h = absurd (early refl)
+too_long taken input fault.Read t i h = h
+too_long taken input (fault.Script why) t i h = (h.0, long_is_refused input i ∙ sym (long_is_refused taken t) ∙ h.1)
+too_long taken input (fault.Cluster why) t i (script, is, stops) = absurd (no_long_script taken script t is)
+too_long taken input fault.Choice t i h = h
+too_long taken input fault.Memory t i h = h
 
 -- a refusal of what was read is one of the input
-pub refuses_script : (old new : Option (List ℕ)) (taken : List ℕ) (why : RunScriptError) → why ≢ fault.Write → Reads old new 65537 taken → RefusesRun taken why → IfSome old (λ input. RefusesRun input why)
-refuses_script None new taken why early h r = tt
-refuses_script (Some input) None taken why early h r = absurd h.taken
-refuses_script (Some input) (Some rest) taken why early h r =
+pub refuses_script : (old new : Option (List ℕ)) (taken : List ℕ) (why : RunScriptError) → Reads old new 65537 taken → RefusesRun taken why → IfSome old (λ input. RefusesRun input why)
+refuses_script None new taken why h r = tt
+refuses_script (Some input) None taken why h r = absurd h.taken
+refuses_script (Some input) (Some rest) taken why h r =
     elim (is_read 65537 input rest taken h).how [
       | inl whole ↦ subst (λ (xs : List ℕ). RefusesRun xs why) (sym whole.0) r
-      | inr long ↦ too_long taken input why early long.0 long.1 r
+      | inr long ↦ too_long taken input why long.0 long.1 r
     ]
 
 -- a script that was read is that of the input, and nothing of it is left
@@ -73,14 +72,3 @@ refuses_text text script.NotHeld h = elim h [ inl is ↦ (λ e. absurd cc, is) |
 refuses_text text script.AlreadyHeld h = elim h [ inl is ↦ (λ e. absurd cc, is) | inr e ↦ absurd cc ]
 refuses_text text script.Limit h = elim h [ inl is ↦ (λ e. absurd cc, is) | inr e ↦ absurd cc ]
 refuses_text text script.Memory h = tt
-
-pub no_write : (why : ScriptError) → of_script why ≢ fault.Write
-no_write script.Toml e = absurd cc
-no_write script.Shape e = absurd cc
-no_write script.Nodes e = absurd cc
-no_write script.Clients e = absurd cc
-no_write script.Op e = absurd cc
-no_write script.NotHeld e = absurd cc
-no_write script.AlreadyHeld e = absurd cc
-no_write script.Limit e = absurd cc
-no_write script.Memory e = absurd cc

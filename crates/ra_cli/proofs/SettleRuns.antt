@@ -7,9 +7,17 @@ use Rattle.ra_trace.specs.declared.error.TraceError.TheVariants as fault
 use Rattle.ra_task.specs.declared.settle_arguments.SettleTask.{SettleTask}
 use Rattle.ra_cli.specs.declared.refusal_lines.CommandRefusal.TheVariants.{Check}
 use Rattle.ra_cli.specs.Refusals.{IsOfReader, IsOfWriter, refused_line, trace_word}
-use Rattle.ra_cli.specs.SettleRun.{Contradicts, ReadsBooks, RefusesInput, ServesSettle, Settles, TellsSettled}
+use Rattle.ra_cli.specs.SettleRun.{Contradicts, ReadsBooks, ServesSettle, Settles, TellsSettled}
 use Rattle.ra_cli.specs.Statuses.{IsRefused, IsSaid, PrintsRefusal, Writes}
 use Rattle.ra_cli.proofs.Statuses.{none_of_check}
+
+-- what comes of an input that was not read to its end: the status is 1 if the reader failed, and otherwise 2, or 1 if
+-- the writer failed
+pub record RefusesInput (why : TraceError) (before after : Option (List ℕ)) (status : ℕ) : Type 0 where
+  pub range : (1 ≤ status) × (status ≤ 2)
+  pub refused : status ≡ 2 → (why ≢ fault.Read) × Appends before after (refused_line (trace_word why))
+  pub broken : status ≡ 1 → ((why ≡ fault.Read) × Appends before after (codes "refused Read\n"))
+      ⊎ ((prefix : List ℕ) × (rest : List ℕ) × (rest ≢ []) × Appends before after prefix × (prefix ++ rest ≡ refused_line (trace_word why)))
 
 of_reader : (why : TraceError) → IsOfReader (Check why) → why ≡ fault.Read
 of_reader why (inl is) = absurd cc

@@ -1,7 +1,7 @@
 -- What a refusal comes to, and a text of which the writer took a prefix, as the statuses tell it.
 use Rattle.std.proofs.Common.{◌≡◌, ◌≢◌, ◌⊎◌, ℕ, Bool, List, [], ◌++◌, Option, sym, ap, subst, refl, ◌∙◌, inl, inr, codes, arith}
 use Rattle.std.specs.Prelude.{IfSome}
-use Rattle.std.specs.Io.KnownBytes.{Appends}
+use Rattle.std.specs.Io.KnownBytes.{Appends, Consumes}
 use Rattle.ra_schedule.specs.declared.choice.Policy.{Policy}
 use Rattle.ra_schedule.specs.declared.driver.output_kind.OutputKind.{OutputKind}
 use Rattle.ra_script.specs.Performed.{IsPerformedAs}
@@ -20,7 +20,6 @@ use Rattle.ra_cli.specs.declared.error.AnswerError.{AnswerError}
 use Rattle.ra_cli.specs.declared.error.AnswerError.TheVariants as answer
 use Rattle.ra_task.specs.declared.cluster_output.ClusterOutput.{ClusterOutput}
 use Rattle.ra_cli.specs.declared.error.RunScriptError.{RunScriptError}
-use Rattle.ra_cli.specs.declared.error.RunScriptError.TheVariants as run
 use Rattle.ra_task.specs.declared.command_line.search.SurveyTask.{SurveyTask}
 use Rattle.ra_cli.specs.declared.refusal_lines.CommandRefusal.{CommandRefusal}
 use Rattle.ra_cli.specs.declared.refusal_lines.CommandRefusal.TheVariants.{Command, Answer, Choices, Perform, Check, Draw, Cluster}
@@ -29,7 +28,7 @@ use Rattle.ra_cli.specs.Checks.{verdict_text, marks_verdict_text}
 use Rattle.ra_cli.specs.ClusterRun.{IsClusterRun}
 use Rattle.ra_cli.specs.Refusals.{IsOfReader, IsOfWriter, refused_line, word_of}
 use Rattle.ra_cli.specs.Statuses.{IsRefused, IsSaid, IsBroken, IsPrinted, BreaksOff, PrintsRefusal, Writes}
-use Rattle.ra_cli.specs.Surveyed.{MayBeTold}
+use Rattle.ra_cli.specs.Surveyed.{IsTold}
 use Rattle.ra_task.specs.Arguments.{GivesNode, HasMarksOption, PrintsBy}
 use Rattle.ra_cli.proofs.ClusterRuns.{of_known}
 use Rattle.ra_cli.proofs.Helping.{for_each}
@@ -40,44 +39,37 @@ use Rattle.ra_cli.proofs.Numbers.{broken_at_least_1, broken_at_most_2, broken_no
 pub none_of_command : (fault : CommandFault) → IsOfWriter (Command fault) → ⊥
 none_of_command fault (inl is) = absurd cc
 none_of_command fault (inr (inl is)) = absurd cc
-none_of_command fault (inr (inr (inl is))) = absurd cc
-none_of_command fault (inr (inr (inr is))) = absurd cc
+none_of_command fault (inr (inr is)) = absurd cc
 
 pub none_of_choices : (fault : ChoicesError) → IsOfWriter (Choices fault) → ⊥
 none_of_choices fault (inl is) = absurd cc
 none_of_choices fault (inr (inl is)) = absurd cc
-none_of_choices fault (inr (inr (inl is))) = absurd cc
-none_of_choices fault (inr (inr (inr is))) = absurd cc
+none_of_choices fault (inr (inr is)) = absurd cc
 
 pub none_of_check : (fault : TraceError) → IsOfWriter (Check fault) → ⊥
 none_of_check fault (inl is) = absurd cc
 none_of_check fault (inr (inl is)) = absurd cc
-none_of_check fault (inr (inr (inl is))) = absurd cc
-none_of_check fault (inr (inr (inr is))) = absurd cc
+none_of_check fault (inr (inr is)) = absurd cc
+
+pub none_of_run : (fault : RunScriptError) → IsOfWriter (Cluster fault) → ⊥
+none_of_run fault (inl is) = absurd cc
+none_of_run fault (inr (inl is)) = absurd cc
+none_of_run fault (inr (inr is)) = absurd cc
 
 pub of_answer : (fault : AnswerError) → IsOfWriter (Answer fault) → fault ≡ answer.Write
 of_answer fault (inl is) = cc
 of_answer fault (inr (inl is)) = absurd cc
-of_answer fault (inr (inr (inl is))) = absurd cc
-of_answer fault (inr (inr (inr is))) = absurd cc
+of_answer fault (inr (inr is)) = absurd cc
 
 pub of_perform : (fault : PerformError) → IsOfWriter (Perform fault) → fault ≡ perform.Write
 of_perform fault (inl is) = absurd cc
 of_perform fault (inr (inl is)) = cc
-of_perform fault (inr (inr (inl is))) = absurd cc
-of_perform fault (inr (inr (inr is))) = absurd cc
-
-pub of_run : (fault : RunScriptError) → IsOfWriter (Cluster fault) → fault ≡ run.Write
-of_run fault (inl is) = absurd cc
-of_run fault (inr (inl is)) = absurd cc
-of_run fault (inr (inr (inl is))) = cc
-of_run fault (inr (inr (inr is))) = absurd cc
+of_perform fault (inr (inr is)) = absurd cc
 
 pub of_draw : (fault : DrawError) → IsOfWriter (Draw fault) → fault ≡ draw.Write
 of_draw fault (inl is) = absurd cc
 of_draw fault (inr (inl is)) = absurd cc
-of_draw fault (inr (inr (inl is))) = absurd cc
-of_draw fault (inr (inr (inr is))) = cc
+of_draw fault (inr (inr is)) = cc
 
 -- ---- Status 2
 
@@ -212,19 +204,14 @@ of_performed arguments policy format old before after =
     × Appends before after prefix) (λ input. BreaksOff arguments input before after)
     (λ input (prefix, rest, finished, prints, left, some). (prefix, rest, inr (inr (inl (policy, format, finished, prints))), left, some))
 
-pub of_cluster_run : (arguments : List (List ℕ)) (printed : ClusterOutput) (old before after : Option (List ℕ)) → PrintsBy arguments printed
-    → IfSome old (λ input. (prefix rest : List ℕ) × IsClusterRun printed input (prefix ++ rest) × (rest ≢ []) × Appends before after prefix)
-    → IfSome old (λ input. BreaksOff arguments input before after)
-of_cluster_run arguments printed old before after by =
-    of_known old (λ input. (prefix rest : List ℕ) × IsClusterRun printed input (prefix ++ rest) × (rest ≢ []) × Appends before after prefix)
-    (λ input. BreaksOff arguments input before after)
-    (λ input (prefix, rest, runs, left, some). (prefix, rest, inr (inr (inr (inr (inl (printed, by, runs))))), left, some))
+pub of_cluster_run : (arguments : List (List ℕ)) (printed : ClusterOutput) (old new : Option (List ℕ)) (text : List ℕ) → PrintsBy arguments printed
+    → IfSome old (λ input. IsClusterRun printed input text × Consumes old new input) → IfSome old (λ input. IsPrinted arguments input text)
+of_cluster_run arguments printed old new text by =
+    of_known old (λ input. IsClusterRun printed input text × Consumes old new input) (λ input. IsPrinted arguments input text)
+    (λ input h. inr (inr (inr (inr (inl (printed, by, h.0))))))
 
-pub of_surveyed : (arguments : List (List ℕ)) (asked : SurveyTask) (old before after : Option (List ℕ))
-    → IfSome old (λ input. (prefix rest : List ℕ) × MayBeTold asked input (prefix ++ rest) × (rest ≢ []) × Appends before after prefix)
-    → IfSome old (λ input. BreaksOff arguments input before after)
-of_surveyed arguments asked old before after =
-    of_known old (λ input. (prefix rest : List ℕ) × MayBeTold asked input (prefix ++ rest) × (rest ≢ []) × Appends before after prefix)
-    (λ input. BreaksOff arguments input before after)
-    (λ input (prefix, rest, (finished, says), left, some).
-    (prefix, rest, inr (inr (inr (inr (inr (inr (inr (asked, finished, says))))))), left, some))
+pub of_surveyed : (arguments : List (List ℕ)) (asked : SurveyTask) (old new : Option (List ℕ)) (text : List ℕ) (finished : Bool)
+    → IfSome old (λ input. IsTold asked input text finished × Consumes old new input) → IfSome old (λ input. IsPrinted arguments input text)
+of_surveyed arguments asked old new text finished =
+    of_known old (λ input. IsTold asked input text finished × Consumes old new input) (λ input. IsPrinted arguments input text)
+    (λ input h. inr (inr (inr (inr (inr (inr (inr (asked, finished, h.0))))))))

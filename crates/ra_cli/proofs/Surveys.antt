@@ -1,5 +1,5 @@
 -- What comes of a script under many seeds, told of the input.
-use Rattle.std.proofs.Common.{◌≡◌, ◌↔◌, ◌≢◌, ℕ, Bool, List, Option, Ok, IsTrue, refl}
+use Rattle.std.proofs.Common.{◌≡◌, ◌↔◌, ◌≢◌, ℕ, Bool, List, Option, Ok, IsTrue, refl, subst}
 use Rattle.std.specs.Prelude.{IfSome}
 use Rattle.std.specs.Io.KnownBytes.{Consumes, Appends}
 use Rattle.ra_schedule.specs.declared.surveys.seed_outcomes.Survey.{Survey}
@@ -30,27 +30,26 @@ surveyed asked text script survey finished is surveys all = record {
   output_is = refl;
 }
 
--- what is told of the script of a text
-pub surveys_by : (asked : SurveyTask) (old new before after : Option (List ℕ)) (script : ScriptState) (told : List ℕ) (finished : Bool)
-    → IfSome old (λ input. (script_of input ≡ Ok script) × Consumes old new input) → (text : List ℕ) × (script_of text ≡ Ok script)
-    → ((text : List ℕ) → script_of text ≡ Ok script → IsTold asked text told finished) → Appends before after told
-    → SurveysBy asked old new before after finished
-surveys_by asked old new before after script told finished known some tells appends = (
-  of_known old (λ input. (script_of input ≡ Ok script) × Consumes old new input)
-      (λ input. (output : List ℕ) × IsTold asked input output finished × Consumes old new input × Appends before after output)
-      (λ input h. (told, tells input h.0, h.1, appends)) known,
-  (some.0, told, tells some.0 some.1, appends),
-)
+-- what is told of the input was written
+pub surveys_by : (asked : SurveyTask) (old new before after : Option (List ℕ)) (told : List ℕ) (finished wanted : Bool) → finished ≡ wanted
+    → IfSome old (λ input. IsTold asked input told finished × Consumes old new input) → (text : List ℕ) × IsTold asked text told finished
+    → Appends before after told → SurveysBy asked old new before after wanted
+surveys_by asked old new before after told finished wanted is known some appends =
+    subst (SurveysBy asked old new before after) is (
+      of_known old (λ input. IsTold asked input told finished × Consumes old new input)
+          (λ input. (output : List ℕ) × IsTold asked input output finished × Consumes old new input × Appends before after output)
+          (λ input h. (told, h.0, h.1, appends)) known,
+      (some.0, told, some.1, appends),
+    )
 
 -- what keeps a script from being read keeps it from being surveyed
-pub unread : (asked : SurveyTask) (input : List ℕ) (why : RunScriptError) → why ≢ fault.Write
+pub unread : (asked : SurveyTask) (input : List ℕ) (why : RunScriptError)
     → ((cause : ClusterError) → why ≢ fault.Cluster cause) → RefusesRun input why → RefusesSurvey asked input why
-unread asked input fault.Read write cluster h = tt
-unread asked input (fault.Script why) write cluster h = h.1
-unread asked input (fault.Cluster why) write cluster h = absurd (cluster why refl)
-unread asked input fault.Choice write cluster h = absurd h
-unread asked input fault.Memory write cluster h = tt
-unread asked input fault.Write write cluster h = absurd (write refl)
+unread asked input fault.Read cluster h = tt
+unread asked input (fault.Script why) cluster h = h.1
+unread asked input (fault.Cluster why) cluster h = absurd (cluster why refl)
+unread asked input fault.Choice cluster h = absurd h
+unread asked input fault.Memory cluster h = tt
 
 -- why nothing is told of the seeds
 pub untold : (asked : SurveyTask) (input : List ℕ) (why : ChoicesError)

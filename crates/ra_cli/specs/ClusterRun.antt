@@ -82,14 +82,13 @@ StopsAt script cluster.UnderWay = MayRun script
 StopsAt script cluster.Memory = ⊥
 
 -- when each refusal may come: its cause applies, and no earlier one does. `Choice` may not come. `Memory` and faults of
--- the reader and the writer come from outside.
+-- the reader come from outside.
 abbrev pub RefusesRun : List ℕ → RunScriptError → Type 0
 RefusesRun input fault.Read = Unit {0}
 RefusesRun input (fault.Script why) = (why ≢ text.Memory) × (script_of input ≡ Err why)
 RefusesRun input (fault.Cluster why) = (script : ScriptState) × (script_of input ≡ Ok script) × StopsAt script why
 RefusesRun input fault.Choice = ⊥
 RefusesRun input fault.Memory = Unit {0}
-RefusesRun input fault.Write = (printed : ClusterOutput) × (output : List ℕ) × IsClusterRun printed input output
 
 -- ---- How the refusals of the parts become refusals of a run
 

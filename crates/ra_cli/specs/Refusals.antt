@@ -109,7 +109,6 @@ run_word (run.Script why) = script_word why
 run_word (run.Cluster why) = cluster_word why
 run_word run.Choice = codes "Choice"
 run_word run.Memory = codes "Memory"
-run_word run.Write = codes "Write"
 
 -- the word for a refusal of any command
 abbrev pub word_of : CommandRefusal → List ℕ
@@ -132,5 +131,4 @@ IsOfReader refusal = (refusal ≡ Answer answer.Read) ⊎ (refusal ≡ Perform p
 
 -- the writer failed
 abbrev pub IsOfWriter : CommandRefusal → Type 0
-IsOfWriter refusal = (refusal ≡ Answer answer.Write) ⊎ (refusal ≡ Perform perform.Write) ⊎ (refusal ≡ Cluster run.Write)
-    ⊎ (refusal ≡ Draw draw.Write)
+IsOfWriter refusal = (refusal ≡ Answer answer.Write) ⊎ (refusal ≡ Perform perform.Write) ⊎ (refusal ≡ Draw draw.Write)

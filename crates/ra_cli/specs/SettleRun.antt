@@ -9,7 +9,6 @@ use Rattle.ra_book.specs.declared.text_settling.settle_error.TextCause.TheVarian
 use Rattle.ra_book.specs.declared.text_settling.SettledText.{SettledText}
 use Rattle.ra_book.specs.Verdicts.{IsSettledText, IsWrong}
 use Rattle.ra_trace.specs.declared.error.TraceError.{TraceError}
-use Rattle.ra_trace.specs.declared.error.TraceError.TheVariants as trace_fault
 use Rattle.ra_task.specs.declared.settle_arguments.SettleOutput.{SettleOutput}
 use Rattle.ra_task.specs.declared.settle_arguments.SettleOutput.TheVariants.{Lines, Trace}
 use Rattle.ra_task.specs.declared.settle_arguments.SettleTask.{SettleTask}
@@ -75,11 +74,3 @@ pub record ServesSettle (asked : SettleTask) (old new before after : Option (Lis
       ⊎ ((prefix : List ℕ) × (rest : List ℕ) × (rest ≢ []) × Appends before after prefix
       × (((input : List ℕ) × ReadsBooks old new input × (Settles asked input (prefix ++ rest) ⊎ Contradicts asked input (prefix ++ rest)))
       ⊎ ((fault : TraceError) × (prefix ++ rest ≡ refused_line (trace_word fault)))))
-
--- what comes of an input that was not read to its end: the status is 1 if the reader failed, and otherwise 2, or 1 if
--- the writer failed
-pub record RefusesInput (fault : TraceError) (before after : Option (List ℕ)) (status : ℕ) : Type 0 where
-  pub range : (1 ≤ status) × (status ≤ 2)
-  pub refused : status ≡ 2 → (fault ≢ trace_fault.Read) × Appends before after (refused_line (trace_word fault))
-  pub broken : status ≡ 1 → ((fault ≡ trace_fault.Read) × Appends before after (codes "refused Read\n"))
-      ⊎ ((prefix : List ℕ) × (rest : List ℕ) × (rest ≢ []) × Appends before after prefix × (prefix ++ rest ≡ refused_line (trace_word fault)))

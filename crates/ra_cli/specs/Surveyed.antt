@@ -1,5 +1,5 @@
 -- What `ra sim --seeds` does.
-use Rattle.std.specs.Prelude.{◌≡◌, ◌≢◌, ◌↔◌, ◌⊎◌, ℕ, List, [], ◌++◌, Bool, true, false, IsTrue, Option, Some, None, IfSome, MatchOption, Ok, Err, codes, decimal}
+use Rattle.std.specs.Prelude.{◌≡◌, ◌↔◌, ◌⊎◌, ℕ, List, [], ◌++◌, Bool, true, false, IsTrue, Option, Some, None, IfSome, MatchOption, Ok, Err, codes, decimal}
 use Rattle.std.specs.Io.KnownBytes.{Consumes, Appends}
 use Rattle.ra_world.specs.Lines.{field}
 use Rattle.ra_schedule.specs.declared.surveys.seed_outcomes.Spread.{Spread}
@@ -72,10 +72,6 @@ abbrev pub IsTold : SurveyTask → (input output : List ℕ) → (finished : Boo
 IsTold asked input output finished =
     MatchOption asked.find (IsSurveyed asked input output finished) (λ search. IsFound asked search input output finished)
 
--- the same, whether each run is finished or not
-abbrev pub MayBeTold : SurveyTask → (input output : List ℕ) → Type 0
-MayBeTold asked input output = (finished : Bool) × IsTold asked input output finished
-
 -- the choices of the run that is looked for are to be printed, and no word stands for one of them
 abbrev pub FoundHasNoWords : SurveyTask → (input : List ℕ) → Type 0
 FoundHasNoWords asked input = MatchOption asked.find ⊥
@@ -101,4 +97,3 @@ RefusesSurvey asked input (fault.Script why) = script_of input ≡ Err why
 RefusesSurvey asked input (fault.Cluster why) = ⊥
 RefusesSurvey asked input fault.Choice = FoundHasNoWords asked input
 RefusesSurvey asked input fault.Memory = Unit {0}
-RefusesSurvey asked input fault.Write = (output : List ℕ) × (finished : Bool) × IsTold asked input output finished × (output ≢ [])

@@ -1,10 +1,14 @@
 //! What came of a command.
-ghost use Rattle.std.specs.Prelude.{◌≡◌};
+ghost use Rattle.std.specs.Prelude.{◌≡◌, ◌⊎◌, true, false};
+ghost use Rattle.ra_cli.specs.Checks.{is_run, is_valid};
 
 use crate::refusal_lines::CommandRefusal;
 use ra_book::TextCause;
 use ra_stamp::Mark;
 use ra_trace::{Cause, MarkCause, MarksVerdict, Verdict};
+
+/// The command did what it was asked.
+pub const DONE: u8 = 0;
 
 /// The run ended with something left to do, the text is not a trace or not a mark log, or the books do not settle.
 pub const UNFINISHED: u8 = 3;
@@ -57,50 +61,53 @@ pub struct CommandOutcome {
     pub remark: Option<Remark>,
 }
 
+/// The command did what it was asked, and there is nothing to say of it.
+pub const ALL_DONE: CommandOutcome = CommandOutcome {
+    status: DONE,
+    remark: None,
+};
+
+/// A run ended with something left to do.
+pub const LEFT_UNFINISHED: CommandOutcome = CommandOutcome {
+    status: UNFINISHED,
+    remark: Some(Remark::Unfinished),
+};
+
 impl CommandOutcome {
-    /// Makes it of its parts.
-    pub fn new(status: u8, remark: Option<Remark>) -> CommandOutcome
-        ensures { result.status ≡ status }
-    {
-        CommandOutcome { status, remark }
-    }
-
-    /// Makes that of a refusal.
-    pub fn refused(status: u8, refusal: CommandRefusal) -> CommandOutcome
-        ensures { result.status ≡ status }
-    {
-        CommandOutcome::new(status, Some(Remark::Refused(refusal)))
-    }
-
     /// Returns whether nothing was refused, and neither the input nor the output failed.
     pub fn ran_to_end(&self) -> bool {
-        matches!(self.status, 0 | UNFINISHED)
-    }
-
-    /// Makes that of a verdict. Of one that could not be printed there is nothing to say but that.
-    pub fn judged(status: u8, remark: Option<Remark>) -> CommandOutcome
-        ensures { result.status ≡ status }
-    {
-        let mut outcome = CommandOutcome { status, remark };
-        if !outcome.ran_to_end() {
-            outcome.remark = None;
-        }
-        outcome
+        matches!(self.status, DONE | UNFINISHED)
     }
 }
 
-/// Returns what there is to say of a verdict, and which mark is due if the verdict is that a line is wrong for its marks.
-pub fn remark_of(verdict: &Verdict, due: Option<Mark>) -> Option<Remark> {
+/// Returns what comes of a verdict that is printed. If it is that a line is wrong for its marks, `due` is the mark that is due.
+pub fn outcome_of(verdict: &Verdict, due: Option<Mark>) -> CommandOutcome
+    ensures { ((result.status ≡ 0) × (is_valid verdict.now ≡ true)) ⊎ ((result.status ≡ 3) × (is_valid verdict.now ≡ false)) }
+{
     match *verdict {
-        Verdict::Valid { messages, .. } => Some(Remark::Ends { sent: messages }),
-        Verdict::Invalid { line, cause } => Some(Remark::NoTrace { line, cause, due }),
+        Verdict::Valid { messages, .. } => CommandOutcome {
+            status: DONE,
+            remark: Some(Remark::Ends { sent: messages }),
+        },
+        Verdict::Invalid { line, cause } => CommandOutcome {
+            status: UNFINISHED,
+            remark: Some(Remark::NoTrace { line, cause, due }),
+        },
     }
 }
 
-/// Returns what there is to say of a verdict on a mark log.
-pub fn marks_remark_of(verdict: &MarksVerdict) -> Option<Remark> {
+/// Returns what comes of a verdict on a mark log that is printed.
+pub fn marks_outcome_of(verdict: &MarksVerdict) -> CommandOutcome
+    ensures { ((result.status ≡ 0) × (is_run verdict.now ≡ true)) ⊎ ((result.status ≡ 3) × (is_run verdict.now ≡ false)) }
+{
     match *verdict {
-        MarksVerdict::Valid { .. } => Some(Remark::Ends { sent: 0 }),
-        MarksVerdict::Invalid { line, cause } => Some(Remark::NoLog { line, cause }),
+        MarksVerdict::Valid { .. } => CommandOutcome {
+            status: DONE,
+            remark: Some(Remark::Ends { sent: 0 }),
+        },
+        MarksVerdict::Invalid { line, cause } => CommandOutcome {
+            status: UNFINISHED,
+            remark: Some(Remark::NoLog { line, cause }),
+        },
     }
 }

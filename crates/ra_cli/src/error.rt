@@ -1,6 +1,5 @@
 ghost use Rattle.std.specs.Prelude.{◌≡◌};
-ghost use Rattle.ra_cli.specs.declared.error.AnswerError.TheVariants.{Read, Frame, Memory, Write};
-ghost use Rattle.ra_cli.specs.declared.error.RunScriptError.TheVariants as run;
+ghost use Rattle.ra_cli.specs.declared.error.AnswerError.TheVariants.{Read, Memory};
 ghost use Rattle.ra_cli.specs.ClusterRun.{of_read, of_script, of_choices, of_cluster};
 ghost use Rattle.ra_world.specs.declared.error.ReadFault.{ReadFault};
 
@@ -8,13 +7,10 @@ use ra_cluster::ClusterError;
 use ra_frame::FrameError;
 use ra_schedule::ChoicesError;
 use ra_script::ScriptError;
-use ra_stamp::Memory;
-use ra_world::{ReadFault, WriteFault};
-use std::fmt;
-use thiserror::Error;
+use ra_world::ReadFault;
 
 /// Why `answer` gave no answer, in the order in which the causes are looked for.
-#[derive(Clone, Copy, Debug, Error)]
+#[derive(Clone, Copy)]
 pub enum AnswerError {
     /// The number of nodes is not 1 to 64.
     BadCount,
@@ -53,36 +49,6 @@ pub enum RunScriptError {
     Choice,
     /// Memory ran out.
     Memory,
-    /// The writer failed.
-    Write,
-}
-
-impl fmt::Display for AnswerError {
-    /// Prints one word: that of the frame's fault, or the name of the variant.
-    fn fmt<W: fmt::Write>(&self, f: &mut fmt::Formatter<W>) -> fmt::Result {
-        match self {
-            AnswerError::Frame(fault) => fmt::Display::fmt(fault, f),
-            _ => fmt::Debug::fmt(self, f),
-        }
-    }
-}
-
-impl From<FrameError> for AnswerError {
-    ghost from_gives = { λ fault e. e ≡ Frame fault };
-
-    /// Names why the bytes are no frame.
-    fn from(fault: FrameError) -> AnswerError {
-        AnswerError::Frame(fault)
-    }
-}
-
-impl From<Memory> for AnswerError {
-    ghost from_gives = { λ _ e. e ≡ Memory };
-
-    /// Says that memory ran out.
-    fn from(_refused: Memory) -> AnswerError {
-        AnswerError::Memory
-    }
 }
 
 impl From<ReadFault> for AnswerError {
@@ -94,15 +60,6 @@ impl From<ReadFault> for AnswerError {
             ReadFault::Read => AnswerError::Read,
             ReadFault::Memory => AnswerError::Memory,
         }
-    }
-}
-
-impl From<WriteFault> for AnswerError {
-    ghost from_gives = { λ _ e. e ≡ Write };
-
-    /// Says that the writer failed.
-    fn from(_fault: WriteFault) -> AnswerError {
-        AnswerError::Write
     }
 }
 
@@ -151,14 +108,5 @@ impl From<ClusterError> for RunScriptError {
             ClusterError::Memory => RunScriptError::Memory,
             fault => RunScriptError::Cluster(fault),
         }
-    }
-}
-
-impl From<WriteFault> for RunScriptError {
-    ghost from_gives = { λ _ e. e ≡ run.Write };
-
-    /// Says that the writer failed.
-    fn from(_fault: WriteFault) -> RunScriptError {
-        RunScriptError::Write
     }
 }

@@ -1,5 +1,5 @@
 //! The line that is printed for each refusal, as a constant: so it can be printed even if memory is lacking. The words
-//! are here and also in each error's `Display`, since no contract says what a `Display` writes.
+//! are here and also in the `Display` of the errors of other crates, since no contract says what a `Display` writes.
 ghost use Rattle.std.specs.Prelude.{◌≡◌};
 ghost use Rattle.ra_cli.specs.Refusals as spec;
 
@@ -67,34 +67,6 @@ fn script_line(fault: ScriptError) -> &'static str
     }
 }
 
-/// Returns the line that says why a policy can't go on. It does not allocate.
-fn drive_line(fault: DriveError) -> &'static str
-    ensures { result.now ≡ spec.refused_line (spec.drive_word fault) }
-{
-    match fault {
-        DriveError::TurnLimit => "refused TurnLimit\n",
-        DriveError::BadPlace => "refused BadPlace\n",
-        DriveError::NotEnabled => "refused NotEnabled\n",
-        DriveError::Memory => "refused Memory\n",
-    }
-}
-
-/// Returns the line that says why threads did not bring a script to its end. It does not allocate.
-fn cluster_line(fault: ClusterError) -> &'static str
-    ensures { result.now ≡ spec.refused_line (spec.cluster_word fault) }
-{
-    match fault {
-        ClusterError::OutOfOrder => "refused OutOfOrder\n",
-        ClusterError::Unreleased => "refused Unreleased\n",
-        ClusterError::Fault(_) => "refused Fault\n",
-        ClusterError::Settle => "refused Settle\n",
-        ClusterError::PlanUnmet => "refused PlanUnmet\n",
-        ClusterError::Lost => "refused Lost\n",
-        ClusterError::UnderWay => "refused UnderWay\n",
-        ClusterError::Memory => "refused Memory\n",
-    }
-}
-
 /// Returns the line that says why a frame is not answered. It does not allocate.
 fn answer_line(fault: AnswerError) -> &'static str
     ensures { result.now ≡ spec.refused_line (spec.answer_word fault) }
@@ -121,7 +93,12 @@ fn perform_line(fault: PerformError) -> &'static str
     match fault {
         PerformError::Read => "refused Read\n",
         PerformError::Script(why) => script_line(why),
-        PerformError::Drive(why) => drive_line(why),
+        PerformError::Drive(why) => match why {
+            DriveError::TurnLimit => "refused TurnLimit\n",
+            DriveError::BadPlace => "refused BadPlace\n",
+            DriveError::NotEnabled => "refused NotEnabled\n",
+            DriveError::Memory => "refused Memory\n",
+        },
         PerformError::Choice => "refused Choice\n",
         PerformError::Memory => "refused Memory\n",
         PerformError::Write => "refused Write\n",
@@ -135,9 +112,17 @@ fn run_line(fault: RunScriptError) -> &'static str
     match fault {
         RunScriptError::Read => "refused Read\n",
         RunScriptError::Script(why) => script_line(why),
-        RunScriptError::Cluster(why) => cluster_line(why),
+        RunScriptError::Cluster(why) => match why {
+            ClusterError::OutOfOrder => "refused OutOfOrder\n",
+            ClusterError::Unreleased => "refused Unreleased\n",
+            ClusterError::Fault(_) => "refused Fault\n",
+            ClusterError::Settle => "refused Settle\n",
+            ClusterError::PlanUnmet => "refused PlanUnmet\n",
+            ClusterError::Lost => "refused Lost\n",
+            ClusterError::UnderWay => "refused UnderWay\n",
+            ClusterError::Memory => "refused Memory\n",
+        },
         RunScriptError::Choice => "refused Choice\n",
         RunScriptError::Memory => "refused Memory\n",
-        RunScriptError::Write => "refused Write\n",
     }
 }

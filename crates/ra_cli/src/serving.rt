@@ -1,15 +1,16 @@
-ghost use Rattle.std.specs.Prelude.{true, false, None, ◌↔◌, IsTrue, ◌≡◌, ◌≤◌, ◌⊎◌, List, ℕ, map, string_bytes};
+ghost use Rattle.std.specs.Prelude.{None, true, false, ◌↔◌, IsTrue, ◌≡◌, ◌≤◌, ◌⊎◌, List, ℕ, map, string_bytes};
 ghost use Rattle.ra_task.specs.declared.command_line.Task.{Task};
-ghost use Rattle.ra_cli.specs.Checks.{is_run, is_valid};
 ghost use Rattle.ra_cli.specs.Statuses.{PrintsRefusal, Serves, Writes};
 ghost use Rattle.ra_cli.specs.Tasks.{Does};
 ghost use Rattle.ra_task.specs.Asked.{Asks};
 ghost use Rattle.ra_schedule.specs.ChoicesText.{choices_of};
 ghost use Rattle.ra_cli.specs.Refusals.{IsOfReader, IsOfWriter, command_word, refused_line};
 
-use crate::command_outcome::{CommandOutcome, Remark, UNFINISHED, marks_remark_of, remark_of};
+use crate::command_outcome::{
+    ALL_DONE, CommandOutcome, LEFT_UNFINISHED, Remark, UNFINISHED, marks_outcome_of, outcome_of,
+};
 use crate::commands::cluster_command::run_script;
-use crate::commands::draw_command::{Denial, draw_input};
+use crate::commands::draw_command::draw_input;
 use crate::commands::marks_verdict_lines::marks_verdict_text;
 use crate::commands::node_task::be_a_node;
 use crate::commands::settle_task::settle_books;
@@ -26,15 +27,12 @@ use ra_task::{
     ClusterOutput, Command, CommandFault, InputKind, PolicyName, Search, SurveyTask, Task,
     command_of, policy_of,
 };
-use ra_trace::{MarksVerdict, TraceError, Verdict, check_buffered_with_due, check_marks_buffered};
+use ra_trace::{TraceError, check_buffered_with_due, check_marks_buffered};
 use ra_world::write_out;
 use std::alloc::Global;
 use std::io::{BufRead, Read, Write};
 use std::sync::Wait;
 use std::thread::Threads;
-
-/// The command did what it was asked.
-pub const DONE: u8 = 0;
 
 /// The input or the output failed.
 pub const BROKEN: u8 = 1;
@@ -52,6 +50,20 @@ pub fn written<W: Write>(writer: &mut W, text: &[u8], status: u8) -> u8
     }
 }
 
+/// Prints a text and returns what comes of it then, or that the writer failed, of which there is nothing more to say. It
+/// does not allocate.
+pub fn print_text<W: Write>(writer: &mut W, text: &[u8], outcome: CommandOutcome) -> CommandOutcome
+    ensures { Writes text.now outcome.status (W.contents writer.old) (W.contents writer.new) result.status }
+{
+    match write_out(writer, text) {
+        Ok(()) => outcome,
+        Err(_) => CommandOutcome {
+            status: BROKEN,
+            remark: None,
+        },
+    }
+}
+
 /// Returns whether the writer failed, so that nothing more is to be written. It does not allocate.
 fn is_of_the_writer(refusal: CommandRefusal) -> bool
     ensures { IsTrue result ↔ IsOfWriter refusal }
@@ -60,7 +72,6 @@ fn is_of_the_writer(refusal: CommandRefusal) -> bool
         refusal,
         CommandRefusal::Answer(AnswerError::Write)
             | CommandRefusal::Perform(PerformError::Write)
-            | CommandRefusal::Cluster(RunScriptError::Write)
             | CommandRefusal::Draw(DrawError::Write)
     )
 }
@@ -84,15 +95,20 @@ fn is_of_the_reader(refusal: CommandRefusal) -> bool
 pub fn refuse<W: Write>(writer: &mut W, refusal: CommandRefusal) -> CommandOutcome
     ensures { PrintsRefusal refusal (W.contents writer.old) (W.contents writer.new) (writer.new ≡ writer.old) result.status }
 {
+    let remark = Some(Remark::Refused(refusal));
     if is_of_the_writer(refusal) {
-        return CommandOutcome::refused(BROKEN, refusal);
+        return CommandOutcome {
+            status: BROKEN,
+            remark,
+        };
     }
-    let line = line_of(refusal).as_bytes();
-    if is_of_the_reader(refusal) {
-        CommandOutcome::refused(written(writer, line, BROKEN), refusal)
+    let status = if is_of_the_reader(refusal) {
+        BROKEN
     } else {
-        CommandOutcome::refused(written(writer, line, REFUSED), refusal)
-    }
+        REFUSED
+    };
+    let status = written(writer, line_of(refusal).as_bytes(), status);
+    CommandOutcome { status, remark }
 }
 
 /// Prints why there are no arguments of a command line, and returns the status, 2, or 1 if the writer fails. It does
@@ -116,7 +132,7 @@ fn respond<R: Read, W: Write>(
         (W.contents writer.old) (W.contents writer.new) (reader.new ≡ reader.old) result.status }
 {
     match answer(alloc, node, nodes, reader, writer) {
-        Ok(()) => CommandOutcome::new(DONE, None),
+        Ok(()) => ALL_DONE,
         Err(fault) => refuse(writer, CommandRefusal::Answer(fault)),
     }
 }
@@ -140,15 +156,21 @@ fn simulate<R: Read, W: Write>(
         Err(fault) => return refuse(writer, CommandRefusal::Choices(fault)),
     };
     match perform_as(alloc, reader, writer, format, &policy) {
-        Ok(true) => CommandOutcome::new(DONE, None),
-        Ok(false) => CommandOutcome::new(UNFINISHED, Some(Remark::Unfinished)),
+        Ok(true) => ALL_DONE,
+        Ok(false) => LEFT_UNFINISHED,
         Err(fault) => refuse(writer, CommandRefusal::Perform(fault)),
     }
 }
 
-/// Returns what there is to say of seeds if a run was stuck, or some run or each one was not finished.
-fn remark_on(find: Option<Search>) -> Remark {
-    match find {
+/// Returns what comes of seeds by whether each run is finished. If not, a run was stuck, or some run or each one was not
+/// finished.
+fn survey_outcome(finished: bool, find: Option<Search>) -> CommandOutcome
+    ensures { ((result.status ≡ 0) × (finished ≡ true)) ⊎ ((result.status ≡ 3) × (finished ≡ false)) }
+{
+    if finished {
+        return ALL_DONE;
+    }
+    let remark = match find {
         Some(
             Search {
                 ending: Ending::Stuck,
@@ -157,6 +179,10 @@ fn remark_on(find: Option<Search>) -> Remark {
         ) => Remark::Unfinished,
         Some(_) => Remark::NoneFinished,
         None => Remark::SomeUnfinished,
+    };
+    CommandOutcome {
+        status: UNFINISHED,
+        remark: Some(remark),
     }
 }
 
@@ -172,20 +198,12 @@ fn survey_seeds<R: Read, W: Write, O: Observer>(
     ensures { Does (Task.Survey asked.now) (R.remaining reader.old) (R.remaining reader.new)
         (W.contents writer.old) (W.contents writer.new) (reader.new ≡ reader.old) result.status }
 {
-    match survey_script(alloc, asked, reader, writer, observer) {
-        Ok(true) => CommandOutcome::new(DONE, None),
-        Ok(false) => CommandOutcome::new(UNFINISHED, Some(remark_on(asked.find))),
+    match survey_script(alloc, asked, reader, observer) {
+        Ok(told) => {
+            let outcome = survey_outcome(told.finished, asked.find);
+            print_text(writer, told.text.as_bytes(), outcome)
+        }
         Err(fault) => refuse(writer, CommandRefusal::Cluster(fault)),
-    }
-}
-
-/// Returns the status of a verdict.
-fn status_of(verdict: &Verdict) -> u8
-    ensures { ((result ≡ 0) × (is_valid verdict.now ≡ true)) ⊎ ((result ≡ 3) × (is_valid verdict.now ≡ false)) }
-{
-    match verdict {
-        Verdict::Valid { .. } => DONE,
-        Verdict::Invalid { .. } => UNFINISHED,
     }
 }
 
@@ -200,21 +218,8 @@ fn judge<R: BufRead, W: Write>(alloc: Global, reader: &mut R, writer: &mut W) ->
         Err(fault) => return refuse(writer, CommandRefusal::Check(fault)),
     };
     match verdict_text(alloc, &verdict) {
-        Ok(text) => {
-            let status = written(writer, text.as_bytes(), status_of(&verdict));
-            CommandOutcome::judged(status, remark_of(&verdict, due))
-        }
+        Ok(text) => print_text(writer, text.as_bytes(), outcome_of(&verdict, due)),
         Err(_) => refuse(writer, CommandRefusal::Check(TraceError::Memory)),
-    }
-}
-
-/// Returns the status of a verdict on a mark log.
-fn marks_status_of(verdict: &MarksVerdict) -> u8
-    ensures { ((result ≡ 0) × (is_run verdict.now ≡ true)) ⊎ ((result ≡ 3) × (is_run verdict.now ≡ false)) }
-{
-    match verdict {
-        MarksVerdict::Valid { .. } => DONE,
-        MarksVerdict::Invalid { .. } => UNFINISHED,
     }
 }
 
@@ -232,21 +237,9 @@ fn judge_marks<R: BufRead, W: Write>(
         Err(fault) => return refuse(writer, CommandRefusal::Check(fault)),
     };
     match marks_verdict_text(alloc, &verdict) {
-        Ok(text) => {
-            let status = written(writer, text.as_bytes(), marks_status_of(&verdict));
-            CommandOutcome::judged(status, marks_remark_of(&verdict))
-        }
+        Ok(text) => print_text(writer, text.as_bytes(), marks_outcome_of(&verdict)),
         Err(_) => refuse(writer, CommandRefusal::Check(TraceError::Memory)),
     }
-}
-
-/// Prints why an input is not drawn.
-fn print_invalid<W: Write>(denial: Denial, writer: &mut W) -> CommandOutcome
-    ensures { Writes (string_bytes denial.line) 3 (W.contents writer.old) (W.contents writer.new) result.status }
-{
-    let Denial { line, remark } = denial;
-    let status = written(writer, line.as_bytes(), UNFINISHED);
-    CommandOutcome::judged(status, Some(remark))
 }
 
 /// Draws a part of the reader's input, or writes the line that says why it is not of this kind. Then the whole input is
@@ -263,8 +256,15 @@ fn draw_part<R: Read, W: Write>(
         (W.contents writer.old) (W.contents writer.new) (reader.new ≡ reader.old) result.status }
 {
     match draw_input(alloc, kind, part, reader, writer, text) {
-        Ok(None) => CommandOutcome::new(DONE, None),
-        Ok(Some(denial)) => print_invalid(denial, writer),
+        Ok(None) => ALL_DONE,
+        Ok(Some(denial)) => print_text(
+            writer,
+            denial.line.as_bytes(),
+            CommandOutcome {
+                status: UNFINISHED,
+                remark: Some(denial.remark),
+            },
+        ),
         Err(fault) => refuse(writer, CommandRefusal::Draw(fault)),
     }
 }
@@ -280,8 +280,8 @@ fn run_by_threads<T: Threads + Wait + Sync, R: Read, W: Write>(
     ensures { Does (Task.Cluster printed) (R.remaining reader.old) (R.remaining reader.new)
         (W.contents writer.old) (W.contents writer.new) (reader.new ≡ reader.old) result.status }
 {
-    match run_script(rt, alloc, printed, reader, writer) {
-        Ok(()) => CommandOutcome::new(DONE, None),
+    match run_script(rt, alloc, printed, reader) {
+        Ok(text) => print_text(writer, text.as_bytes(), ALL_DONE),
         Err(fault) => refuse(writer, CommandRefusal::Cluster(fault)),
     }
 }
@@ -321,9 +321,7 @@ pub fn do_command<T: Threads + Wait + Sync, R: BufRead, W: Write, O: Observer>(
             draw_part(alloc, kind, part, reader, writer, text)
         }
         Command::Task(Task::Cluster(printed)) => run_by_threads(rt, alloc, printed, reader, writer),
-        Command::Task(Task::Help(ref help)) => {
-            CommandOutcome::new(written(writer, help.as_bytes(), DONE), None)
-        }
+        Command::Task(Task::Help(ref help)) => print_text(writer, help.as_bytes(), ALL_DONE),
         Command::Unknown(fault) => refuse(writer, CommandRefusal::Command(fault)),
     }
 }

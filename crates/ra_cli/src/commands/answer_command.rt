@@ -82,8 +82,10 @@ fn frame_in(alloc: Global, input: &[u8]) -> Result<Frame, AnswerError>
         return Err(AnswerError::Line);
     };
     let bytes = bytes_of(alloc, digits)?;
-    let frame = decode(&bytes)?;
-    Ok(frame)
+    match decode(&bytes) {
+        Ok(frame) => Ok(frame),
+        Err(fault) => Err(AnswerError::Frame(fault)),
+    }
 }
 
 /// Adds digits and a line feed to the text.
@@ -177,7 +179,10 @@ fn answer_to(alloc: Global, me: Member, input: &[u8]) -> Result<Vec<u8>, AnswerE
     if frame.clock == Frame::MAX_CLOCK {
         return Err(AnswerError::ClockFull);
     }
-    Ok(lines_of(alloc, frame.clock + 1, &reaction.sends)?)
+    match lines_of(alloc, frame.clock + 1, &reaction.sends) {
+        Ok(lines) => Ok(lines),
+        Err(Memory) => Err(AnswerError::Memory),
+    }
 }
 
 /// Reads one line, a frame of version 1 or 2 in hexadecimal digits, and writes the frames that an idle node sends when it
@@ -215,6 +220,8 @@ pub fn answer<R: Read, W: Write>(
     let me = member_of(node, nodes)?;
     let input = read_up_to(alloc, reader, MAX_LINE + 2)?;
     let output = answer_to(alloc, me, &input)?;
-    write_out(writer, &output)?;
-    Ok(())
+    match write_out(writer, &output) {
+        Ok(()) => Ok(()),
+        Err(_) => Err(AnswerError::Write),
+    }
 }

@@ -1,25 +1,25 @@
 //! A script that threads run, from its text to what is printed of the run.
-ghost use Rattle.std.specs.Prelude.{◌≡◌, ◌≢◌, List, ℕ, Ok, map, IfOk, IfErr, OnOk, IfSome, string_bytes};
+ghost use Rattle.std.specs.Prelude.{◌≡◌, ◌≢◌, List, ℕ, Ok, map, IfOk, IfErr, IfSome, string_bytes};
 ghost use Rattle.std.specs.Io.KnownBytes.{Consumes};
 ghost use Rattle.ra_world.specs.Run.{IsRun};
 ghost use Rattle.ra_world.specs.Traffic.{Move};
 ghost use Rattle.ra_trace.specs.TraceText.{IsTrace};
 ghost use Rattle.ra_script.specs.ScriptText.{script_of};
 ghost use Rattle.ra_cluster.specs.declared.cluster.cluster_run.ClusterError.{ClusterError};
-ghost use Rattle.ra_cli.specs.ClusterRun.{AreWrittenBooks, IsClusterRun, RunsCluster, RefusesRun, SaysRun, SaysScript, of_cluster};
-ghost use Rattle.ra_cli.specs.InputOutput.{ReadsInput, WritesOutput};
+ghost use Rattle.ra_cli.specs.ClusterRun.{AreWrittenBooks, IsClusterRun, RefusesRun, SaysRun, SaysScript};
+ghost use Rattle.ra_cli.specs.InputOutput.{ReadsInput};
 
 use crate::error::RunScriptError;
 use ra_book::push_book;
-use ra_cluster::{Book, ClusterError, OpenGate, Recorded, record_cluster};
+use ra_cluster::{Book, OpenGate, Recorded, record_cluster};
 use ra_schedule::Script;
 use ra_script::{MAX_SCRIPT, read_script};
 use ra_stamp::Memory;
 use ra_task::ClusterOutput;
 use ra_trace::trace_text;
-use ra_world::{Steps, read_up_to, report_text, runs_are_determined, write_out};
+use ra_world::{Steps, read_up_to, report_text, runs_are_determined};
 use std::alloc::Global;
-use std::io::{Read, Write};
+use std::io::Read;
 use std::sync::Wait;
 use std::thread::Threads;
 
@@ -34,7 +34,6 @@ pub fn script_from<R: Read>(alloc: Global, reader: &mut R) -> Result<Script, Run
     // If the reader tells nothing of its input, there still is one of which this holds.
     ensures read { IfOk result (λ script. (input : List ℕ) × (script_of input ≡ Ok script)) }
     ensures reads { ReadsInput RunScriptError.Read 65537 RefusesRun (R.remaining reader.old) (R.remaining reader.new) result }
-    ensures early { IfErr result (λ fault. fault ≢ RunScriptError.Write) }
     ensures unrun { IfErr result (λ fault. (why : ClusterError) → fault ≢ RunScriptError.Cluster why) }
 {
     let text = read_up_to(alloc, reader, MAX_SCRIPT + 1)?;
@@ -110,25 +109,26 @@ fn recorded_text(
 ///
 /// # Errors
 ///
-/// Those of [`record_cluster`].
+/// `Cluster` and `Memory`, as [`record_cluster`] says.
 fn text_of_run<T: Threads + Wait + Sync>(
     rt: &T,
     alloc: Global,
     printed: ClusterOutput,
     script: &Script,
-) -> Result<String, ClusterError>
+) -> Result<String, RunScriptError>
     ensures ok { IfOk result (λ text. SaysScript printed script.now (string_bytes text)) }
-    ensures err { IfErr result (λ why. (input : List ℕ) → script_of input ≡ Ok script.now → RefusesRun input (of_cluster why)) }
+    ensures err { IfErr result (λ why. (input : List ℕ) → script_of input ≡ Ok script.now → RefusesRun input why) }
+    ensures read { IfErr result (λ why. why ≢ RunScriptError.Read) }
 {
     let recorded = record_cluster(rt, alloc, script, &OpenGate)?;
     let text = recorded_text(alloc, printed, script.nodes(), &recorded);
     recorded.discard();
-    text.or(Err(ClusterError::Memory))
+    text.or(Err(RunScriptError::Memory))
 }
 
-/// Reads the text of a script, runs it by threads, and writes what is printed of the one run into which the books of the nodes
-/// settle: the lines of its report, its trace, or these books. It takes at most 65,537 bytes from the reader, and no read or
-/// write that failed is tried again. It waits for the threads that it starts, and nothing bounds how long.
+/// Reads the text of a script, runs it by threads, and returns what is printed of the one run into which the books of the nodes
+/// settle: the lines of its report, its trace, or these books. It takes at most 65,537 bytes from the reader, and no read that
+/// failed is tried again. It waits for the threads that it starts, and nothing bounds how long.
 ///
 /// # Errors
 ///
@@ -138,25 +138,19 @@ fn text_of_run<T: Threads + Wait + Sync>(
 /// 2. `Script`: the input is no script.
 /// 3. `Cluster`: threads may not run the script, for which no thread was started, or did not bring it to its end.
 /// 4. `Memory`: memory ran out.
-/// 5. `Write`: the writer failed or took nothing, with bytes left to write. A prefix of the text was written.
-///
-/// After each of the others the writer is as before.
-pub fn run_script<T: Threads + Wait + Sync, R: Read, W: Write>(
+pub fn run_script<T: Threads + Wait + Sync, R: Read>(
     rt: &T,
     alloc: Global,
     printed: ClusterOutput,
     reader: &mut R,
-    writer: &mut W,
-) -> Result<(), RunScriptError>
-    // What is read is a script to its end, and what is written is what came of it and nothing else.
-    ensures ok { OnOk result (RunsCluster printed (R.remaining reader.old) (R.remaining reader.new)
-        (W.contents writer.old) (W.contents writer.new)) }
+) -> Result<String, RunScriptError>
+    // What is read is a script to its end, and the text tells what came of it.
+    ensures ok { IfOk result (λ text. IfSome (R.remaining reader.old) (λ input.
+        IsClusterRun printed input (string_bytes text) × Consumes (R.remaining reader.old) (R.remaining reader.new) input)) }
+    // If the reader tells nothing of its input, there still is one of which this holds.
+    ensures read { IfOk result (λ text. (input : List ℕ) × IsClusterRun printed input (string_bytes text)) }
     ensures reads { ReadsInput RunScriptError.Read 65537 RefusesRun (R.remaining reader.old) (R.remaining reader.new) result }
-    ensures writes { WritesOutput RunScriptError.Write (IsClusterRun printed) (R.remaining reader.old)
-        (W.contents writer.old) (W.contents writer.new) (writer.new ≡ writer.old) result }
 {
     let script = script_from(alloc, reader)?;
-    let text = text_of_run(rt, alloc, printed, &script)?;
-    write_out(writer, text.as_bytes())?;
-    Ok(())
+    text_of_run(rt, alloc, printed, &script)
 }

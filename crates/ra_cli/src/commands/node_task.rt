@@ -2,9 +2,9 @@
 ghost use Rattle.std.specs.Prelude.{◌≤◌};
 ghost use Rattle.ra_cli.specs.NodeRun.{ServesNode};
 
-use crate::command_outcome::{CommandOutcome, Remark};
+use crate::command_outcome::{ALL_DONE, CommandOutcome, Remark};
 use crate::refusal_lines::{CommandRefusal, line_of};
-use crate::serving::{BROKEN, DONE, REFUSED, written};
+use crate::serving::{BROKEN, REFUSED, written};
 use ra_book::{BookFault, answer_book};
 use ra_trace::TraceError;
 use std::alloc::Global;
@@ -22,12 +22,21 @@ pub fn be_a_node<R: BufRead, W: Write>(
         (W.contents writer.old) (W.contents writer.new) result.status }
 {
     match answer_book(alloc, reader, writer) {
-        Ok(()) => CommandOutcome::new(DONE, None),
-        Err(BookFault::Line) => CommandOutcome::new(REFUSED, Some(Remark::NoBook)),
+        Ok(()) => ALL_DONE,
+        Err(BookFault::Line) => CommandOutcome {
+            status: REFUSED,
+            remark: Some(Remark::NoBook),
+        },
         Err(BookFault::Read) => {
             let line = line_of(CommandRefusal::Check(TraceError::Read)).as_bytes();
-            CommandOutcome::new(written(writer, line, BROKEN), Some(Remark::Unread))
+            CommandOutcome {
+                status: written(writer, line, BROKEN),
+                remark: Some(Remark::Unread),
+            }
         }
-        Err(BookFault::Write) => CommandOutcome::new(BROKEN, None),
+        Err(BookFault::Write) => CommandOutcome {
+            status: BROKEN,
+            remark: None,
+        },
     }
 }

@@ -3,13 +3,13 @@ ghost use Rattle.std.specs.Prelude.{◌≡◌, List, ℕ, string_bytes, IfOk};
 ghost use Rattle.ra_book.specs.Verdicts.{IsSettledText, IsUnsettled};
 ghost use Rattle.ra_task.specs.declared.settle_arguments.SettleTask.{SettleTask};
 ghost use Rattle.ra_cli.specs.SettleRun as spec;
-ghost use Rattle.ra_cli.specs.SettleRun.{Prints, RefusesInput, ServesSettle, TellsSettled};
+ghost use Rattle.ra_cli.specs.SettleRun.{Prints, ServesSettle, TellsSettled};
 
-use crate::command_outcome::{CommandOutcome, Remark, UNFINISHED};
+use crate::command_outcome::{ALL_DONE, CommandOutcome, Remark, UNFINISHED};
 use crate::commands::cluster_command::trace_of_steps;
 use crate::commands::verdict_lines::invalid_text;
 use crate::refusal_lines::CommandRefusal;
-use crate::serving::{DONE, refuse, written};
+use crate::serving::{print_text, refuse};
 use ra_book::{SettleTextError, SettledText, TextCause, settle_text};
 use ra_stamp::Memory;
 use ra_task::{SettleOutput, SettleTask};
@@ -67,7 +67,7 @@ fn show<W: Write>(
         → TellsSettled asked input (W.contents writer.old) (W.contents writer.new) result.status }
 {
     match run_text(alloc, asked.printed, text) {
-        Ok(output) => CommandOutcome::new(written(writer, output.as_bytes(), DONE), None),
+        Ok(output) => print_text(writer, output.as_bytes(), ALL_DONE),
         Err(_) => refuse_memory(writer),
     }
 }
@@ -81,10 +81,14 @@ fn contradict<W: Write>(alloc: Global, refused: SettleTextError, writer: &mut W)
         return refuse_memory(writer);
     };
     match invalid_text(alloc, line, word_of(cause)) {
-        Ok(text) => {
-            let status = written(writer, text.as_bytes(), UNFINISHED);
-            CommandOutcome::judged(status, Some(Remark::Unsettled { line, cause }))
-        }
+        Ok(text) => print_text(
+            writer,
+            text.as_bytes(),
+            CommandOutcome {
+                status: UNFINISHED,
+                remark: Some(Remark::Unsettled { line, cause }),
+            },
+        ),
         Err(_) => refuse_memory(writer),
     }
 }
@@ -104,18 +108,6 @@ fn settle_input<W: Write>(
     }
 }
 
-/// Prints that the reader failed, or gave more than a text may have, or that memory ran out, and returns what came of
-/// it.
-fn refuse_input<W: Write>(writer: &mut W, fault: TraceError) -> CommandOutcome
-    ensures { RefusesInput fault (W.contents writer.old) (W.contents writer.new) result.status }
-{
-    let outcome = refuse(writer, CommandRefusal::Check(fault));
-    match fault {
-        TraceError::Limit => CommandOutcome::new(outcome.status, Some(Remark::TooManyBooks)),
-        TraceError::Read | TraceError::Memory => outcome,
-    }
-}
-
 /// Reads the books of all nodes, one after the other in one text, and prints the report of the run into which they
 /// settle as asked, or its trace, with status 0. If they do not settle, it prints the line that is wrong, and the
 /// cause, with status 3. The status is 2 if the text has more than 1,073,741,824 bytes or memory ran out, and 1 if the
@@ -132,11 +124,14 @@ pub fn settle_books<R: Read, W: Write>(
 {
     let input = match read_up_to(alloc, reader, MAX_TEXT + 1) {
         Ok(input) => input,
-        Err(ReadFault::Read) => return refuse_input(writer, TraceError::Read),
-        Err(ReadFault::Memory) => return refuse_input(writer, TraceError::Memory),
+        Err(ReadFault::Read) => return refuse(writer, CommandRefusal::Check(TraceError::Read)),
+        Err(ReadFault::Memory) => return refuse(writer, CommandRefusal::Check(TraceError::Memory)),
     };
     if input.len() > MAX_TEXT {
-        return refuse_input(writer, TraceError::Limit);
+        return CommandOutcome {
+            status: refuse(writer, CommandRefusal::Check(TraceError::Limit)).status,
+            remark: Some(Remark::TooManyBooks),
+        };
     }
     let outcome = settle_input(alloc, asked, &input, writer);
     *text = input;

@@ -1,9 +1,10 @@
 //! A script under many seeds, from its text to the lines of what came of it.
-ghost use Rattle.std.specs.Prelude.{◌≡◌, ◌↔◌, List, ℕ, Ok, codes, string_bytes, IsTrue, IfOk, IsErrOf};
+ghost use Rattle.std.specs.Prelude.{◌≡◌, ◌↔◌, List, ℕ, Ok, codes, string_bytes, IsTrue, IfOk, IfSome, IsErrOf};
+ghost use Rattle.std.specs.Io.KnownBytes.{Consumes};
 ghost use Rattle.ra_script.specs.Finding.{IsFirstUnwritten};
 ghost use Rattle.ra_script.specs.ScriptText.{script_of};
-ghost use Rattle.ra_cli.specs.InputOutput.{ReadsInput, WritesOutput};
-ghost use Rattle.ra_cli.specs.Surveyed.{AllFinished, FoundHasNoWords, IsFound, IsSurveyed, IsTold, MayBeTold, RefusesSurvey, SurveysBy};
+ghost use Rattle.ra_cli.specs.InputOutput.{ReadsInput};
+ghost use Rattle.ra_cli.specs.Surveyed.{AllFinished, FoundHasNoWords, IsFound, IsSurveyed, IsTold, RefusesSurvey};
 ghost use Rattle.ra_cli.specs.Surveyed as spec;
 
 use crate::commands::cluster_command::script_from;
@@ -13,9 +14,8 @@ use ra_schedule::{ChoicesError, Ending, Observer, Script, Survey, survey};
 use ra_script::{MAX_TURNS, Printed, find_run};
 use ra_stamp::Memory;
 use ra_task::{Search, SurveyTask};
-use ra_world::write_out;
 use std::alloc::Global;
-use std::io::{Read, Write};
+use std::io::Read;
 
 /// Returns whether each seed's run is finished. It does not allocate.
 fn all_finished(survey: &Survey) -> bool
@@ -53,14 +53,6 @@ fn counted_of<O: Observer>(
     })
 }
 
-/// Returns the line that says that no run came to the end that was looked for.
-fn none_line(alloc: Global) -> Result<String, Memory>
-    ensures { IfOk result (λ text. string_bytes text ≡ codes "none\n") }
-{
-    let text = String::from_str(alloc, "none\n")?;
-    Ok(text)
-}
-
 /// Returns what is to be printed of the run by the first seed by which a script comes to the end that is looked for, and whether
 /// that run is finished. If there is no such run, returns a line that says so, and whether that is as it should be.
 ///
@@ -94,7 +86,9 @@ fn found_of<O: Observer>(
     )? {
         return Ok(found);
     }
-    let text = none_line(alloc)?;
+    let Ok(text) = String::from_str(alloc, "none\n") else {
+        return Err(ChoicesError::Memory);
+    };
     Ok(Printed {
         text,
         finished: none_found_is_success(ending),
@@ -132,11 +126,11 @@ fn told_of<O: Observer>(
 }
 
 /// Reads the text of a script, and drives a cluster through it by chance, with faults or without, under each seed from the first
-/// to the last, both of them included, each in at most 16,777,216 turns. Writes what came of them, and returns whether each run
-/// is finished. If an end is looked for, it goes up to the first seed whose run comes to it, writes its trace or its choices, and
-/// returns whether that run is finished. If there is no such run, it writes `none`, and returns whether it is runs that are stuck
-/// that were looked for. The observer is told of each seed. It takes at most 65,537 bytes from the reader, and no read or write
-/// that failed is tried again.
+/// to the last, both of them included, each in at most 16,777,216 turns. Returns the lines of what came of them, and whether each
+/// run is finished. If an end is looked for, it goes up to the first seed whose run comes to it, and returns that run's trace or
+/// choices, and whether it is finished. If there is no such run, it returns the line `none`, and whether it is runs that are stuck
+/// that were looked for. The observer is told of each seed. It takes at most 65,537 bytes from the reader, and no read that failed
+/// is tried again.
 ///
 /// # Errors
 ///
@@ -144,27 +138,22 @@ fn told_of<O: Observer>(
 ///
 /// 1. `Read`: the reader failed, before its end and before it gave 65,537 bytes.
 /// 2. `Script`: the input is no script.
-/// 3. `Choice`: choices are to be written, and a message is repeated, for which there is no word.
+/// 3. `Choice`: choices are to be printed, and a message is repeated, for which there is no word.
 /// 4. `Memory`: memory ran out.
-/// 5. `Write`: the writer failed or took nothing, with bytes left to write. A prefix of the text was written.
-///
-/// After each of the others the writer is as before.
-pub fn survey_script<R: Read, W: Write, O: Observer>(
+pub fn survey_script<R: Read, O: Observer>(
     alloc: Global,
     asked: &SurveyTask,
     reader: &mut R,
-    writer: &mut W,
     observer: &mut O,
-) -> Result<bool, RunScriptError>
-    ensures ok { IfOk result (SurveysBy asked.now (R.remaining reader.old) (R.remaining reader.new)
-        (W.contents writer.old) (W.contents writer.new)) }
+) -> Result<Printed, RunScriptError>
+    ensures ok { IfOk result (λ told. IfSome (R.remaining reader.old) (λ input.
+        IsTold asked.now input (string_bytes told.text) told.finished × Consumes (R.remaining reader.old) (R.remaining reader.new) input)) }
+    // If the reader tells nothing of its input, there still is one of which this holds.
+    ensures read { IfOk result (λ told. (input : List ℕ) × IsTold asked.now input (string_bytes told.text) told.finished) }
     ensures reads { ReadsInput RunScriptError.Read 65537 (RefusesSurvey asked.now)
         (R.remaining reader.old) (R.remaining reader.new) result }
-    ensures writes { WritesOutput RunScriptError.Write (MayBeTold asked.now) (R.remaining reader.old)
-        (W.contents writer.old) (W.contents writer.new) (writer.new ≡ writer.old) result }
 {
     let script = script_from(alloc, reader)?;
     let told = told_of(alloc, &script, asked, observer)?;
-    write_out(writer, told.text.as_bytes())?;
-    Ok(told.finished)
+    Ok(told)
 }

@@ -5,25 +5,33 @@ ghost use Rattle.ra_cli.specs.Surveyed as spec;
 
 use ra_schedule::{Spread, Survey, Tally};
 use ra_stamp::Memory;
-use ra_world::{push_field, push_number};
+use ra_world::push_number;
 use std::alloc::Global;
 
-/// Adds the first of the seeds that came to an end, and ends the line.
+/// Adds a line of a word, a number, a text and another number.
 ///
 /// # Errors
 ///
 /// `Memory`: there is none for it. A prefix of it may have been added.
-fn push_first(text: &mut String, first: u64) -> Result<(), Memory>
-    ensures { OnOk result
-        (string_bytes text.new ≡ string_bytes text.old ++ (field (codes "first") ++ field (decimal first) ++ codes "\n")) }
+fn push_row(
+    text: &mut String,
+    word: &str,
+    first: u128,
+    between: &str,
+    second: u128,
+) -> Result<(), Memory>
+    ensures { OnOk result (string_bytes text.new ≡ string_bytes text.old
+        ++ (word.now ++ field (decimal first) ++ between.now ++ field (decimal second) ++ codes "\n")) }
 {
-    push_field(text, "first")?;
+    text.push_str(word)?;
     push_number(text, first)?;
+    text.push_str(between)?;
+    push_number(text, second)?;
     text.push_str("\n")?;
     Ok(())
 }
 
-/// Adds the line of an end, if a seed came to it.
+/// Adds the line of an end, if a seed came to it, with the first of the seeds that did.
 ///
 /// # Errors
 ///
@@ -31,12 +39,10 @@ fn push_first(text: &mut String, first: u64) -> Result<(), Memory>
 fn push_tally(text: &mut String, word: &str, tally: Option<Tally>) -> Result<(), Memory>
     ensures { OnOk result (string_bytes text.new ≡ string_bytes text.old ++ spec.tally_line word.now tally) }
 {
-    let Some(Tally { seeds, first }) = tally else {
-        return Ok(());
-    };
-    text.push_str(word)?;
-    push_number(text, seeds)?;
-    push_first(text, first)
+    match tally {
+        Some(Tally { seeds, first }) => push_row(text, word, seeds, " first", u128::from(first)),
+        None => Ok(()),
+    }
 }
 
 /// Adds the line of a figure, if there is any.
@@ -47,14 +53,10 @@ fn push_tally(text: &mut String, word: &str, tally: Option<Tally>) -> Result<(),
 fn push_spread(text: &mut String, word: &str, spread: Option<Spread>) -> Result<(), Memory>
     ensures { OnOk result (string_bytes text.new ≡ string_bytes text.old ++ spec.spread_line word.now spread) }
 {
-    let Some(Spread { least, most }) = spread else {
-        return Ok(());
-    };
-    text.push_str(word)?;
-    push_number(text, least)?;
-    push_number(text, most)?;
-    text.push_str("\n")?;
-    Ok(())
+    match spread {
+        Some(Spread { least, most }) => push_row(text, word, least, "", most),
+        None => Ok(()),
+    }
 }
 
 /// Returns the lines of a survey. There is one for each end that came, with how many seeds came to it and the first of them. Then

@@ -132,10 +132,10 @@ returns-in-Task-Help g c arguments asks =
     let law = c.orderly_scripts_are_finished.ensures in
     let known = rw c.in-Task-Help.is at asks in
     let is = rw c.in-Task-Help.is at c.in-Task-Help.field-0-is in
-    rw c.new.ensures (served law.finished law.only_memory arguments (task.Help c.in-Task-Help.help) _ _ _ _ _ _
+    served law.finished law.only_memory arguments (task.Help c.in-Task-Help.help) _ _ _ _ _ _
     (rw is at known)
-    (helped c.in-Task-Help.help c.as_bytes.result.now _ _ _ _ (c.args.reader.now ≡ c.args.reader.now) c.written.result refl
-    c.as_bytes.ensures.value c.written.ensures))
+    (helped c.in-Task-Help.help c.as_bytes.result.now _ _ _ _ (c.args.reader.now ≡ c.args.reader.now) c.print_text.result.status refl
+    c.as_bytes.ensures.value c.print_text.ensures)
 
 -- ---- None of them
 

@@ -1,27 +1,28 @@
-use Rattle.std.proofs.Common.{◌≡◌, ℕ, List, Option, Err, ap, string_bytes, subst, inr}
+use Rattle.std.proofs.Common.{◌≡◌, ℕ, List, Option, Err, ap, refl, string_bytes, subst, inr}
 use Rattle.ra_task.specs.declared.command_line.Task.TheVariants as task
 use Rattle.ra_cli.specs.Statuses.{Writes}
 use Rattle.ra_cli.specs.declared.refusal_lines.CommandRefusal.TheVariants.{Draw}
 use Rattle.ra_cli.proofs.PictureLemmas.{of_picture, of_denied}
-use Rattle.ra_cli.proofs.Statuses.{of_draw}
+use Rattle.ra_cli.proofs.Statuses.{of_draw, writes_as}
 use Rattle.ra_cli.proofs.TaskLemmas.{of_part}
 use Rattle.ra_cli.proofs.TaskStatuses.{if_denied, if_done, if_refused}
 use Rattle.ra_cli.proofs.serving.draw_part.Goals as goal
 
 pub returns-in-Ok-None : goal.returns-in-Ok-None
 returns-in-Ok-None g c =
-    if_done (task.Draw c.args.kind c.args.part) _ _ _ _ _ _ c.new.ensures (rw c.in-Ok-None.field-0-is at c.in-Ok-None.ensures.ok)
+    if_done (task.Draw c.args.kind c.args.part) _ _ _ _ _ _ refl (rw c.in-Ok-None.field-0-is at c.in-Ok-None.ensures.ok)
 
 pub returns-in-Ok-Some : goal.returns-in-Ok-Some
 returns-in-Ok-Some g c =
     let old = g.R.Read.remaining c.args.reader.now in
     let new = g.R.Read.remaining c.draw_input.new.reader in
-    let after = g.W.Write.contents c.print_invalid.new.writer in
-    let status = c.print_invalid.result.status in
+    let after = g.W.Write.contents c.print_text.new.writer in
+    let status = c.print_text.result.status in
     let line = string_bytes c.in-Ok-Some.denial.line in
     let (input, read, (why, same)) = rw c.in-Ok-Some.field-0-is at c.in-Ok-Some.ensures.ok in
     if_denied (task.Draw c.args.kind c.args.part) old new _ after _ status line
-    (subst (λ (before : Option (List ℕ)). Writes line 3 before after status) (ap g.W.Write.contents same) c.print_invalid.ensures)
+    (subst (λ (before : Option (List ℕ)). Writes line 3 before after status) (ap g.W.Write.contents same)
+    (writes_as line c.as_bytes.result.now 3 _ _ status status refl c.as_bytes.ensures.value c.print_text.ensures))
     (λ all. (input, line, read, why, all))
     (λ arguments fits. of_denied arguments c.args.kind old new line input fits.1 read why)
 
@@ -35,6 +36,6 @@ returns-in-Err g c =
     let after = g.W.Write.contents c.refuse.new.writer in
     if_refused (task.Draw c.args.kind c.args.part) old new before after (c.draw_input.new.reader ≡ c.args.reader.now) c.refuse.result.status between (Draw fault)
     (c.refuse.new.writer ≡ c.draw_input.new.writer) c.refuse.ensures (ap g.W.Write.contents)
-    (λ other. ap g.W.Write.contents (c.in-Err.ensures.unwritten (λ e. other (inr (inr (inr (ap Draw e)))))))
+    (λ other. ap g.W.Write.contents (c.in-Err.ensures.unwritten (λ e. other (inr (inr (ap Draw e))))))
     (λ is arguments fits. of_picture arguments c.args.kind old new before between fits.1 (c.in-Err.ensures.prefix (ap Err (of_draw fault is))))
     (of_part c.args.kind c.args.part old new fault c.in-Err.ensures.unfit)

@@ -36,13 +36,13 @@ returns-in-Ok-verdict_text g c =
     let old = g.R.Read.remaining c.args.reader.now in
     let new = g.R.Read.remaining c.check_buffered_with_due.new.reader in
     let before = g.W.Write.contents c.args.writer.now in
-    let after = g.W.Write.contents c.written-status.new.writer in
+    let after = g.W.Write.contents c.print_text.new.writer in
     let verdict = c.in-Ok.verdict in
     let known = c.in-Ok.ensures.checks in
-    if_judged task.Check old new before after _ c.judged.result.status (verdict_text verdict) c.status_of.result (is_valid verdict ≡ true) (is_valid verdict ≡ false)
-    c.status_of.ensures
-    (writes_as (verdict_text verdict) c.as_bytes.result.now c.status_of.result before after c.written-status.result c.judged.result.status c.judged.ensures
-    (c.as_bytes.ensures.value ∙ c.in-Ok-verdict_text.ensures) c.written-status.ensures)
+    if_judged task.Check old new before after _ c.print_text.result.status (verdict_text verdict) c.outcome_of.result.status (is_valid verdict ≡ true) (is_valid verdict ≡ false)
+    c.outcome_of.ensures
+    (writes_as (verdict_text verdict) c.as_bytes.result.now c.outcome_of.result.status before after c.print_text.result.status c.print_text.result.status refl
+    (c.as_bytes.ensures.value ∙ c.in-Ok-verdict_text.ensures) c.print_text.ensures)
     (checks 16777216 old new before after verdict true known.ok known.valid known.alone)
     (checks 16777216 old new before after verdict false known.ok known.valid known.alone)
     (λ arguments fits. of_verdict arguments old verdict fits.1 known.ok)

@@ -36,13 +36,13 @@ returns-in-Ok-marks_verdict_text g c =
     let old = g.R.Read.remaining c.args.reader.now in
     let new = g.R.Read.remaining c.check_marks_buffered.new.reader in
     let before = g.W.Write.contents c.args.writer.now in
-    let after = g.W.Write.contents c.written-status.new.writer in
+    let after = g.W.Write.contents c.print_text.new.writer in
     let verdict = c.in-Ok.verdict in
     let known = c.in-Ok.ensures in
-    if_judged task.CheckMarks old new before after _ c.judged.result.status (marks_verdict_text verdict) c.marks_status_of.result (is_run verdict ≡ true) (is_run verdict ≡ false)
-    c.marks_status_of.ensures
-    (writes_as (marks_verdict_text verdict) c.as_bytes.result.now c.marks_status_of.result before after c.written-status.result c.judged.result.status c.judged.ensures
-    (c.as_bytes.ensures.value ∙ c.in-Ok-marks_verdict_text.ensures) c.written-status.ensures)
+    if_judged task.CheckMarks old new before after _ c.print_text.result.status (marks_verdict_text verdict) c.marks_outcome_of.result.status (is_run verdict ≡ true) (is_run verdict ≡ false)
+    c.marks_outcome_of.ensures
+    (writes_as (marks_verdict_text verdict) c.as_bytes.result.now c.marks_outcome_of.result.status before after c.print_text.result.status c.print_text.result.status refl
+    (c.as_bytes.ensures.value ∙ c.in-Ok-marks_verdict_text.ensures) c.print_text.ensures)
     (checks 16777216 old new before after verdict true known.ok known.valid known.alone)
     (checks 16777216 old new before after verdict false known.ok known.valid known.alone)
     (λ arguments fits. of_marks_verdict arguments old verdict fits.1 known.ok)

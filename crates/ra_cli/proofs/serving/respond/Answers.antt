@@ -9,7 +9,7 @@ use Rattle.ra_cli.proofs.TaskStatuses.{if_done, if_refused}
 use Rattle.ra_cli.proofs.serving.respond.Goals as goal
 
 pub returns-in-Ok : goal.returns-in-Ok
-returns-in-Ok g c = if_done (task.Answer c.args.node c.args.nodes) _ _ _ _ _ _ c.new.ensures c.in-Ok.ensures.ok
+returns-in-Ok g c = if_done (task.Answer c.args.node c.args.nodes) _ _ _ _ _ _ refl c.in-Ok.ensures.ok
 
 pub returns-in-Err : goal.returns-in-Err
 returns-in-Err g c =

@@ -1,4 +1,4 @@
-use Rattle.std.proofs.Common.{◌≡◌, Err, ap, inl, inr}
+use Rattle.std.proofs.Common.{◌≡◌, Err, ap, inl, inr, refl}
 use Rattle.std.proofs.lemmas.Bool.{false≢true}
 use Rattle.ra_task.specs.declared.command_line.Task.TheVariants as task
 use Rattle.ra_cli.specs.declared.refusal_lines.CommandRefusal.TheVariants.{Choices, Perform}
@@ -11,13 +11,13 @@ pub returns-in-Ok-true-clause-does : goal.returns-in-Ok-true-clause-does
 returns-in-Ok-true-clause-does g c =
     let known = rw c.in-Ok-true.field-0-test at c.in-Ok-true.ensures.ok in
     let some = rw c.in-Ok-true.field-0-test at c.in-Ok-true.ensures.performed in
-    if_done (task.Sim c.args.name c.args.choices c.args.format) _ _ _ _ _ _ c.new.ensures (c.in-Ok.policy, c.in-Ok.ensures.ok, (known, some))
+    if_done (task.Sim c.args.name c.args.choices c.args.format) _ _ _ _ _ _ refl (c.in-Ok.policy, c.in-Ok.ensures.ok, (known, some))
 
 pub returns-in-Ok-false-clause-does : goal.returns-in-Ok-false-clause-does
 returns-in-Ok-false-clause-does g c =
     let known = rw c.in-Ok-false.field-0-test at c.in-Ok-false.ensures.ok in
     let some = rw c.in-Ok-false.field-0-test at c.in-Ok-false.ensures.performed in
-    if_left (task.Sim c.args.name c.args.choices c.args.format) _ _ _ _ _ _ c.new-in-Ok-false.ensures (c.in-Ok.policy, c.in-Ok.ensures.ok, (known, some))
+    if_left (task.Sim c.args.name c.args.choices c.args.format) _ _ _ _ _ _ refl (c.in-Ok.policy, c.in-Ok.ensures.ok, (known, some))
 
 pub returns-in-Err-clause-does : goal.returns-in-Err-clause-does
 returns-in-Err-clause-does g c =

@@ -23,19 +23,18 @@ returns-in_err-output g c =
     rw (p.1, p.2) (no_answer c.args.node c.args.nodes _ _ _ _ _ c.in_ok-input.input.items _ (rw (me.0, me.1) at me.2) c.in_ok-input.ensures.bytes refuses
     c.in_err-output.ensures.1 refl)
 
-pub returns-in_err-write_out : goal.returns-in_err-write_out
-returns-in_err-write_out g c =
-    let p = err_from_is_err_and c.from_residual-in_err-write_out.result c.from_residual-in_err-write_out.ensures.1 in
-    let me = c.in_ok-me.ensures.ok in
-    let answered = rw (c.deref.ensures.value, me.0, me.1) at c.in_ok-output.ensures in
-    let left = rw c.deref-2.ensures.value at c.in_err-write_out.ensures.err in
-    rw (p.1, p.2) (not_written c.args.node c.args.nodes _ _ _ _ _ _ c.in_ok-input.input.items c.in_ok-output.output.items left.0 left.1
-    c.in_ok-input.ensures.bytes answered left.2 left.3 left.4)
-
 pub returns : goal.returns
 returns g c =
     let me = c.in_ok-me.ensures.ok in
     let answered = rw (c.deref.ensures.value, me.0, me.1) at c.in_ok-output.ensures in
-    let appends = rw c.deref-2.ensures.value at c.in_ok-write_out.ensures.ok in
+    let left = rw c.deref-2.ensures.value at c.in-Err.ensures.err in
+    not_written c.args.node c.args.nodes _ _ _ _ _ _ c.in_ok-input.input.items c.in_ok-output.output.items left.0 left.1
+    c.in_ok-input.ensures.bytes answered left.2 left.3 left.4
+
+pub returns-in-Ok : goal.returns-in-Ok
+returns-in-Ok g c =
+    let me = c.in_ok-me.ensures.ok in
+    let answered = rw (c.deref.ensures.value, me.0, me.1) at c.in_ok-output.ensures in
+    let appends = rw c.deref-2.ensures.value at c.in-Ok.ensures.ok in
     written c.args.node c.args.nodes _ _ _ _ _ _ c.in_ok-input.input.items c.in_ok-output.output.items _ (rw (me.0, me.1) at me.2)
     c.in_ok-input.ensures.bytes answered appends

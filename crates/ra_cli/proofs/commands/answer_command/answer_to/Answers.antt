@@ -18,7 +18,10 @@ returns-in_err-reaction c =
     )
 
 pub returns : goal.returns
-returns c =
+returns c = (c.requires, ((λ read. absurd cc), (λ write. absurd cc)))
+
+pub returns-in-Ok : goal.returns-in-Ok
+returns-in-Ok c =
     let sends = c.in_ok-reaction.reaction.sends.items in
     let after : clock_after 0 c.in_ok-frame.frame.clock ≡ c.in_ok-frame.frame.clock + 1 = omega arith in
     record {
@@ -30,5 +33,5 @@ returns c =
       is_for = c.in_ok-reaction.ensures.addressed;
       clock_left = search rules;
       reacts = c.in_ok-reaction.ensures.ok;
-      lines = subst (λ (clock : ℕ). AreLines clock sends c.in_ok-lines_of.field-0.items) (sym after) c.in_ok-lines_of.ensures.ok;
+      lines = subst (λ (clock : ℕ). AreLines clock sends c.in-Ok.lines.items) (sym after) c.in-Ok.ensures.ok;
     }

@@ -9,10 +9,9 @@ returns-in_err-bytes c =
     let p = err_from_is_err_and c.from_residual.result c.from_residual.ensures.1 in
     rw (p.1, p.2) (no_bytes c.args.input.now c.in-Some.digits.now _ c.in-Some.ensures.some c.in_err-bytes.ensures.err)
 
-pub returns-in_err-frame : goal.returns-in_err-frame
-returns-in_err-frame c =
-    let p = err_from_is_err_and c.from_residual-in_err-frame.result c.from_residual-in_err-frame.ensures.1 in
-    let wrong = rw c.deref.ensures.value at (c.in_err-frame.ensures.fault c.in_err-frame.field-0.0).0 refl in
+pub returns : goal.returns
+returns c =
+    let wrong = rw c.deref.ensures.value at (c.in-Err.ensures.fault c.in-Err.fault).0 refl in
     let spells : Spells c.args.input.now c.in_ok-bytes.bytes.items =
     (c.in-Some.digits.now, c.in-Some.ensures.some, c.in_ok-bytes.ensures.ok) in
-    rw (p.1, p.2) ((λ node nodes member. (member, c.in_ok-bytes.bytes.items, spells, wrong)), ((λ read. absurd cc), (λ write. absurd cc)))
+    ((λ node nodes member. (member, c.in_ok-bytes.bytes.items, spells, wrong)), ((λ read. absurd cc), (λ write. absurd cc)))

@@ -1,8 +1,8 @@
 use Rattle.std.proofs.Common.{Err, ap}
 use Rattle.std.proofs.lemmas.Result.{IfOk-from_err}
 use Rattle.ra_cli.proofs.Helping.{for_each}
-use Rattle.ra_cli.proofs.Passed.{passed, read_no_write, read_no_cluster, read_failed, script_no_read, script_no_cluster, unread_is_refused}
-use Rattle.ra_cli.proofs.Scripts.{refuses_script, refuses_text, reads_script, no_write}
+use Rattle.ra_cli.proofs.Passed.{passed, read_no_cluster, read_failed, script_no_read, script_no_cluster, unread_is_refused}
+use Rattle.ra_cli.proofs.Scripts.{refuses_script, refuses_text, reads_script}
 use Rattle.ra_cli.proofs.Transfers.{reads_badly, reads_well}
 use Rattle.ra_cli.specs.declared.error.RunScriptError.TheVariants.{Read}
 use Rattle.ra_cli.specs.ClusterRun.{RefusesRun, of_read, of_script}
@@ -15,10 +15,6 @@ returns-in_err-text-clause-ok g c = IfOk-from_err c.from_residual.result _ c.fro
 
 pub returns-in_err-text-clause-read : goal.returns-in_err-text-clause-read
 returns-in_err-text-clause-read g c = IfOk-from_err c.from_residual.result _ c.from_residual.ensures.0
-
-pub returns-in_err-text-clause-early : goal.returns-in_err-text-clause-early
-returns-in_err-text-clause-early g c =
-    let why = c.in_err-text.field-0.0 in passed c.from_residual.result (of_read why) _ c.from_residual.ensures.1 (read_no_write why)
 
 pub returns-in_err-text-clause-unrun : goal.returns-in_err-text-clause-unrun
 returns-in_err-text-clause-unrun g c =
@@ -40,11 +36,6 @@ returns-in_err-script-clause-ok g c = IfOk-from_err c.from_residual-in_err-scrip
 pub returns-in_err-script-clause-read : goal.returns-in_err-script-clause-read
 returns-in_err-script-clause-read g c = IfOk-from_err c.from_residual-in_err-script.result _ c.from_residual-in_err-script.ensures.0
 
-pub returns-in_err-script-clause-early : goal.returns-in_err-script-clause-early
-returns-in_err-script-clause-early g c =
-    let why = c.in_err-script.field-0.0 in
-    passed c.from_residual-in_err-script.result (of_script why) _ c.from_residual-in_err-script.ensures.1 (no_write why)
-
 pub returns-in_err-script-clause-unrun : goal.returns-in_err-script-clause-unrun
 returns-in_err-script-clause-unrun g c =
     let why = c.in_err-script.field-0.0 in
@@ -58,7 +49,7 @@ returns-in_err-script-clause-reads g c =
     let old = g.R.Read.remaining c.args.reader.now in
     let refused = rw c.deref.ensures.value at c.in_err-script.ensures.refused in
     reads_badly Read 65537 RefusesRun old _ c.from_residual-in_err-script.result (of_script why) c.from_residual-in_err-script.ensures.1
-    (refuses_script old _ text (of_script why) (no_write why) read (refuses_text text why refused)) (λ e. script_no_read why e)
+    (refuses_script old _ text (of_script why) read (refuses_text text why refused)) (λ e. script_no_read why e)
     (text, read.at_most, read.taken)
 
 -- it is one

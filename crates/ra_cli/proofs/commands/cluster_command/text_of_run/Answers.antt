@@ -4,10 +4,11 @@ use Rattle.std.specs.Result.{result_or}
 use Rattle.std.proofs.lemmas.Result.{IfOk-weaker, err_from_is_err_and}
 use Rattle.ra_world.specs.Run.{IsRun}
 use Rattle.ra_world.specs.Traffic.{Move}
-use Rattle.ra_cluster.specs.declared.cluster.cluster_run.ClusterError.{ClusterError}
-use Rattle.ra_cluster.specs.declared.cluster.cluster_run.ClusterError.TheVariants.{Memory}
+use Rattle.ra_cli.specs.declared.error.RunScriptError.{RunScriptError}
+use Rattle.ra_cli.specs.declared.error.RunScriptError.TheVariants.{Memory}
 use Rattle.ra_cli.specs.ClusterRun.{SaysRun, SaysScript}
 use Rattle.ra_cli.proofs.ClusterRuns.{refuses_cluster}
+use Rattle.ra_cli.proofs.Passed.{cluster_no_read}
 use Rattle.ra_cli.proofs.commands.cluster_command.text_of_run.Goals as goal
 
 pub returns-in_err-recorded-clause-err : goal.returns-in_err-recorded-clause-err
@@ -16,13 +17,18 @@ returns-in_err-recorded-clause-err g c =
     let refused = c.in_err-recorded.ensures.checked in
     rw (p.1, p.2) (λ input is. refuses_cluster input c.args.script.now c.in_err-recorded.field-0.0 is refused.out_of_order refused.unreleased)
 
+pub returns-in_err-recorded-clause-read : goal.returns-in_err-recorded-clause-read
+returns-in_err-recorded-clause-read g c =
+    let p = err_from_is_err_and c.from_residual.result c.from_residual.ensures.1 in
+    rw (p.1, p.2) (λ is. cluster_no_read c.in_err-recorded.field-0.0 is)
+
 -- ---- A text, or that memory ran out for it
 
 made : {T E : Type 0} (text : Result T E) (P : T → Type 0) → IfOk text P → IfOk (result_or text (Err Memory)) P
 made (Ok text) P h = h
 made (Err fault) P h = tt
 
-lacking : {T E : Type 0} (text : Result T E) (P : ClusterError → Type 0) → P Memory → IfErr (result_or text (Err Memory)) P
+lacking : {T E : Type 0} (text : Result T E) (P : RunScriptError → Type 0) → P Memory → IfErr (result_or text (Err Memory)) P
 lacking (Ok text) P h = tt
 lacking (Err fault) P h = h
 
@@ -50,3 +56,6 @@ returns-clause-ok g c =
 
 pub returns-clause-err : goal.returns-clause-err
 returns-clause-err g c = rw c.or.ensures (lacking c.recorded_text-text.result _ (λ input is. tt))
+
+pub returns-clause-read : goal.returns-clause-read
+returns-clause-read g c = rw c.or.ensures (lacking c.recorded_text-text.result _ (λ is. absurd cc))

@@ -1,15 +1,13 @@
-use Rattle.std.proofs.Common.{ℕ, sym, subst, ◌∙◌}
-use Rattle.ra_cli.specs.SettleRun.{TellsSettled}
+use Rattle.std.proofs.Common.{◌∙◌}
 use Rattle.ra_cli.proofs.SettleRuns.{contradicted}
 use Rattle.ra_cli.proofs.commands.settle_task.contradict.Goals as goal
 
 pub returns-in-Ok : goal.returns-in-Ok
 returns-in-Ok g c asked input unsettled =
     let before = g.W.Write.contents c.args.writer.now in
-    let after = g.W.Write.contents c.written-status.new.writer in
-    subst (λ (status : ℕ). TellsSettled asked input before after status) (sym c.judged.ensures)
-    (contradicted asked input c.as_bytes.result.now before after c.written-status.result
-    (c.in-Invalid.line, c.in-Invalid.cause, rw c.in-Invalid.is at unsettled, c.as_bytes.ensures.value ∙ rw c.word_of.ensures at c.in-Ok.ensures) c.written-status.ensures)
+    let after = g.W.Write.contents c.print_text.new.writer in
+    contradicted asked input c.as_bytes.result.now before after c.print_text.result.status
+    (c.in-Invalid.line, c.in-Invalid.cause, rw c.in-Invalid.is at unsettled, c.as_bytes.ensures.value ∙ rw c.word_of.ensures at c.in-Ok.ensures) c.print_text.ensures
 
 pub returns-in-Err : goal.returns-in-Err
 returns-in-Err g c asked input unsettled = c.refuse_memory-in-Err.ensures asked input
