@@ -1,4 +1,4 @@
-ghost use Rattle.std.specs.Prelude.{◌≡◌, ◌<◌, ◌≤◌, ◌↔◌, ◌++◌, ◌==◌, List, ℕ, [], ◌∷◌, Some, length, take, drop, IsTrue, IsErrOf, IsOk, IsSome, IfOk, IfSome};
+ghost use Rattle.std.specs.Prelude.{◌≡◌, ◌<◌, ◌≤◌, ◌↔◌, ◌==◌, List, ℕ, [], ◌∷◌, Some, length, take, IsErrOf, IsOk, IsSome, IfOk, IfSome};
 ghost use Rattle.std.specs.List.{AllPass};
 ghost use Rattle.std.specs.Ordering.{nat_cmp, as_partial_cmp};
 ghost use Rattle.std.specs.Cmp.Lexicographic.{pointwise, slice_cmp};

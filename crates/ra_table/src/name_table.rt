@@ -2,7 +2,7 @@
 ghost use Rattle.std.specs.Prelude.{◌≡◌, ◌↔◌, max, unwrap_or, Contains, IsTrue, IsOk, IfOk, OnOk, OnErr};
 ghost use Rattle.ra_stamp.specs.declared.entry.Mark.{Mark};
 ghost use Rattle.ra_table.specs.Table.{TableStep};
-ghost use Rattle.ra_table.specs.Refusals.{IsNodeBusy, IsNotAbove};
+ghost use Rattle.ra_table.specs.Refusals.{IsNotAbove};
 ghost use Rattle.ra_table.specs.Answers.{RequestTells, CheckTells, EnterTells, IsAnswered};
 ghost use Rattle.ra_table.specs.NameTables.{AreOn, IsAt, first_request};
 
