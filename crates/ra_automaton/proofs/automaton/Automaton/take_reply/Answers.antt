@@ -1,6 +1,7 @@
-use Rattle.std.proofs.Common.{◌≡◌, inr, refl, subst, sym, ap, ◌∙◌}
+use Rattle.std.proofs.Common.{◌≡◌, inl, inr, refl, subst, sym, ap, ◌∙◌}
 use Rattle.std.specs.FinSet as set
-use Rattle.ra_automaton.specs.State.{State, IsConsistent, IsWaiting}
+use Rattle.ra_automaton.specs.State.{State, IsConsistent, IsWaiting, entered_phase}
+use Rattle.ra_automaton.specs.declared.phase.Phase.{Phase}
 use Rattle.ra_automaton.specs.View.{state_of}
 use Rattle.ra_automaton.proofs.Consistent.{consistent_waits_on, is_waiting}
 use Rattle.ra_automaton.proofs.automaton.Automaton.take_reply.Goals as goal
@@ -27,5 +28,21 @@ returns-in-WaitOn c =
         not_last = told.2;
         entered_is = refl;
         new_is = (λ i. record (state_of c.self.inside) { awaited = c.remove.ensures i }) ∙ ap (λ (s : State). record s { awaited = set.remove s.awaited c.args.other }) c.self.view_is;
+      }),
+    )
+
+pub returns-in-Stray : goal.returns-in-Stray
+returns-in-Stray c = inl (record { not_awaited = c.effect.ensures.stray c.in-Stray.is; entered_is = refl; new_is = refl })
+
+pub returns-in-Enter : goal.returns-in-Enter
+returns-in-Enter c =
+    let told = c.effect.ensures.enter c.in-Enter.is in
+    inr (
+      told.0,
+      inl (record {
+        awaits = told.1;
+        last = told.2;
+        entered_is = refl;
+        new_is = c.enter.ensures ∙ ap (λ (p : Phase). record c.args.self.now { phase = entered_phase p; awaited = set.empty }) told.1.waits;
       }),
     )
