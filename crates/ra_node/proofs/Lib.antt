@@ -21,4 +21,5 @@ mod Refusals
 pub mod Determined
 pub mod Possible
 pub mod Bringing
+pub mod Receiving
 pub mod Chains
