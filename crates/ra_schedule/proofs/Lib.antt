@@ -4,6 +4,7 @@ mod FirstLocks
 mod Plans
 mod Last
 mod OpFaults
+mod OpAnswers
 mod HandedOn
 mod Lists
 mod Waiting

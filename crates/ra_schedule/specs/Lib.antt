@@ -1,4 +1,5 @@
 pub mod Script
+pub mod AddedOps
 pub mod Seeds
 pub mod Faults
 pub mod LockOrder

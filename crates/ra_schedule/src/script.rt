@@ -2,10 +2,11 @@ pub mod lock_order;
 pub mod node_clients;
 pub mod script_names;
 
-ghost use Rattle.std.specs.Prelude.{◌≡◌, ◌⊎◌, ◌<◌, ◌≤◌, ◌↔◌, ◌∷◌, ◌++◌, ℕ, List, [], length, option_map, option_copied, IsTrue, IsErrOf, IsOkUnless, IsOk, IsSome, IfOk, IfSome, OnOk, OnErr};
+ghost use Rattle.std.specs.Prelude.{◌≡◌, ◌⊎◌, ◌<◌, ◌≤◌, ◌↔◌, ℕ, List, [], length, option_map, option_copied, IsTrue, IsErrOf, IsOkUnless, IsSome, IfOk, IfSome, MatchOption, OnOk, OnErr};
 ghost use Rattle.ra_stamp.specs.NodeId.{IsNodeNumber};
 ghost use Rattle.ra_schedule.specs.declared.script.Op.{Op};
-ghost use Rattle.ra_schedule.specs.Script.{IsHeldAfter, Fits, IsScriptClient};
+ghost use Rattle.ra_schedule.specs.Script.{IsHeldAfter, Fits};
+ghost use Rattle.ra_schedule.specs.AddedOps.{HasRoomFor, IsFault};
 
 use crate::{AddClientError, AddOpError, NewScriptError};
 use ra_stamp::{Mode, Name, NodeCount, NodeId};
@@ -37,26 +38,20 @@ impl Model for Client {
 }
 
 impl Client {
+    ghost use Rattle.ra_schedule.specs.AddedOps.{AnswersOp};
+
     /// Adds an operation after the others, in time linear in the number of these.
     ///
     /// # Errors
     ///
     /// Those of `Script::add_op`, except for `Clients`.
     fn add_op(&mut self, op: Op) -> Result<(), AddOpError>
-        ensures ok { OnOk result (self.new ≡ record self.old { ops = self.old.ops ++ op ∷ [] }) }
-        ensures clients { ¬ IsErrOf result AddOpError.Clients }
-        ensures limit { IsErrOf result AddOpError.Limit ↔ (1024 ≤ length self.old.ops) }
-        ensures not_held { IsErrOf result AddOpError.NotHeld ↔ ((length self.old.ops < 1024)
-            × (name : List ℕ) × (op ≡ Op.Unlock name) × (IsHeldAfter self.old.ops name → ⊥)) }
-        ensures already_held { IsErrOf result AddOpError.AlreadyHeld ↔ ((length self.old.ops < 1024)
-            × (name : List ℕ) × (mode : Mode) × (op ≡ Op.Lock name mode) × IsHeldAfter self.old.ops name) }
-        ensures allowed { IsOkUnless result AddOpError.Memory
-            ↔ ((length self.old.ops < 1024) × Fits self.old.ops op) }
-        ensures err { OnErr result (self.new ≡ self.old) }
-        ensures client { (nodes : ℕ) → IsScriptClient nodes self.old → IsScriptClient nodes self.new }
+        ensures { AnswersOp self.old op result self.new }
     {
         // A client has at most 1,024 operations, so that these are looked through, and no table of its names is kept.
-        check_op(&self.ops, &op)?;
+        if let Some(fault) = fault_of(&self.ops, &op) {
+            return Err(fault);
+        }
         self.ops.push(op)?;
         Ok(())
     }
@@ -263,28 +258,17 @@ impl Script {
     }
 }
 
-/// Checks whether the operation fits after these, and they are fewer than a client may have.
-///
-/// # Errors
-///
-/// Those of `Script::add_op`, except for `Clients` and `Memory`.
-fn check_op(ops: &[Op], op: &Op) -> Result<(), AddOpError>
-    ensures allowed { IsOk result ↔ ((length ops.now < 1024) × Fits ops.now op.now) }
-    ensures limit { IsErrOf result AddOpError.Limit ↔ (1024 ≤ length ops.now) }
-    ensures not_held { IsErrOf result AddOpError.NotHeld ↔ ((length ops.now < 1024)
-        × (name : List ℕ) × (op.now ≡ Op.Unlock name) × (IsHeldAfter ops.now name → ⊥)) }
-    ensures already_held { IsErrOf result AddOpError.AlreadyHeld ↔ ((length ops.now < 1024)
-        × (name : List ℕ) × (mode : Mode) × (op.now ≡ Op.Lock name mode) × IsHeldAfter ops.now name) }
-    ensures no_clients { ¬ IsErrOf result AddOpError.Clients }
-    ensures no_memory { ¬ IsErrOf result AddOpError.Memory }
+/// Returns why an operation can't be added after these, or `None` if it fits after them, and they are fewer than a client may have.
+fn fault_of(ops: &[Op], op: &Op) -> Option<AddOpError>
+    ensures { MatchOption result (HasRoomFor ops.now op.now) (IsFault ops.now op.now) }
 {
     if ops.len() >= Script::MAX_OPS {
-        return Err(AddOpError::Limit);
+        return Some(AddOpError::Limit);
     }
     match op {
-        Op::Lock(name, _) if is_held_after(ops, name) => Err(AddOpError::AlreadyHeld),
-        Op::Unlock(name) if !is_held_after(ops, name) => Err(AddOpError::NotHeld),
-        _ => Ok(()),
+        Op::Lock(name, _) if is_held_after(ops, name) => Some(AddOpError::AlreadyHeld),
+        Op::Unlock(name) if !is_held_after(ops, name) => Some(AddOpError::NotHeld),
+        _ => None,
     }
 }
 
