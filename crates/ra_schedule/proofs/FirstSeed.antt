@@ -7,10 +7,6 @@ use Rattle.ra_schedule.specs.Script.{ScriptState}
 use Rattle.ra_schedule.specs.Survey.{chance}
 use Rattle.ra_schedule.specs.Finding.{EndsSo, NoneBefore}
 
-pub none_at_first : (script : ScriptState) (faults : Option FaultRates) (limit : ℕ) (ending : Ending) (first last : ℕ) → last ≤ first
-    → NoneBefore script faults limit ending first last
-none_at_first script faults limit ending first last most other from below = absurd (omega arith)
-
 pub one_more : (script : ScriptState) (faults : Option FaultRates) (limit : ℕ) (ending : Ending) (first seed : ℕ)
     → NoneBefore script faults limit ending first seed → EndsSo script (chance faults seed) limit ending false
     → NoneBefore script faults limit ending first (seed + 1)
@@ -32,19 +28,9 @@ none_past script faults limit ending first last past other from below = absurd (
 pub no_seeds : (first last : ℕ) → last < first → first + (last + 1 - first) ≡ first
 no_seeds first last past = omega (arith, past)
 
--- the loop ends at the last seed
-pub last_seed : (seed last : ℕ) → last ≤ seed → seed ≤ last → seed ≡ last
-last_seed seed last over within = omega (arith, over, within)
-
 -- so many seeds were tried up to this one
 pub tried_to : (first seed count : ℕ) → first + count ≡ seed → first + (seed + 1 - first) ≡ seed + 1
 tried_to first seed count so = omega (arith, so)
 
 pub from_first : (first seed count : ℕ) → first + count ≡ seed → first ≤ seed
 from_first first seed count so = omega (arith, so)
-
-pub before_last : (seed last : ℕ) → seed < last → seed ≤ last
-before_last seed last less = omega (arith, less)
-
-pub at_last : (last : ℕ) → last ≤ last
-at_last last = omega arith

@@ -1,5 +1,5 @@
 -- One more seed after those that were tried.
-use Rattle.std.proofs.Common.{◌≡◌, ◌⊎◌, ℕ, zero, suc, ◌+◌, ◌<◌, ◌≤◌, Option, Some, List, [], ◌∷◌, ◌++◌, length, slice_get, refl, sym, subst, ◌∙◌, arith, inl, inr}
+use Rattle.std.proofs.Common.{◌≡◌, ◌⊎◌, ℕ, zero, suc, ◌+◌, ◌<◌, ◌≤◌, Option, Some, List, [], ◌∷◌, ◌++◌, length, slice_get, refl, sym, subst, arith, inl, inr}
 use Rattle.std.proofs.lemmas.List.{length-append}
 use Rattle.ra_schedule.specs.declared.surveys.seed_outcomes.SeedOutcome.{SeedOutcome}
 use Rattle.ra_schedule.specs.declared.surveys.seed_outcomes.Survey.{Survey}
@@ -74,14 +74,4 @@ no_seeds script faults limit first last survey none t = record {
   each = λ place outcome e. absurd cc;
   all = omega arith;
   tallies = t;
-}
-
--- after the loop the next seed is the last one
-pub at_last : (script : ScriptState) (faults : Option FaultRates) (limit first seed last : ℕ) (survey : Survey) → SoFar script faults limit first seed survey → seed ≡ last
-    → SoFar script faults limit first last survey
-at_last script faults limit first seed last survey so is = record {
-  outcomes = so.outcomes;
-  each = so.each;
-  seeds = so.seeds ∙ is;
-  tallies = so.tallies;
 }

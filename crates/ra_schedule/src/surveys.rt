@@ -107,10 +107,9 @@ pub fn survey<O: Observer>(
         return Ok(no_survey());
     }
     let mut survey = no_survey();
-    for seed in first..last {
+    for seed in first..=last {
         let outcome = outcome_by(alloc, script, &faults, seed, limit, observer)?;
         survey = with_outcome(survey, seed, outcome);
     }
-    let outcome = outcome_by(alloc, script, &faults, last, limit, observer)?;
-    Ok(with_outcome(survey, last, outcome))
+    Ok(survey)
 }

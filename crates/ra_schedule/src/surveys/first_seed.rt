@@ -55,16 +55,11 @@ pub fn first_seed<O: Observer>(
     if last < first {
         return Ok(None);
     }
-    for seed in first..last {
+    for seed in first..=last {
         let outcome = outcome_by(alloc, script, &faults, seed, limit, observer)?;
         if is_end(ending, outcome) {
             return Ok(Some(seed));
         }
     }
-    let outcome = outcome_by(alloc, script, &faults, last, limit, observer)?;
-    Ok(if is_end(ending, outcome) {
-        Some(last)
-    } else {
-        None
-    })
+    Ok(None)
 }

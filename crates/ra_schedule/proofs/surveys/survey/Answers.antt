@@ -1,7 +1,7 @@
-use Rattle.std.proofs.Common.{◌≡◌, ℕ, ◌+◌, Option, List, sym, ap, subst, arith}
+use Rattle.std.proofs.Common.{◌≡◌, ℕ, ◌+◌, ◌-◌, Option, List, sym, ap, subst, arith}
 use Rattle.std.proofs.lemmas.Result.{err_from_is_err_and}
 use Rattle.ra_schedule.specs.Telling.{Told}
-use Rattle.ra_schedule.proofs.SurveySeeds.{none_yet, at_last, one_more_seed, all_seeds, no_seeds}
+use Rattle.ra_schedule.proofs.SurveySeeds.{SoFar, none_yet, one_more_seed, all_seeds, no_seeds}
 use Rattle.ra_schedule.proofs.ToldSeeds.{ToldSoFar, told_none, told_more, tells_seeds, tells_some}
 use Rattle.ra_schedule.proofs.SurveyEnds.{seeds_finish}
 use Rattle.ra_schedule.proofs.ScheduleLaws.{endings_rest_on_runs, schedules_rest_on_runs}
@@ -39,32 +39,26 @@ returns-in_err-outcome-clause-err g c =
     let (before, told) = c.loop-seed.invariant in
     rw p.1 (tells_some c.args.script.now c.args.faults c.args.limit c.args.seeds.first c.loop-seed.seed c.args.seeds.last _ _
     (subst (λ (now : Option (List Told)). ToldSoFar c.args.script.now c.args.faults c.args.limit c.args.seeds.first c.loop-seed.seed (g.O.Observer.told c.args.observer.now) now)
-    (sym (ap g.O.Observer.told c.in_err-outcome.ensures.err)) told) (omega arith))
+    (sym (ap g.O.Observer.told c.in_err-outcome.ensures.err)) told) (omega (arith, c.loop-seed-test.true)))
 
-pub returns-in_err-outcome-2-clause-err : goal.returns-in_err-outcome-2-clause-err
-returns-in_err-outcome-2-clause-err g c =
-    let p = err_from_is_err_and c.from_residual-in_err-outcome-2.result c.from_residual-in_err-outcome-2.ensures.1 in
-    let (before, told) = c.loop-seed.invariant in
-    rw p.1 (tells_some c.args.script.now c.args.faults c.args.limit c.args.seeds.first c.loop-seed.seed c.args.seeds.last _ _
-    (subst (λ (now : Option (List Told)). ToldSoFar c.args.script.now c.args.faults c.args.limit c.args.seeds.first c.loop-seed.seed (g.O.Observer.told c.args.observer.now) now)
-    (sym (ap g.O.Observer.told c.in_err-outcome-2.ensures.err)) told) (omega (arith, c.loop-seed.auto.seed-end (omega arith))))
+pub returns-in_ok-outcome-clause-ok : goal.returns-in_ok-outcome-clause-ok
+returns-in_ok-outcome-clause-ok g c =
+    let (so, told) = c.loop-seed.invariant in
+    let is : c.loop-seed.seed ≡ c.args.seeds.last = omega (arith, c.loop-seed-test.true, c.if-seed-last.false) in
+    let result = c.with_outcome-survey.result in
+    all_seeds c.args.script.now c.args.faults c.args.limit c.args.seeds.first c.args.seeds.last result (omega (arith, is, so.seeds))
+    (subst (λ (seed : ℕ). SoFar c.args.script.now c.args.faults c.args.limit c.args.seeds.first (seed + 1) result) is
+    (one_more_seed c.args.script.now c.args.faults c.args.limit c.args.seeds.first c.loop-seed.seed c.loop-seed.survey result c.in_ok-outcome.outcome so
+    c.in_ok-outcome.ensures.ok (c.with_outcome-survey.ensures c.args.seeds.first so.outcomes so.tallies so.seeds)))
 
-pub returns-clause-ok : goal.returns-clause-ok
-returns-clause-ok g c =
-    let (before, told) = c.loop-seed.invariant in
-    let so = at_last c.args.script.now c.args.faults c.args.limit c.args.seeds.first c.loop-seed.seed c.args.seeds.last c.loop-seed.survey before (omega (arith, c.loop-seed.auto.seed-end (omega arith))) in
-    all_seeds c.args.script.now c.args.faults c.args.limit c.args.seeds.first c.args.seeds.last c.with_outcome.result (omega arith)
-    (one_more_seed c.args.script.now c.args.faults c.args.limit c.args.seeds.first c.args.seeds.last c.loop-seed.survey c.with_outcome.result c.in_ok-outcome-2.outcome so
-    c.in_ok-outcome-2.ensures.ok (c.with_outcome.ensures c.args.seeds.first so.outcomes so.tallies so.seeds))
-
-pub returns-clause-told : goal.returns-clause-told
-returns-clause-told g c =
-    let (before, told) = c.loop-seed.invariant in
-    let is : c.loop-seed.seed ≡ c.args.seeds.last = omega (arith, c.loop-seed.auto.seed-end (omega arith)) in
-    let at = subst (λ (seed : ℕ). ToldSoFar c.args.script.now c.args.faults c.args.limit c.args.seeds.first seed (g.O.Observer.told c.args.observer.now) (g.O.Observer.told c.loop-seed.observer)) is told in
-    tells_seeds c.args.script.now c.args.faults c.args.limit c.args.seeds.first (c.args.seeds.last + 1) _ _ _
-    (told_more c.args.script.now c.args.faults c.args.limit c.args.seeds.first c.args.seeds.last _ _ _ c.in_ok-outcome-2.outcome at
-    c.in_ok-outcome-2.ensures.ok c.in_ok-outcome-2.ensures.told) (omega arith)
+pub returns-in_ok-outcome-clause-told : goal.returns-in_ok-outcome-clause-told
+returns-in_ok-outcome-clause-told g c =
+    let (so, told) = c.loop-seed.invariant in
+    let is : c.loop-seed.seed ≡ c.args.seeds.last = omega (arith, c.loop-seed-test.true, c.if-seed-last.false) in
+    let all : c.args.seeds.first + (c.args.seeds.last + 1 - c.args.seeds.first) ≡ c.loop-seed.seed + 1 = omega (arith, is, told.seeds) in
+    tells_seeds c.args.script.now c.args.faults c.args.limit c.args.seeds.first (c.loop-seed.seed + 1) _ _ _
+    (told_more c.args.script.now c.args.faults c.args.limit c.args.seeds.first c.loop-seed.seed _ _ _ c.in_ok-outcome.outcome told
+    c.in_ok-outcome.ensures.ok c.in_ok-outcome.ensures.told) all
 
 pub returns-then-last-first-clause-waiting_ends : goal.returns-then-last-first-clause-waiting_ends
 returns-then-last-first-clause-waiting_ends g c =
@@ -73,13 +67,7 @@ returns-then-last-first-clause-waiting_ends g c =
     c.args.seeds.first c.args.seeds.last c.no_survey.result
     (no_seeds script c.args.faults c.args.limit c.args.seeds.first c.args.seeds.last c.no_survey.result c.if-last-first.true (c.no_survey.ensures c.args.seeds.first))
 
-pub returns-clause-waiting_ends : goal.returns-clause-waiting_ends
-returns-clause-waiting_ends g c =
+pub returns-in_ok-outcome-clause-waiting_ends : goal.returns-in_ok-outcome-clause-waiting_ends
+returns-in_ok-outcome-clause-waiting_ends g c =
     seeds_finish endings_rest_on_runs schedules_rest_on_runs c.args.script.now c.is_within_its_limits.ensures c.args.faults c.args.limit
-    c.args.seeds.first c.args.seeds.last c.with_outcome.result (returns-clause-ok g c)
-
-pub with_outcome-requires : goal.with_outcome-requires
-with_outcome-requires g c =
-    let (before, told) = c.loop-seed.invariant in
-    let so = at_last c.args.script.now c.args.faults c.args.limit c.args.seeds.first c.loop-seed.seed c.args.seeds.last c.loop-seed.survey before (omega (arith, c.loop-seed.auto.seed-end (omega arith))) in
-    (c.args.seeds.first, so.outcomes, so.tallies, so.seeds)
+    c.args.seeds.first c.args.seeds.last c.with_outcome-survey.result (returns-in_ok-outcome-clause-ok g c)
