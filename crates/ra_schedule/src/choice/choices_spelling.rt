@@ -38,9 +38,8 @@ fn have_words(choices: &[Choice]) -> bool
 fn push_lettered(alloc: Global, text: &mut String, letter: &str, number: u64) -> Result<(), Memory>
     ensures { OnOk result (string_bytes text.new ≡ string_bytes text.old ++ letter.now ++ decimal number) }
 {
-    let digits = format!(in alloc; "{number}")?;
-    text.push_str(letter)?;
-    text.push_str(digits.as_str())?;
+    let word = format!(in alloc; "{letter}{number}")?;
+    text.push_str(word.as_str())?;
     Ok(())
 }
 
