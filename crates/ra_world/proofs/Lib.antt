@@ -52,7 +52,7 @@ pub mod Refusing
 mod RunEnds
 mod Written
 mod StateTexts
-mod Drafts
+pub mod Drafts
 mod Elsewhere
 pub mod Times
 pub mod FittingRuns

@@ -1,4 +1,4 @@
--- A text that is made part by part, and remembers whether memory ran out. No public contract speaks of it.
+-- A text that is made part by part, and remembers whether memory ran out.
 use Rattle.std.specs.Prelude.{◌≡◌, ℕ, false, List, ◌++◌, string_bytes}
 use Rattle.ra_world.specs.declared.text.draft.Draft.{Draft}
 

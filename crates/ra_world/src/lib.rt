@@ -1,6 +1,6 @@
 //! What a run of the cluster is, what holds of every run, and a cluster in one thread that makes such runs. Also the
-//! lines in which its report is printed, how bytes are read and written, how a text is cut apart, and how a note to a person is
-//! made.
+//! lines in which its report is printed, how bytes are read and written, how a text is made part by part and cut apart, and how
+//! a note to a person is made.
 #![tactic(auto)]
 
 mod error;
@@ -25,6 +25,7 @@ pub use laws::{
 };
 pub use step::{Step, Steps};
 pub use text::cutting::cut;
+pub use text::draft::Draft;
 pub use text::drawn_part::Part;
 pub use text::lines::{mark_line, push_field, push_mark_line, push_number, report_text};
 pub use text::note::Note;

@@ -1,6 +1,7 @@
 //! What a client is at after the steps so far.
-ghost use Rattle.std.specs.Prelude.{◌≡◌, ◌++◌, List, length, string_bytes, OnOk, IfOk};
+ghost use Rattle.std.specs.Prelude.{◌≡◌, List, length, string_bytes, IfOk};
 ghost use Rattle.ra_world.specs.Traffic.{Move};
+ghost use Rattle.ra_world.specs.Drafting.{Adds};
 ghost use Rattle.ra_schedule.specs.Schedule.{IsWaiting, steps_of};
 ghost use Rattle.ra_schedule.specs.Progress.{IsProgress, IsWaitingAt, Tracks};
 ghost use Rattle.ra_schedule.specs.StateText as spec;
@@ -8,8 +9,8 @@ ghost use Rattle.ra_schedule.specs.StateText as spec;
 use crate::choice::picking::enabled_step;
 use crate::driver::client_progress::Progress;
 use crate::{Op, Script};
-use ra_stamp::{Memory, Mode, Name, NodeId};
-use ra_world::{Step, World, push_field, push_number};
+use ra_stamp::{Memory, Mode, Name};
+use ra_world::{Draft, Step, World};
 use std::alloc::Global;
 
 /// What a client is at.
@@ -75,18 +76,18 @@ fn state_of(
 }
 
 /// Adds an operation in words.
-fn push_op(text: &mut String, op: Op) -> Result<(), Memory>
-    ensures { OnOk result (string_bytes text.new ≡ string_bytes text.old ++ spec.op_fields op) }
+fn push_op(text: &mut Draft, op: Op)
+    ensures { Adds text.old (spec.op_fields op) text.new }
 {
     match op {
         Op::Lock(name, mode) => {
-            push_field(text, "lock")?;
-            push_field(text, name.as_str())?;
-            push_field(text, mode.word())
+            text.push_field("lock");
+            text.push_field(name.as_str());
+            text.push_field(mode.word());
         }
         Op::Unlock(name) => {
-            push_field(text, "unlock")?;
-            push_field(text, name.as_str())
+            text.push_field("unlock");
+            text.push_field(name.as_str());
         }
     }
 }
@@ -99,40 +100,23 @@ fn enabled_word(enabled: bool) -> &'static str
 }
 
 /// Adds what a client is at, in words.
-fn push_state(text: &mut String, state: ClientState) -> Result<(), Memory>
-    ensures { OnOk result (string_bytes text.new ≡ string_bytes text.old ++ spec.state_fields state) }
+fn push_state(text: &mut Draft, state: ClientState)
+    ensures { Adds text.old (spec.state_fields state) text.new }
 {
     match state {
-        ClientState::Done => push_field(text, "done"),
+        ClientState::Done => text.push_field("done"),
         ClientState::Waits(name, mode, number) => {
-            push_field(text, "waits")?;
-            push_field(text, name.as_str())?;
-            push_field(text, mode.word())?;
-            push_number(text, number)
+            text.push_field("waits");
+            text.push_field(name.as_str());
+            text.push_field(mode.word());
+            text.push_number(number);
         }
         ClientState::Next(op, enabled) => {
-            push_field(text, "next")?;
-            push_op(text, op)?;
-            push_field(text, enabled_word(enabled))
+            text.push_field("next");
+            push_op(text, op);
+            text.push_field(enabled_word(enabled));
         }
     }
-}
-
-/// Adds the line of a client of a node.
-fn push_client_line(
-    text: &mut String,
-    client: u32,
-    node: NodeId,
-    state: ClientState,
-) -> Result<(), Memory>
-    ensures { OnOk result (string_bytes text.new ≡ string_bytes text.old ++ spec.client_line client node state) }
-{
-    text.push_str("client")?;
-    push_number(text, client)?;
-    push_number(text, node.get())?;
-    push_state(text, state)?;
-    text.push_str("\n")?;
-    Ok(())
 }
 
 /// Returns the lines of the clients after these steps, in order.
@@ -152,14 +136,18 @@ pub fn client_lines(
     ensures { IfOk result (λ text.
         spec.AreClientLines script.now world.now.moves (length script.now.clients) (string_bytes text)) }
 {
-    let mut text = String::new(alloc);
+    let mut text = Draft::new(alloc);
     for place in 0..script.clients() {
         let client = place + 1;
         let Some(node) = script.node_of(client) else {
             unreachable!()
         };
         let state = state_of(script, world, steps, client, clients[place as usize]);
-        push_client_line(&mut text, client, node, state)?;
+        text.push("client");
+        text.push_number(client);
+        text.push_number(node.get());
+        push_state(&mut text, state);
+        text.end_line();
     }
-    Ok(text)
+    text.finish()
 }
