@@ -197,11 +197,6 @@ impl<G: Gate + Drop> Cluster<G> {
         Some((site, self.sites.as_slice()))
     }
 
-    /// Returns the gate that is asked before each step.
-    pub(crate) fn gate(&self) -> &G {
-        &self.gate
-    }
-
     /// Runs a thread in [`Cluster::pump`] for each node and, in this thread, the closure, in which clients may lock and
     /// unlock names, also on threads of their own. When the closure has returned, closes the post, joins the threads of the
     /// nodes, and returns what the closure returned. After that no frame is carried any more. If a thread cannot be started,

@@ -131,7 +131,7 @@ impl Post {
         let senders = self.senders.read(rt);
         match senders.as_ref() {
             Some(senders) => send_each(rt, alloc, senders, frames),
-            None => first_and_rest(frames),
+            None => frames.split_first(),
         }
     }
 
@@ -140,15 +140,6 @@ impl Post {
     pub fn close<R: Wait>(&self, rt: &R) {
         *self.senders.write(rt) = None;
     }
-}
-
-/// Returns the first of the frames and those after it, or `None` if there are none.
-fn first_and_rest(frames: &[Frame]) -> Option<(&Frame, &[Frame])>
-    requires { All Fits frames.now }
-    ensures fewer { IfSome result (λ left. length left.1.now < length frames.now) }
-    ensures fit { IfSome result (λ left. All Fits left.1.now) }
-{
-    frames.split_first()
 }
 
 /// Sends frames one after the other, up to the first that is refused. Returns that one and those after it, or `None` if all
@@ -165,21 +156,15 @@ fn send_each<'a, R: Wait>(
 {
     for place in 0..frames.len() {
         let frame = &frames[place];
-        if !send_frame(rt, alloc, senders, frame) {
+        let is_sent = match encode(alloc, frame) {
+            Ok(bytes) => send_to(rt, senders, frame.message.to(), bytes),
+            Err(Memory) => false,
+        };
+        if !is_sent {
             return Some((frame, &frames[place + 1..]));
         }
     }
     None
-}
-
-/// Sends the bytes of a frame to the inbox of its node. Returns whether that succeeded.
-fn send_frame<R: Wait>(rt: &R, alloc: Global, senders: &[FrameSender], frame: &Frame) -> bool
-    requires { Fits frame.now }
-{
-    match encode(alloc, frame) {
-        Ok(bytes) => send_to(rt, senders, frame.message.to(), bytes),
-        Err(Memory) => false,
-    }
 }
 
 /// Sends the bytes of a frame to the inbox of a node. Returns whether it took them.

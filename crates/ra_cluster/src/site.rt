@@ -17,7 +17,7 @@ use crate::site::desk::{Desk, Halt, Handed, Stepped};
 use crate::site::request::Request;
 use crate::site::sending::Sending;
 use crate::site::ticket::{SharedTicket, Ticket};
-use crate::{Book, BookError, Gate, Grant, Inbox, NewError, Post, Stop, TakeError};
+use crate::{Book, BookError, Events, Gate, Grant, Inbox, NewError, Post, Stop, TakeError};
 use ra_frame::Frame;
 use ra_stamp::{Entry, Memory, Mode, Name, NodeId};
 use std::alloc::Global;
@@ -288,16 +288,24 @@ impl Site {
         ensures others { OnlyTurnOrMemory result }
     {
         // The frames that leave the book are dropped at the end, with no lock held.
-        let (handed, _sent) = {
+        let made = {
             // A site that is not audited has no lock to take alone.
             let Some(_alone) = self.sending.alone(rt) else {
-                return Ok(Handed::nothing(alloc));
+                return Ok(Handed {
+                    after: 0,
+                    events: Events::new(alloc),
+                    lost: Vec::new(alloc),
+                });
             };
-            // The book is always that of this node, but no contract tells what is under a lock.
+            // The book is always that of this node, but no contract tells what is under a lock. The lock is given back at the end
+            // of this statement.
             let made = self.desk.lock(rt).hand_over(alloc, self.node, after);
-            made?
+            made
         };
-        Ok(handed)
+        match made {
+            Ok((handed, _sent)) => Ok(handed),
+            Err(refused) => Err(refused),
+        }
     }
 
     /// Gives up the lock, and returns the book. It does not allocate.

@@ -2,7 +2,7 @@
 use crate::site::stop_causes::stop_of;
 use crate::{CallError, Cluster, Gate, Grant, SiteError, Stop};
 use ra_schedule::{Op, Script};
-use ra_stamp::{Memory, NodeId};
+use ra_stamp::NodeId;
 use std::alloc::Global;
 use std::sync::{Mutex, Wait};
 use std::thread;
@@ -88,19 +88,20 @@ fn do_op<R: Wait, G: Gate + Drop>(
     client: u32,
     op: Op,
 ) -> Result<(), CallError> {
+    let cluster = run.cluster;
     match op {
         Op::Lock(name, mode) => {
-            let grant = match run.cluster.lock(rt, alloc, node, client, name, mode) {
+            let grant = match cluster.lock(rt, alloc, node, client, name, mode) {
                 Ok(grant) => grant,
                 Err(refused) => return Err(refused),
             };
-            if let Some(stop) = keep_grant(rt, grant, run.grants, run.cluster.gate()) {
-                run.cluster.stop(rt, stop);
+            if let Some(stop) = keep_grant(rt, grant, run.grants, &cluster.gate) {
+                cluster.stop(rt, stop);
                 return Err(CallError::Site(SiteError::Stopped(stop)));
             }
             Ok(())
         }
-        Op::Unlock(name) => run.cluster.unlock(rt, alloc, node, client, name),
+        Op::Unlock(name) => cluster.unlock(rt, alloc, node, client, name),
     }
 }
 
@@ -111,7 +112,7 @@ fn keep_grant<R: Wait, G: Gate>(
     grants: &Mutex<Vec<Grant>>,
     gate: &G,
 ) -> Option<Stop> {
-    if push_grant(&mut *grants.lock(rt), grant).is_err() {
+    if grants.lock(rt).push(grant).is_err() {
         return Some(Stop::Memory);
     }
     if gate.inside(&grant.entry) {
@@ -119,11 +120,4 @@ fn keep_grant<R: Wait, G: Gate>(
     } else {
         Some(Stop::Gate)
     }
-}
-
-/// Puts a grant after the others.
-fn push_grant(grants: &mut Vec<Grant>, grant: Grant) -> Result<(), Memory> {
-    grants.reserve(1)?;
-    grants.push_reserved(grant);
-    Ok(())
 }

@@ -75,20 +75,6 @@ pub struct Handed {
     pub lost: Vec<Frame>,
 }
 
-impl Handed {
-    /// Makes that of a node that hands over nothing.
-    pub(crate) fn nothing(alloc: Global) -> Handed
-        ensures events { result.events.items ≡ [] }
-        ensures lost { result.lost.items ≡ [] }
-    {
-        Handed {
-            after: 0,
-            events: Events::new(alloc),
-            lost: Vec::new(alloc),
-        }
-    }
-}
-
 impl Desk {
     /// Makes the desk of a book that has sent nothing, at which nobody waits.
     pub fn new(alloc: Global, book: Book) -> Desk

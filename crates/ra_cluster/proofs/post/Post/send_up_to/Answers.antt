@@ -4,7 +4,7 @@ use Rattle.std.specs.List.{IsFirstAndRest}
 use Rattle.std.proofs.lemmas.List.Elements.{All-tail}
 use Rattle.ra_frame.specs.declared.frame.Frame.{Frame}
 use Rattle.ra_frame.specs.Fits.{Fits}
-use Rattle.ra_cluster.proofs.post.first_and_rest.Goals as goal
+use Rattle.ra_cluster.proofs.post.Post.send_up_to.Goals as goal
 
 module _ {P : Type 0} (first : P → Frame) (rest : P → List Frame) (frames : List Frame) where
   fewer : (found : Option P) → MatchOption found (length frames ≡ 0) (λ p. IsFirstAndRest frames (first p) (rest p))
@@ -18,7 +18,7 @@ module _ {P : Type 0} (first : P → Frame) (rest : P → List Frame) (frames : 
   fit (Some p) all is = All-tail Fits (first p) (rest p) (subst (λ (fs : List Frame). All Fits fs) is.0 all)
 
 pub returns : goal.returns
-returns c =
+returns g c =
     let frames = c.args.frames.now in
     record {
       fewer = fewer (λ p. p.0.now) (λ p. p.1.now) frames c.split_first.result c.split_first.ensures.cases;
