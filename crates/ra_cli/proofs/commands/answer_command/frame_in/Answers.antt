@@ -15,3 +15,9 @@ returns c =
     let spells : Spells c.args.input.now c.in_ok-bytes.bytes.items =
     (c.in-Some.digits.now, c.in-Some.ensures.some, c.in_ok-bytes.ensures.ok) in
     ((λ node nodes member. (member, c.in_ok-bytes.bytes.items, spells, wrong)), ((λ read. absurd cc), (λ write. absurd cc)))
+
+pub returns-in-Ok : goal.returns-in-Ok
+returns-in-Ok c =
+    let spells : Spells c.args.input.now c.in_ok-bytes.bytes.items =
+    (c.in-Some.digits.now, c.in-Some.ensures.some, c.in_ok-bytes.ensures.ok) in
+    ((c.in_ok-bytes.bytes.items, spells, rw c.deref.ensures.value at c.in-Ok.ensures.found), c.in-Ok.ensures.fits)
