@@ -24,27 +24,17 @@ pub struct NoteSource<'a> {
     pub last_seed: Option<u64>,
 }
 
-/// Returns what is said of a script that threads do not run.
-fn run_place(alloc: Global, script: &[u8], why: RunScriptError) -> PlaceNote {
-    match why {
-        RunScriptError::Script(_) => explain_script(alloc, script),
-        RunScriptError::Cluster(ClusterError::OutOfOrder | ClusterError::Unreleased) => {
-            order_note(alloc, script)
-        }
-        _ => Ok(None),
-    }
-}
-
 /// Returns what is said of a frame that is not answered.
 fn answer_place(alloc: Global, arguments: &[String], input: &[u8], why: AnswerError) -> PlaceNote {
-    match why {
-        AnswerError::Frame(fault) => frame_note(alloc, input, fault),
-        AnswerError::Line | AnswerError::Hex => digits_note(alloc, input),
-        AnswerError::WrongNode => unanswered_place(alloc, arguments, input, Unanswered::WrongNode),
-        AnswerError::Stranger => unanswered_place(alloc, arguments, input, Unanswered::Stranger),
-        AnswerError::ClockFull => unanswered_place(alloc, arguments, input, Unanswered::ClockFull),
-        _ => Ok(None),
-    }
+    let unanswered = match why {
+        AnswerError::Frame(fault) => return frame_note(alloc, input, fault),
+        AnswerError::Line | AnswerError::Hex => return digits_note(alloc, input),
+        AnswerError::WrongNode => Unanswered::WrongNode,
+        AnswerError::Stranger => Unanswered::Stranger,
+        AnswerError::ClockFull => Unanswered::ClockFull,
+        _ => return Ok(None),
+    };
+    unanswered_place(alloc, arguments, input, unanswered)
 }
 
 /// Returns what is said of a remark that is about what was read.
@@ -59,7 +49,14 @@ fn place_in(alloc: Global, source: &NoteSource<'_>, remark: &Remark) -> PlaceNot
             bytes,
             why,
         ),
-        Remark::Refused(CommandRefusal::Cluster(why)) => run_place(alloc, bytes, why),
+        Remark::Refused(CommandRefusal::Cluster(RunScriptError::Script(_))) => {
+            explain_script(alloc, bytes)
+        }
+        Remark::Refused(
+            CommandRefusal::Cluster(
+                RunScriptError::Cluster(ClusterError::OutOfOrder | ClusterError::Unreleased),
+            ),
+        ) => order_note(alloc, bytes),
         Remark::Refused(CommandRefusal::Answer(why)) => answer_place(
             alloc,
             source.arguments,

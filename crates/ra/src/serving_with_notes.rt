@@ -9,7 +9,7 @@ use ra_cli::{CommandFault, do_command, refuse_arguments};
 use ra_notes::{
     RecordingReader, SeedProgress, SeenWriter, write_arguments_note, write_output_note,
 };
-use ra_task::{Command, command_of, write_waiting_note};
+use ra_task::{command_of, write_waiting_note};
 use std::alloc::Global;
 use std::io::{BufRead, Write};
 use std::sync::Wait;
@@ -28,13 +28,6 @@ pub fn refuse_arguments_with_note<W: Write, N: Write>(
     write_arguments_note(fault, notes);
     write_output_note(writer.fault(), notes);
     status
-}
-
-/// Tells the user what a command waits for, if the input is at a terminal.
-fn write_if_at_terminal<N: Write>(at_terminal: bool, asked: &Command<'_>, notes: &mut N) {
-    if at_terminal {
-        write_waiting_note(asked, notes);
-    }
 }
 
 /// Does as [`ra_cli::serve`], and then writes lines for a person to `notes`:
@@ -66,7 +59,9 @@ pub fn serve_with_notes<T: Threads + Wait + Sync, R: BufRead, W: Write, N: Write
         (W.contents writer.old.inner) (W.contents writer.new.inner) (reader.new ≡ reader.old) result }
 {
     let asked = command_of(alloc, arguments);
-    write_if_at_terminal(at_terminal, &asked, notes);
+    if at_terminal {
+        write_waiting_note(&asked, notes);
+    }
     let mut progress = SeedProgress::new(alloc, notes);
     let mut text = Vec::new(alloc);
     let outcome = do_command(rt, alloc, &asked, reader, writer, &mut text, &mut progress);

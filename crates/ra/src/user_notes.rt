@@ -42,14 +42,9 @@ pub fn write_notes<N: Write>(
 
 /// Returns what there is to say about a remark: what is known about its place in the input, and otherwise its cause.
 fn notice_of(alloc: Global, source: &NoteSource<'_>, remark: &Remark) -> Notice {
-    match place_of(alloc, source, remark) {
-        Some(text) => Notice::Note(text),
-        None => cause_of(alloc, source, remark),
+    if let Some(text) = place_of(alloc, source, remark) {
+        return Notice::Note(text);
     }
-}
-
-/// Returns what there is to say about the cause of a remark.
-fn cause_of(alloc: Global, source: &NoteSource<'_>, remark: &Remark) -> Notice {
     match remark {
         Remark::Refused(refusal) => refusal_of(alloc, source, *refusal),
         Remark::Unfinished => Notice::Text(UNEXPLAINED),
@@ -86,7 +81,13 @@ fn refusal_of(alloc: Global, source: &NoteSource<'_>, refusal: CommandRefusal) -
         CommandRefusal::Perform(why) => of_performance(why),
         CommandRefusal::Check(why) => of_check(why),
         CommandRefusal::Draw(why) => of_drawing(alloc, source.asked, why),
-        CommandRefusal::Cluster(why) => of_run(why),
+        CommandRefusal::Cluster(why) => match why {
+            RunScriptError::Read => Notice::Text(NO_INPUT),
+            RunScriptError::Script(_) => Notice::Text(UNEXPLAINED),
+            RunScriptError::Cluster(fault) => Notice::Text(cluster_text(fault)),
+            RunScriptError::Choice => Notice::Text(NO_WORD),
+            RunScriptError::Memory => Notice::Text(NO_MEMORY),
+        },
     }
 }
 
@@ -105,16 +106,5 @@ fn of_answer(alloc: Global, asked: &Command<'_>, why: AnswerError) -> Notice {
         | AnswerError::WrongNode
         | AnswerError::Stranger
         | AnswerError::ClockFull => Notice::Text(UNEXPLAINED),
-    }
-}
-
-/// Returns what there is to say about a script that is not run by threads, or not under many seeds.
-fn of_run(why: RunScriptError) -> Notice {
-    match why {
-        RunScriptError::Read => Notice::Text(NO_INPUT),
-        RunScriptError::Script(_) => Notice::Text(UNEXPLAINED),
-        RunScriptError::Cluster(fault) => Notice::Text(cluster_text(fault)),
-        RunScriptError::Choice => Notice::Text(NO_WORD),
-        RunScriptError::Memory => Notice::Text(NO_MEMORY),
     }
 }
