@@ -1,5 +1,5 @@
 //! A text as it is made, part by part.
-ghost use Rattle.std.specs.Prelude.{◌≡◌, ◌++◌, ℕ, List, [], codes, string_bytes, IfOk};
+ghost use Rattle.std.specs.Prelude.{◌≡◌, ◌++◌, ◌↔◌, ℕ, false, List, [], codes, string_bytes, IfOk, IsOk};
 ghost use Rattle.ra_world.specs.Lines as spec;
 
 use crate::text::lines::{push_entry_line, push_field, push_mark_line, push_number};
@@ -11,6 +11,7 @@ use std::alloc::Global;
 /// parts have no errors, and a function of many parts has one exit.
 #[derive(Drop)]
 pub struct Draft {
+    /// What it is so far, if no part was refused.
     pub text: String,
     /// Whether memory ran out for some part.
     pub refused: bool,
@@ -21,7 +22,8 @@ impl Draft {
 
     /// Makes a draft that is empty so far. It does not allocate.
     pub fn new(alloc: Global) -> Draft
-        ensures { Says result [] }
+        ensures says { Says result [] }
+        ensures fresh { result.refused ≡ false }
     {
         Draft {
             text: String::new(alloc),
@@ -87,7 +89,8 @@ impl Draft {
     ///
     /// `Memory`: memory ran out for some part.
     pub fn finish(self) -> Result<String, Memory>
-        ensures { (bytes : List ℕ) → Says self bytes → IfOk result (λ text. string_bytes text ≡ bytes) }
+        ensures text { (bytes : List ℕ) → Says self bytes → IfOk result (λ text. string_bytes text ≡ bytes) }
+        ensures refused { IsOk result ↔ (self.refused ≡ false) }
     {
         if self.refused {
             return Err(Memory);

@@ -14,7 +14,7 @@ unreachable-requires c =
     is_there script (c.loop-place.place + 1) c.loop-place.place refl within c.in_default.ensures.value
 
 pub loop-place-init : goal.loop-place-init
-loop-place-init c = ([], refl, c.new-text.ensures)
+loop-place-init c = ([], refl, c.new-text.ensures.says)
 
 pub loop-place-preserved : goal.loop-place-preserved
 loop-place-preserved c =
@@ -38,4 +38,4 @@ returns c =
     let (so_far, lines, said) = c.loop-place.invariant in
     let all : c.loop-place.place ≡ length script.clients = omega (arith, c.loop-place-test.false, c.clients-place-end.ensures.value) in
     let are = all_lines script moves c.loop-place.place so_far all lines in
-    IfOk-weaker c.finish.result _ _ (λ text is. subst (AreClientLines script moves (length script.clients)) (sym is) are) (c.finish.ensures so_far said)
+    IfOk-weaker c.finish.result _ _ (λ text is. subst (AreClientLines script moves (length script.clients)) (sym is) are) (c.finish.ensures.text so_far said)

@@ -19,7 +19,7 @@ pub returns : goal.returns
 returns c =
     let marks = c.as_slice-marks.result.now in
     let all = take_all c.loop-mark.mark-index marks (let past = c.loop-mark-test.false in omega (arith, past)) in
-    c.finish.ensures (report_text c.args.report.now)
+    c.finish.ensures.text (report_text c.args.report.now)
     ((adds_both (adds_as c.loop-mark.invariant (ap (flat_map mark_line) (all ∙ c.as_slice-marks.ensures)))
     (adds_both (adds_both (adds_both (adds_both (adds_both c.push_total_line.ensures c.push_total_line-2.ensures) c.push_total_line-3.ensures)
-    c.push_total_line-4.ensures) c.push_total_line-5.ensures) c.push_total_line-6.ensures)).says [] c.new-text.ensures)
+    c.push_total_line-4.ensures) c.push_total_line-5.ensures) c.push_total_line-6.ensures)).says [] c.new-text.ensures.says)
