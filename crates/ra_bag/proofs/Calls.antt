@@ -1,5 +1,6 @@
 -- What a call answers, and the numbers and lists that it leaves.
 use Rattle.std.proofs.Common.{◌≡◌, ◌≢◌, ◌<◌, ◌+◌, ◌-◌, ◌≤◌, max, ℕ, false, List, ◌∷◌, [], ◌++◌, length, get_or, Option, Some, None, option_to_list, Contains, map, take, length-append, length-take-le, refl, sym, ap, ◌∙◌, subst, arith, MatchOption}
+use Rattle.std.specs.Prelude.{IfSome}
 use Rattle.std.specs.Option.{is_some}
 use Rattle.std.proofs.lemmas.List.{length-map}
 use Rattle.ra_stamp.specs.declared.message.Message.{Message}
@@ -72,6 +73,14 @@ module _ {Q : Type 0} (items : Q → List ℕ) (old new : Option Q) (next : Opti
   last_taken queue rest old_is new_is taken empty =
       ap (later_numbers items) (sym old_is)
       ∙ (taken ∙ (ap (λ (l : List ℕ). option_to_list next ++ l) empty ∙ ap (λ (o : Option Q). option_to_list next ++ later_numbers items o) (sym new_is)))
+
+pub not_none : {A : Type 0} (found : Option A) (x : A) → found ≡ Some x → found ≢ None
+not_none found x is none = cc
+
+-- the queue that is there has the number after the others
+pub later_added : {Q : Type 0} (items : Q → List ℕ) (new : Option Q) (all : List ℕ) → new ≢ None → IfSome new (λ queue. items queue ≡ all) → later_numbers items new ≡ all
+later_added items None all some is = absurd (some refl)
+later_added items (Some queue) all some is = is
 
 -- ---- Which of a list it is
 

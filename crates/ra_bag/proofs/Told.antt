@@ -32,6 +32,30 @@ pub no_number : {Q : Type 0} (items : Q → List ℕ) (queue : Option Q) (number
 no_number items None numbers kept = kept
 no_number items (Some queue) numbers kept = absurd kept
 
+-- ---- One message, by what the places have for it before and after
+
+module _ {Q : Type 0} (items : Q → List ℕ) (old_number new_number : Option ℕ) (old new : Option Q) (numbers : List ℕ) where
+  pub kept_same : new_number ≡ old_number → new ≡ old → AreKept items old_number old numbers → AreKept items new_number new numbers
+  kept_same same same_queue kept = subst (λ q. AreKept items new_number q numbers) (sym same_queue) (subst (λ n. AreKept items n old numbers) (sym same) kept)
+
+  -- its first number
+  pub learns_first : (number : ℕ) → old_number ≡ None → new_number ≡ Some number → new ≡ old → AreKept items old_number old numbers → AreKept items new_number new (numbers ++ number ∷ [])
+  learns_first number none some same_queue kept =
+      subst (λ n. AreKept items n new (numbers ++ number ∷ [])) (sym some)
+      (subst (λ q. AreKept items (Some number) q (numbers ++ number ∷ [])) (sym same_queue) (kept_first items number old numbers (subst (λ n. AreKept items n old numbers) none kept)))
+
+  -- a later one
+  pub learns_later : (first number : ℕ) → old_number ≡ Some first → new_number ≡ Some first → later_numbers items new ≡ later_numbers items old ++ number ∷ []
+      → AreKept items old_number old numbers → AreKept items new_number new (numbers ++ number ∷ [])
+  learns_later first number is stays more kept =
+      subst (λ n. AreKept items n new (numbers ++ number ∷ [])) (sym stays) (kept_more items first number old new numbers more (subst (λ n. AreKept items n old numbers) is kept))
+
+  -- it loses its first number, and the next one comes first
+  pub loses_first : (first next : ℕ) → old_number ≡ Some first → new_number ≡ Some next → later_numbers items old ≡ next ∷ later_numbers items new
+      → AreKept items old_number old numbers → (rest : List ℕ) × (numbers ≡ first ∷ rest) × AreKept items new_number new rest
+  loses_first first next is after less kept =
+      subst (λ n. (rest : List ℕ) × (numbers ≡ first ∷ rest) × AreKept items n new rest) (sym after) (kept_next items first next old new numbers less (subst (λ n. AreKept items n old numbers) is kept))
+
 -- ---- All messages
 
 module _ (eq : Message → Message → Bool) (exact : (a b : Message) → IsTrue (eq a b) ↔ (a ≡ b)) where
