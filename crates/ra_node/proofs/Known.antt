@@ -1,5 +1,5 @@
 -- How the known clients of a queue follow what comes and goes.
-use Rattle.std.proofs.Common.{◌≡◌, ◌↔◌, ℕ, suc, Bool, true, false, cond, ◌||◌, List, [], ◌∷◌, ◌++◌, Any, refl, sym, ap, ◌∙◌, subst, arith}
+use Rattle.std.proofs.Common.{◌≡◌, ◌≢◌, ◌↔◌, ◌<◌, ◌≤◌, ◌+◌, ℕ, suc, Bool, true, false, cond, ◌||◌, List, [], ◌∷◌, ◌++◌, Any, get_or, length, refl, sym, ap, ◌∙◌, subst, arith}
 use Rattle.std.specs.Prelude.{nat_eq, IsTrue}
 use Rattle.std.specs.List.{list_any}
 use Rattle.std.specs.Map.{lookup, keys_of}
@@ -7,7 +7,9 @@ use Rattle.std.specs.Option.{is_some}
 use Rattle.std.specs.Result.{result_ok}
 use Rattle.std.proofs.Common.{Option, Some, None, Result, Ok, Err, IfOk}
 use Rattle.std.specs.Prelude.{IfSome}
-use Rattle.std.proofs.lemmas.Bool.{eq-eqb, eqb-true}
+use Rattle.std.proofs.lemmas.Bool.{eq-eqb, eqb-true, false≢true}
+use Rattle.std.proofs.lemmas.List.{get_or_default}
+use borrow.Author.Count.{below_more}
 use Rattle.std.proofs.lemmas.List.Folds.{Any-from_list_any, list_any-from_Any}
 use Rattle.ra_node.specs.declared.queued_client.Queued.{Queued}
 use Rattle.ra_node.specs.Queue.{AreApart, AreClients}
@@ -23,6 +25,20 @@ is_queued queue client h =
 has_queued : (queue : List Queued) (client : ℕ) → Any (λ x. x.client ≡ client) queue → list_any (λ x. nat_eq client x.client) queue ≡ true
 has_queued queue client a =
     list_any-from_Any (λ (x : Queued). nat_eq client x.client) queue (a.0, a.1, a.2, a.3, eq-eqb client a.1.client (sym a.4))
+
+-- the clients before a place are other ones, and so is the one at it
+pub none_more : (queue : List Queued) (place client : ℕ) (here : Queued) → place < length queue → here ≡ get_or queue place here → here.client ≢ client
+    → ((k : ℕ) → k < place → (x : Queued) → get_or queue k x ≡ x → x.client ≢ client) → (k : ℕ) → k < place + 1 → (x : Queued) → get_or queue k x ≡ x → x.client ≢ client
+none_more queue place client here lt at apart before =
+    below_more (λ k. (x : Queued) → get_or queue k x ≡ x → x.client ≢ client) place before
+    (λ x is same. apart (ap (λ q. q.client) (at ∙ get_or_default queue place here x lt ∙ is) ∙ same))
+
+pub among : (queue : List Queued) (place client : ℕ) (here : Queued) → place < length queue → here ≡ get_or queue place here → here.client ≡ client → IsTrue true ↔ Any (λ x. x.client ≡ client) queue
+among queue place client here lt at same = (λ _. (place, here, lt, sym at, same), λ _. refl)
+
+pub not_among : (queue : List Queued) (place client : ℕ) → length queue ≤ place → ((k : ℕ) → k < place → (x : Queued) → get_or queue k x ≡ x → x.client ≢ client)
+    → IsTrue false ↔ Any (λ x. x.client ≡ client) queue
+not_among queue place client end none = (λ yes. absurd (false≢true yes), λ any. absurd (none any.0 (omega (arith, any.2, end)) any.1 any.3 any.4))
 
 -- ---- What a map says of its keys
 

@@ -66,7 +66,7 @@ impl Queue {
     {
         match &self.known {
             Some(known) => known.contains_key(&client),
-            None => self.clients.iter().any(|queued| queued.client == client),
+            None => is_among(&self.clients, client),
         }
     }
 
@@ -109,6 +109,18 @@ impl Queue {
         self.known = unlearn(self.known.take(), &first, &self.clients);
         Some(first)
     }
+}
+
+/// Returns whether a client is among these, which are looked at one by one.
+fn is_among(clients: &VecDeque<Queued>, client: u32) -> bool
+    ensures { IsTrue result ↔ Any (λ queued. queued.client ≡ client) clients.now.items }
+{
+    for place in 0..clients.len() {
+        if clients[place].client == client {
+            return true;
+        }
+    }
+    false
 }
 
 /// Learns the last client, which was put after the others, or all if they are many and were not known. Returns those that are

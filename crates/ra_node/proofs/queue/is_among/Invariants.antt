@@ -1,0 +1,10 @@
+use Rattle.std.proofs.Common.{◌≡◌, ◌≢◌, ◌<◌, ℕ, get_or}
+use Rattle.ra_node.specs.declared.queued_client.Queued.{Queued}
+use Rattle.ra_node.proofs.queue.is_among.Given as goal
+
+-- none of those so far is the client
+abbrev pub invariant-loop-place : goal.invariant-loop-place
+invariant-loop-place l =
+    record {
+      none : (k : ℕ) → k < l.place → (queued : Queued) → get_or l.clients.items k queued ≡ queued → queued.client ≢ l.client;
+    }
