@@ -1,5 +1,5 @@
 -- Each step leads from a consistent state to a consistent one.
-use Rattle.std.proofs.Common.{◌≡◌, ◌≢◌, ◌⊎◌, ℕ, ◌+◌, ◌<◌, ◌≤◌, max, Bool, true, false, cond, not, ◌&&◌, List, Option, Some, None, refl, sym, ap, ◌∙◌, subst, arith, inl, inr}
+use Rattle.std.proofs.Common.{◌≡◌, ◌≢◌, ◌⊎◌, ◌↔◌, ℕ, ◌+◌, ◌<◌, ◌≤◌, max, Bool, true, false, cond, not, ◌&&◌, List, Option, Some, None, refl, sym, ap, ◌∙◌, subst, arith, inl, inr}
 use Rattle.std.specs.Prelude.{◌==◌, IsTrue}
 use Rattle.std.specs.Ordering.{nat_cmp, eq_by_cmp}
 use Rattle.std.specs.Cmp.{nat_cmp_total}
@@ -277,3 +277,11 @@ pub inside_is : (phase : Phase) → IsInside phase → (seq : ℕ) × (mode : Mo
 inside_is Idle h = absurd h
 inside_is (Waiting seq mode) h = absurd h
 inside_is (Inside seq mode) h = (seq, mode, refl)
+
+-- a test whether the node is inside tells so of the state that is seen
+pub told_inside : (kept now : State) (seq : ℕ) (mode : Mode) → kept ≡ now → kept.phase ≡ Inside seq mode → IsTrue true ↔ IsInside now.phase
+told_inside kept now seq mode same is = subst (λ (phase : Phase). IsTrue true ↔ IsInside phase) (sym is ∙ ap (λ (s : State). s.phase) same) (λ _. tt, λ _. refl)
+
+pub told_outside : (kept now : State) → kept ≡ now → ((seq : ℕ) (mode : Mode) → kept.phase ≡ Inside seq mode → ⊥) → IsTrue false ↔ IsInside now.phase
+told_outside kept now same apart =
+    (λ yes. absurd (true_is_not_false (sym yes)), λ inside. let held = inside_is now.phase inside in absurd (apart held.0 held.1 (ap (λ (s : State). s.phase) same ∙ held.2)))
