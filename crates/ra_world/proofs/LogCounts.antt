@@ -1,6 +1,7 @@
 -- What a log counts of its moves.
 use Rattle.std.proofs.Common.{arith, ◌≡◌, ℕ, ◌+◌, ◌<◌, ◌≤◌, List, [], ◌∷◌, ◌++◌, length, get_or, take, refl, ap, sym, ◌∙◌, subst}
 use Rattle.std.proofs.lemmas.List.{append-nil, append_assoc, length-append, length-take, take_more}
+use Rattle.ra_stamp.specs.declared.entry.Entry.{Entry}
 use Rattle.ra_stamp.specs.declared.entry.Mark.{Mark}
 use Rattle.ra_stamp.specs.declared.entry.Mark.TheVariants.{Requested, Entered, Left}
 use Rattle.ra_node.specs.declared.outcome.Outcome.{Outcome}
@@ -56,6 +57,15 @@ repeated_in_le (Repeat message) = omega arith
 pub repeated_by_le : (moves : List Move) → length (repeated_by moves) ≤ length moves
 repeated_by_le [] = omega arith
 repeated_by_le (x ∷ moves) = omega (arith, length-append (repeated_in x.step) (repeated_by moves), repeated_in_le x.step, repeated_by_le moves)
+
+-- a mark is a request, or it is none
+pub one_request : (mark : Mark) (e : Entry) → mark ≡ Requested e → requests_in (mark ∷ []) ≡ 1
+one_request mark e is = ap (λ (m : Mark). requests_in (m ∷ [])) is
+
+pub no_request : (mark : Mark) → ((e : Entry) → mark ≡ Requested e → ⊥) → requests_in (mark ∷ []) ≡ 0
+no_request (Requested e) none = absurd (none e refl)
+no_request (Entered e) none = refl
+no_request (Left e) none = refl
 
 -- one more mark
 pub requests_in-take : (marks : List Mark) (i : ℕ) (mark : Mark) → i < length marks → mark ≡ get_or marks i mark

@@ -61,6 +61,12 @@ at_place [] k x e = absurd cc
 at_place (y ∷ xs) zero x e = (omega arith, cc)
 at_place (y ∷ xs) (suc k) x e = let (within, is) = at_place xs k x e in (omega (arith, within), is)
 
+-- something is at each place of a list
+pub some_there : {X : Type 0} (xs : List X) (k : ℕ) → k < length xs → slice_get xs k ≡ None → ⊥
+some_there [] k within none = omega (arith, within)
+some_there (y ∷ xs) zero within none = cc
+some_there (y ∷ xs) (suc k) within none = some_there xs k (omega (arith, within)) none
+
 -- ---- Messages
 
 message_lines_more : (place : ℕ) (ms : List Message) (m : Message) → message_lines place (ms ++ m ∷ []) ≡ message_lines place ms ++ message_line (place + length ms) m

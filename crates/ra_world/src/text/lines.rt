@@ -36,19 +36,6 @@ pub fn push_number<I: Integer>(text: &mut String, number: I) -> Result<(), Memor
     push_field(text, Buffer::new().format(number))
 }
 
-/// Adds the fields of an entry.
-fn push_entry(text: &mut String, entry: &Entry) -> Result<(), Memory>
-    ensures ok { OnOk result (string_bytes text.new ≡ string_bytes text.old ++ spec.entry_fields entry.now) }
-    ensures err { OnErr result (spec.AddsPrefix (string_bytes text.old) (string_bytes text.new) (spec.entry_fields entry.now)) }
-{
-    push_number(text, entry.stamp.node.get())?;
-    push_number(text, entry.client)?;
-    push_field(text, entry.name.as_str())?;
-    push_field(text, entry.mode.word())?;
-    push_number(text, entry.stamp.seq)?;
-    Ok(())
-}
-
 /// Adds a line of a word and the fields of an entry.
 pub fn push_entry_line(text: &mut String, word: &str, entry: &Entry) -> Result<(), Memory>
     ensures ok { OnOk result (string_bytes text.new
@@ -57,7 +44,11 @@ pub fn push_entry_line(text: &mut String, word: &str, entry: &Entry) -> Result<(
         (word.now ++ spec.entry_fields entry.now ++ codes "\n")) }
 {
     text.push_str(word)?;
-    push_entry(text, entry)?;
+    push_number(text, entry.stamp.node.get())?;
+    push_number(text, entry.client)?;
+    push_field(text, entry.name.as_str())?;
+    push_field(text, entry.mode.word())?;
+    push_number(text, entry.stamp.seq)?;
     text.push_str("\n")?;
     Ok(())
 }
@@ -71,11 +62,12 @@ pub fn push_mark_line(text: &mut String, mark: &Mark) -> Result<(), Memory>
     ensures ok { OnOk result (string_bytes text.new ≡ string_bytes text.old ++ spec.mark_line mark.now) }
     ensures err { OnErr result (spec.AddsPrefix (string_bytes text.old) (string_bytes text.new) (spec.mark_line mark.now)) }
 {
-    match mark {
-        Mark::Requested(entry) => push_entry_line(text, "request", entry),
-        Mark::Entered(entry) => push_entry_line(text, "enter", entry),
-        Mark::Left(entry) => push_entry_line(text, "leave", entry),
-    }
+    let word = match mark {
+        Mark::Requested(_) => "request",
+        Mark::Entered(_) => "enter",
+        Mark::Left(_) => "leave",
+    };
+    push_entry_line(text, word, mark.entry())
 }
 
 /// Adds the line of a total.

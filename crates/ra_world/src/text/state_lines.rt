@@ -89,21 +89,7 @@ fn push_queue(text: &mut Draft, me: NodeId, node: &Node, name: &Name)
     }
 }
 
-/// Adds the lines of names at a node: of each its first line, those of other nodes, and those of queued clients.
-fn push_names(text: &mut Draft, nodes: NodeCount, me: NodeId, node: &Node, names: &[Name])
-    ensures { Adds text.old (spec.lines_at nodes names.now me node.now) text.new }
-{
-    for name in names {
-        push_at(text, "node", me, name);
-        text.push_number(node.highest(name));
-        push_use(text, node, name);
-        text.end_line();
-        push_others(text, nodes, me, node, name);
-        push_queue(text, me, node, name);
-    }
-}
-
-/// Adds the lines of names at all nodes.
+/// Adds the lines of names at all nodes: of each name its first line, those of other nodes, and those of queued clients.
 fn push_nodes(text: &mut Draft, nodes: &[Node], names: &[Name])
     requires { IsNodeNumber (length nodes.now) }
     ensures { Adds text.old (spec.node_lines (length nodes.now) names.now (nodes_of nodes.now) (length nodes.now)) text.new }
@@ -113,7 +99,15 @@ fn push_nodes(text: &mut Draft, nodes: &[Node], names: &[Name])
     };
     for place in 0..nodes.len() {
         let me = NodeId::at(place);
-        push_names(text, count, me, &nodes[place], names);
+        let node = &nodes[place];
+        for name in names {
+            push_at(text, "node", me, name);
+            text.push_number(node.highest(name));
+            push_use(text, node, name);
+            text.end_line();
+            push_others(text, count, me, node, name);
+            push_queue(text, me, node, name);
+        }
     }
 }
 
@@ -159,25 +153,19 @@ fn push_messages(text: &mut Draft, under_way: &Bag)
     }
 }
 
-/// Adds the lines of the requests of a node on names, of which there is at most one on each.
-fn push_table_at(text: &mut Draft, node: &Node, names: &[Name])
-    ensures { Adds text.old (spec.table_lines_at names.now node.now) text.new }
-{
-    for name in names {
-        if let Some(entry) = node.waiter(name) {
-            text.push_entry_line("waiting", &entry);
-        } else if let Some(entry) = node.holder(name) {
-            text.push_entry_line("holding", &entry);
-        }
-    }
-}
-
-/// Adds the lines of the requests of all nodes on names.
+/// Adds the lines of the requests of all nodes on names, of which each node has at most one on each.
 fn push_table(text: &mut Draft, nodes: &[Node], names: &[Name])
     ensures { Adds text.old (spec.table_lines names.now (nodes_of nodes.now) (length nodes.now)) text.new }
 {
     for place in 0..nodes.len() {
-        push_table_at(text, &nodes[place], names);
+        let node = &nodes[place];
+        for name in names {
+            if let Some(entry) = node.waiter(name) {
+                text.push_entry_line("waiting", &entry);
+            } else if let Some(entry) = node.holder(name) {
+                text.push_entry_line("holding", &entry);
+            }
+        }
     }
 }
 

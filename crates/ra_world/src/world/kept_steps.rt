@@ -2,7 +2,6 @@
 ghost use Rattle.std.specs.Prelude.{◌≡◌, ◌+◌, ◌≤◌, ◌<◌, ◌⊎◌, ◌∷◌, ◌++◌, [], List, Contains, length, OnOk, OnErr};
 ghost use Rattle.ra_stamp.specs.declared.message.Message.{Message};
 ghost use Rattle.ra_stamp.specs.declared.entry.Mark.{Mark};
-ghost use Rattle.ra_node.specs.Carried.{replies_at_most, entries_at_most};
 
 use crate::Step;
 use crate::world::step_log::StepLog;
@@ -43,8 +42,7 @@ impl<const KEEPS_MARKS: u8> KeptSteps<KEEPS_MARKS> {
         if sends > 0 {
             self.under_way.reserve(sends)?;
         }
-        self.log.reserve(marks)?;
-        Ok(())
+        self.log.reserve(marks)
     }
 
     /// Makes room for what a message brings at its node: one message for a REQUEST, and one mark for a REPLY. Only if there
@@ -61,15 +59,18 @@ impl<const KEEPS_MARKS: u8> KeptSteps<KEEPS_MARKS> {
             → (length sends ≤ self.new.under_way.spare) × HasRoom self.new.log (length marks)) }
         ensures err { OnErr result ((BringsNothing receiver.now message.now → ⊥) ⊎ IsFull self.old.log.moves) }
     {
-        let (replies, entries) = most_brought(message);
+        // A REQUEST brings at most one REPLY, and a REPLY lets at most one request enter.
+        let (replies, entries) = match message {
+            Message::Request { .. } => (1, 0),
+            Message::Reply { .. } => (0, 1),
+        };
         if let Ok(()) = self.make_room(replies, entries) {
             return Ok(());
         }
         if !receiver.brings_nothing(message) {
             return Err(Memory);
         }
-        self.make_room(0, 0)?;
-        Ok(())
+        self.make_room(0, 0)
     }
 
     /// Puts what a step sent under way and logs the step, for which there is room.
@@ -115,16 +116,5 @@ impl<const KEEPS_MARKS: u8> KeptSteps<KEEPS_MARKS> {
         } else {
             self.under_way.take(message);
         }
-    }
-}
-
-/// Returns the most REPLYs that a message can make its node send, and the most requests that it can let enter.
-fn most_brought(message: &Message) -> (u64, u64)
-    ensures replies { result.0 ≡ replies_at_most message.now }
-    ensures entries { result.1 ≡ entries_at_most message.now }
-{
-    match message {
-        Message::Request { .. } => (1, 0),
-        Message::Reply { .. } => (0, 1),
     }
 }

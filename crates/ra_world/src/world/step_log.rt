@@ -146,29 +146,22 @@ impl<const KEEPS_MARKS: u8> StepLog<KEEPS_MARKS> {
         // The counts fit: no list has 2^64 items, and there are no more losses, nor repeats, than steps.
         self.sent += u128::from(outcome.sends.len());
         self.requests += u128::from(requests_of(outcome.marks.as_slice()));
-        self.lost += losses_of(step);
-        self.repeated += repeats_of(step);
+        let (lost, repeated) = fates_of(step);
+        self.lost += lost;
+        self.repeated += repeated;
         self.made = self.made.and_pair(step, outcome);
     }
 }
 
-/// Returns how many messages the step loses, none or one.
-fn losses_of(step: &Step) -> u64
-    ensures { result ≡ length (lost_in step.now) }
+/// Returns how many messages the step loses, and how many copies it puts under way: none or one of each.
+fn fates_of(step: &Step) -> (u64, u64)
+    ensures lost { result.0 ≡ length (lost_in step.now) }
+    ensures repeated { result.1 ≡ length (repeated_in step.now) }
 {
     match step {
-        Step::Lose(_) => 1,
-        Step::Ask { .. } | Step::Leave { .. } | Step::Deliver(_) | Step::Repeat(_) => 0,
-    }
-}
-
-/// Returns how many copies the step puts under way, none or one.
-fn repeats_of(step: &Step) -> u64
-    ensures { result ≡ length (repeated_in step.now) }
-{
-    match step {
-        Step::Repeat(_) => 1,
-        Step::Ask { .. } | Step::Leave { .. } | Step::Deliver(_) | Step::Lose(_) => 0,
+        Step::Lose(_) => (1, 0),
+        Step::Repeat(_) => (0, 1),
+        Step::Ask { .. } | Step::Leave { .. } | Step::Deliver(_) => (0, 0),
     }
 }
 
@@ -198,17 +191,9 @@ fn requests_of(marks: &[Mark]) -> u64
 {
     let mut requests = 0;
     for mark in marks {
-        requests += requests_by(mark);
+        if let Mark::Requested(_) = mark {
+            requests += 1;
+        }
     }
     requests
-}
-
-/// Returns whether a mark is Requested, as a number.
-fn requests_by(mark: &Mark) -> u64
-    ensures { result ≡ requests_in (mark.now ∷ []) }
-{
-    match mark {
-        Mark::Requested(_) => 1,
-        Mark::Entered(_) | Mark::Left(_) => 0,
-    }
 }

@@ -1,6 +1,7 @@
 use Rattle.std.proofs.Common.{arith, ◌+◌}
-use Rattle.ra_world.proofs.LogCounts.{requests_in-take, requests_in-take-le}
+use Rattle.ra_world.proofs.LogCounts.{one_request, no_request, requests_in-take, requests_in-take-le}
 use Rattle.ra_world.proofs.world.step_log.requests_of.Goals as goal
+use Rattle.ra_world.proofs.world.step_log.requests_of.Goals.{in-Requested, in_default}
 
 pub overflow_add-requests : goal.overflow_add-requests
 overflow_add-requests c =
@@ -10,4 +11,8 @@ overflow_add-requests c =
 
 pub loop-mark-preserved : goal.loop-mark-preserved
 loop-mark-preserved c =
-    omega (arith, requests_in-take c.args.marks.now c.loop-mark.mark-index c.mark-item.result c.loop-mark-test.true c.mark-item.is)
+    let more = requests_in-take c.args.marks.now c.loop-mark.mark-index c.mark-item.result c.loop-mark-test.true c.mark-item.is in
+    elim c.match-mark.branch [
+      | in-Requested w ↦ omega (arith, more, w.requests-is, one_request c.mark-item.result _ w.in-Requested.is)
+      | in_default w ↦ omega (arith, more, w.requests-is, no_request c.mark-item.result w.in_default.not-Requested)
+    ]

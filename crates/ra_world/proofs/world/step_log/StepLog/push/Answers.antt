@@ -62,13 +62,13 @@ invariant_of-self g c =
     let made : c.requests_of.result ≡ requests_in o.marks.items = c.requests_of.ensures ∙ ap requests_in c.as_slice-2.ensures in
     let fewer : requests_in o.marks.items ≤ 18446744073709551615 = omega (arith, c.requests_of.type_inv, made) in
     pushed g.row.KEEPS_MARKS l.made.items c.and_pair-self-inside.result.items l.steps _ l.marks.items c.keep_marks.new.kept.items
-    l.sent c.from.result l.requests c.from-2.result l.lost c.losses_of.result l.repeated c.repeats_of.result c.args.step.now o c.self.invariant few fewer
+    l.sent c.from.result l.requests c.from-2.result l.lost c.fates_of-lost.result.0 l.repeated c.fates_of-lost.result.1 c.args.step.now o c.self.invariant few fewer
     c.and_pair-self-inside.ensures refl
     (λ kept. c.keep_marks.ensures kept ∙ ap (λ (xs : List Mark). l.marks.items ++ xs) c.as_slice.ensures)
     (c.from.ensures ∙ c.len.ensures)
     (c.from-2.ensures ∙ made)
-    c.losses_of.ensures
-    c.repeats_of.ensures
+    c.fates_of-lost.ensures.lost
+    c.fates_of-lost.ensures.repeated
 
 pub returns : goal.returns
 returns g c =
