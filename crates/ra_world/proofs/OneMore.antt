@@ -1,5 +1,5 @@
 -- One item of a list after the other, as a loop takes them.
-use Rattle.std.proofs.Common.{◌≡◌, ◌+◌, ◌<◌, ◌≤◌, ℕ, List, [], ◌∷◌, ◌++◌, length, get_or, take, fold, refl, sym, ap, ◌∙◌, append_assoc}
+use Rattle.std.proofs.Common.{◌≡◌, ◌+◌, ◌<◌, ◌≤◌, ℕ, zero, suc, List, [], ◌∷◌, ◌++◌, length, get_or, take, fold, refl, sym, ap, ◌∙◌, append_assoc, arith}
 use Rattle.std.specs.Prelude.{sum_by}
 use Rattle.std.proofs.lemmas.List.{take_more, take_all}
 
@@ -24,3 +24,17 @@ sum_push f from (y ∷ ys) x = sum_push f (from + f y) ys x
 pub sum_next : {X : Type 0} (f : X → ℕ) (xs : List X) (i : ℕ) (x : X) → i < length xs → x ≡ get_or xs i x → sum_by f (take (i + 1) xs) ≡ sum_by f (take i xs) + f x
 sum_next {X} f xs i x within is =
     ap (sum_by f) (take_more xs i x within ∙ ap (λ (y : X). take i xs ++ y ∷ []) (sym is)) ∙ sum_push f 0 (take i xs) x
+
+sum_from : {X : Type 0} (f : X → ℕ) (from : ℕ) (xs : List X) → from ≤ fold (λ (sum : ℕ) (y : X). sum + f y) from xs
+sum_from f from [] = omega arith
+sum_from f from (y ∷ ys) = omega (arith, sum_from f (from + f y) ys)
+
+sum_so_far : {X : Type 0} (f : X → ℕ) (from : ℕ) (xs : List X) (i : ℕ)
+    → fold (λ (sum : ℕ) (y : X). sum + f y) from (take i xs) ≤ fold (λ (sum : ℕ) (y : X). sum + f y) from xs
+sum_so_far f from xs zero = sum_from f from xs
+sum_so_far f from [] (suc i) = omega arith
+sum_so_far f from (y ∷ ys) (suc i) = sum_so_far f (from + f y) ys i
+
+-- with the next item, no more is counted than all
+pub sum_with_next : {X : Type 0} (f : X → ℕ) (xs : List X) (i : ℕ) (x : X) → i < length xs → x ≡ get_or xs i x → sum_by f (take i xs) + f x ≤ sum_by f xs
+sum_with_next f xs i x within is = omega (arith, sum_next f xs i x within is, sum_so_far f 0 xs (i + 1))

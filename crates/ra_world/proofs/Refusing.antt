@@ -32,6 +32,14 @@ one_refusal is = (cc, cc)
 pub no_refusal : {place : ℕ} {cause : StepError} → run.Memory ≡ run.Refused place cause → ⊥
 no_refusal is = absurd cc
 
+-- a step that is refused is no bad count of nodes
+pub no_count : {place : ℕ} {cause : StepError} → run.Refused place cause ≡ run.BadCount → ⊥
+no_count is = absurd cc
+
+-- nor is it that memory ran out
+pub memory_no_count : run.Memory ≡ run.BadCount → ⊥
+memory_no_count is = absurd cc
+
 of_world : (n start : ℕ) (world : WorldState) (P : ℕ → ℕ → Type 0) → world.count ≡ n → world.start ≡ start → P world.count world.start → P n start
 of_world n start world P count start_is holds = subst (λ (s : ℕ). P n s) start_is (subst (λ (k : ℕ). P k world.start) count holds)
 

@@ -1,13 +1,14 @@
-use Rattle.std.proofs.Common.{◌≡◌, ◌↔◌, ◌<◌, ◌⊎◌, Bool, false, Contains, length, refl, ap, sym, subst, arith, rules}
+use Rattle.std.proofs.Common.{◌≡◌, ◌↔◌, ◌<◌, ℕ, ◌⊎◌, Bool, false, Contains, length, refl, ap, sym, subst, arith, rules}
 use Rattle.std.specs.Prelude.{IsTrue}
 use Rattle.ra_stamp.specs.declared.entry.Entry.{Entry}
 use Rattle.ra_stamp.specs.declared.message.Message.{Message}
+use Rattle.ra_stamp.specs.NodeId.{IsNodeNumber}
 use Rattle.ra_node.specs.Node.{NodeState, resource_at}
 use Rattle.ra_node.specs.Resource.{Holds}
 use Rattle.ra_node.specs.Turns.{MayAsk}
 use Rattle.ra_world.specs.declared.step.Step.{Step}
 use Rattle.ra_world.specs.declared.step.Step.TheVariants.{Ask, Leave, Deliver, Lose, Repeat}
-use Rattle.ra_world.specs.Run.{GoesOn}
+use Rattle.ra_world.specs.Run.{IsRun, GoesOn}
 use Rattle.ra_world.specs.World.{WorldState}
 use Rattle.ra_world.specs.Keeping.{nodes_of}
 use Rattle.ra_world.proofs.Worlds.{accepted_at, accepted_message, refused_above}
@@ -88,3 +89,41 @@ returns-in-Deliver-clause-value g c =
     (repeat_allowed (length w.nodes.items) w.start w.kept.log.moves k.count k.run m)
     (kept_runs_go_on.under_way w.start w.nodes.items w.kept.under_way.items w.kept.log.moves m k)
     some.2 some.1)
+
+-- ---- Each of these
+
+pub returns-in-Some-clause-run : goal.returns-in-Some-clause-run
+returns-in-Some-clause-run g c = subst (λ (s : WorldState). IsRun s.count s.start s.moves) c.self.view_is c.self.invariant.run
+
+pub returns-in-Some-clause-count : goal.returns-in-Some-clause-count
+returns-in-Some-clause-count g c = subst (λ (s : WorldState). IsNodeNumber s.count) c.self.view_is c.self.invariant.count
+
+pub returns-in-None-clause-run : goal.returns-in-None-clause-run
+returns-in-None-clause-run g c = subst (λ (s : WorldState). IsRun s.count s.start s.moves) c.self.view_is c.self.invariant.run
+
+pub returns-in-None-clause-count : goal.returns-in-None-clause-count
+returns-in-None-clause-count g c = subst (λ (s : WorldState). IsNodeNumber s.count) c.self.view_is c.self.invariant.count
+
+pub returns-in-Some-place_of-clause-run : goal.returns-in-Some-place_of-clause-run
+returns-in-Some-place_of-clause-run g c = subst (λ (s : WorldState). IsRun s.count s.start s.moves) c.self.view_is c.self.invariant.run
+
+pub returns-in-Some-place_of-clause-count : goal.returns-in-Some-place_of-clause-count
+returns-in-Some-place_of-clause-count g c = subst (λ (s : WorldState). IsNodeNumber s.count) c.self.view_is c.self.invariant.count
+
+pub returns-in-None-place_of-clause-run : goal.returns-in-None-place_of-clause-run
+returns-in-None-place_of-clause-run g c = subst (λ (s : WorldState). IsRun s.count s.start s.moves) c.self.view_is c.self.invariant.run
+
+pub returns-in-None-place_of-clause-count : goal.returns-in-None-place_of-clause-count
+returns-in-None-place_of-clause-count g c = subst (λ (s : WorldState). IsNodeNumber s.count) c.self.view_is c.self.invariant.count
+
+pub returns-in-Deliver-clause-run : goal.returns-in-Deliver-clause-run
+returns-in-Deliver-clause-run g c = subst (λ (s : WorldState). IsRun s.count s.start s.moves) c.self.view_is c.self.invariant.run
+
+pub returns-in-Deliver-clause-count : goal.returns-in-Deliver-clause-count
+returns-in-Deliver-clause-count g c = subst (λ (s : WorldState). IsNodeNumber s.count) c.self.view_is c.self.invariant.count
+
+pub index-requires : goal.index-requires
+index-requires g c = subst (λ (n : ℕ). c.in-Some.place < n) c.deref.ensures.len c.in-Some.ensures.some.1
+
+pub index-requires-in-Some-place_of : goal.index-requires-in-Some-place_of
+index-requires-in-Some-place_of g c = subst (λ (n : ℕ). c.in-Some-place_of.place < n) c.deref-in-Leave.ensures.len c.in-Some-place_of.ensures.some.1

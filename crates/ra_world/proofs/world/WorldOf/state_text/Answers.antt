@@ -8,7 +8,7 @@ use Rattle.ra_world.specs.StateLines.{IsStateText, state_text}
 use Rattle.ra_world.specs.World.{WorldState}
 use Rattle.ra_world.proofs.StateTexts.{state_here}
 use Rattle.ra_table.proofs.History.{same_entries}
-use Rattle.ra_world.specs.Run.{marks_of}
+use Rattle.ra_world.specs.Run.{IsRun, marks_of}
 use Rattle.ra_world.proofs.Outcomes.{has_table}
 use Rattle.ra_world.proofs.TableNodes.{table_of_nodes}
 use Rattle.ra_world.proofs.WorldLaws.{laws_below}
@@ -28,3 +28,9 @@ returns-clause-ok g c =
     (is ∙ ap (λ (ns : List NodeState). state_text (length ns) c.len-steps.result c.args.names.now (nodes_of ns) w.kept.under_way.items c.args.clients.now) c.deref.ensures.value
     ∙ ap (λ (n : ℕ). state_text (length w.nodes.items) n c.args.names.now (nodes_of w.nodes.items) w.kept.under_way.items c.args.clients.now) c.len-steps.ensures))
     c.state_text.ensures)
+
+pub returns-clause-run : goal.returns-clause-run
+returns-clause-run g c = subst (λ (s : WorldState). IsRun s.count s.start s.moves) c.self.view_is c.self.invariant.run
+
+pub returns-clause-count : goal.returns-clause-count
+returns-clause-count g c = subst (λ (s : WorldState). IsNodeNumber s.count) c.self.view_is c.self.invariant.count

@@ -1,10 +1,13 @@
-use Rattle.std.proofs.Common.{◌≡◌, ◌+◌, ℕ, sym, ◌∙◌, subst, refl, inl, inr}
+use Rattle.std.proofs.Common.{◌≡◌, ◌+◌, ℕ, List, sym, ◌∙◌, subst, refl, inl, inr}
+use Rattle.std.proofs.lemmas.List.{take_all}
 use Rattle.std.proofs.lemmas.Result.{IfOk-at_ok}
 use Rattle.ra_node.specs.declared.outcome.Outcome.{Outcome}
-use Rattle.ra_world.specs.World.{with_move}
+use Rattle.ra_world.specs.declared.step.Step.{Step}
+use Rattle.ra_world.specs.World.{with_move, HasMade}
 use Rattle.ra_world.specs.declared.error.StepError.{StepError}
 use Rattle.ra_world.specs.Refused.{IsRefusedAt}
-use Rattle.ra_world.proofs.Refusing.{memory_or_not, one_end, one_refusal, no_refusal, made_next, no_run, refused_there, stops_before}
+use Rattle.ra_world.proofs.Refusing.{memory_or_not, one_end, one_refusal, no_refusal, no_count, memory_no_count, made_next, no_run, refused_there, stops_before}
+use Rattle.ra_world.proofs.Pieces.{no_fault}
 use Rattle.ra_world.proofs.Runs.{prefix_of_steps, steps_go_on}
 use Rattle.ra_world.proofs.WorldLaws.{laws_below}
 use Rattle.ra_world.proofs.world.run_steps.step_through.Goals as goal
@@ -54,3 +57,26 @@ loop-place-preserved c =
     IfOk-at_ok (λ (o : Outcome). c.step.new.self ≡ with_move c.loop-place.world c.index-steps-place.result o.sends.items o.marks.items) c.in_default.is c.step.ensures.ok in
     made_next c.args.world.now.count c.args.world.now.start c.loop-place.place c.args.steps.now c.index-steps-place.result c.loop-place.world c.step.new.self
     outcome.sends.items outcome.marks.items c.loop-place.invariant c.loop-place-test.true c.index-steps-place.is moved c.step.ensures.run
+
+pub returns-in-Err-clause-counted : goal.returns-in-Err-clause-counted
+returns-in-Err-clause-counted c is =
+    elim (memory_or_not c.in-Err.cause) [
+      | inl same ↦ absurd (memory_no_count (sym (c.at.ensures.memory same) ∙ one_end is))
+      | inr other ↦ absurd (no_count (sym (c.at.ensures.refused other) ∙ one_end is))
+    ]
+
+-- ---- All steps were made
+
+pub returns-clause-ok : goal.returns-clause-ok
+returns-clause-ok c =
+    subst (λ (steps : List Step). HasMade c.args.world.now.count c.args.world.now.start steps c.loop-place.world)
+    (take_all c.loop-place.place c.args.steps.now c.loop-place-test.false) c.loop-place.invariant
+
+pub returns-clause-counted : goal.returns-clause-counted
+returns-clause-counted c is = absurd (no_fault is)
+
+pub returns-clause-refused : goal.returns-clause-refused
+returns-clause-refused c place cause is = absurd (no_fault is)
+
+pub returns-clause-memory : goal.returns-clause-memory
+returns-clause-memory c is = absurd (no_fault is)

@@ -1,0 +1,15 @@
+use Rattle.std.proofs.Common.{length, ap, ◌∙◌, subst}
+use Rattle.ra_stamp.specs.NodeId.{IsNodeNumber}
+use Rattle.ra_world.specs.Traffic.{sent_by}
+use Rattle.ra_world.specs.Run.{IsRun}
+use Rattle.ra_world.specs.World.{WorldState}
+use Rattle.ra_world.proofs.world.WorldOf.sent.Goals as goal
+
+pub returns-clause-value : goal.returns-clause-value
+returns-clause-value g c = c.counts.ensures.sent ∙ ap (λ (s : WorldState). length (sent_by s.moves)) c.self.view_is
+
+pub returns-clause-run : goal.returns-clause-run
+returns-clause-run g c = subst (λ (s : WorldState). IsRun s.count s.start s.moves) c.self.view_is c.self.invariant.run
+
+pub returns-clause-count : goal.returns-clause-count
+returns-clause-count g c = subst (λ (s : WorldState). IsNodeNumber s.count) c.self.view_is c.self.invariant.count
