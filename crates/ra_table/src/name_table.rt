@@ -1,5 +1,7 @@
 //! The lock table of one name.
-ghost use Rattle.std.specs.Prelude.{◌≡◌, ◌↔◌, max, unwrap_or, Contains, IsTrue, IsOk, IfOk, OnOk, OnErr};
+ghost use Rattle.std.specs.Prelude.{◌≡◌, ◌↔◌, ◌++◌, ◌∷◌, [], None, Contains, IsTrue, IsOk, IfOk, IfErr, OnOk, OnErr};
+ghost use Rattle.std.specs.Str.{bytes_eq};
+ghost use Rattle.indexmap.specs.IndexMap.{get, IsUnique};
 ghost use Rattle.ra_stamp.specs.declared.entry.Mark.{Mark};
 ghost use Rattle.ra_table.specs.Table.{TableStep};
 ghost use Rattle.ra_table.specs.Refusals.{IsNotAbove};
@@ -8,8 +10,8 @@ ghost use Rattle.ra_table.specs.NameTables.{AreOn, IsAt, first_request};
 
 use crate::entry_lists::{has_earlier, has_excluding, has_node_of, place_of, push_exactly};
 use crate::error::{EnterError, LeaveError, RequestError};
-use ra_stamp::{Entry, GhostList, Memory};
-use std::alloc::Global;
+use indexmap::IndexMap;
+use ra_stamp::{Entry, GhostList, Name};
 use std::marker::Model;
 
 /// The lock table of one name: the entries that wait, those that hold, and those granted so far. Contracts see a lock table.
@@ -38,22 +40,37 @@ impl Model for NameTable {
 }
 
 impl NameTable {
-    /// Makes the table of a name on which nothing was granted yet, and for which this entry alone waits.
+    /// Makes the table of a name that has none yet, in which this entry waits.
     ///
     /// # Errors
     ///
-    /// `Memory`: memory ran out.
-    pub fn first(alloc: Global, entry: &Entry) -> Result<NameTable, Memory>
-        ensures { IfOk result (λ name_table. name_table ≡ first_request entry.now) }
+    /// `Memory`: the tables are as before.
+    pub fn open(
+        name_tables: &mut IndexMap<Name, NameTable>,
+        entry: &Entry,
+    ) -> Result<(), RequestError>
+        requires { get bytes_eq name_tables.old entry.now.name ≡ None }
+        ensures ok { OnOk result (name_tables.new.entries
+            ≡ name_tables.old.entries ++ (entry.now.name, first_request entry.now) ∷ []) }
+        ensures unique { OnOk result (IsUnique bytes_eq name_tables.new) }
+        ensures err { OnErr result (name_tables.new.entries ≡ name_tables.old.entries) }
+        ensures memory { IfErr result (λ fault. fault ≡ RequestError.Memory) }
     {
+        let alloc = *name_tables.allocator();
         let mut waiting = Vec::new(alloc);
-        push_exactly(&mut waiting, entry)?;
-        Ok(NameTable {
+        let Ok(()) = push_exactly(&mut waiting, entry) else {
+            return Err(RequestError::Memory);
+        };
+        let first = NameTable {
             waiting,
             holding: Vec::new(alloc),
             granted: GhostList::new(),
             highest: None,
-        })
+        };
+        match name_tables.insert(entry.name, first) {
+            Ok(_) => Ok(()),
+            Err(_) => Err(RequestError::Memory),
+        }
     }
 
     /// Lets an entry on the name of this table wait.
@@ -90,7 +107,7 @@ impl NameTable {
             return Err(EnterError::Memory);
         };
         self.waiting.remove(place);
-        self.highest = Some(raised(self.highest, entry.stamp.seq));
+        self.highest = Some(entry.stamp.seq.max(self.highest.unwrap_or(0)));
         self.granted = self.granted.and(entry);
         Ok(())
     }
@@ -170,15 +187,5 @@ impl NameTable {
             Some(number) => number >= entry.stamp.seq,
             None => false,
         }
-    }
-}
-
-/// Returns the highest number after this one is granted.
-fn raised(highest: Option<u64>, number: u64) -> u64
-    ensures { result ≡ max number (unwrap_or highest 0) }
-{
-    match highest {
-        Some(before) => before.max(number),
-        None => number,
     }
 }

@@ -1,13 +1,13 @@
-ghost use Rattle.std.specs.Prelude.{◌≡◌, ◌↔◌, ◌++◌, ◌∷◌, [], None, Contains, IsTrue, IsNone, IsOk, IsErrOf, IsOkUnless, IfOk, IfErr, IfSome, OnOk, OnErr};
+ghost use Rattle.std.specs.Prelude.{◌≡◌, ◌↔◌, None, Contains, IsTrue, IsNone, IsOk, IsErrOf, IsOkUnless, IfOk, IfSome, OnOk, OnErr};
 ghost use Rattle.std.specs.List.{IsDistinct};
 ghost use Rattle.std.specs.Map.{keys_of};
 ghost use Rattle.std.specs.Str.{bytes_eq};
-ghost use Rattle.indexmap.specs.IndexMap.{get, IsUnique};
+ghost use Rattle.indexmap.specs.IndexMap.{get};
 ghost use Rattle.ra_stamp.specs.declared.entry.Mark.{Mark};
 ghost use Rattle.ra_table.specs.Table.{empty_table, MayRequest, MayEnter, TableStep};
 ghost use Rattle.ra_table.specs.Refusals.{IsNodeBusy, IsNotAbove, IsHeld, HasEarlier};
 ghost use Rattle.ra_table.specs.Laws.{IsConflictFree};
-ghost use Rattle.ra_table.specs.NameTables.{first_request, IsPlaceOf};
+ghost use Rattle.ra_table.specs.NameTables.{IsPlaceOf};
 
 use crate::error::{EnterError, LeaveError, RequestError};
 use crate::name_table::NameTable;
@@ -78,29 +78,6 @@ fn place_of_name(
     name_tables.get_index_of(name)
 }
 
-/// Makes the table of a name that has none yet, in which this entry waits.
-///
-/// # Errors
-///
-/// `Memory`: the tables are as before.
-fn open(name_tables: &mut IndexMap<Name, NameTable>, entry: &Entry) -> Result<(), RequestError>
-    requires { get bytes_eq name_tables.old entry.now.name ≡ None }
-    ensures ok { OnOk result (name_tables.new.entries
-        ≡ name_tables.old.entries ++ (entry.now.name, first_request entry.now) ∷ []) }
-    ensures unique { OnOk result (IsUnique bytes_eq name_tables.new) }
-    ensures err { OnErr result (name_tables.new.entries ≡ name_tables.old.entries) }
-    ensures memory { IfErr result (λ fault. fault ≡ RequestError.Memory) }
-{
-    let alloc = *name_tables.allocator();
-    let Ok(name_table) = NameTable::first(alloc, entry) else {
-        return Err(RequestError::Memory);
-    };
-    match name_tables.insert(entry.name, name_table) {
-        Ok(_) => Ok(()),
-        Err(_) => Err(RequestError::Memory),
-    }
-}
-
 impl Table {
     /// Makes the table in which nothing waits or holds, and nothing was granted. What it keeps grows by
     /// `alloc`.
@@ -149,7 +126,7 @@ impl Table {
             }
             None => {
                 self.latest = self.name_tables.len();
-                open(&mut self.name_tables, &entry)
+                NameTable::open(&mut self.name_tables, &entry)
             }
         }
     }

@@ -52,5 +52,6 @@ returns-clause-ok c =
 
 pub invariant_of-self-2 : goal.invariant_of-self-2
 invariant_of-self-2 c =
-    ap (λ (n : ℕ). Some n) (c.raised.ensures ∙ ap (λ (o : Option ℕ). max c.args.entry.now.stamp.seq (unwrap_or o 0)) c.self.invariant)
+    ap (λ (n : ℕ). Some n) (c.max.ensures ∙ ap (λ (n : ℕ). max c.args.entry.now.stamp.seq n) c.unwrap_or.ensures
+    ∙ ap (λ (o : Option ℕ). max c.args.entry.now.stamp.seq (unwrap_or o 0)) c.self.invariant)
     ∙ sym (ap highest_of c.and-self-inside.ensures ∙ highest_of-push c.self.inside.granted.items c.args.entry.now)
