@@ -24,7 +24,6 @@ use std::marker::Model;
 /// [`events_keep_a_node_consistent`](crate::events_keep_a_node_consistent) says more of what `ask`, `leave` and
 /// `receive` send and mark: to which nodes, with which numbers, how much at most, and that a node has at most one
 /// request on a name.
-#[derive(Drop)]
 pub struct Node {
     member: Member,
     start: u64,
@@ -51,6 +50,19 @@ impl Model for Node {
     ghost view = { node_of };
 
     ghost invariant = { IsKept };
+}
+
+// What a node owns is freed here, so that no other crate proves how each of its parts is dropped.
+impl Drop for Node {
+    fn drop(self) {
+        let Node {
+            member: _,
+            start: _,
+            slots: _,
+            waiting: _,
+            queued: _,
+        } = self;
+    }
 }
 
 /// Drops a slot, if there is one. All that a slot owns is freed here, and in no other function.
