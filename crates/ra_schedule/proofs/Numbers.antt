@@ -1,14 +1,16 @@
 -- Decimals, and the choices of words.
-use Rattle.std.proofs.Common.{lit<, if◌then◌else◌, ◌≡◌, ℕ, ◌+◌, ◌-◌, ◌*◌, ◌^◌, ◌<◌, ◌≤◌, Bool, true, ◌&&◌, ◌||◌, ◌==◌, not, nat_le, List, [], ◌∷◌, ◌++◌, length, get_or, take, drop, Option, Some, None, option_map, refl, sym, ap, ◌∙◌, subst, arith, append_assoc}
+use Rattle.std.proofs.Common.{lit<, if◌then◌else◌, ◌≡◌, ℕ, ◌+◌, ◌-◌, ◌*◌, ◌^◌, ◌<◌, ◌≤◌, Bool, true, ◌&&◌, ◌||◌, ◌==◌, not, nat_le, List, [], ◌∷◌, ◌++◌, length, get_or, take, drop, Option, Some, None, option_map, refl, sym, ap, ◌∙◌, subst, arith, append_assoc, inl, inr}
 use Rattle.std.proofs.Math.Nat.{pow-le-pow_right}
-use Rattle.std.proofs.lemmas.Bool.{and_parts, leb-true}
+use Rattle.std.proofs.Math.Bool.{or-true}
+use Rattle.std.proofs.lemmas.Bool.{cases_Bool, and_parts, le-leb, leb-true, eqb-true}
+use Rattle.std.proofs.lemmas.Bool.Decides.{nat_tests}
 use Rattle.std.proofs.lemmas.Grind.{pow_more}
 use Rattle.std.proofs.lemmas.List.{append-nil, drop_all, at_drop_more}
-use Rattle.std.proofs.lemmas.List.Sums.{AllPass-from_list_all, fold_more}
+use Rattle.std.proofs.lemmas.List.Sums.{fold_more}
 use Rattle.std.specs.Char.{is_ascii_digit}
-use Rattle.std.specs.List.{AllPass, list_all, slice_split}
+use Rattle.std.specs.List.{list_all, slice_split}
 use Rattle.ra_schedule.specs.declared.choice.Choice.{Choice}
-use Rattle.ra_schedule.specs.ChoicesText.{is_decimal, decimal_value, choice_with, choice_of, choices_in, choices_of}
+use Rattle.ra_schedule.specs.ChoicesText.{is_decimal, decimal_value, decimal_of, choice_with, choice_of, choices_in, choices_of}
 
 -- a number of eight digits or fewer
 pub small_power : (value place : ℕ) → value < 10 ^ place → place < 9 → value < 100000000
@@ -23,29 +25,51 @@ digit_below : (byte : ℕ) → is_ascii_digit byte ≡ true → byte - 48 < 10
 digit_below byte is = let (low, high) = and_parts (nat_le 48 byte) (nat_le byte 57) is in let most = leb-true byte 57 high in omega (arith, most)
 
 -- the number of one more digit
-pub decimal_more : (digits : List ℕ) (i value digit : ℕ) → i < length digits → AllPass is_ascii_digit digits → digit ≡ get_or digits i 0 - 48
+pub decimal_more : (digits : List ℕ) (i value digit : ℕ) → i < length digits → is_ascii_digit (get_or digits i 0) ≡ true → digit ≡ get_or digits i 0 - 48
     → value ≡ decimal_value (take i digits) → value < 10 ^ i
     → (10 * value + digit ≡ decimal_value (take (i + 1) digits)) × (10 * value + digit < 10 ^ (i + 1))
-decimal_more digits i value digit less each is so_far small = (
+decimal_more digits i value digit less here is so_far small = (
   ap (λ (d : ℕ). 10 * value + d) is
       ∙ ap (λ (v : ℕ). 10 * v + (get_or digits i 0 - 48)) so_far
       ∙ sym (fold_more (λ value digit. 10 * value + (digit - 48)) 0 digits i 0 less),
-  small_more value i digit small (subst (λ (d : ℕ). d < 10) (sym is) (digit_below (get_or digits i 0) (each i 0 less))),
+  small_more value i digit small (subst (λ (d : ℕ). d < 10) (sym is) (digit_below (get_or digits i 0) here)),
 )
 
--- a decimal is at most nine digits
-pub decimal_parts : (digits : List ℕ) → is_decimal digits ≡ true → (length digits ≤ 9) × AllPass is_ascii_digit digits
+-- a decimal has one to nine digits, of which the first of two or more is not 0
+pub record IsDecimal (digits : List ℕ) : Type 0 where
+  pub some : 1 ≤ length digits
+  pub few : length digits ≤ 9
+  pub each : list_all is_ascii_digit digits ≡ true
+  pub first : get_or digits 0 0 ≡ 48 → length digits ≡ 1
+
+no_zero : (digits : List ℕ) → (length digits == 1 || not (get_or digits 0 0 == 48)) ≡ true → get_or digits 0 0 ≡ 48 → length digits ≡ 1
+no_zero digits h zero = grind (arith, nat_tests)
+
+one_or_no_zero : (digits : List ℕ) → (get_or digits 0 0 ≡ 48 → length digits ≡ 1) → (length digits == 1 || not (get_or digits 0 0 == 48)) ≡ true
+one_or_no_zero digits h =
+    elim (cases_Bool (get_or digits 0 0 == 48)) [
+      | inl zero ↦ rw (h (eqb-true (get_or digits 0 0) 48 zero))
+      | inr other ↦ rw (other, or-true)
+    ]
+
+pub decimal_parts : (digits : List ℕ) → is_decimal digits ≡ true → IsDecimal digits
 decimal_parts digits h =
     let (most, first) = and_parts ((nat_le 1 (length digits) && nat_le (length digits) 9) && list_all is_ascii_digit digits) (length digits == 1 || not (get_or digits 0 0 == 48)) h in
     let (lengths, each) = and_parts (nat_le 1 (length digits) && nat_le (length digits) 9) (list_all is_ascii_digit digits) most in
     let (some, few) = and_parts (nat_le 1 (length digits)) (nat_le (length digits) 9) lengths in
-    (leb-true (length digits) 9 few, AllPass-from_list_all is_ascii_digit digits each)
+    record { some = leb-true 1 (length digits) some; few = leb-true (length digits) 9 few; each = each; first = no_zero digits first }
 
--- a word of a letter and more
-pub choice_of-parts : (word : List ℕ) → 1 ≤ length word → (b : Bool) → is_decimal (drop 1 word) ≡ b
-    → choice_of word ≡ (if b then choice_with (get_or word 0 0) (decimal_value (drop 1 word)) else None)
-choice_of-parts [] some b is = absurd (omega arith)
-choice_of-parts (letter ∷ digits) some b is = rw (sym is)
+pub decimal_of_parts : (digits : List ℕ) → IsDecimal digits → is_decimal digits ≡ true
+decimal_of_parts digits is =
+    rw (le-leb 1 (length digits) is.some, le-leb (length digits) 9 is.few, is.each) (one_or_no_zero digits is.first)
+
+-- what is no decimal has no number
+pub no_decimal : (digits : List ℕ) → (IsDecimal digits → ⊥) → None ≡ decimal_of digits
+no_decimal digits not = elim (cases_Bool (is_decimal digits)) [ inl is ↦ absurd (not (decimal_parts digits is)) | inr is ↦ rw is ]
+
+-- a decimal has its number
+pub one_decimal : (digits : List ℕ) (value : ℕ) → IsDecimal digits → value ≡ decimal_value digits → Some value ≡ decimal_of digits
+one_decimal digits value is same = rw (decimal_of_parts digits is) (ap (λ (n : ℕ). Some n) same)
 
 -- the words up to a place were read as these
 pub record IsChosenTo (words : List (List ℕ)) (place : ℕ) (done : List Choice) : Type 0 where

@@ -1,8 +1,6 @@
 -- A text is read as choices exactly if it is how they are written.
 use Rattle.std.proofs.Common.{◌≡◌, ◌<◌, ◌^◌, ◌+◌, ◌*◌, ◌-◌, ℕ, true, false, ◌&&◌, ◌||◌, ◌==◌, not, nat_le, List, [], ◌∷◌, length, get_or, map, fold, Option, Some, None, option_map, option_and_then, refl, sym, ap, subst, ◌∙◌, inl, inr, arith, rules, ◌⊎◌, All, Result, Ok, Err, length-append}
-use Rattle.std.proofs.lemmas.Bool.{cases_Bool, and_parts, le-leb, leb-true, eqb-true, ne_eqb}
-use Rattle.std.proofs.Math.Bool.{or-true}
-use Rattle.std.proofs.lemmas.Bool.Decides.{nat_tests}
+use Rattle.std.proofs.lemmas.Bool.{cases_Bool, and_parts, eqb-true, ne_eqb}
 use Rattle.std.proofs.lemmas.Fmt.{decimal-digits_value, decimal_is_IsNumeral, digits_decimal, digits_value-decimal, length-decimal-le}
 use Rattle.std.proofs.lemmas.List.Elements.{All-nil, All-cons, All-head, All-tail}
 use Rattle.std.proofs.lemmas.List.Splits.{join_with_byte-slice_split, slice_split_none, slice_split_at}
@@ -18,23 +16,18 @@ use Rattle.std.specs.Prelude.{MatchResult, IfOk, IfErr}
 use Rattle.ra_stamp.specs.Sequence.{Listed}
 use Rattle.ra_schedule.specs.declared.error.ChoicesError.{ChoicesError}
 use Rattle.ra_schedule.specs.declared.error.ChoicesError.TheVariants as fault
-use Rattle.ra_schedule.proofs.Numbers.{IsChosenTo, IsChosenTo-refused, choices_of-some}
+use Rattle.ra_schedule.proofs.Numbers.{decimal_parts, decimal_of_parts, IsChosenTo, IsChosenTo-refused, choices_of-some}
 
 -- the test and the number are those of std
 own : IsNumeralModel (λ digits. list_all is_ascii_digit digits ≡ true) (λ digits. fold (λ value digit. 10 * value + (digit - 48)) 0 digits)
 own = numerals_by_fold (λ digits. list_all is_ascii_digit digits ≡ true) (search rules) (λ n digits. fold (λ value digit. 10 * value + (digit - 48)) n digits) (search rules)
 
-no_zero : (digits : List ℕ) → (length digits == 1 || not (get_or digits 0 0 == 48)) ≡ true → get_or digits 0 0 ≡ 48 → length digits ≡ 1
-no_zero digits h zero = grind (arith, nat_tests)
-
 -- a decimal is how its number is written
 decimal_is : (digits : List ℕ) → is_decimal digits ≡ true → decimal (decimal_value digits) ≡ digits
 decimal_is digits h =
-    let (most, first) = and_parts ((nat_le 1 (length digits) && nat_le (length digits) 9) && list_all is_ascii_digit digits) (length digits == 1 || not (get_or digits 0 0 == 48)) h in
-    let (lengths, each) = and_parts (nat_le 1 (length digits) && nat_le (length digits) 9) (list_all is_ascii_digit digits) most in
-    let (some, few) = and_parts (nat_le 1 (length digits)) (nat_le (length digits) 9) lengths in
-    let small : decimal_value digits < 10 ^ 9 = digits_value_short own digits 9 each (leb-true (length digits) 9 few) in
-    decimal-digits_value own digits each (leb-true 1 (length digits) some) (no_zero digits first) (omega arith)
+    let is = decimal_parts digits h in
+    let small : decimal_value digits < 10 ^ 9 = digits_value_short own digits 9 is.each is.few in
+    decimal-digits_value own digits is.each is.some is.first (omega arith)
 
 with_letter : (letter : ℕ) (digits : List ℕ) (choice : Choice) → decimal (decimal_value digits) ≡ digits → choice_with letter (decimal_value digits) ≡ Some choice → letter ∷ digits ≡ spelled choice
 with_letter letter digits choice is e =
@@ -82,11 +75,7 @@ text_spelled (b ∷ text) choices e =
 
 -- a number of at most nine digits
 value_short : (digits : List ℕ) → is_decimal digits ≡ true → decimal_value digits < 10 ^ 9
-value_short digits h =
-    let (most, first) = and_parts ((nat_le 1 (length digits) && nat_le (length digits) 9) && list_all is_ascii_digit digits) (length digits == 1 || not (get_or digits 0 0 == 48)) h in
-    let (lengths, each) = and_parts (nat_le 1 (length digits) && nat_le (length digits) 9) (list_all is_ascii_digit digits) most in
-    let (some, few) = and_parts (nat_le 1 (length digits)) (nat_le (length digits) 9) lengths in
-    digits_value_short own digits 9 each (leb-true (length digits) 9 few)
+value_short digits h = let is = decimal_parts digits h in digits_value_short own digits 9 is.each is.few
 
 number_short : (letter number : ℕ) (choice : Choice) → number < 10 ^ 9 → choice_with letter number ≡ Some choice → HasText choice
 number_short letter number choice small e =
@@ -139,18 +128,15 @@ no_zeros n (c ∷ d ∷ rest) small is zero =
     let short = length-decimal-le (length (d ∷ rest)) n (omega arith) n-below (omega arith) in
     absurd (omega (arith, ap length is, short))
 
-one_or_no_zero : (digits : List ℕ) → (get_or digits 0 0 ≡ 48 → length digits ≡ 1) → (length digits == 1 || not (get_or digits 0 0 == 48)) ≡ true
-one_or_no_zero digits h =
-    elim (cases_Bool (get_or digits 0 0 == 48)) [
-      | inl zero ↦ rw (h (eqb-true (get_or digits 0 0) 48 zero))
-      | inr other ↦ rw (other, or-true)
-    ]
-
 is_decimal-decimal : (n : ℕ) → n < 10 ^ 9 → is_decimal (decimal n) ≡ true
 is_decimal-decimal n small =
     let numeral = decimal_is_IsNumeral n (omega arith) in
-    let few = length-decimal-le 9 n (omega arith) small (omega arith) in
-    rw (le-leb 1 (length (decimal n)) numeral.0.0, le-leb (length (decimal n)) 9 few, digits_decimal own n (omega arith)) (one_or_no_zero (decimal n) (no_zeros n (decimal n) small refl))
+    decimal_of_parts (decimal n) (record {
+      some = numeral.0.0;
+      few = length-decimal-le 9 n (omega arith) small (omega arith);
+      each = digits_decimal own n (omega arith);
+      first = no_zeros n (decimal n) small refl;
+    })
 
 with_number : (letter n : ℕ) → n < 10 ^ 9 → choice_of (letter ∷ decimal n) ≡ choice_with letter n
 with_number letter n small =

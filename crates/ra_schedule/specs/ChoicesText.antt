@@ -16,6 +16,10 @@ is_decimal digits =
 abbrev pub decimal_value : List ℕ → ℕ
 decimal_value digits = fold (λ value digit. 10 * value + (digit - 48)) 0 digits
 
+-- the number of 1 to 9 digits without leading zeros, if these are such digits
+abbrev pub decimal_of : List ℕ → Option ℕ
+decimal_of digits = if is_decimal digits then Some (decimal_value digits) else None
+
 -- the choice of a letter and a number: `c` for a client's next operation, `m` for a message to deliver, `l` for one to
 -- lose
 abbrev pub choice_with : ℕ → ℕ → Option Choice

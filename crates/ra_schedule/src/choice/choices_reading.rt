@@ -1,7 +1,5 @@
 //! How lists of choices are read.
-ghost use Rattle.std.specs.Prelude.{◌≡◌, ◌⊎◌, ◌≤◌, List, [], Some, None, length, OnOk, IfOk, IfErr, MatchResult};
-ghost use Rattle.std.specs.List.{AllPass, list_all};
-ghost use Rattle.std.specs.Char.{is_ascii_digit};
+ghost use Rattle.std.specs.Prelude.{◌≡◌, ◌⊎◌, List, [], Some, None, OnOk, IfOk, IfErr, MatchResult};
 ghost use Rattle.ra_schedule.specs.declared.choice.Choice.{Choice};
 ghost use Rattle.ra_schedule.specs.ChoicesText as spec;
 ghost use Rattle.ra_schedule.specs.ChoicesText.{Lists};
@@ -12,40 +10,25 @@ use std::alloc::Global;
 /// The most digits of a number.
 const MAX_DIGITS: usize = 9;
 
-/// Returns whether these are 1 to 9 digits, of which the first of two or more is not `0`. It does not allocate. Those of a trace have any
-/// length, and each format is read by itself.
-fn is_decimal(digits: &[u8]) -> bool
-    ensures { result ≡ spec.is_decimal digits.now }
+/// Returns the number that 1 to 9 digits spell, or `None` if these are no such digits, or the first of two or more is `0`. It does not
+/// allocate. The numbers of a trace have any length, and each format is read by itself.
+fn decimal_of(digits: &[u8]) -> Option<u32>
+    ensures { result ≡ spec.decimal_of digits.now }
 {
-    if digits.is_empty() || digits.len() > MAX_DIGITS || !are_digits(digits) {
-        return false;
+    if digits.is_empty() || digits.len() > MAX_DIGITS {
+        return None;
     }
-    digits.len() == 1 || digits[0] != b'0'
-}
-
-/// Returns whether each byte is a digit. It does not allocate.
-fn are_digits(bytes: &[u8]) -> bool
-    ensures { result ≡ list_all is_ascii_digit bytes.now }
-{
-    for byte in bytes {
-        if !byte.is_ascii_digit() {
-            return false;
-        }
+    if digits.len() > 1 && digits[0] == b'0' {
+        return None;
     }
-    true
-}
-
-/// Returns the number of at most 9 digits. It does not allocate.
-fn decimal_value(digits: &[u8]) -> u32
-    requires few { length digits.now ≤ 9 }
-    requires digits { AllPass is_ascii_digit digits.now }
-    ensures { result ≡ spec.decimal_value digits.now }
-{
     let mut value = 0;
     for digit in digits {
+        if !digit.is_ascii_digit() {
+            return None;
+        }
         value = 10 * value + u32::from(*digit - b'0');
     }
-    value
+    Some(value)
 }
 
 /// Returns the choice that a word spells, or `None` if it spells none: `c`, `m` or `l`, and a decimal of 1 to 9 digits without
@@ -56,10 +39,9 @@ fn choice_of(word: &[u8]) -> Option<Choice>
     let [letter, digits @ ..] = word else {
         return None;
     };
-    if !is_decimal(digits) {
+    let Some(number) = decimal_of(digits) else {
         return None;
-    }
-    let number = decimal_value(digits);
+    };
     match letter {
         b'c' => Some(Choice::Client(number)),
         b'm' => Some(Choice::Message(u64::from(number))),
