@@ -1,5 +1,5 @@
 //! How lists of choices are written.
-ghost use Rattle.std.specs.Prelude.{◌≡◌, ◌⊎◌, ◌↔◌, ◌++◌, ◌<◌, All, IsTrue, OnOk, IfOk, IfErr, string_bytes, decimal};
+ghost use Rattle.std.specs.Prelude.{◌≡◌, ◌⊎◌, ◌↔◌, ◌++◌, ◌<◌, All, IsTrue, OnOk, IfOk, IfErr, string_bytes};
 ghost use Rattle.ra_schedule.specs.declared.choice.Choice.{Choice};
 ghost use Rattle.ra_schedule.specs.ChoicesText as spec;
 ghost use Rattle.ra_schedule.specs.ChoicesText.{HasText, Lists};
@@ -34,25 +34,19 @@ fn have_words(choices: &[Choice]) -> bool
     true
 }
 
-/// Adds a letter and a number.
-fn push_lettered(alloc: Global, text: &mut String, letter: &str, number: u64) -> Result<(), Memory>
-    ensures { OnOk result (string_bytes text.new ≡ string_bytes text.old ++ letter.now ++ decimal number) }
-{
-    let word = format!(in alloc; "{letter}{number}")?;
-    text.push_str(word.as_str())?;
-    Ok(())
-}
-
 /// Adds the word of a choice, or nothing if it is a repeat.
 fn push_word(alloc: Global, text: &mut String, choice: &Choice) -> Result<(), Memory>
     ensures { OnOk result (string_bytes text.new ≡ string_bytes text.old ++ spec.spelled choice.now) }
 {
-    match *choice {
-        Choice::Client(client) => push_lettered(alloc, text, "c", u64::from(client)),
-        Choice::Message(place) => push_lettered(alloc, text, "m", place),
-        Choice::Lost(place) => push_lettered(alloc, text, "l", place),
-        Choice::Repeated(_) => Ok(()),
-    }
+    let (letter, number) = match *choice {
+        Choice::Client(client) => ("c", u64::from(client)),
+        Choice::Message(place) => ("m", place),
+        Choice::Lost(place) => ("l", place),
+        Choice::Repeated(_) => return Ok(()),
+    };
+    let word = format!(in alloc; "{letter}{number}")?;
+    text.push_str(word.as_str())?;
+    Ok(())
 }
 
 /// Returns the words of choices, with one space between two.
