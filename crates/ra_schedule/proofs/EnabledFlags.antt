@@ -1,5 +1,6 @@
 -- The flags of the clients, and the numbers of those that are set.
 use Rattle.std.proofs.Common.{◌≡◌, ℕ, suc, ◌+◌, ◌<◌, ◌≤◌, Bool, true, false, Option, Some, None, List, [], ◌∷◌, ◌++◌, length, drop, slice_index_or, slice_set, refl, sym, ap, ◌∙◌, subst, append_assoc, arith, IsTrue}
+use mir.Val.{bool_byte}
 use Rattle.std.specs.Prelude.{if◌then◌else◌, sum_by}
 use Rattle.std.specs.Option.{IfSome, is_some}
 use Rattle.std.specs.Prelude.{IsNone}
@@ -17,6 +18,11 @@ use Rattle.ra_schedule.proofs.EnabledLists.{AreEnabledUpTo, none_so_far, one_mor
 
 abbrev pub bit : Bool → ℕ
 bit flag = if flag then 1 else 0
+
+-- a flag as a number
+pub bit_of : (flag : Bool) → bool_byte flag ≡ bit flag
+bit_of true = refl
+bit_of false = refl
 
 pub bit_at_most : (flag : Bool) → bit flag ≤ 1
 bit_at_most true = omega arith
@@ -44,14 +50,6 @@ count_set flags place on d within =
     let new = how_many 1 (slice_set flags place on) in
     let sum = sum_by-set bit flags place on d within in
     omega arith
-
--- one more after them
-pub count_push : (n : ℕ) (flags : List Bool) (on : Bool)
-    → length (numbers_from n (flags ++ on ∷ [])) ≡ length (numbers_from n flags) + bit on
-count_push n [] true = refl
-count_push n [] false = refl
-count_push n (true ∷ flags) on = let rest = count_push (n + 1) flags on in omega arith
-count_push n (false ∷ flags) on = let rest = count_push (n + 1) flags on in omega arith
 
 -- ---- Whether one is set
 

@@ -15,22 +15,20 @@ err_as {X} {Y} {d} {e} h = let same : d ≡ e = cc in ap Err same
 pub no_ok : {X : Type 0} {x : X} {e : DriveError} → Ok x ≡ Err e → ⊥
 no_ok h = absurd cc
 
+-- what was not refused was done
+pub not_refused : (driven : Result (Unit {0}) DriveError) → ((fault : DriveError) → driven ≡ Err fault → ⊥) → driven ≡ Ok tt
+not_refused (Ok done) not = refl
+not_refused (Err fault) not = absurd (not fault refl)
+
 -- it is refused for one fault
 pub one_refusal : {X : Type 0} (s : Result X DriveError) (d e : DriveError) → s ≡ Err d → s ≡ Err e → d ≡ e
 one_refusal s d e f g = cc
-
--- a turn within the limit leaves as many moves as turns
-pub still_within : (moves turns limit : ℕ) → moves ≡ turns → turns < limit → moves ≤ limit
-still_within moves turns limit is less = omega arith
 
 -- a turn within the limit can be counted
 pub countable_turn : (moves turns limit : ℕ) → moves ≡ turns → turns < limit → limit < 2 ^ 64 → moves + 1 < 2 ^ 64
 countable_turn moves turns limit is less fits = omega (arith, is, less, fits)
 
--- after the last turn there are as many moves as the limit
-pub last_turn : (turns limit : ℕ) → limit ≤ turns → turns ≤ limit → turns ≡ limit
-last_turn turns limit over within = omega arith
-
+-- there are as many moves as turns
 pub all_turns : (moves turns limit : ℕ) → moves ≡ turns → turns ≤ limit → moves ≤ limit
 all_turns moves turns limit is within = omega arith
 

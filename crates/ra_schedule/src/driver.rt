@@ -20,9 +20,7 @@ ghost use Rattle.ra_schedule.specs.Driving.{IsDriven, IsReady, IsAtEnd, IsMeanin
 
 use crate::choice::picking::{Picked, pick};
 use crate::choice::random_state::{RandomState, note_step_in};
-use crate::driver::client_progress::{
-    Progress, first_entered, first_free, note_move, opening_progress,
-};
+use crate::driver::client_progress::{Progress, first_entered, first_free, note_move};
 use crate::{Choice, Choices, DriveError, Policy, Script};
 use ra_stamp::Memory;
 use ra_world::{Step, Steps, World};
@@ -63,7 +61,11 @@ impl Driver {
         ensures ready { IfOk result (IsReady script.now policy.now world.now) }
         ensures records { IfOk result (λ driver. driver.records ≡ records) }
     {
-        let clients = opening_progress(alloc, script.clients())?;
+        let idle = Progress {
+            done: 0,
+            waiting: false,
+        };
+        let clients = vec![in alloc; idle; script.clients() as usize]?;
         let draws = RandomState::of(alloc, policy, script, world, &clients)?;
         let steps = Steps::new(alloc);
         let choices = Choices::new(alloc);
@@ -98,17 +100,15 @@ impl Driver {
         // Memory ran out at a turn within the limit whose choice can be made.
         ensures memory { IsErrOf result DriveError.Memory → IsHeldUp script.now policy.now limit world.new.moves }
     {
-        for _turn in 0..limit {
-            let chosen = self.next_choice(script, policy, world);
-            let Some(picked) = &chosen else {
-                return Ok(());
-            };
+        let mut turns = 0;
+        while let Some(picked) = &self.next_choice(script, policy, world) {
+            if turns == limit {
+                return Err(DriveError::TurnLimit);
+            }
             self.take_step(alloc, script, world, picked)?;
+            turns += 1;
         }
-        match self.next_choice(script, policy, world) {
-            None => Ok(()),
-            Some(_) => Err(DriveError::TurnLimit),
-        }
+        Ok(())
     }
 
     /// Returns the choice that the policy makes next, with its meaning, or `None` at the end.

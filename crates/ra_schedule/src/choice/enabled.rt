@@ -1,5 +1,5 @@
 //! Which clients are enabled, kept from turn to turn.
-ghost use Rattle.std.specs.Prelude.{◌≡◌, ◌≢◌, ◌⊎◌, ◌+◌, ◌<◌, ℕ, Bool, if◌then◌else◌, All, Contains, length, slice_get, slice_index_or, IfOk};
+ghost use Rattle.std.specs.Prelude.{◌≡◌, ◌≢◌, ◌⊎◌, ◌+◌, ◌<◌, ℕ, Bool, All, Contains, length, slice_get, slice_index_or, IfOk};
 ghost use Rattle.ra_schedule.specs.Schedule.{Enters};
 ghost use Rattle.ra_schedule.specs.Progress.{Tracks};
 ghost use Rattle.ra_schedule.specs.Enabled.{AreFlags, IsFlag, numbers_from};
@@ -36,14 +36,12 @@ impl Enabled {
         ensures flags { IfOk result (λ enabled. AreFlags script.now world.now.moves enabled.flags.items) }
         ensures count { IfOk result (λ enabled. enabled.count ≡ length (numbers_from 1 enabled.flags.items)) }
     {
-        let mut flags = Vec::with_capacity(alloc, clients.len())?;
-        let mut count = 0;
+        let flags = vec![in alloc; false; clients.len()]?;
+        let mut enabled = Enabled { flags, count: 0 };
         for place in 0..script.clients() {
-            let on = enabled_step(script, world, place + 1, clients[place as usize]).is_some();
-            flags.push(on)?;
-            count += one_if(on);
+            enabled.look_at(script, world, clients, place + 1);
         }
-        Ok(Enabled { flags, count })
+        Ok(enabled)
     }
 
     /// Returns the enabled client with this number, counted from 0 in the order of the script, or `None` past the last one.
@@ -128,15 +126,8 @@ impl Enabled {
             let place = client as usize - 1;
             let on = enabled_step(script, world, client, clients[place]).is_some();
             let was = self.flags[place];
-            self.count = self.count + one_if(on) - one_if(was);
+            self.count = self.count + u32::from(on) - u32::from(was);
             self.flags[place] = on;
         }
     }
-}
-
-/// Returns 1 for true, and otherwise 0.
-fn one_if(flag: bool) -> u32
-    ensures { result ≡ if flag then 1 else 0 }
-{
-    if flag { 1 } else { 0 }
 }

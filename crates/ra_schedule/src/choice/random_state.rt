@@ -42,8 +42,11 @@ impl RandomState {
         ensures generator { IfOk result (λ draws. generator_in draws ≡ generator_at policy.now 0) }
         ensures draws { IfOk result (λ draws. IfSome draws (AreDraws script.now world.now.moves)) }
     {
-        let Some(generator) = generator_of(policy) else {
-            return Ok(None);
+        let generator = match policy {
+            Policy::Seeded(seed) | Policy::Faulty { seed, .. } => {
+                Lcg128Xsl64::seed_from_u64(*seed)
+            }
+            _ => return Ok(None),
         };
         let node_clients = node_clients_of(alloc, script)?;
         let enabled = Enabled::of(alloc, script, world, clients)?;
@@ -76,16 +79,4 @@ pub fn note_step_in(
     let members = members_at(&draws.node_clients, node_at(step));
     draws.enabled.look_at_all(script, world, clients, members);
     draws.enabled.look_at_entered(script, world, clients, marks);
-}
-
-/// Returns the generator that a policy begins with, if it has one.
-fn generator_of(policy: &Policy) -> Option<Lcg128Xsl64>
-    ensures { result ≡ generator_at policy.now 0 }
-{
-    match policy {
-        Policy::Seeded(seed) | Policy::Faulty { seed, .. } => {
-            Some(Lcg128Xsl64::seed_from_u64(*seed))
-        }
-        _ => None,
-    }
 }

@@ -1,12 +1,11 @@
 //! How far the clients are.
-ghost use Rattle.std.specs.Prelude.{◌≡◌, ◌≢◌, ◌+◌, ◌<◌, ◌≤◌, ◌||◌, ℕ, length, replicate, false, slice_index_or, IfOk};
+ghost use Rattle.std.specs.Prelude.{◌≡◌, ◌≢◌, ◌+◌, ◌<◌, ◌≤◌, ◌||◌, ℕ, length, false, slice_index_or};
 ghost use Rattle.ra_world.specs.Traffic.{Move};
 ghost use Rattle.ra_schedule.specs.Progress.{IsAfterStep, IsAfterMarks, IsProgressAfter, OfEach, AreCountable, AreStuck, NoneEnters};
 
 use crate::Script;
-use ra_stamp::{Mark, Memory};
+use ra_stamp::Mark;
 use ra_world::Step;
-use std::alloc::Global;
 
 /// How far a client is in its list.
 #[derive(Clone, Copy)]
@@ -15,22 +14,6 @@ pub struct Progress {
     pub done: u64,
     /// Whether it has asked and not entered since.
     pub waiting: bool,
-}
-
-/// Makes the progress of clients that have done nothing yet.
-///
-/// # Errors
-///
-/// `Memory`: memory ran out.
-pub fn opening_progress(alloc: Global, clients: u32) -> Result<Vec<Progress>, Memory>
-    ensures { IfOk result (λ list. list.items ≡ replicate clients (record { done = 0; waiting = false })) }
-{
-    let idle = Progress {
-        done: 0,
-        waiting: false,
-    };
-    let list = vec![in alloc; idle; clients as usize]?;
-    Ok(list)
 }
 
 /// Returns the place of the first client that does not wait and has something left to do, or the number of clients if there is

@@ -6,7 +6,7 @@ use Rattle.ra_schedule.specs.declared.choice.Policy.TheVariants.{Oldest, Newest,
 use Rattle.ra_schedule.specs.Seeds.{generator_after}
 use Rattle.ra_schedule.specs.PolicyState.{generator_at}
 use Rattle.ra_schedule.proofs.PolicyGenerator.{begins}
-use Rattle.ra_schedule.proofs.choice.random_state.generator_of.Goals as goal
+use Rattle.ra_schedule.proofs.choice.random_state.RandomState.of.Goals as goal
 
 -- a policy that has no seed has no generator
 no_generator : (policy : Policy) → ((seed : ℕ) → policy ≡ Seeded seed → ⊥) → ((seed : ℕ) (faults : FaultRates) → policy ≡ Faulty seed faults → ⊥)
@@ -22,9 +22,9 @@ has_generator : (policy : Policy) (seed : ℕ) → (policy ≡ Seeded seed) ⊎ 
 has_generator policy seed (inl is) = ap (λ (p : Policy). generator_at p 0) (sym is)
 has_generator policy seed (inr (faults, is)) = ap (λ (p : Policy). generator_at p 0) (sym is)
 
-pub returns-in-Seeded : goal.returns-in-Seeded
-returns-in-Seeded c =
-    ap (λ (g : Lcg). Some g) (c.seed_from_u64.ensures ∙ begins c.in-Seeded.seed) ∙ has_generator c.args.policy.now c.in-Seeded.seed c.in-Seeded.is
+pub returns-in_default-clause-generator : goal.returns-in_default-clause-generator
+returns-in_default-clause-generator c = no_generator c.args.policy.now c.in_default.not-Seeded c.in_default.not-Faulty
 
-pub returns-in_default : goal.returns-in_default
-returns-in_default c = no_generator c.args.policy.now c.in_default.not-Seeded c.in_default.not-Faulty
+pub returns-clause-generator : goal.returns-clause-generator
+returns-clause-generator c =
+    ap (λ (g : Lcg). Some g) (c.seed_from_u64-generator.ensures ∙ begins c.in-Seeded.seed) ∙ has_generator c.args.policy.now c.in-Seeded.seed c.in-Seeded.is
