@@ -209,8 +209,10 @@ impl Script {
         ensures value { result ≡ option_map (λ c. c.node) (client_at self.now client) }
         ensures script { IsScript self.now }
     {
-        let client = self.client(client)?;
-        Some(client.node)
+        match self.client(client) {
+            Some(client) => Some(client.node),
+            None => None,
+        }
     }
 
     /// Returns how many operations the client with this number has, at most 1,024, or `None` if there is no such client.
@@ -219,8 +221,10 @@ impl Script {
         ensures value { result ≡ option_map (λ c. length c.ops) (client_at self.now client) }
         ensures script { IsScript self.now }
     {
-        let client = self.client(client)?;
-        Some(client.ops.len() as u64)
+        match self.client(client) {
+            Some(client) => Some(client.ops.len() as u64),
+            None => None,
+        }
     }
 
     /// Returns the operation at this place, counted from 0, of the client with this number, or `None` if there is no such
@@ -229,16 +233,20 @@ impl Script {
         ensures value { result ≡ op_at self.now client place }
         ensures script { IsScript self.now }
     {
-        let client = self.client(client)?;
-        client.ops.get(place as usize).copied()
+        match self.client(client) {
+            Some(client) => client.ops.get(place as usize).copied(),
+            None => None,
+        }
     }
 
     /// Returns the operations of the client with this number, or `None` if there is no such client.
     fn ops(&self, client: u32) -> Option<&[Op]>
         ensures { option_copied result ≡ option_map (λ c. c.ops) (client_at self.now client) }
     {
-        let client = self.client(client)?;
-        Some(&client.ops)
+        match self.client(client) {
+            Some(client) => Some(&client.ops),
+            None => None,
+        }
     }
 
     /// Returns the client with this number, or `None`.
