@@ -1,7 +1,7 @@
 //! Whether the clients of a script take their names in order and give them back, and if not, where.
 ghost use Rattle.std.specs.Prelude.{◌≡◌, ◌↔◌, ◌<◌, ◌≤◌, ℕ, List, length, IsTrue, IsNone, IsSome, IfSome};
 ghost use Rattle.ra_schedule.specs.LockOrder.{IsOf, IsOutOfOrder, IsUnreleased, LocksOutOfOrder, EndsHolding, LocksAt, LocksBelow, NeverUnlocks, IsFirstBelow, IsFirstNeverUnlocked, IsFirstOutOfOrder, IsFirstUnreleased};
-ghost use Rattle.ra_schedule.specs.LockSearch.{LocksNotAbove, NoneBelow};
+ghost use Rattle.ra_schedule.specs.LockSearch.{NoneBelow};
 
 use crate::{Op, Script};
 use ra_stamp::Name;
@@ -119,12 +119,10 @@ fn locks_below(ops: &[Op], since: usize, end: usize) -> Option<usize>
 {
     let held = locked_at(ops, since)?;
     for place in since + 1..end {
-        let op = &ops[place];
-        if *op == Op::Unlock(held) {
-            return None;
-        }
-        if locks_not_above(op, &held) {
-            return Some(place);
+        match &ops[place] {
+            Op::Unlock(name) if *name == held => return None,
+            Op::Lock(name, _) if !(held < *name) => return Some(place),
+            _ => {}
         }
     }
     None
@@ -138,16 +136,6 @@ fn locked_at(ops: &[Op], place: usize) -> Option<Name>
     match ops.get(place)? {
         Op::Lock(name, _) => Some(*name),
         Op::Unlock(_) => None,
-    }
-}
-
-/// Returns whether an operation locks a name that is not above the other one.
-fn locks_not_above(op: &Op, held: &Name) -> bool
-    ensures { IsTrue result ↔ LocksNotAbove op.now held.now }
-{
-    match op {
-        Op::Lock(name, _) => !(held < name),
-        Op::Unlock(_) => false,
     }
 }
 
