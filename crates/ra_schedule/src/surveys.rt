@@ -4,9 +4,9 @@ pub mod observer;
 pub mod seed_outcomes;
 pub mod seed_range;
 
-ghost use Rattle.std.specs.Prelude.{◌≡◌, ◌+◌, ◌-◌, ℕ, List, [], ◌∷◌, IfOk, OnOk, OnErr};
+ghost use Rattle.std.specs.Prelude.{◌≡◌, ◌+◌, ◌-◌, IfOk, OnOk, OnErr};
 ghost use Rattle.ra_schedule.specs.Survey.{IsOutcome, IsSurvey, SeedsFinish};
-ghost use Rattle.ra_schedule.specs.Telling.{Tells, TellsSeeds, TellsSomeSeeds};
+ghost use Rattle.ra_schedule.specs.Telling.{TellsSeeds, TellsSomeSeeds};
 ghost use Rattle.ra_schedule.specs.Survey as spec;
 
 use crate::surveys::observer::Observer;
@@ -25,7 +25,7 @@ pub fn chance(faults: Option<Faults>, seed: u64) -> Policy
     }
 }
 
-/// Returns what comes of a script under a policy, within `limit` turns.
+/// Returns what comes of a script by chance under a seed, with faults or without, within `limit` turns.
 ///
 /// # Errors
 ///
@@ -33,12 +33,13 @@ pub fn chance(faults: Option<Faults>, seed: u64) -> Policy
 pub fn outcome_of(
     alloc: Global,
     script: &Script,
-    policy: &Policy,
+    faults: &Option<Faults>,
+    seed: u64,
     limit: u64,
 ) -> Result<SeedOutcome, Memory>
-    ensures { IfOk result (IsOutcome script.now policy.now limit) }
+    ensures { IfOk result (IsOutcome script.now (spec.chance faults.now seed) limit) }
 {
-    match summarize(alloc, script, policy, limit) {
+    match summarize(alloc, script, &chance(*faults, seed), limit) {
         Ok(summary) => {
             let figures = RunCost {
                 turns: summary.turns,
@@ -54,29 +55,6 @@ pub fn outcome_of(
         // Chance takes only choices that can be made.
         Err(_) => Err(Memory),
     }
-}
-
-/// Returns what comes of a script by chance under a seed, within `limit` turns, and tells it to an observer.
-///
-/// # Errors
-///
-/// `Memory`: then nothing is told.
-pub fn outcome_by<O: Observer>(
-    alloc: Global,
-    script: &Script,
-    faults: &Option<Faults>,
-    seed: u64,
-    limit: u64,
-    observer: &mut O,
-) -> Result<SeedOutcome, Memory>
-    ensures ok { IfOk result (IsOutcome script.now (spec.chance faults.now seed) limit) }
-    ensures told { IfOk result (λ outcome.
-        Tells (O.told observer.old) (O.told observer.new) (record { seed = seed; outcome = outcome } ∷ [])) }
-    ensures err { OnErr result (observer.new ≡ observer.old) }
-{
-    let outcome = outcome_of(alloc, script, &chance(*faults, seed), limit)?;
-    observer.ended(seed, outcome);
-    Ok(outcome)
 }
 
 /// Drives a cluster through a script by chance, with faults or without, under each seed of a range, each within `limit` turns, and
@@ -103,12 +81,13 @@ pub fn survey<O: Observer>(
 {
     script.is_within_its_limits();
     let SeedRange { first, last } = seeds;
-    if last < first {
-        return Ok(no_survey());
-    }
     let mut survey = no_survey();
+    if last < first {
+        return Ok(survey);
+    }
     for seed in first..=last {
-        let outcome = outcome_by(alloc, script, &faults, seed, limit, observer)?;
+        let outcome = outcome_of(alloc, script, &faults, seed, limit)?;
+        observer.ended(seed, outcome);
         survey = with_outcome(survey, seed, outcome);
     }
     Ok(survey)

@@ -5,7 +5,7 @@ ghost use Rattle.ra_schedule.specs.Finding as spec;
 ghost use Rattle.ra_schedule.specs.Telling.{TellsSeeds, TellsSomeSeeds, tried};
 
 use crate::surveys::observer::Observer;
-use crate::surveys::outcome_by;
+use crate::surveys::outcome_of;
 use crate::surveys::seed_outcomes::SeedOutcome;
 use crate::{Faults, Script, SeedRange};
 use ra_stamp::Memory;
@@ -56,7 +56,8 @@ pub fn first_seed<O: Observer>(
         return Ok(None);
     }
     for seed in first..=last {
-        let outcome = outcome_by(alloc, script, &faults, seed, limit, observer)?;
+        let outcome = outcome_of(alloc, script, &faults, seed, limit)?;
+        observer.ended(seed, outcome);
         if is_end(ending, outcome) {
             return Ok(Some(seed));
         }

@@ -1,9 +1,8 @@
-use Rattle.std.proofs.Common.{◌≡◌, ℕ, ◌+◌, ◌-◌, Option, List, sym, ap, subst, ◌∙◌, arith}
+use Rattle.std.proofs.Common.{◌≡◌, ℕ, ◌+◌, ◌-◌, sym, subst, ◌∙◌, arith}
 use Rattle.std.proofs.lemmas.Result.{err_from_is_err_and}
 use Rattle.ra_schedule.specs.Finding.{NoneBefore}
-use Rattle.ra_schedule.specs.Telling.{Told}
 use Rattle.ra_schedule.proofs.FirstSeed.{one_more, none_before, none_past, no_seeds, tried_to, from_first}
-use Rattle.ra_schedule.proofs.ToldSeeds.{ToldSoFar, told_none, told_more, tells_seeds, tells_some}
+use Rattle.ra_schedule.proofs.ToldSeeds.{told_none, told_more, tells_seeds, tells_some}
 use Rattle.ra_schedule.proofs.surveys.first_seed.first_seed.Goals as goal
 
 pub loop-seed-init : goal.loop-seed-init
@@ -14,9 +13,9 @@ pub loop-seed-preserved : goal.loop-seed-preserved
 loop-seed-preserved g c =
     let (before, told) = c.loop-seed.invariant in (
       one_more c.args.script.now c.args.faults c.args.limit c.args.ending c.args.seeds.first c.loop-seed.seed before
-          (c.in_ok-outcome.outcome, c.in_ok-outcome.ensures.ok, sym c.is_end.ensures ∙ c.if-is_end.false),
+          (c.in_ok-outcome.outcome, c.in_ok-outcome.ensures, sym c.is_end.ensures ∙ c.if-is_end.false),
       told_more c.args.script.now c.args.faults c.args.limit c.args.seeds.first c.loop-seed.seed _ _ _ c.in_ok-outcome.outcome told
-          c.in_ok-outcome.ensures.ok c.in_ok-outcome.ensures.told,
+          c.in_ok-outcome.ensures c.ended.ensures,
     )
 
 pub returns-in_err-outcome-clause-ok : goal.returns-in_err-outcome-clause-ok
@@ -31,16 +30,14 @@ pub returns-in_err-outcome-clause-err : goal.returns-in_err-outcome-clause-err
 returns-in_err-outcome-clause-err g c =
     let p = err_from_is_err_and c.from_residual.result c.from_residual.ensures.1 in
     let (before, told) = c.loop-seed.invariant in
-    rw p.1 (tells_some c.args.script.now c.args.faults c.args.limit c.args.seeds.first c.loop-seed.seed c.args.seeds.last _ _
-    (subst (λ (now : Option (List Told)). ToldSoFar c.args.script.now c.args.faults c.args.limit c.args.seeds.first c.loop-seed.seed (g.O.Observer.told c.args.observer.now) now)
-    (sym (ap g.O.Observer.told c.in_err-outcome.ensures.err)) told) (omega (arith, c.loop-seed-test.true)))
+    rw p.1 (tells_some c.args.script.now c.args.faults c.args.limit c.args.seeds.first c.loop-seed.seed c.args.seeds.last _ _ told (omega (arith, c.loop-seed-test.true)))
 
 pub returns-then-is_end-clause-ok : goal.returns-then-is_end-clause-ok
 returns-then-is_end-clause-ok g c =
     let (before, told) = c.loop-seed.invariant in (
       from_first c.args.seeds.first c.loop-seed.seed _ told.seeds,
       omega (arith, c.loop-seed-test.true),
-      (c.in_ok-outcome.outcome, c.in_ok-outcome.ensures.ok, sym c.is_end.ensures ∙ c.if-is_end.true),
+      (c.in_ok-outcome.outcome, c.in_ok-outcome.ensures, sym c.is_end.ensures ∙ c.if-is_end.true),
       before,
     )
 
@@ -49,7 +46,7 @@ returns-then-is_end-clause-told g c =
     let (before, told) = c.loop-seed.invariant in
     tells_seeds c.args.script.now c.args.faults c.args.limit c.args.seeds.first (c.loop-seed.seed + 1) _ _ _
     (told_more c.args.script.now c.args.faults c.args.limit c.args.seeds.first c.loop-seed.seed _ _ _ c.in_ok-outcome.outcome told
-    c.in_ok-outcome.ensures.ok c.in_ok-outcome.ensures.told) (tried_to c.args.seeds.first c.loop-seed.seed _ told.seeds)
+    c.in_ok-outcome.ensures c.ended.ensures) (tried_to c.args.seeds.first c.loop-seed.seed _ told.seeds)
 
 pub returns-then-last-first-clause-ok : goal.returns-then-last-first-clause-ok
 returns-then-last-first-clause-ok g c =
@@ -65,7 +62,7 @@ returns-else-is_end-clause-ok g c =
     let is : c.loop-seed.seed ≡ c.args.seeds.last = omega (arith, c.loop-seed-test.true, c.if-seed-last.false) in
     subst (λ (seed : ℕ). NoneBefore c.args.script.now c.args.faults c.args.limit c.args.ending c.args.seeds.first (seed + 1)) is
     (one_more c.args.script.now c.args.faults c.args.limit c.args.ending c.args.seeds.first c.loop-seed.seed before
-    (c.in_ok-outcome.outcome, c.in_ok-outcome.ensures.ok, sym c.is_end.ensures ∙ c.if-is_end.false))
+    (c.in_ok-outcome.outcome, c.in_ok-outcome.ensures, sym c.is_end.ensures ∙ c.if-is_end.false))
 
 pub returns-else-is_end-clause-told : goal.returns-else-is_end-clause-told
 returns-else-is_end-clause-told g c =
@@ -74,4 +71,4 @@ returns-else-is_end-clause-told g c =
     let all : c.args.seeds.first + (c.args.seeds.last + 1 - c.args.seeds.first) ≡ c.loop-seed.seed + 1 = omega (arith, is, told.seeds) in
     tells_seeds c.args.script.now c.args.faults c.args.limit c.args.seeds.first (c.loop-seed.seed + 1) _ _ _
     (told_more c.args.script.now c.args.faults c.args.limit c.args.seeds.first c.loop-seed.seed _ _ _ c.in_ok-outcome.outcome told
-    c.in_ok-outcome.ensures.ok c.in_ok-outcome.ensures.told) all
+    c.in_ok-outcome.ensures c.ended.ensures) all
