@@ -183,24 +183,11 @@ pub fn ended(
         → IfOk driven (λ _. IsThrough script.now policy limit records cluster)
         → IfOk result (λ of. IsWholeRun script.now policy limit cluster.world.moves of.report of.finished) }
 {
-    match driven {
-        Ok(()) => Ok(driven_of(script, cluster)),
-        Err(fault) => {
-            // A report owns little that is to be given back, and a world much.
-            let _report = cluster.world.into_report();
-            Err(fault)
-        }
+    if let Err(fault) = driven {
+        // A report owns little that is to be given back, and a world much.
+        let _report = cluster.world.into_report();
+        return Err(fault);
     }
-}
-
-/// Returns what a policy made of a script. It takes no memory.
-fn driven_of(script: &Script, cluster: DrivenCluster) -> Driven
-    requires { Tracks script.now cluster.world cluster.driver.clients.items }
-    ensures run { (policy : Policy) (limit : ℕ) (records : Bool) → IsThrough script.now policy limit records cluster
-        → IsWholeRun script.now policy limit cluster.world.moves result.report result.finished }
-    ensures made { (policy : Policy) (limit : ℕ) (records : Bool) → IsThrough script.now policy limit records cluster
-        → Records script.now policy limit records result }
-{
     let DrivenCluster { world, driver } = cluster;
     let Driver {
         clients,
@@ -211,29 +198,26 @@ fn driven_of(script: &Script, cluster: DrivenCluster) -> Driven
     let stuck = is_stuck(script, &world, &clients);
     let turns = world.steps();
     let report = world.into_report();
-    let finished = has_nothing_left(&report) && are_done(script, &clients);
-    Driven {
+    let finished = is_finished(script, &clients, &report);
+    Ok(Driven {
         steps,
         choices,
         turns,
         report,
         finished,
         stuck,
-    }
+    })
 }
 
-/// Returns whether nothing waits, is queued or under way.
-fn has_nothing_left(report: &Report) -> bool
-    ensures { IsTrue result ↔ ((report.now.waiting ≡ 0) × (report.now.queued ≡ 0) × (report.now.under_way ≡ 0)) }
-{
-    report.waiting == 0 && report.queued == 0 && report.under_way == 0
-}
-
-/// Returns whether each client has done all that it has to do.
-fn are_done(script: &Script, clients: &[Progress]) -> bool
+/// Returns whether each client has done all that it has to do, and nothing waits, is queued or under way.
+fn is_finished(script: &Script, clients: &[Progress], report: &Report) -> bool
     requires { length clients.now ≡ length script.now.clients }
-    ensures { IsTrue result ↔ AreDone script.now clients.now }
+    ensures { IsTrue result ↔ ((report.now.waiting ≡ 0) × (report.now.queued ≡ 0) × (report.now.under_way ≡ 0)
+        × AreDone script.now clients.now) }
 {
+    if report.waiting != 0 || report.queued != 0 || report.under_way != 0 {
+        return false;
+    }
     for place in 0..script.clients() {
         if script.ops_of(place + 1) != Some(clients[place as usize].done) {
             return false;

@@ -11,7 +11,6 @@ use crate::driver::client_state::client_lines;
 use crate::driver::drive_script::{Driven, DrivenCluster, ended, opened};
 use crate::script::script_names::names_of;
 use crate::{DriveError, Policy, Script};
-use ra_stamp::Memory;
 use std::alloc::Global;
 
 /// The state at the end of what a policy made of a script.
@@ -64,27 +63,15 @@ fn text_of(
     ensures ok { IfOk result (λ text. ShowsState script.now cluster.now.world.moves (string_bytes text)) }
     ensures err { IfErr result (λ fault. (driven ≡ Err fault) ⊎ (fault ≡ DriveError.Memory)) }
 {
-    match driven {
-        Ok(()) => Ok(lines_of(alloc, script, cluster)?),
-        Err(fault) => Err(fault),
+    if let Err(fault) = driven {
+        return Err(fault);
     }
-}
-
-/// Returns the lines of the state at the end of a run whose steps were recorded.
-///
-/// # Errors
-///
-/// `Memory`: there is none for them.
-fn lines_of(alloc: Global, script: &Script, cluster: &DrivenCluster) -> Result<String, Memory>
-    requires tracked { Tracks script.now cluster.now.world cluster.now.driver.clients.items }
-    requires steps { cluster.now.driver.steps.items ≡ steps_of cluster.now.world.moves }
-    ensures { IfOk result (λ text. ShowsState script.now cluster.now.world.moves (string_bytes text)) }
-{
     let DrivenCluster { world, driver } = cluster;
     let names = names_of(alloc, script)?;
     let steps = driver.steps.as_slice();
     let clients = client_lines(alloc, script, world, steps, &driver.clients)?;
-    world.state_text(alloc, &names, clients.as_str())
+    let text = world.state_text(alloc, &names, clients.as_str())?;
+    Ok(text)
 }
 
 /// Returns the lines of a state with what else is told of the run.

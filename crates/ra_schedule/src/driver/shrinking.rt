@@ -1,6 +1,5 @@
 //! A run that is stuck, made shorter step by step.
-ghost use Rattle.std.specs.Prelude.{◌≡◌, ◌<◌, ◌≤◌, List, [], length, Ok, true, false, IfOk, OnOk, MatchOption};
-ghost use Rattle.ra_world.specs.Run.{IsRun};
+ghost use Rattle.std.specs.Prelude.{◌≡◌, ◌<◌, ◌≤◌, List, length, Ok, true, false, IfOk, OnOk, MatchOption};
 ghost use Rattle.ra_world.specs.Traffic.{Move};
 ghost use Rattle.ra_schedule.specs.Drive.{Drives};
 ghost use Rattle.ra_schedule.specs.Shrinking.{IsShrunk, IsInVain, IsLeast, IsLeastOf, cut};
@@ -8,11 +7,11 @@ ghost use Rattle.ra_schedule.specs.Shrinking as spec;
 ghost use Rattle.ra_schedule.specs.Replaying.{IsStuckList, IsShorter, AreInVain, IsShorterRunOf};
 
 use crate::driver::Driver;
-use crate::driver::drive_script::{Driven, drive_through};
+use crate::driver::drive_script::{Driven, DrivenCluster, drive_through, opened};
 use crate::driver::replaying::replay;
 use crate::{Choices, DriveError, Policy, Script};
 use ra_stamp::Memory;
-use ra_world::{Step, Steps, World};
+use ra_world::{Step, Steps};
 use std::alloc::Global;
 
 /// What a run is shrunk to.
@@ -97,29 +96,6 @@ fn list_if(keeps: Result<bool, Memory>, list: Listed) -> Result<Option<Listed>, 
     }
 }
 
-/// Replays steps in a cluster in which nothing has happened yet, and returns the run if it is stuck and has fewer steps than the limit.
-///
-/// # Errors
-///
-/// `Memory`: memory ran out.
-fn replay_in(
-    alloc: Global,
-    script: &Script,
-    steps: &[Step],
-    limit: u64,
-    world: &mut World,
-) -> Result<Option<Listed>, Memory>
-    requires run { IsRun world.old.count world.old.start world.old.moves }
-    requires opened { world.old ≡ record { count = script.now.nodes; start = 0; moves = [] } }
-    ensures { IfOk result (λ found. MatchOption found (IsInVain script.now steps.now limit) (IsShorter script.now steps.now limit)) }
-{
-    let mut driver = Driver::open(alloc, script, &Policy::Oldest, world, true)?;
-    let is_shorter = replay(alloc, script, world, &mut driver, steps, limit);
-    // It is taken apart before any exit, since it owns much that is to be given back at each.
-    let Driver { steps, choices, .. } = driver;
-    list_if(is_shorter, Listed { steps, choices })
-}
-
 /// Replays steps without the one at a place, and returns the run if it is stuck and has fewer steps than there were.
 ///
 /// # Errors
@@ -136,19 +112,20 @@ fn try_without(
         (IsShorter script.now (cut steps.now place) (length steps.now))) }
 {
     let left = cut_of(alloc, steps, place)?;
-    let Ok(mut world) = World::new(alloc, script.nodes(), 0) else {
-        return Err(Memory);
-    };
-    let found = replay_in(
+    let mut cluster = opened(alloc, script, &Policy::Oldest, true)?;
+    let is_shorter = replay(
         alloc,
         script,
+        &mut cluster.world,
+        &mut cluster.driver,
         left.as_slice(),
         steps.len() as u64,
-        &mut world,
     );
-    // It is not returned. But a report owns little that is to be given back at this exit, and a world much.
+    // It is taken apart before the exit, since a world owns much that is to be given back, and a report little.
+    let DrivenCluster { world, driver } = cluster;
     let _report = world.into_report();
-    found
+    let Driver { steps, choices, .. } = driver;
+    list_if(is_shorter, Listed { steps, choices })
 }
 
 /// Returns a shorter run that is stuck, the first one that is found if one step after the other is left out, from one place up to

@@ -2,7 +2,7 @@ use Rattle.std.proofs.Common.{◌≡◌, ℕ, ◌<◌, ◌+◌, Some, length, sl
 use Rattle.std.specs.Prelude.{option_map}
 use Rattle.ra_schedule.specs.declared.driver.client_progress.Progress.{Progress}
 use Rattle.ra_schedule.specs.Script.{client_at}
-use Rattle.ra_schedule.proofs.driver.drive_script.are_done.Given as goal
+use Rattle.ra_schedule.proofs.driver.drive_script.is_finished.Given as goal
 
 -- the clients so far are done
 abbrev pub invariant-loop-place : goal.invariant-loop-place
