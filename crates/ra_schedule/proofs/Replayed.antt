@@ -73,21 +73,54 @@ for_is_one moves (Lose message) a b (place, is, first) (place', is', first') =
 for_is_one moves (Repeat message) a b (place, is, first) (place', is', first') =
     is ∙ ap Repeated (first_is_one moves message place place' first first') ∙ sym is'
 
+-- the step takes this message
+abbrev pub Takes : Step → Sent → Type 0
+Takes (Ask node client name mode) message = ⊥
+Takes (Leave node client name) message = ⊥
+Takes (Deliver taken) message = taken ≡ message
+Takes (Lose taken) message = taken ≡ message
+Takes (Repeat taken) message = taken ≡ message
+
+pub takes_one : (step : Step) (taken message : Sent) → (step ≡ Deliver taken) ⊎ ((step ≡ Lose taken) ⊎ (step ≡ Repeat taken)) → message ≡ taken
+    → Takes step message
+takes_one step taken message (inl is) same = subst (λ (s : Step). Takes s message) (sym is) (sym same)
+takes_one step taken message (inr (inl is)) same = subst (λ (s : Step). Takes s message) (sym is) (sym same)
+takes_one step taken message (inr (inr is)) same = subst (λ (s : Step). Takes s message) (sym is) (sym same)
+
+-- the choice that takes the message at this place as the step did
+abbrev pub taken_at : Step → ℕ → Choice
+taken_at (Ask node client name mode) place = Message place
+taken_at (Leave node client name) place = Message place
+taken_at (Deliver taken) place = Message place
+taken_at (Lose taken) place = Lost place
+taken_at (Repeat taken) place = Repeated place
+
 -- if no message is alike, there is no choice for a step that takes one
-pub none_delivered : (moves : List Move) (step : Step) (message : Sent) (choice : Choice) → ((place : ℕ) → IsAlikeAt moves message place → ⊥)
-    → step ≡ Deliver message → IsFor moves step choice → ⊥
-none_delivered moves step message choice none is stands =
-    let (place, same, first) = subst (λ (s : Step). IsFor moves s choice) is stands in none place first.0
+pub none_for : (moves : List Move) (step : Step) (message : Sent) (choice : Choice) → ((place : ℕ) → IsAlikeAt moves message place → ⊥)
+    → Takes step message → IsFor moves step choice → ⊥
+none_for moves (Ask node client name mode) message choice none takes stands = takes
+none_for moves (Leave node client name) message choice none takes stands = takes
+none_for moves (Deliver taken) message choice none takes (place, same, first) = none place (subst (λ (m : Sent). IsAlikeAt moves m place) takes first.0)
+none_for moves (Lose taken) message choice none takes (place, same, first) = none place (subst (λ (m : Sent). IsAlikeAt moves m place) takes first.0)
+none_for moves (Repeat taken) message choice none takes (place, same, first) = none place (subst (λ (m : Sent). IsAlikeAt moves m place) takes first.0)
 
-pub none_lost : (moves : List Move) (step : Step) (message : Sent) (choice : Choice) → ((place : ℕ) → IsAlikeAt moves message place → ⊥)
-    → step ≡ Lose message → IsFor moves step choice → ⊥
-none_lost moves step message choice none is stands =
-    let (place, same, first) = subst (λ (s : Step). IsFor moves s choice) is stands in none place first.0
+-- otherwise the first one is taken
+pub first_for : (moves : List Move) (step : Step) (message : Sent) (place : ℕ) (choice : Choice) → Takes step message → IsFirstAlike moves message place
+    → choice ≡ taken_at step place → IsFor moves step choice
+first_for moves (Ask node client name mode) message place choice takes first is = absurd takes
+first_for moves (Leave node client name) message place choice takes first is = absurd takes
+first_for moves (Deliver taken) message place choice takes first is = (place, is, subst (λ (m : Sent). IsFirstAlike moves m place) (sym takes) first)
+first_for moves (Lose taken) message place choice takes first is = (place, is, subst (λ (m : Sent). IsFirstAlike moves m place) (sym takes) first)
+first_for moves (Repeat taken) message place choice takes first is = (place, is, subst (λ (m : Sent). IsFirstAlike moves m place) (sym takes) first)
 
-pub none_repeated : (moves : List Move) (step : Step) (message : Sent) (choice : Choice) → ((place : ℕ) → IsAlikeAt moves message place → ⊥)
-    → step ≡ Repeat message → IsFor moves step choice → ⊥
-none_repeated moves step message choice none is stands =
-    let (place, same, first) = subst (λ (s : Step). IsFor moves s choice) is stands in none place first.0
+-- a step that neither loses a message nor repeats one
+pub is_delivered : (step : Step) (place : ℕ) → ((message : Sent) → step ≡ Lose message → ⊥) → ((message : Sent) → step ≡ Repeat message → ⊥)
+    → Message place ≡ taken_at step place
+is_delivered (Ask node client name mode) place not_lost not_repeated = refl
+is_delivered (Leave node client name) place not_lost not_repeated = refl
+is_delivered (Deliver message) place not_lost not_repeated = refl
+is_delivered (Lose message) place not_lost not_repeated = absurd (not_lost message refl)
+is_delivered (Repeat message) place not_lost not_repeated = absurd (not_repeated message refl)
 
 -- ---- Choices that are made
 

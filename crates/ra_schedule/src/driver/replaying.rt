@@ -40,23 +40,17 @@ fn unnumbered(message: &Message) -> Message
     }
 }
 
-/// Returns whether a message is under way at this place that differs from this one at most in its number.
-fn is_alike_at(world: &World, place: u64, message: &Message) -> bool
-    ensures { IsTrue result ↔ IsAlikeAt world.now.moves message.now place }
-{
-    match world.message_at(place) {
-        Some(found) => unnumbered(&found) == unnumbered(message),
-        None => false,
-    }
-}
-
 /// Returns the place of the first message under way that differs from this one at most in its number, or `None`.
 fn place_like(world: &World, message: &Message) -> Option<u64>
     ensures some { IfSome result (IsFirstAlike world.now.moves message.now) }
     ensures none { IsNone result → (place : ℕ) → IsAlikeAt world.now.moves message.now place → ⊥ }
 {
+    let sought = unnumbered(message);
     for place in 0..world.under_way() {
-        if is_alike_at(world, place, message) {
+        let Some(found) = world.message_at(place) else {
+            continue;
+        };
+        if unnumbered(&found) == sought {
             return Some(place);
         }
     }
@@ -68,12 +62,20 @@ fn choice_for(world: &World, step: &Step) -> Option<Choice>
     ensures some { IfSome result (IsFor world.now.moves step.now) }
     ensures none { IsNone result → (choice : Choice) → IsFor world.now.moves step.now choice → ⊥ }
 {
-    match step {
-        Step::Ask { client, .. } | Step::Leave { client, .. } => Some(Choice::Client(*client)),
-        Step::Deliver(message) => Some(Choice::Message(place_like(world, message)?)),
-        Step::Lose(message) => Some(Choice::Lost(place_like(world, message)?)),
-        Step::Repeat(message) => Some(Choice::Repeated(place_like(world, message)?)),
-    }
+    let message = match step {
+        Step::Ask { client, .. } | Step::Leave { client, .. } => {
+            return Some(Choice::Client(*client));
+        }
+        Step::Deliver(message) | Step::Lose(message) | Step::Repeat(message) => message,
+    };
+    let Some(place) = place_like(world, message) else {
+        return None;
+    };
+    Some(match step {
+        Step::Lose(_) => Choice::Lost(place),
+        Step::Repeat(_) => Choice::Repeated(place),
+        _ => Choice::Message(place),
+    })
 }
 
 /// Makes a choice, if it can be made.
