@@ -47,20 +47,6 @@ EndsPart part false = All (λ byte. byte ≢ 10) part
 abbrev pub IsPart : ℕ → List ℕ → ℕ → Bool → Type 0
 IsPart most shown count is_over = (count ≤ length shown) × (count ≤ most) × EndsPart (take count shown) is_over
 
--- this many bytes were taken, and follow those from before
-abbrev pub TakesPart : ℕ → Option (List ℕ) → Option (List ℕ) → List ℕ → List ℕ → Result (ℕ × Bool) TraceError → Type 0
-TakesPart most old new before bytes (Ok taken) =
-    (part : List ℕ) × (bytes ≡ before ++ part) × (length part ≡ taken.0) × (taken.0 ≤ most) × Consumes old new part × EndsPart part taken.1
-TakesPart most old new before bytes (Err Read) = (bytes ≡ before) × Consumes old new []
-TakesPart most old new before bytes (Err Limit) = ⊥
-TakesPart most old new before bytes (Err Memory) = ⊥
-
--- these bytes of a line were taken so far: the line goes on, or it is over, or a fault occurred
-abbrev pub ReadsSoFar : ℕ → Option (List ℕ) → Option (List ℕ) → List ℕ → Result (Option LineEnd) TraceError → Type 0
-ReadsSoFar left old new bytes (Ok None) = TakesBytes left old new bytes × IsOpenLine bytes
-ReadsSoFar left old new bytes (Ok (Some end)) = ReadsLine left old new bytes (Ok end)
-ReadsSoFar left old new bytes (Err fault) = ReadsLine left old new bytes (Err fault)
-
 -- the line is over with its last byte, which is its line feed or its 128th byte
 abbrev pub IsOverLine : List ℕ → Type 0
 IsOverLine bytes =

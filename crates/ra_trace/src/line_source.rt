@@ -1,13 +1,14 @@
 //! How the next line comes out of a reader.
-pub mod buffered_lines;
 pub mod byte_lines;
 
 ghost use Rattle.ra_trace.specs.NextLine.{ReadsSome};
 
 use crate::TraceError;
 use crate::line::Line;
-use crate::line_source::buffered_lines::next_shown_line;
-use crate::line_source::byte_lines::{LineBytes, next_read_line};
+use crate::line::forms::read_line_of;
+use crate::line_source::byte_lines::{LineBytes, next_line_by_bytes};
+use crate::text_limits::MAX_LINE;
+use memchr::memchr;
 use std::io::{BufRead, Read};
 
 /// Room for a line. It is made once for a text, since it is long.
@@ -57,11 +58,14 @@ impl<R: Read> LineSource<R> for ByBytes {
         taken: &mut usize,
         left: usize,
     ) -> Result<(), TraceError> {
-        next_read_line(reader, room, taken, left)
+        room.bytes.clear(); // Those of the line before may be there.
+        next_line_by_bytes(reader, room, taken, left)
     }
 }
 
-/// As many as a reader has in its buffer.
+/// As many as a reader has in its buffer. A line that the reader shows whole is read where it is. Otherwise what it shows of the line
+/// is taken, and each byte that follows is read by itself: by the contract of `BufRead`, that nothing is shown does not mean the end, but that a
+/// read gives nothing does. What is taken of the buffer are the bytes of the line.
 pub struct FromBuffer;
 
 impl<B: BufRead> LineSource<B> for FromBuffer {
@@ -72,6 +76,23 @@ impl<B: BufRead> LineSource<B> for FromBuffer {
         taken: &mut usize,
         left: usize,
     ) -> Result<(), TraceError> {
-        next_shown_line(reader, room, taken, left)
+        let shown = match reader.fill_buf() {
+            Ok(shown) => shown,
+            Err(_) => return Err(TraceError::Read),
+        };
+        let most = left.min(MAX_LINE);
+        // Among all that is shown a line feed is found sooner than among so few bytes, since it is looked for in larger steps.
+        let end = memchr(b'\n', shown).unwrap_or(most);
+        if end < most {
+            read_line_of(&shown[..end], &mut room.line);
+            reader.consume(end + 1);
+            *taken = end + 1;
+            return Ok(());
+        }
+        let len = shown.len().min(most);
+        room.bytes.clear();
+        room.bytes.try_extend_from_slice(&shown[..len]).unwrap();
+        reader.consume(len);
+        next_line_by_bytes(reader, room, taken, left)
     }
 }

@@ -1,12 +1,10 @@
-//! The next line of a trace, and its bytes, each read by itself.
-ghost use Rattle.std.specs.Prelude.{◌≡◌, ℕ, ◌≤◌, ◌∷◌, [], List, Option, length, true, false, IfOk, IfErr, IfSome, IsNone, OnErr};
+//! The next line of a trace, of which each byte is read by itself, or those that a buffer did not show.
+ghost use Rattle.std.specs.Prelude.{◌≡◌, ◌≢◌, ℕ, ◌≤◌, ◌∷◌, [], List, Option, All, length, IfOk, IfErr, IfSome, IsNone, OnErr};
 ghost use Rattle.std.specs.Io.KnownBytes.{Consumes, IsAtEnd};
 ghost use Rattle.ra_trace.specs.declared.error.TraceError.{TraceError};
-ghost use Rattle.ra_trace.specs.NextLine.{FailsWithin, ReadsLine, ReadsNext, ReadsSome};
-ghost use Rattle.ra_trace.specs.declared.line_source.byte_lines.LineEnd.{LineEnd};
+ghost use Rattle.ra_trace.specs.NextLine.{ReadsLine, ReadsSome};
 
 use crate::TraceError;
-use crate::line::Line;
 use crate::line::forms::read_line_of;
 use crate::line_source::LineRoom;
 use crate::text_limits::MAX_LINE;
@@ -47,21 +45,24 @@ pub fn next_byte<R: Read>(reader: &mut R) -> Result<Option<u8>, TraceError>
     }
 }
 
-/// Reads the bytes of the next line in place of those that are there: to its line feed, and at most 128 of them. A text may still
-/// have `left` bytes. It does not allocate.
+/// Reads the bytes of a line that follow those that came, to its line feed, and until there are 128 of them. None of those that came
+/// is a line feed. A text may still have `left` bytes, with those that came. It does not allocate.
 ///
 /// # Errors
 ///
 /// `Read`: the reader failed. `Limit`: there is a byte after those that are left.
-pub fn read_line<R: Read>(
+fn read_rest<R: Read>(
     reader: &mut R,
     bytes: &mut LineBytes,
     left: usize,
 ) -> Result<LineEnd, TraceError>
-    ensures { ReadsLine left (R.remaining reader.old) (R.remaining reader.new) bytes.new.items result }
+    requires part { All (λ byte. byte ≢ 10) bytes.old.items }
+    requires short { length bytes.old.items ≤ 128 }
+    requires within { length bytes.old.items ≤ left }
+    ensures { (old : Option (List ℕ)) → Consumes old (R.remaining reader.old) bytes.old.items
+        → ReadsLine left old (R.remaining reader.new) bytes.new.items result }
 {
-    bytes.clear();
-    for _turn in 0..MAX_LINE {
+    for _turn in bytes.len()..MAX_LINE {
         let came = match next_byte(reader) {
             Ok(came) => came,
             Err(fault) => return Err(fault),
@@ -80,38 +81,33 @@ pub fn read_line<R: Read>(
     Ok(LineEnd::Length)
 }
 
-/// Puts the line that these bytes are, which end so, into `line`, or `None` if they are not one. The bytes of a line end with its
-/// line feed.
-#[inline(always)]
-pub fn read_line_at(end: LineEnd, bytes: &LineBytes, line: &mut Option<Line>)
-    requires { end ≡ LineEnd.Feed → 1 ≤ length bytes.now.items }
-    ensures { (left : ℕ) (old new : Option (List ℕ)) → ReadsLine left old new bytes.now.items (Ok end)
-        → ReadsNext left old new bytes.now.items (Ok line.new) }
-{
-    match end {
-        LineEnd::Feed => read_line_of(&bytes[..bytes.len() - 1], line),
-        LineEnd::Length | LineEnd::Input => *line = None,
-    }
-}
-
-/// Reads the next line, as [`LineSource::next_line`](crate::line_source::LineSource::next_line) says, each byte by itself.
+/// Reads the next line, of which the bytes in `room` came, as [`LineSource::next_line`](crate::line_source::LineSource::next_line)
+/// says. Each byte that follows is read by itself.
 ///
 /// # Errors
 ///
 /// `Read`: the reader failed. `Limit`: there is a byte after those that are left.
-pub fn next_read_line<R: Read>(
+#[inline(never)]
+pub fn next_line_by_bytes<R: Read>(
     reader: &mut R,
     room: &mut LineRoom,
     taken: &mut usize,
     left: usize,
 ) -> Result<(), TraceError>
-    ensures { ReadsSome left (R.remaining reader.old) (R.remaining reader.new) taken.new room.new.line result }
+    requires part { All (λ byte. byte ≢ 10) room.old.bytes.items }
+    requires short { length room.old.bytes.items ≤ 128 }
+    requires within { length room.old.bytes.items ≤ left }
+    ensures { (old : Option (List ℕ)) → Consumes old (R.remaining reader.old) room.old.bytes.items
+        → ReadsSome left old (R.remaining reader.new) taken.new room.new.line result }
 {
-    let end = match read_line(reader, &mut room.bytes, left) {
+    let end = match read_rest(reader, &mut room.bytes, left) {
         Ok(end) => end,
         Err(fault) => return Err(fault),
     };
     *taken = room.bytes.len();
-    read_line_at(end, &room.bytes, &mut room.line);
+    match end {
+        LineEnd::Feed => read_line_of(&room.bytes[..room.bytes.len() - 1], &mut room.line),
+        LineEnd::Length | LineEnd::Input => room.line = None,
+    }
     Ok(())
 }
