@@ -1,11 +1,8 @@
 pub mod check_text;
 pub mod verdict;
 
-ghost use Rattle.std.specs.Prelude.{◌≡◌, ◌≢◌, ◌<◌, ◌+◌, ◌^◌, List, ◌∷◌, [], false, drop, length, slice_get, IfOk, IfErr, IfSome, IsNone, IsTrue};
+ghost use Rattle.std.specs.Prelude.{◌≡◌, ◌≢◌, ◌<◌, ◌+◌, ◌^◌, List, ◌∷◌, [], false, drop, length, IfOk, IfErr, IfSome, IsNone, IsTrue};
 ghost use Rattle.ra_stamp.specs.declared.entry.Mark.{Mark};
-ghost use Rattle.ra_world.specs.Quiet.{requests_in};
-ghost use Rattle.ra_world.specs.Run.{marks_of};
-ghost use Rattle.ra_world.specs.Traffic.{sent_by};
 ghost use Rattle.ra_trace.specs.declared.checker.verdict.Cause.{Cause};
 ghost use Rattle.ra_trace.specs.declared.line.version.Version.{Version};
 ghost use Rattle.ra_trace.specs.Forms.{IsReadable};
@@ -15,7 +12,7 @@ ghost use Rattle.ra_trace.specs.Verdict.{IsFirst};
 use crate::line::Line;
 use crate::line::version::Version;
 use crate::marked_table::{allows, try_mark};
-use crate::{Cause, TraceError, Verdict};
+use crate::{Cause, TraceError};
 use ra_stamp::{Mark, Marks, equal_is_same};
 use ra_table::Table;
 use ra_world::{MarklessWorld, Step, StepError};
@@ -93,19 +90,6 @@ impl Checker {
         }
     }
 
-    /// Frees its memory, as its parts do in their own crates.
-    pub fn discard(self) {
-        let Checker {
-            version: _,
-            world,
-            table,
-            marks: _marks,
-            come: _,
-        } = self;
-        world.discard();
-        table.discard();
-    }
-
     /// Takes the next line, and answers what it is. It steps the world and the lock table itself, and believes neither steps nor
     /// marks. After a wrong line, only the mark that is due is promised of the checker, and without memory nothing. The cost is
     /// that of one step of the world or of the lock table.
@@ -119,44 +103,30 @@ impl Checker {
     {
         match line {
             Line::First { .. } => Ok(Judgement::Wrong(Cause::Line)),
-            Line::Stepped(step) if !self.version.allows_step(step) => {
-                Ok(Judgement::Wrong(Cause::Line))
-            }
-            Line::Stepped(_) if self.has_due() => Ok(Judgement::Wrong(Cause::Marks)),
-            // Most messages are delivered in the order of sending, so each is looked for at the first place.
-            Line::Stepped(step) => match self.world.step_near(alloc, step, 0) {
-                Ok(outcome) => {
-                    self.marks = outcome.marks;
-                    self.come = 0;
-                    Ok(Judgement::Right)
+            Line::Stepped(step) => {
+                if !self.version.allows_step(step) {
+                    return Ok(Judgement::Wrong(Cause::Line));
                 }
-                Err(StepError::Memory) => Err(TraceError::Memory),
-                Err(StepError::NotUnderWay) => Ok(Judgement::Wrong(Cause::NotUnderWay)),
-                Err(StepError::NoNode) => Ok(Judgement::Wrong(Cause::Refused)),
-                Err(StepError::Node(_)) => Ok(Judgement::Wrong(Cause::Refused)),
-            },
+                if self.has_due() {
+                    return Ok(Judgement::Wrong(Cause::Marks));
+                }
+                // Most messages are delivered in the order of sending, so each is looked for at the first place.
+                match self.world.step_near(alloc, step, 0) {
+                    Ok(outcome) => {
+                        self.marks = outcome.marks;
+                        self.come = 0;
+                        Ok(Judgement::Right)
+                    }
+                    Err(StepError::Memory) => Err(TraceError::Memory),
+                    Err(StepError::NotUnderWay) => Ok(Judgement::Wrong(Cause::NotUnderWay)),
+                    Err(StepError::NoNode) => Ok(Judgement::Wrong(Cause::Refused)),
+                    Err(StepError::Node(_)) => Ok(Judgement::Wrong(Cause::Refused)),
+                }
+            }
             Line::Marked(mark) => self.take_mark(mark),
             Line::Last if self.has_due() => Ok(Judgement::Wrong(Cause::Marks)),
             Line::Last => Ok(Judgement::Last),
         }
-    }
-
-    /// Returns the verdict of a text of which nothing is left after the last line. It does not allocate.
-    pub fn totals(&self) -> Verdict
-        ensures { result
-            ≡ Verdict.Valid (requests_in (marks_of self.now.world.moves)) (length (sent_by self.now.world.moves)) }
-    {
-        Verdict::Valid {
-            requests: self.world.requests(),
-            messages: self.world.sent(),
-        }
-    }
-
-    /// Returns the next mark of the last step, if one has not come yet. It does not allocate.
-    pub fn due(&self) -> Option<Mark>
-        ensures { result ≡ slice_get self.now.marks.items self.now.come }
-    {
-        self.marks.at(self.come)
     }
 
     /// Returns whether a mark of the last step has not come yet.

@@ -5,7 +5,7 @@ ghost use Rattle.ra_table.specs.Laws.{AllowsMark};
 ghost use Rattle.ra_trace.specs.Marks.{TriesMark};
 
 use crate::{MarkCause, TraceError};
-use ra_stamp::{Entry, Mark};
+use ra_stamp::Mark;
 use ra_table::{EnterError, LeaveError, RequestError, Table};
 
 /// Returns whether a lock table allows a mark, unless memory runs out. It does not allocate.
@@ -16,52 +16,6 @@ pub fn allows(table: &Table, mark: &Mark) -> bool
         Mark::Requested(entry) => table.can_request(entry),
         Mark::Entered(entry) => table.can_enter(entry),
         Mark::Left(entry) => table.holds(entry),
-    }
-}
-
-/// Lets an entry wait, or returns why it may not.
-///
-/// # Errors
-///
-/// `Memory`: memory ran out.
-fn request(table: &mut Table, entry: &Entry) -> Result<Option<MarkCause>, TraceError>
-    ensures tries { TriesMark table.old (Mark.Requested entry.now) table.new result }
-    ensures left { (result ≡ Ok None → ⊥) → table.new ≡ table.old }
-{
-    match table.request(*entry) {
-        Ok(()) => Ok(None),
-        Err(RequestError::NodeBusy) => Ok(Some(MarkCause::NodeBusy)),
-        Err(RequestError::NotAbove) => Ok(Some(MarkCause::NotAbove)),
-        Err(RequestError::Memory) => Err(TraceError::Memory),
-    }
-}
-
-/// Grants an entry, or returns why it may not be granted.
-///
-/// # Errors
-///
-/// `Memory`: memory ran out.
-fn enter(table: &mut Table, entry: &Entry) -> Result<Option<MarkCause>, TraceError>
-    ensures tries { TriesMark table.old (Mark.Entered entry.now) table.new result }
-    ensures left { (result ≡ Ok None → ⊥) → table.new ≡ table.old }
-{
-    match table.enter(entry) {
-        Ok(()) => Ok(None),
-        Err(EnterError::NotWaiting) => Ok(Some(MarkCause::NotWaiting)),
-        Err(EnterError::Held) => Ok(Some(MarkCause::Held)),
-        Err(EnterError::Earlier) => Ok(Some(MarkCause::Earlier)),
-        Err(EnterError::Memory) => Err(TraceError::Memory),
-    }
-}
-
-/// Ends the hold of an entry, or returns why it does not hold.
-fn leave(table: &mut Table, entry: &Entry) -> Option<MarkCause>
-    ensures tries { TriesMark table.old (Mark.Left entry.now) table.new (Ok result) }
-    ensures left { (result ≡ None → ⊥) → table.new ≡ table.old }
-{
-    match table.leave(entry) {
-        Ok(()) => None,
-        Err(LeaveError::NotHeld) => Some(MarkCause::NotHeld),
     }
 }
 
@@ -76,8 +30,22 @@ pub fn try_mark(table: &mut Table, mark: &Mark) -> Result<Option<MarkCause>, Tra
     ensures left { (result ≡ Ok None → ⊥) → table.new ≡ table.old }
 {
     match mark {
-        Mark::Requested(entry) => request(table, entry),
-        Mark::Entered(entry) => enter(table, entry),
-        Mark::Left(entry) => Ok(leave(table, entry)),
+        Mark::Requested(entry) => match table.request(*entry) {
+            Ok(()) => Ok(None),
+            Err(RequestError::NodeBusy) => Ok(Some(MarkCause::NodeBusy)),
+            Err(RequestError::NotAbove) => Ok(Some(MarkCause::NotAbove)),
+            Err(RequestError::Memory) => Err(TraceError::Memory),
+        },
+        Mark::Entered(entry) => match table.enter(entry) {
+            Ok(()) => Ok(None),
+            Err(EnterError::NotWaiting) => Ok(Some(MarkCause::NotWaiting)),
+            Err(EnterError::Held) => Ok(Some(MarkCause::Held)),
+            Err(EnterError::Earlier) => Ok(Some(MarkCause::Earlier)),
+            Err(EnterError::Memory) => Err(TraceError::Memory),
+        },
+        Mark::Left(entry) => match table.leave(entry) {
+            Ok(()) => Ok(None),
+            Err(LeaveError::NotHeld) => Ok(Some(MarkCause::NotHeld)),
+        },
     }
 }

@@ -33,7 +33,10 @@ fn ending<R: Read>(
     ensures { EndsText left (R.remaining reader.old) (R.remaining reader.new) checker.now number result }
 {
     match next_byte(reader) {
-        Ok(None) => Ok(checker.totals()),
+        Ok(None) => Ok(Verdict::Valid {
+            requests: checker.world.requests(),
+            messages: checker.world.sent(),
+        }),
         Ok(Some(_)) if left == 0 => Err(TraceError::Limit),
         Ok(Some(_)) => Ok(Verdict::Invalid {
             line: number,
@@ -132,7 +135,7 @@ fn verdict_after<R: Read, S: LineSource<R>>(
             Err(fault) => return Err(fault),
         };
         if let Judgement::Wrong(cause) = next {
-            *due = checker.due();
+            *due = checker.marks.at(checker.come);
             return Ok(Verdict::Invalid {
                 line: number,
                 cause,
@@ -171,7 +174,16 @@ fn check_by<R: Read, S: LineSource<R>>(
     match opened {
         Some(mut checker) => {
             let verdict = verdict_after::<R, S>(alloc, reader, taken, &mut checker, limit, due);
-            checker.discard();
+            // What the world and the table own is freed in their own crates.
+            let Checker {
+                version: _,
+                world,
+                table,
+                marks: _marks,
+                come: _,
+            } = checker;
+            world.discard();
+            table.discard();
             verdict
         }
         None => Ok(Verdict::Invalid {

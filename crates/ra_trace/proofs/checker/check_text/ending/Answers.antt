@@ -12,4 +12,4 @@ returns-in-Err g c =
 pub returns-in-Ok-None : goal.returns-in-Ok-None
 returns-in-Ok-None g c =
     let ends = c.in-Ok-None.ensures.none (ap is_some c.in-Ok-None.field-0-is) in
-    rw c.totals.ensures (ends.0, ends.1, refl, refl)
+    (ends.0, ends.1, c.requests.ensures.value, c.sent.ensures.value)

@@ -55,8 +55,8 @@ returns-in-Err-clause-due g c old first =
 
 pub returns-in-Wrong-clause-due : goal.returns-in-Wrong-clause-due
 returns-in-Wrong-clause-due g c old first =
-    tells_at c.args.limit c.loop-next.left old (g.R.Read.remaining c.loop-next.reader) c.loop-next.checker c.loop-next.number c.in-Wrong.cause c.due.result
-    (c.loop-next.invariant.along old first) (c.due.ensures ∙ c.in-Ok.ensures.due c.in-Wrong.cause c.in-Wrong.is)
+    tells_at c.args.limit c.loop-next.left old (g.R.Read.remaining c.loop-next.reader) c.loop-next.checker c.loop-next.number c.in-Wrong.cause c.at.result
+    (c.loop-next.invariant.along old first) (c.at.ensures ∙ c.in-Ok.ensures.due c.in-Wrong.cause c.in-Wrong.is)
 
 pub returns-in-Last-clause-due : goal.returns-in-Last-clause-due
 returns-in-Last-clause-due g c old first =
