@@ -10,6 +10,8 @@ use Rattle.ra_stamp.specs.declared.entry.Mark.{Mark}
 use Rattle.ra_stamp.specs.declared.entry.Mark.TheVariants.{Requested, Entered, Left}
 use Rattle.ra_world.specs.declared.step.Step.{Step}
 use Rattle.ra_world.specs.declared.step.Step.TheVariants.{Ask, Leave, Deliver, Lose, Repeat}
+use Rattle.ra_world.specs.Drafting.{Adds, Says}
+use Rattle.ra_world.specs.declared.text.draft.Draft.{Draft}
 use Rattle.ra_world.specs.Lines.{mark_line}
 use Rattle.ra_world.specs.Numbers.{IsNumberedMark, IsNumberedMessage}
 use Rattle.ra_world.specs.declared.error.RunError.TheVariants.{Refused}
@@ -28,19 +30,19 @@ use Rattle.ra_trace.specs.Ranges.{StepFits, MarkFits}
 use Rattle.ra_trace.specs.Writing.{MoveFits, prefix_text, HasTraced, IsOpened, StopsIn}
 use Rattle.ra_trace.specs.TraceText.{step_line, line_text, move_lines, IsMarkLine, IsStepLine, IsLine, IsTrace}
 
-made_of : (n start : ℕ) (steps : List Step) (world : WorldState) (text : List ℕ) → HasTraced n start steps world text → HasMade n start steps world
+made_of : (n start : ℕ) (steps : List Step) (world : WorldState) (text : Draft) → HasTraced n start steps world text → HasMade n start steps world
 made_of n start steps world text traced =
     record { number = traced.number; count = traced.count; start_is = traced.start_is; made = traced.made; run = traced.run }
 
-pub traced_none : (n start : ℕ) (world : WorldState) (text : List ℕ) → IsOpened n start world → text ≡ line_text (First Two n start) → HasTraced n start [] world text
-traced_none n start world text opened text_is =
+pub traced_none : (n start : ℕ) (world : WorldState) (text : Draft) → IsOpened n start world → Says text (line_text (First Two n start)) → HasTraced n start [] world text
+traced_none n start world text opened says =
     subst (λ w. HasTraced n start [] w text) (sym opened.is) (record {
       number = opened.number;
       count = refl;
       start_is = refl;
       made = refl;
       run = subst (λ (w : WorldState). IsRun w.count w.start w.moves) opened.is opened.run;
-      text_is = text_is ∙ sym (append-nil (line_text (First Two n start)));
+      says = subst (Says text) (sym (append-nil (line_text (First Two n start)))) says;
       fit = All-nil MoveFits;
     })
 
@@ -49,7 +51,7 @@ marked [] = refl
 marked (mark ∷ marks) = ap (λ (xs : List ℕ). mark_line mark ++ xs) (marked marks)
 
 -- the lines of one more move
-prefix_more : (n start : ℕ) (moves : List Move) (move : Move) → prefix_text n start (moves ++ move ∷ []) ≡ (prefix_text n start moves ++ step_line move.step) ++ flat_map mark_line move.marks
+prefix_more : (n start : ℕ) (moves : List Move) (move : Move) → prefix_text n start (moves ++ move ∷ []) ≡ prefix_text n start moves ++ (step_line move.step ++ flat_map mark_line move.marks)
 prefix_more n start moves move =
     let first = line_text (First Two n start) in
     let before = flat_map line_text (flat_map move_lines moves) in
@@ -58,14 +60,13 @@ prefix_more n start moves move =
     let texts : flat_map line_text (flat_map move_lines (moves ++ move ∷ [])) ≡ before ++ (step_line move.step ++ flat_map mark_line move.marks) =
     ap (flat_map line_text) lines ∙ (flat_map-append line_text (flat_map move_lines moves) (move_lines move) ∙ ap (λ (xs : List ℕ). before ++ (step_line move.step ++ xs)) (marked move.marks)) in
     ap (λ (xs : List ℕ). first ++ xs) texts
-    ∙ (sym (append_assoc first before (step_line move.step ++ flat_map mark_line move.marks))
-    ∙ sym (append_assoc (first ++ before) (step_line move.step) (flat_map mark_line move.marks)))
+    ∙ sym (append_assoc first before (step_line move.step ++ flat_map mark_line move.marks))
 
-pub traced_more : (n start place : ℕ) (steps : List Step) (step : Step) (world next : WorldState) (sends : List Message) (marks : List Mark) (text longer : List ℕ)
+pub traced_more : (n start place : ℕ) (steps : List Step) (step : Step) (world next : WorldState) (sends : List Message) (marks : List Mark) (text longer : Draft)
     → HasTraced n start (take place steps) world text → place < length steps → step ≡ get_or steps place step → next ≡ with_move world step sends marks
-    → IsRun next.count next.start next.moves → longer ≡ (text ++ step_line step) ++ flat_map mark_line marks → StepFits step × All MarkFits marks
+    → IsRun next.count next.start next.moves → Adds text (step_line step ++ flat_map mark_line marks) longer → StepFits step × All MarkFits marks
     → HasTraced n start (take (place + 1) steps) next longer
-traced_more n start place steps step world next sends marks text longer traced inside is next_is run longer_is fits =
+traced_more n start place steps step world next sends marks text longer traced inside is next_is run adds fits =
     let move : Move = record { step = step; sends = sends; marks = marks } in
     let run' : IsRun world.count world.start (world.moves ++ move ∷ []) = subst (λ (w : WorldState). IsRun w.count w.start w.moves) next_is run in
     let run'' : IsRun n start (world.moves ++ move ∷ []) =
@@ -78,7 +79,7 @@ traced_more n start place steps step world next sends marks text longer traced i
           ∙ (ap (λ (prefix : List Step). prefix ++ step ∷ []) traced.made
           ∙ (ap (λ (s : Step). take place steps ++ s ∷ []) is ∙ sym (take_more steps place step inside)));
       run = run'';
-      text_is = longer_is ∙ (ap (λ (prefix : List ℕ). (prefix ++ step_line step) ++ flat_map mark_line marks) traced.text_is ∙ sym (prefix_more n start world.moves move));
+      says = subst (Says longer) (sym (prefix_more n start world.moves move)) (adds.says (prefix_text n start world.moves) traced.says);
       fit = All-push MoveFits world.moves move traced.fit fits;
     })
 
@@ -86,7 +87,7 @@ traced_more n start place steps step world next sends marks text longer traced i
 pub stops_by : ((n start : ℕ) (prefix suffix : List Step) → WorldRun n start (prefix ++ suffix) → WorldRun n start prefix)
     → ((n start : ℕ) (moves : List Move) (step : Step) → IsNodeNumber n → IsRun n start moves
     → WorldRun n start (map (λ (move : Move). move.step) moves ++ step ∷ []) ↔ GoesOn n start moves step)
-    → (n start place : ℕ) (steps : List Step) (step : Step) (world : WorldState) (text : List ℕ) (why : StepError) (fault : WriteTraceError)
+    → (n start place : ℕ) (steps : List Step) (step : Step) (world : WorldState) (text : Draft) (why : StepError) (fault : WriteTraceError)
     → HasTraced n start (take place steps) world text → place < length steps → step ≡ get_or steps place step
     → (why ≢ cause.Memory → HasCause world.count world.start world.moves step why)
     → (GoesOn world.count world.start world.moves step → why ≡ cause.Memory)
@@ -106,7 +107,7 @@ stops_by prefixes goes_on n start place steps step world text why fault traced i
 -- a run that goes on with the next of these steps is one up to it
 pub goes_there : ((n start : ℕ) (moves : List Move) (step : Step) → IsNodeNumber n → IsRun n start moves
     → WorldRun n start (map (λ (move : Move). move.step) moves ++ step ∷ []) ↔ GoesOn n start moves step)
-    → (n start place : ℕ) (steps : List Step) (step : Step) (world : WorldState) (text : List ℕ)
+    → (n start place : ℕ) (steps : List Step) (step : Step) (world : WorldState) (text : Draft)
     → HasTraced n start (take place steps) world text → place < length steps → step ≡ get_or steps place step
     → GoesOn world.count world.start world.moves step → WorldRun n start (take (place + 1) steps)
 goes_there goes_on n start place steps step world text traced inside is goes =
@@ -177,9 +178,9 @@ module _ (prefixes : (n start : ℕ) (prefix suffix : List Move) → IsRun n sta
   pub repeats_are_numbered : (moves : List Move) → IsRun n start moves → All IsNumberedMessage (repeated_by moves)
   repeats_are_numbered moves run = repeats_after moves [] run run.each_fits
 
-pub traced_all : (n start : ℕ) (steps : List Step) (world : WorldState) (text : List ℕ) → HasTraced n start steps world text → start < 2 ^ 64
+pub traced_all : (n start : ℕ) (steps : List Step) (world : WorldState) (text : Draft) → HasTraced n start steps world text → start < 2 ^ 64
     → All IsNumberedMark (marks_of world.moves) → All IsNumberedMessage (taken_by world.moves) → All IsNumberedMessage (repeated_by world.moves)
-    → IsTrace n start world.moves (text ++ codes "end\n")
+    → IsTrace n start world.moves (prefix_text n start world.moves ++ codes "end\n")
 traced_all n start steps world text traced small numbers taken repeated =
     let lines = flat_map move_lines world.moves in
     record {
@@ -187,7 +188,6 @@ traced_all n start steps world text traced small numbers taken repeated =
       run = traced.run;
       lines = All-cons (IsLine Two) (First Two n start) (lines ++ Last ∷ []) (refl, traced.number, small)
           (All-append (IsLine Two) lines (Last ∷ []) (lines_fit world.moves traced.fit numbers taken repeated) (All-cons (IsLine Two) Last [] tt (All-nil (IsLine Two))));
-      text_is = ap (λ (prefix : List ℕ). prefix ++ codes "end\n") traced.text_is
-          ∙ (append_assoc (line_text (First Two n start)) (flat_map line_text lines) (codes "end\n")
-          ∙ ap (λ (xs : List ℕ). line_text (First Two n start) ++ xs) (sym (flat_map-append line_text lines (Last ∷ []))));
+      text_is = append_assoc (line_text (First Two n start)) (flat_map line_text lines) (codes "end\n")
+          ∙ ap (λ (xs : List ℕ). line_text (First Two n start) ++ xs) (sym (flat_map-append line_text lines (Last ∷ [])));
     }

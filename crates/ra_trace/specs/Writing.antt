@@ -8,6 +8,8 @@ use Rattle.ra_world.specs.Refused.{IsRefusedAt}
 use Rattle.ra_world.specs.Run.{IsRun, WorldRun}
 use Rattle.ra_world.specs.Traffic.{Move}
 use Rattle.ra_world.specs.World.{WorldState}
+use Rattle.ra_world.specs.Drafting.{Says}
+use Rattle.ra_world.specs.declared.text.draft.Draft.{Draft}
 use Rattle.ra_trace.specs.declared.error.WriteTraceError.{WriteTraceError}
 use Rattle.ra_trace.specs.declared.error.WriteTraceError.TheVariants.{Run, Memory, Write}
 use Rattle.ra_trace.specs.declared.line.Line.TheVariants.{First}
@@ -29,14 +31,15 @@ refusal_of_run run.BadCount = Run run.BadCount
 refusal_of_run (run.Refused place cause) = Run (run.Refused place cause)
 refusal_of_run run.Memory = Memory
 
--- the world of these nodes has made these steps and no others, and the text is that of its moves without the last line
-pub record HasTraced (n start : ℕ) (steps : List Step) (world : WorldState) (text : List ℕ) : Type 0 where
+-- the world of these nodes has made these steps and no others, and the text is that of its moves without the last line, unless memory
+-- ran out for some part of it
+pub record HasTraced (n start : ℕ) (steps : List Step) (world : WorldState) (text : Draft) : Type 0 where
   pub number : IsNodeNumber n
   pub count : world.count ≡ n
   pub start_is : world.start ≡ start
   pub made : map (λ (move : Move). move.step) world.moves ≡ steps
   pub run : IsRun n start world.moves
-  pub text_is : text ≡ prefix_text n start world.moves
+  pub says : Says text (prefix_text n start world.moves)
   pub fit : All MoveFits world.moves
 
 -- the world of these nodes has made no step
@@ -63,11 +66,13 @@ StopsIn n start steps Memory = Unit {0}
 StopsIn n start steps Write = ⊥
 
 -- the steps `made` were made and written; or no more were made, since one of all `steps` was refused or memory ran out
-abbrev pub Traces : ℕ → ℕ → List Step → List Step → WorldState → List ℕ → Result (Unit {0}) WriteTraceError → Type 0
+abbrev pub Traces : ℕ → ℕ → List Step → List Step → WorldState → Draft → Result (Unit {0}) WriteTraceError → Type 0
 Traces n start made steps world text (Ok done) = HasTraced n start made world text
 Traces n start made steps world text (Err fault) = StopsIn n start steps fault
 
--- the trace of these steps was written; or no more were made, since one of them was refused or memory ran out
-abbrev pub Written : ℕ → ℕ → List Step → List ℕ → Result (Unit {0}) WriteTraceError → Type 0
-Written n start steps text (Ok done) = (moves : List Move) × (map (λ (move : Move). move.step) moves ≡ steps) × IsTrace n start moves text
+-- the trace of these steps was written, unless memory ran out for some part of it; or no more were made, since one of them was refused or
+-- memory ran out
+abbrev pub Written : ℕ → ℕ → List Step → Draft → Result (Unit {0}) WriteTraceError → Type 0
+Written n start steps text (Ok done) =
+    (moves : List Move) × (bytes : List ℕ) × (map (λ (move : Move). move.step) moves ≡ steps) × IsTrace n start moves bytes × Says text bytes
 Written n start steps text (Err fault) = StopsIn n start steps fault

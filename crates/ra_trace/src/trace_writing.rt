@@ -1,62 +1,40 @@
-ghost use Rattle.std.specs.Prelude.{◌≡◌, ◌≢◌, ◌↔◌, ◌⊎◌, ◌+◌, ◌<◌, ◌^◌, ◌++◌, ℕ, List, [], ◌∷◌, length, take, slice_index_or, map, flat_map, codes, decimal, string_bytes, OnOk, IfOk, IfErr, IsErrOf, IsOkUnless, All};
+ghost use Rattle.std.specs.Prelude.{◌≡◌, ◌≢◌, ◌↔◌, ◌⊎◌, ◌+◌, ◌<◌, ◌^◌, ◌++◌, ℕ, List, [], length, take, slice_index_or, map, flat_map, decimal, string_bytes, OnOk, IfOk, IfErr, IsErrOf, IsOkUnless, All};
 ghost use Rattle.std.specs.Io.KnownBytes.{Appends};
 ghost use Rattle.ra_stamp.specs.NodeId.{IsNodeNumber};
 ghost use Rattle.ra_world.specs.Traffic.{Move};
 ghost use Rattle.ra_world.specs.Run.{GoesOn, WorldRun};
 ghost use Rattle.ra_world.specs.Refused.{IsRefusedAt};
+ghost use Rattle.ra_world.specs.Drafting.{Adds, Says};
 ghost use Rattle.ra_world.specs.Lines.{field, mark_line};
-ghost use Rattle.ra_trace.specs.declared.line.Line.{Line};
-ghost use Rattle.ra_trace.specs.declared.line.version.Version.{Version};
 ghost use Rattle.ra_trace.specs.TraceText as spec;
 ghost use Rattle.ra_trace.specs.TraceText.{IsTrace};
 ghost use Rattle.ra_trace.specs.Ranges.{StepFits, MarkFits};
 ghost use Rattle.ra_trace.specs.Writing.{HasTraced, IsOpened, OpensWorld, Traces, Written, refusal_of_run};
 
 use crate::WriteTraceError;
-use crate::line::Line;
 use crate::line::field_ranges::{mark_fits, step_fits};
-use crate::line::version::Version;
-use ra_stamp::{Marks, Memory, Message, Name, NodeId};
+use ra_stamp::{Marks, Message, Name, NodeId};
 use ra_world::{
-    MarklessWorld, RunError, Step, StepError, Steps, marks_of_runs_are_numbered, push_field,
-    push_mark_line, push_number, write_out,
+    Draft, MarklessWorld, RunError, Step, StepError, Steps, marks_of_runs_are_numbered, write_out,
 };
 use std::alloc::Global;
 use std::io::Write;
 
-/// Adds the first line of a trace.
-fn push_first_line(text: &mut String, nodes: u16, start: u64) -> Result<(), Memory>
-    ensures { OnOk result (string_bytes text.new ≡ string_bytes text.old ++ spec.line_text (Line.First Version.Two nodes start)) }
-{
-    text.push_str("trace 2")?;
-    push_number(text, nodes)?;
-    push_number(text, start)?;
-    text.push_str("\n")?;
-    Ok(())
-}
-
 /// Adds a word, a node, a number and a name. The number is that of a client, or of the node that gets a message.
-fn push_start(
-    text: &mut String,
-    word: &str,
-    node: NodeId,
-    second: u64,
-    name: &Name,
-) -> Result<(), Memory>
-    ensures { OnOk result (string_bytes text.new
-        ≡ string_bytes text.old ++ word.now ++ field (decimal node) ++ field (decimal second) ++ field name.now) }
+fn push_start(text: &mut Draft, word: &str, node: NodeId, second: u64, name: &Name)
+    ensures { Adds text.old (word.now ++ field (decimal node) ++ field (decimal second) ++ field name.now) text.new }
 {
-    text.push_str(word)?;
-    push_number(text, node.get())?;
-    push_number(text, second)?;
-    push_field(text, name.as_str())
+    text.push(word);
+    text.push_number(node.get());
+    text.push_number(second);
+    text.push_field(name.as_str());
 }
 
 /// Adds a word and the fields of a message.
-fn push_sent(text: &mut String, word: &str, message: &Message) -> Result<(), Memory>
-    ensures { OnOk result (string_bytes text.new ≡ string_bytes text.old ++ word.now ++ spec.message_fields message.now) }
+fn push_sent(text: &mut Draft, word: &str, message: &Message)
+    ensures { Adds text.old (word.now ++ spec.message_fields message.now) text.new }
 {
-    text.push_str(word)?;
+    text.push(word);
     match message {
         Message::Request {
             from,
@@ -65,9 +43,9 @@ fn push_sent(text: &mut String, word: &str, message: &Message) -> Result<(), Mem
             mode,
             seq,
         } => {
-            push_start(text, " request", *from, u64::from(to.get()), name)?;
-            push_field(text, mode.word())?;
-            push_number(text, *seq)
+            push_start(text, " request", *from, u64::from(to.get()), name);
+            text.push_field(mode.word());
+            text.push_number(*seq);
         }
         Message::Reply {
             from,
@@ -75,15 +53,15 @@ fn push_sent(text: &mut String, word: &str, message: &Message) -> Result<(), Mem
             name,
             seq,
         } => {
-            push_start(text, " reply", *from, u64::from(to.get()), name)?;
-            push_number(text, *seq)
+            push_start(text, " reply", *from, u64::from(to.get()), name);
+            text.push_number(*seq);
         }
     }
 }
 
-/// Adds the words and fields of a step.
-fn push_step(text: &mut String, step: &Step) -> Result<(), Memory>
-    ensures { OnOk result (string_bytes text.new ++ codes "\n" ≡ string_bytes text.old ++ spec.step_line step.now) }
+/// Adds the line of a step.
+fn push_step(text: &mut Draft, step: &Step)
+    ensures { Adds text.old (spec.step_line step.now) text.new }
 {
     match step {
         Step::Ask {
@@ -92,32 +70,30 @@ fn push_step(text: &mut String, step: &Step) -> Result<(), Memory>
             name,
             mode,
         } => {
-            push_start(text, "ask", *node, u64::from(*client), name)?;
-            push_field(text, mode.word())
+            push_start(text, "ask", *node, u64::from(*client), name);
+            text.push_field(mode.word());
         }
         Step::Leave { node, client, name } => {
-            push_start(text, "release", *node, u64::from(*client), name)
+            push_start(text, "release", *node, u64::from(*client), name);
         }
         Step::Deliver(message) => push_sent(text, "deliver", message),
         Step::Lose(message) => push_sent(text, "lose", message),
         Step::Repeat(message) => push_sent(text, "repeat", message),
     }
+    text.end_line();
 }
 
 /// Adds the lines of a step and of its marks.
-fn push_move(text: &mut String, step: &Step, marks: &Marks) -> Result<(), Memory>
-    ensures text { OnOk result
-        (string_bytes text.new ≡ (string_bytes text.old ++ spec.step_line step.now) ++ flat_map mark_line marks.now.items) }
-    ensures fit { OnOk result (StepFits step.now × All MarkFits marks.now.items) }
+fn push_move(text: &mut Draft, step: &Step, marks: &Marks)
+    ensures text { Adds text.old (spec.step_line step.now ++ flat_map mark_line marks.now.items) text.new }
+    ensures fit { StepFits step.now × All MarkFits marks.now.items }
 {
     step_fits(step);
-    push_step(text, step)?;
-    text.push_str("\n")?;
+    push_step(text, step);
     for mark in marks.as_slice() {
         mark_fits(mark);
-        push_mark_line(text, mark)?;
+        text.push_mark_line(mark);
     }
-    Ok(())
 }
 
 /// Returns the refusal of a trace that a refusal of its run is.
@@ -151,28 +127,29 @@ fn opening_world(alloc: Global, nodes: u16, start: u64) -> Result<MarklessWorld,
 /// `Run`: the step is refused. `Memory`.
 fn trace_step(
     alloc: Global,
-    text: &mut String,
+    text: &mut Draft,
     world: &mut MarklessWorld,
     place: usize,
     step: &Step,
 ) -> Result<(), WriteTraceError>
     requires { place < 2 ^ 63 }
     ensures traced { (n start : ℕ) (steps : List Step) → place < length steps → step.now ≡ slice_index_or steps place step.now
-        → HasTraced n start (take place steps) world.old (string_bytes text.old)
-        → Traces n start (take (place + 1) steps) steps world.new (string_bytes text.new) result }
+        → HasTraced n start (take place steps) world.old text.old
+        → Traces n start (take (place + 1) steps) steps world.new text.new result }
     // If the step is refused, that is the answer, and not that memory ran out.
     ensures memory { IsErrOf result WriteTraceError.Memory
         → GoesOn world.old.count world.old.start world.old.moves step.now }
 {
     match world.step(alloc, step) {
         Ok(outcome) => {
-            let pushed = push_move(text, step, &outcome.marks);
+            push_move(text, step, &outcome.marks);
             // By a call, and before any exit, since to drop each of its parts there is long to prove.
             drop(outcome);
-            let Ok(()) = pushed else {
-                return Err(WriteTraceError::Memory);
-            };
-            Ok(())
+            if text.refused {
+                Err(WriteTraceError::Memory)
+            } else {
+                Ok(())
+            }
         }
         Err(cause) => Err(refusal_of(RunError::at(place as u64 + 1, cause))),
     }
@@ -185,14 +162,14 @@ fn trace_step(
 /// `Run`: a step is refused, the first such one. `Memory`.
 fn trace_steps(
     alloc: Global,
-    text: &mut String,
+    text: &mut Draft,
     world: &mut MarklessWorld,
     steps: &Steps,
 ) -> Result<(), WriteTraceError>
-    ensures traced { (n start : ℕ) → HasTraced n start [] world.old (string_bytes text.old)
-        → Traces n start steps.now.items steps.now.items world.new (string_bytes text.new) result }
+    ensures traced { (n start : ℕ) → HasTraced n start [] world.old text.old
+        → Traces n start steps.now.items steps.now.items world.new text.new result }
     // Memory ran out at one of the steps, up to which they are a run.
-    ensures memory { (n start : ℕ) → HasTraced n start [] world.old (string_bytes text.old)
+    ensures memory { (n start : ℕ) → HasTraced n start [] world.old text.old
         → IsErrOf result WriteTraceError.Memory
         → (place : ℕ) × (place < length steps.now.items) × WorldRun n start (take (place + 1) steps.now.items) }
 {
@@ -212,26 +189,24 @@ fn trace_steps(
 /// `Run`: a step is refused, the first such one. `Memory`.
 fn trace_run(
     alloc: Global,
-    text: &mut String,
+    text: &mut Draft,
     world: &mut MarklessWorld,
     nodes: u16,
     start: u64,
     steps: &Steps,
 ) -> Result<(), WriteTraceError>
-    ensures { string_bytes text.old ≡ [] → IsOpened nodes start world.old
-        → Written nodes start steps.now.items (string_bytes text.new) result }
+    ensures { Says text.old [] → IsOpened nodes start world.old → Written nodes start steps.now.items text.new result }
 {
     marks_of_runs_are_numbered();
-    let Ok(()) = push_first_line(text, nodes, start) else {
-        return Err(WriteTraceError::Memory);
-    };
+    text.push("trace 2");
+    text.push_number(nodes);
+    text.push_number(start);
+    text.end_line();
     match trace_steps(alloc, text, world, steps) {
         Ok(()) => {}
         Err(fault) => return Err(fault),
     }
-    let Ok(()) = text.push_str("end\n") else {
-        return Err(WriteTraceError::Memory);
-    };
+    text.push("end\n");
     Ok(())
 }
 
@@ -270,12 +245,15 @@ pub fn trace_text(
         Ok(world) => world,
         Err(fault) => return Err(fault),
     };
-    let mut text = String::new(alloc);
+    let mut text = Draft::new(alloc);
     let written = trace_run(alloc, &mut text, &mut world, nodes, start, steps);
     // Before any exit, so that it is not to be dropped at each.
     world.discard();
     match written {
-        Ok(()) => Ok(text),
+        Ok(()) => match text.finish() {
+            Ok(text) => Ok(text),
+            Err(_) => Err(WriteTraceError::Memory),
+        },
         Err(fault) => Err(fault),
     }
 }

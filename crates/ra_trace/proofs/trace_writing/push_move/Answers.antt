@@ -1,20 +1,38 @@
-use Rattle.std.proofs.Common.{ap, sym, ◌∙◌, subst, append_assoc, arith}
+use Rattle.std.proofs.Common.{◌≡◌, ◌++◌, ◌+◌, List, All, flat_map, take, take_all, ap, sym, ◌∙◌, subst, append_assoc, arith}
 use Rattle.std.proofs.lemmas.Grind.{common_steps}
 use Rattle.std.proofs.lemmas.List.{append-nil}
 use Rattle.std.proofs.lemmas.List.Elements.{All-nil, All-more}
+use Rattle.ra_stamp.specs.declared.entry.Mark.{Mark}
+use Rattle.ra_world.specs.Lines.{mark_line}
+use Rattle.ra_world.proofs.Drafts.{adds_as, adds_both}
 use Rattle.ra_trace.specs.Ranges.{MarkFits}
+use Rattle.ra_trace.specs.TraceText.{step_line}
 use Rattle.ra_trace.proofs.trace_writing.push_move.Goals as goal
 
 pub loop-mark-init : goal.loop-mark-init
 loop-mark-init c = record {
-  text_is = (c.in_ok-push_str.ensures.bytes ∙ c.in_ok-push_step.ensures) ∙ sym (append-nil _);
+  adds = adds_as c.push_step.ensures (sym (append-nil _));
   fit = All-nil MarkFits;
 }
 
 pub loop-mark-preserved : goal.loop-mark-preserved
 loop-mark-preserved c =
     let items = c.as_slice-mark-items.result.now in
+    let i = c.loop-mark.mark-index in
+    let step = step_line c.args.step.now in
+    let more : (step ++ flat_map mark_line (take i items)) ++ mark_line c.mark-item.result ≡ step ++ flat_map mark_line (take (i + 1) items) =
+    grind (arith, common_steps, append_assoc) in
     record {
-      text_is = grind (arith, common_steps, append_assoc);
-      fit = All-more MarkFits items c.loop-mark.mark-index c.mark-item.result c.loop-mark-test.true c.loop-mark.invariant.fit (subst MarkFits c.mark-item.is c.mark_fits.ensures);
+      adds = adds_as (adds_both c.loop-mark.invariant.adds c.push_mark_line.ensures) more;
+      fit = All-more MarkFits items i c.mark-item.result c.loop-mark-test.true c.loop-mark.invariant.fit (subst MarkFits c.mark-item.is c.mark_fits.ensures);
     }
+
+pub returns-clause-text : goal.returns-clause-text
+returns-clause-text c =
+    let all = take_all c.loop-mark.mark-index c.as_slice-mark-items.result.now c.loop-mark-test.false ∙ c.as_slice-mark-items.ensures in
+    adds_as c.loop-mark.invariant.adds (ap (λ (marks : List Mark). step_line c.args.step.now ++ flat_map mark_line marks) all)
+
+pub returns-clause-fit : goal.returns-clause-fit
+returns-clause-fit c =
+    let all = take_all c.loop-mark.mark-index c.as_slice-mark-items.result.now c.loop-mark-test.false ∙ c.as_slice-mark-items.ensures in
+    (c.step_fits.ensures, subst (All MarkFits) all c.loop-mark.invariant.fit)

@@ -1,4 +1,4 @@
-use Rattle.std.proofs.Common.{◌≡◌, Result, Err, string_bytes, refl, ap, ◌∙◌, inl, inr}
+use Rattle.std.proofs.Common.{◌≡◌, Result, Err, refl, ap, ◌∙◌, inl, inr}
 use Rattle.ra_world.specs.declared.error.RunError.{RunError}
 use Rattle.ra_trace.specs.declared.error.WriteTraceError.{WriteTraceError}
 use Rattle.ra_trace.specs.declared.error.WriteTraceError.TheVariants.{Run, Memory}
@@ -13,20 +13,19 @@ use Rattle.ra_trace.proofs.trace_writing.trace_step.Goals as goal
 run_is_no_memory : (refusal : WriteTraceError) (why : RunError) → refusal ≡ Run why → ◌≡◌ {A = Result (Unit {0}) WriteTraceError} (Err refusal) (Err Memory) → ⊥
 run_is_no_memory refusal why is e = cc
 
-pub returns-in-Ok-pushed-clause-traced : goal.returns-in-Ok-pushed-clause-traced
-returns-in-Ok-pushed-clause-traced c n start steps inside is traced =
+pub returns-else-text-clause-traced : goal.returns-else-text-clause-traced
+returns-else-text-clause-traced c n start steps inside is traced =
     traced_more n start c.args.place steps c.args.step.now c.args.world.now c.step.new.self c.in-Ok.outcome.sends.items c.in-Ok.outcome.marks.items
-    (string_bytes c.args.text.now) (string_bytes c.push_move-pushed.new.text) traced inside is c.in-Ok.ensures.ok c.in-Ok.ensures.run
-    c.in-Ok-pushed.ensures.text c.in-Ok-pushed.ensures.fit
+    c.args.text.now c.push_move.new.text traced inside is c.in-Ok.ensures.ok c.in-Ok.ensures.run c.push_move.ensures.text c.push_move.ensures.fit
 
 pub returns-in-Err-clause-traced : goal.returns-in-Err-clause-traced
 returns-in-Err-clause-traced c n start steps inside is traced =
-    stops_by (prefix_of_steps laws_below.splits) (steps_go_on laws_below) n start c.args.place steps c.args.step.now c.args.world.now (string_bytes c.args.text.now) c.in-Err.cause c.refusal_of.result
+    stops_by (prefix_of_steps laws_below.splits) (steps_go_on laws_below) n start c.args.place steps c.args.step.now c.args.world.now c.args.text.now c.in-Err.cause c.refusal_of.result
     traced inside is (λ other. (c.in-Err.ensures.refused c.in-Err.cause other).0 refl) c.in-Err.ensures.allowed.1
     (λ same. c.refusal_of.ensures ∙ ap refusal_of_run (c.at.ensures.memory same)) (λ other. c.refusal_of.ensures ∙ ap refusal_of_run (c.at.ensures.refused other))
 
-pub returns-in_default-clause-memory : goal.returns-in_default-clause-memory
-returns-in_default-clause-memory c is = c.in-Ok.ensures.allowed.0 tt
+pub returns-then-text-clause-memory : goal.returns-then-text-clause-memory
+returns-then-text-clause-memory c is = c.in-Ok.ensures.allowed.0 tt
 
 pub returns-in-Err-clause-memory : goal.returns-in-Err-clause-memory
 returns-in-Err-clause-memory c is =

@@ -3,7 +3,6 @@ use Rattle.ra_world.specs.declared.step.Step.{Step}
 use Rattle.ra_world.specs.Run.{WorldRun}
 use Rattle.ra_trace.specs.declared.error.WriteTraceError.{WriteTraceError}
 use Rattle.ra_trace.specs.declared.error.WriteTraceError.TheVariants.{Memory}
-use Rattle.std.proofs.Common.{string_bytes}
 use Rattle.ra_world.proofs.Runs.{steps_go_on}
 use Rattle.ra_world.proofs.WorldLaws.{laws_below}
 use Rattle.ra_trace.specs.Writing.{HasTraced}
@@ -19,7 +18,7 @@ returns-in-Err-clause-memory c n start opened is =
     let place = c.loop-place.place in
     let items = c.as_slice-step-items.result.now in
     let run : WorldRun n start (take (place + 1) items) =
-    goes_there (steps_go_on laws_below) n start place items c.step-item.result c.loop-place.world (string_bytes c.loop-place.text)
+    goes_there (steps_go_on laws_below) n start place items c.step-item.result c.loop-place.world c.loop-place.text
     (c.loop-place.invariant n start opened) c.loop-place-test.true c.step-item.is (c.in-Err.ensures.memory (ap Err why)) in
     subst (λ (steps : List Step). (k : ℕ) × (k < length steps) × WorldRun n start (take (k + 1) steps)) c.as_slice-step-items.ensures
     (place, c.loop-place-test.true, run)
@@ -31,5 +30,5 @@ loop-place-preserved c n start opened =
 pub returns-clause-traced : goal.returns-clause-traced
 returns-clause-traced c n start opened =
     let items = c.as_slice-step-items.result.now in
-    subst (λ (steps : List Step). HasTraced n start steps c.loop-place.world (string_bytes c.loop-place.text))
+    subst (λ (steps : List Step). HasTraced n start steps c.loop-place.world c.loop-place.text)
     (take_all c.loop-place.place items c.loop-place-test.false ∙ c.as_slice-step-items.ensures) (c.loop-place.invariant n start opened)

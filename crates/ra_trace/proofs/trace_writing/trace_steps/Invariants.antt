@@ -1,8 +1,8 @@
-use Rattle.std.proofs.Common.{ℕ, [], take, string_bytes}
+use Rattle.std.proofs.Common.{ℕ, [], take}
 use Rattle.ra_trace.specs.Writing.{HasTraced}
 use Rattle.ra_trace.proofs.trace_writing.trace_steps.Given as goal
 
 -- the steps so far, and their text
 abbrev pub invariant-loop-place : goal.invariant-loop-place
 invariant-loop-place l =
-    (n start : ℕ) → HasTraced n start [] l.fn.world (string_bytes l.fn.text) → HasTraced n start (take l.place l.step-items) l.world (string_bytes l.text)
+    (n start : ℕ) → HasTraced n start [] l.fn.world l.fn.text → HasTraced n start (take l.place l.step-items) l.world l.text
