@@ -137,91 +137,6 @@ fn leave_of(text: &[u8]) -> Option<Line>
     Some(Line::Stepped(Step::Leave { node, client, name }))
 }
 
-/// Reads sender, receiver, name, mode and number.
-#[inline(always)]
-fn request_of(text: &[u8]) -> Option<Message>
-    ensures { result ≡ spec.request_in text.now }
-{
-    let Some((from, rest)) = node_before(text) else {
-        return None;
-    };
-    let Some((to, rest)) = node_before(rest) else {
-        return None;
-    };
-    let Some((name, (mode, seq))) = name_mode_and_seq_of(rest) else {
-        return None;
-    };
-    Some(Message::Request {
-        from,
-        to,
-        name,
-        mode,
-        seq,
-    })
-}
-
-/// Reads sender, receiver, name and number.
-#[inline(always)]
-fn reply_of(text: &[u8]) -> Option<Message>
-    ensures { result ≡ spec.reply_in text.now }
-{
-    let Some((from, rest)) = node_before(text) else {
-        return None;
-    };
-    let Some((to, rest)) = node_before(rest) else {
-        return None;
-    };
-    let Some((name, seq)) = cut(b' ', rest) else {
-        return None;
-    };
-    let Some(name) = name_of(name) else {
-        return None;
-    };
-    let Some(seq) = seq_of(seq) else {
-        return None;
-    };
-    Some(Message::Reply {
-        from,
-        to,
-        name,
-        seq,
-    })
-}
-
-/// Reads node, client, name, mode and number.
-#[inline(always)]
-fn entry_of(text: &[u8]) -> Option<Entry>
-    ensures { result ≡ spec.entry_in text.now }
-{
-    let Some(prefix) = node_before(text) else {
-        return None;
-    };
-    let (node, rest) = prefix;
-    let Some((client, rest)) = client_before(rest) else {
-        return None;
-    };
-    let Some((name, (mode, seq))) = name_mode_and_seq_of(rest) else {
-        return None;
-    };
-    Some(Entry {
-        name,
-        stamp: Stamp { seq, node },
-        client,
-        mode,
-    })
-}
-
-/// Reads nothing.
-fn last_of(text: &[u8]) -> Option<Line>
-    ensures { result ≡ spec.last_in text.now }
-{
-    if text.is_empty() {
-        Some(Line::Last)
-    } else {
-        None
-    }
-}
-
 /// What becomes of a message.
 #[derive(Clone, Copy)]
 pub enum Fate {
@@ -370,34 +285,84 @@ impl LineKind {
     }
 }
 
-/// Reads the line of a request.
+/// Reads the line of a REQUEST: sender, receiver, name, mode and number.
 fn read_request(fate: Fate, text: &[u8], line: &mut Option<Line>)
     ensures { line.new ≡ spec.read_as (LineKind.Request fate) text.now }
 {
-    match request_of(text) {
-        Some(message) => *line = Some(fate.line_of(message)),
-        None => *line = None,
-    }
+    *line = None;
+    let Some(prefix) = node_before(text) else {
+        return;
+    };
+    let (from, rest) = prefix;
+    let Some(second) = node_before(rest) else {
+        return;
+    };
+    let (to, rest) = second;
+    let Some(others) = name_mode_and_seq_of(rest) else {
+        return;
+    };
+    let (name, (mode, seq)) = others;
+    *line = Some(fate.line_of(Message::Request {
+        from,
+        to,
+        name,
+        mode,
+        seq,
+    }));
 }
 
-/// Reads the line of a reply.
+/// Reads the line of a REPLY: sender, receiver, name and number.
 fn read_reply(fate: Fate, text: &[u8], line: &mut Option<Line>)
     ensures { line.new ≡ spec.read_as (LineKind.Reply fate) text.now }
 {
-    match reply_of(text) {
-        Some(message) => *line = Some(fate.line_of(message)),
-        None => *line = None,
-    }
+    *line = None;
+    let Some(prefix) = node_before(text) else {
+        return;
+    };
+    let (from, rest) = prefix;
+    let Some(second) = node_before(rest) else {
+        return;
+    };
+    let (to, rest) = second;
+    let Some((name, seq)) = cut(b' ', rest) else {
+        return;
+    };
+    let Some(name) = name_of(name) else {
+        return;
+    };
+    let Some(seq) = seq_of(seq) else {
+        return;
+    };
+    *line = Some(fate.line_of(Message::Reply {
+        from,
+        to,
+        name,
+        seq,
+    }));
 }
 
-/// Reads the line of a mark.
+/// Reads the line of a mark: node, client, name, mode and number.
 fn read_mark(change: Change, text: &[u8], line: &mut Option<Line>)
     ensures { line.new ≡ spec.read_as (LineKind.Mark change) text.now }
 {
-    match entry_of(text) {
-        Some(entry) => *line = Some(change.line_of(entry)),
-        None => *line = None,
-    }
+    *line = None;
+    let Some(prefix) = node_before(text) else {
+        return;
+    };
+    let (node, rest) = prefix;
+    let Some((client, rest)) = client_before(rest) else {
+        return;
+    };
+    let Some(others) = name_mode_and_seq_of(rest) else {
+        return;
+    };
+    let (name, (mode, seq)) = others;
+    *line = Some(change.line_of(Entry {
+        name,
+        stamp: Stamp { seq, node },
+        client,
+        mode,
+    }));
 }
 
 impl LineKind {
@@ -413,7 +378,8 @@ impl LineKind {
             LineKind::Request(fate) => read_request(fate, rest, line),
             LineKind::Reply(fate) => read_reply(fate, rest, line),
             LineKind::Mark(change) => read_mark(change, rest, line),
-            LineKind::Last => *line = last_of(rest),
+            LineKind::Last if rest.is_empty() => *line = Some(Line::Last),
+            LineKind::Last => *line = None,
         }
     }
 }

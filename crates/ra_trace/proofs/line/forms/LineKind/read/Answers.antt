@@ -17,6 +17,3 @@ returns-in-Reply c = rw c.in-Reply.is c.read_reply.ensures
 
 pub returns-in-Mark : goal.returns-in-Mark
 returns-in-Mark c = rw c.in-Mark.is c.read_mark.ensures
-
-pub returns-in-Last : goal.returns-in-Last
-returns-in-Last c = rw c.in-Last.is c.last_of.ensures
