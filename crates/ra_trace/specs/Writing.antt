@@ -1,7 +1,6 @@
 -- What of a run was made and written down. No public contract speaks of it.
 use Rattle.std.specs.Prelude.{◌≡◌, ℕ, List, [], ◌++◌, All, Result, Ok, Err, map, flat_map}
 use Rattle.ra_stamp.specs.NodeId.{IsNodeNumber}
-use Rattle.ra_world.specs.declared.error.RunError.{RunError}
 use Rattle.ra_world.specs.declared.error.RunError.TheVariants as run
 use Rattle.ra_world.specs.declared.step.Step.{Step}
 use Rattle.ra_world.specs.Refused.{IsRefusedAt}
@@ -24,12 +23,6 @@ MoveFits move = StepFits move.step × All MarkFits move.marks
 -- the text of all lines but the last
 abbrev pub prefix_text : ℕ → ℕ → List Move → List ℕ
 prefix_text n start moves = line_text (First Two n start) ++ flat_map line_text (flat_map move_lines moves)
-
--- the refusal to write a trace that the refusal of a run becomes
-abbrev pub refusal_of_run : RunError → WriteTraceError
-refusal_of_run run.BadCount = Run run.BadCount
-refusal_of_run (run.Refused place cause) = Run (run.Refused place cause)
-refusal_of_run run.Memory = Memory
 
 -- the world of these nodes has made these steps and no others, and the text is that of its moves without the last line, unless memory
 -- ran out for some part of it

@@ -9,13 +9,14 @@ ghost use Rattle.ra_world.specs.Lines.{field, mark_line};
 ghost use Rattle.ra_trace.specs.TraceText as spec;
 ghost use Rattle.ra_trace.specs.TraceText.{IsTrace};
 ghost use Rattle.ra_trace.specs.Ranges.{StepFits, MarkFits};
-ghost use Rattle.ra_trace.specs.Writing.{HasTraced, IsOpened, OpensWorld, Traces, Written, refusal_of_run};
+ghost use Rattle.ra_trace.specs.Writing.{HasTraced, IsOpened, Traces, Written};
 
 use crate::WriteTraceError;
 use crate::line::field_ranges::{mark_fits, step_fits};
 use ra_stamp::{Marks, Message, Name, NodeId};
 use ra_world::{
-    Draft, MarklessWorld, RunError, Step, StepError, Steps, marks_of_runs_are_numbered, write_out,
+    Draft, MarklessWorld, NewError, RunError, Step, StepError, Steps, marks_of_runs_are_numbered,
+    write_out,
 };
 use std::alloc::Global;
 use std::io::Write;
@@ -96,30 +97,6 @@ fn push_move(text: &mut Draft, step: &Step, marks: &Marks)
     }
 }
 
-/// Returns the refusal of a trace that a refusal of its run is.
-fn refusal_of(refused: RunError) -> WriteTraceError
-    ensures { result ≡ refusal_of_run refused }
-{
-    match refused {
-        RunError::Memory => WriteTraceError::Memory,
-        refused => WriteTraceError::Run(refused),
-    }
-}
-
-/// Makes the world before the first step.
-///
-/// # Errors
-///
-/// `Run`: the number of nodes is not 1 to 64. `Memory`.
-fn opening_world(alloc: Global, nodes: u16, start: u64) -> Result<MarklessWorld, WriteTraceError>
-    ensures { OpensWorld nodes start result }
-{
-    match MarklessWorld::new(alloc, nodes, start) {
-        Ok(world) => Ok(world),
-        Err(refused) => Err(refusal_of(RunError::from(refused))),
-    }
-}
-
 /// Makes a step of a run, that of this place, counted from 0, and adds its lines.
 ///
 /// # Errors
@@ -151,7 +128,13 @@ fn trace_step(
                 Ok(())
             }
         }
-        Err(cause) => Err(refusal_of(RunError::at(place as u64 + 1, cause))),
+        Err(cause) => {
+            if let StepError::Memory = cause {
+                return Err(WriteTraceError::Memory);
+            }
+            let place = place as u64 + 1;
+            Err(WriteTraceError::Run(RunError::Refused { place, cause }))
+        }
     }
 }
 
@@ -241,9 +224,10 @@ pub fn trace_text(
         → IsOkUnless result WriteTraceError.Memory }
     ensures early { IfErr result (λ fault. fault ≢ WriteTraceError.Write) }
 {
-    let mut world = match opening_world(alloc, nodes, start) {
+    let mut world = match MarklessWorld::new(alloc, nodes, start) {
         Ok(world) => world,
-        Err(fault) => return Err(fault),
+        Err(NewError::BadCount) => return Err(WriteTraceError::Run(RunError::BadCount)),
+        Err(NewError::Memory) => return Err(WriteTraceError::Memory),
     };
     let mut text = Draft::new(alloc);
     let written = trace_run(alloc, &mut text, &mut world, nodes, start, steps);

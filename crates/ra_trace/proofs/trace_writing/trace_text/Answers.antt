@@ -1,14 +1,42 @@
-use Rattle.std.proofs.Common.{Err, refl, sym, subst}
-use Rattle.ra_trace.specs.declared.error.WriteTraceError.TheVariants.{Memory}
+use Rattle.std.proofs.Common.{◌≡◌, Result, Err, refl, sym, ap, subst}
+use Rattle.ra_world.specs.declared.error.NewError.{NewError}
+use Rattle.ra_world.specs.declared.error.NewError.TheVariants as new
+use Rattle.ra_world.specs.declared.error.RunError.TheVariants as run
+use Rattle.ra_trace.specs.declared.error.WriteTraceError.{WriteTraceError}
+use Rattle.ra_trace.specs.declared.error.WriteTraceError.TheVariants.{Run, Memory}
 use Rattle.ra_trace.specs.TraceText.{IsTrace}
+use Rattle.ra_trace.specs.Writing.{IsOpened}
 use Rattle.ra_trace.proofs.Refusing.{unopened, stopped, all_made}
 use Rattle.ra_trace.proofs.trace_writing.trace_text.Goals as goal
 
 -- ---- The world is not made
 
-pub returns-in-Err : goal.returns-in-Err
-returns-in-Err c =
-    let tells = unopened c.args.nodes c.args.start c.args.steps.now.items (Err c.in-Err.fault) c.in-Err.fault refl c.in-Err.ensures in
+memory_is_no_count : (why : NewError) → why ≡ new.Memory → ◌≡◌ {A = NewError} why new.BadCount → ⊥
+memory_is_no_count why is e = cc
+
+same_refusal : {T : Type 0} (why other : NewError) → ◌≡◌ {A = Result T NewError} (Err why) (Err other) → why ≡ other
+same_refusal why other e = cc
+
+pub returns-in-Err-BadCount : goal.returns-in-Err-BadCount
+returns-in-Err-BadCount c =
+    let arm = c.in-Err-BadCount in
+    let fault : WriteTraceError = Run run.BadCount in
+    let tells = unopened c.args.nodes c.args.start c.args.steps.now.items (Err fault) fault refl (arm.ensures.bad_count.0 (ap Err arm.field-0-is)) in
+    record {
+      ok = tt;
+      bad_count = tells.bad_count;
+      refused = tells.refused;
+      never = tells.never;
+      memory = tells.memory;
+      allowed = tells.allowed;
+      early = tells.early;
+    }
+
+pub returns-in-Err-Memory : goal.returns-in-Err-Memory
+returns-in-Err-Memory c =
+    let arm = c.in-Err-Memory in
+    let tells = unopened c.args.nodes c.args.start c.args.steps.now.items (Err Memory) Memory refl
+    (λ bad. memory_is_no_count arm.field-0 arm.field-0-is (same_refusal _ _ (arm.ensures.bad_count.1 bad))) in
     record {
       ok = tt;
       bad_count = tells.bad_count;
@@ -21,11 +49,12 @@ returns-in-Err c =
 
 -- ---- A step is not made
 
-pub returns-in-Err-written : goal.returns-in-Err-written
-returns-in-Err-written c =
-    let opened = c.in-Ok.ensures in
-    let tells = stopped c.args.nodes c.args.start c.args.steps.now.items (Err c.in-Err-written.fault) c.in-Err-written.fault refl opened.number
-    (c.in-Err-written.ensures c.new-text.ensures opened) in
+pub returns-in-Err : goal.returns-in-Err
+returns-in-Err c =
+    let opened : IsOpened c.args.nodes c.args.start c.in-Ok.world =
+    record { number = c.in-Ok.ensures.count; is = c.in-Ok.ensures.ok; run = c.in-Ok.ensures.run } in
+    let tells = stopped c.args.nodes c.args.start c.args.steps.now.items (Err c.in-Err.fault) c.in-Err.fault refl opened.number
+    (c.in-Err.ensures c.new-text.ensures opened) in
     record {
       ok = tt;
       bad_count = tells.bad_count;
@@ -42,7 +71,8 @@ pub returns-in-Ok-finish : goal.returns-in-Ok-finish
 returns-in-Ok-finish c =
     let n = c.args.nodes in
     let start = c.args.start in
-    let opened = c.in-Ok.ensures in
+    let opened : IsOpened c.args.nodes c.args.start c.in-Ok.world =
+    record { number = c.in-Ok.ensures.count; is = c.in-Ok.ensures.ok; run = c.in-Ok.ensures.run } in
     let (moves, bytes, made, trace, says) = c.in-Ok-written.ensures c.new-text.ensures opened in
     let tells = all_made n start c.args.steps.now.items c.in-Ok-finish.text opened.number in
     record {
@@ -58,7 +88,7 @@ returns-in-Ok-finish c =
 -- there was no memory for all of the text
 pub returns-in-Err-finish : goal.returns-in-Err-finish
 returns-in-Err-finish c =
-    let tells = stopped c.args.nodes c.args.start c.args.steps.now.items (Err Memory) Memory refl c.in-Ok.ensures.number tt in
+    let tells = stopped c.args.nodes c.args.start c.args.steps.now.items (Err Memory) Memory refl c.in-Ok.ensures.count tt in
     record {
       ok = tt;
       bad_count = tells.bad_count;
