@@ -1,5 +1,8 @@
-use Rattle.std.proofs.Common.{rules, ◌++◌, take}
-use Rattle.std.proofs.KnownBytes.{Appends-trans}
+use Rattle.std.proofs.Common.{rules, ◌≡◌, ◌<◌, ℕ, List, [], ◌++◌, length, take, arith, refl, sym, ap, ◌∙◌, subst}
+use Rattle.std.specs.Io.KnownBytes.{Appends}
+use Rattle.std.proofs.KnownBytes.{Appends-nil, Appends-trans}
+use Rattle.std.proofs.lemmas.Bool.{eqb-true}
+use Rattle.std.proofs.lemmas.List.{append-nil, nil_from_length}
 use Rattle.ra_world.proofs.Written.{cut_again}
 use Rattle.ra_world.proofs.io.whole_output.write_to.Goals as goal
 
@@ -16,3 +19,13 @@ loop-rest-preserved g c =
         Appends-trans _ _ _ so_far.0 _ so_far.2 c.in_ok-count.ensures.some.2,
       );
     }
+
+pub loop-rest-init : goal.loop-rest-init
+loop-rest-init g c = record { unfailed = c.requires; same_reference = refl; written = ([], refl, Appends-nil _) }
+
+pub returns-clause-ok : goal.returns-clause-ok
+returns-clause-ok g c =
+    let so_far = c.loop-rest.invariant.written in
+    let none : c.loop-rest.rest.now ≡ [] = nil_from_length c.loop-rest.rest.now (eqb-true _ _ (sym c.is_empty.ensures ∙ c.loop-rest-test.false)) in
+    subst (Appends (g.W.Write.contents c.args.target.now.writer.now) (g.W.Write.contents c.loop-rest.target.writer.now))
+    (sym (so_far.1 ∙ ap (λ (rest : List ℕ). so_far.0 ++ rest) none ∙ append-nil so_far.0)) so_far.2

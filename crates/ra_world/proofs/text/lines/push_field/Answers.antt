@@ -14,3 +14,16 @@ pub returns-clause-ok : goal.returns-clause-ok
 returns-clause-ok c =
     both_added (string_bytes c.args.text.now) (string_bytes c.push_str.new.self) (string_bytes c.push_str-2.new.self) (codes " ") c.args.field.now
     c.in_ok-push_str.ensures.bytes c.in_ok-push_str-2.ensures.bytes
+
+pub returns-in_err-push_str-clause-ok : goal.returns-in_err-push_str-clause-ok
+returns-in_err-push_str-clause-ok c =
+    let p = err_from_is_err_and c.from_residual.result c.from_residual.ensures.1 in
+    rw (p.1) tt
+
+pub returns-in_err-push_str-2-clause-ok : goal.returns-in_err-push_str-2-clause-ok
+returns-in_err-push_str-2-clause-ok c =
+    let p = err_from_is_err_and c.from_residual-in_err-push_str-2.result c.from_residual-in_err-push_str-2.ensures.1 in
+    rw (p.1) tt
+
+pub returns-clause-err : goal.returns-clause-err
+returns-clause-err c = tt

@@ -1,4 +1,4 @@
-use Rattle.std.proofs.Common.{List, ◌++◌, refl, sym, ap, ◌∙◌, subst}
+use Rattle.std.proofs.Common.{List, ◌++◌, length, arith, refl, sym, ap, ◌∙◌, subst}
 use Rattle.ra_stamp.specs.declared.entry.Mark.{Mark}
 use Rattle.ra_world.specs.Run.{marks_of}
 use Rattle.ra_world.specs.World.{WorldState, Reports}
@@ -16,3 +16,6 @@ pub returns-clause-main_theorem : goal.returns-clause-main_theorem
 returns-clause-main_theorem c =
     let s = c.args.self.now in
     reports_meet_the_main_theorem s.count s.start s.moves c.with_marks.result c.figures-figures.ensures.count c.figures-figures.ensures.run (returns-clause-ok c)
+
+pub append-requires : goal.append-requires
+append-requires c = omega (arith, c.in_ok-reserve.ensures.ok, c.len.ensures, ap length c.as_slice.ensures)

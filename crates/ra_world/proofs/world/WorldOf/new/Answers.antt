@@ -1,5 +1,6 @@
 use Rattle.std.proofs.Common.{◌≡◌, ℕ, length, map, refl, ap, ◌∙◌}
 use Rattle.std.specs.List.{range_with_len}
+use Rattle.std.proofs.lemmas.Bool.{false≢true}
 use Rattle.std.proofs.lemmas.List.FromFn.{length-map-range_with_len}
 use Rattle.ra_stamp.specs.NodeId.{IsNodeNumber}
 use Rattle.ra_node.specs.Node.{opening_node}
@@ -34,3 +35,9 @@ returns-clause-run g c =
 
 pub returns-clause-bad_count : goal.returns-clause-bad_count
 returns-clause-bad_count g c = (λ is. absurd (no_fault is), λ no. absurd (no (c.in-Some.ensures.valid.0 refl)))
+
+pub returns-in_default-clause-bad_count : goal.returns-in_default-clause-bad_count
+returns-in_default-clause-bad_count g c = (λ _ number. absurd (false≢true (c.in_default.ensures.valid.1 number)), λ _. refl)
+
+pub returns-clause-count : goal.returns-clause-count
+returns-clause-count g c = c.in-Some.ensures.valid.0 refl

@@ -1,4 +1,5 @@
-use Rattle.std.proofs.Common.{◌≡◌, ◌≤◌, ◌++◌, ◌∷◌, [], arith}
+use Rattle.std.proofs.Common.{◌≡◌, ◌≤◌, ◌++◌, ◌∷◌, [], arith, sym}
+use Rattle.std.proofs.lemmas.List.{append-nil}
 use Rattle.std.proofs.lemmas.Result.{IfOk-at_ok}
 use Rattle.ra_world.proofs.OneMore.{next_added, all_added}
 use Rattle.ra_world.proofs.world.step_log.append.Goals as goal
@@ -17,3 +18,6 @@ loop-item-preserved g c =
 pub returns : goal.returns
 returns g c =
     all_added c.args.list.now.items c.loop-item.list.items c.args.items.now c.loop-item.item-index c.loop-item.invariant.items c.loop-item-test.false
+
+pub loop-item-init : goal.loop-item-init
+loop-item-init g c = record { items = sym (append-nil c.args.list.now.items); room = omega arith }

@@ -1,4 +1,6 @@
-use Rattle.std.proofs.Common.{arith, ◌+◌}
+use Rattle.std.proofs.Common.{arith, ◌+◌, ap, ◌∙◌}
+use Rattle.std.proofs.lemmas.List.{take_all}
+use Rattle.ra_world.specs.Quiet.{requests_in}
 use Rattle.ra_world.proofs.LogCounts.{one_request, no_request, requests_in-take, requests_in-take-le}
 use Rattle.ra_world.proofs.world.step_log.requests_of.Goals as goal
 use Rattle.ra_world.proofs.world.step_log.requests_of.Goals.{in-Requested, in_default}
@@ -16,3 +18,6 @@ loop-mark-preserved c =
       | in-Requested w ↦ omega (arith, more, w.requests-is, one_request c.mark-item.result _ w.in-Requested.is)
       | in_default w ↦ omega (arith, more, w.requests-is, no_request c.mark-item.result w.in_default.not-Requested)
     ]
+
+pub returns : goal.returns
+returns c = c.loop-mark.invariant ∙ ap requests_in (take_all c.loop-mark.mark-index c.args.marks.now c.loop-mark-test.false)

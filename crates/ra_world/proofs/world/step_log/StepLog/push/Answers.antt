@@ -1,9 +1,9 @@
-use Rattle.std.proofs.Common.{arith, ◌≡◌, ◌<◌, ◌≤◌, ◌++◌, ◌∷◌, [], List, length, ap, ◌∙◌, subst, sym, refl}
+use Rattle.std.proofs.Common.{arith, ℕ, ◌≡◌, ◌<◌, ◌≤◌, ◌++◌, ◌∷◌, [], List, length, ap, ◌∙◌, subst, sym, refl}
 use Rattle.ra_stamp.specs.declared.entry.Mark.{Mark}
 use Rattle.ra_world.specs.Quiet.{requests_in}
 use Rattle.ra_node.specs.declared.outcome.Outcome.{Outcome}
 use Rattle.ra_world.specs.declared.step.Step.{Step}
-use Rattle.ra_world.specs.StepLog.{LogState, move_of, moves_of}
+use Rattle.ra_world.specs.StepLog.{LogState, room_of, move_of, moves_of}
 use Rattle.ra_world.proofs.LogCounts.{lost-le, repeated-le, lost_in_le, repeated_in_le, made_more, pushed}
 use Rattle.ra_world.proofs.world.step_log.StepLog.push.Goals as goal
 
@@ -76,3 +76,11 @@ returns g c =
     ap moves_of c.and_pair-self-inside.ensures
     ∙ made_more c.self.inside.made.items one
     ∙ ap (λ (s : LogState). s.moves ++ move_of one ∷ []) c.self.view_is
+
+pub keep_marks-requires : goal.keep_marks-requires
+keep_marks-requires g c kept =
+    let l = c.self.inside in
+    let marks = c.args.outcome.now.marks.items in
+    let room = subst (λ (s : LogState). length marks ≤ s.marks_room) (sym c.self.view_is) c.requires.for_marks in
+    let here : length marks ≤ l.marks.spare = subst (λ (keeps : ℕ). length marks ≤ room_of keeps l.marks.spare) kept room in
+    omega (arith, here, ap length c.as_slice.ensures)
