@@ -1,6 +1,6 @@
 //! The commands of `ra`, each a row of a table, so that the same few lines make them all.
 use crate::command_line::helps::{STATUS_HELP, SUMMARY_HELP, help_on};
-use crate::command_line::option_rows::{options_of, with_options};
+use crate::command_line::option_rows::{option_of, options_of};
 use clap::Command;
 use std::alloc::{AllocError, Global};
 
@@ -69,17 +69,19 @@ const COMMANDS: &[CommandRow] = &[
 
 /// Returns the command that the arguments name, or `None`. It does not allocate.
 pub fn command_named(arguments: &[String]) -> Option<&str> {
-    let name = arguments.get(1)?.as_str();
+    let [_, name, ..] = arguments else {
+        return None;
+    };
     for row in COMMANDS {
-        if row.name == name {
-            return Some(name);
+        if row.name == name.as_str() {
+            return Some(row.name);
         }
     }
     None
 }
 
 /// Makes a command. The summary of its help has its options, and names --help.
-fn command_with_options<'a>(
+fn command_of<'a>(
     alloc: Global,
     row: &CommandRow<'a>,
     is_summary: bool,
@@ -89,28 +91,26 @@ fn command_with_options<'a>(
     } else {
         help_on(row.kind)
     };
-    let command = Command::new(alloc, row.name)
+    let mut command = Command::new(alloc, row.name)
         .about(row.about)
         .after_help(after)
         .disable_help_flag(true);
-    with_options(alloc, command, options_of(row.kind))
-}
-
-/// Makes the program without its commands. A command line must name one.
-fn program<'a>(alloc: Global) -> Command<'a> {
-    Command::new(alloc, "ra")
-        .version(VERSION)
-        .about("Simulate, run, check and draw a lock cluster that works by messages alone")
-        .after_help(STATUS_HELP)
-        .disable_help_subcommand(true)
-        .subcommand_required(true)
+    for option in options_of(row.kind) {
+        command = command.arg(option_of(alloc, option))?;
+    }
+    Ok(command)
 }
 
 /// Makes the command line that `ra` understands, with the whole help of each command or with its summary.
 pub fn command<'a>(alloc: Global, is_summary: bool) -> Result<Command<'a>, AllocError> {
-    let mut program = program(alloc);
+    let mut program = Command::new(alloc, "ra")
+        .version(VERSION)
+        .about("Simulate, run, check and draw a lock cluster that works by messages alone")
+        .after_help(STATUS_HELP)
+        .disable_help_subcommand(true)
+        .subcommand_required(true);
     for row in COMMANDS {
-        let command = command_with_options(alloc, row, is_summary)?;
+        let command = command_of(alloc, row, is_summary)?;
         program = program.subcommand(command)?;
     }
     Ok(program)

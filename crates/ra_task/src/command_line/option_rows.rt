@@ -1,8 +1,8 @@
 //! The options of the commands, each a row of a table, so that the same few lines make them all.
 use crate::command_line::command_rows::CommandKind;
 use clap::builder::ValueParser;
-use clap::{Arg, ArgAction, Command};
-use std::alloc::{AllocError, Global};
+use clap::{Arg, ArgAction};
+use std::alloc::Global;
 
 /// The words for the policies.
 const POLICIES: &[&str] = &["oldest", "newest", "seeded", "faulty", "listed"];
@@ -10,11 +10,12 @@ const POLICIES: &[&str] = &["oldest", "newest", "seeded", "faulty", "listed"];
 /// The words for the ends of runs.
 const ENDINGS: &[&str] = &["finished", "stuck"];
 
-/// An option of a command: its name and help, what it takes, whether it is required, and its default, which help may
+/// An option of a command: its names and help, what it takes, whether it is required, and its default, which help may
 /// leave out.
 #[derive(Clone, Copy)]
 pub struct OptionRow<'a> {
     name: &'a str,
+    short: Option<char>,
     help: &'a str,
     action: ArgAction,
     parser: ValueParser<'a>,
@@ -26,6 +27,7 @@ pub struct OptionRow<'a> {
 /// An option that takes nothing.
 const FLAG: OptionRow = OptionRow {
     name: "",
+    short: None,
     help: "",
     action: ArgAction::SetTrue,
     parser: ValueParser::Bool,
@@ -53,6 +55,15 @@ const LONG: OptionRow = OptionRow {
     ..TEXT
 };
 
+/// The option that each command has after its own. It alone has a short name.
+const HELP: OptionRow = OptionRow {
+    name: "help",
+    short: Some('h'),
+    help: "Print help, or a summary with -h",
+    action: ArgAction::Help,
+    ..FLAG
+};
+
 /// The options of the command `answer`.
 const ANSWER_OPTIONS: &[OptionRow] = &[
     OptionRow {
@@ -67,6 +78,7 @@ const ANSWER_OPTIONS: &[OptionRow] = &[
         is_required: true,
         ..SHORT
     },
+    HELP,
 ];
 
 /// The options of the command `sim`, in the order of help.
@@ -134,6 +146,7 @@ const SIM_OPTIONS: &[OptionRow] = &[
         help: "Print the final state in place of marks and totals",
         ..FLAG
     },
+    HELP,
 ];
 
 /// The options of the command `cluster`.
@@ -148,6 +161,7 @@ const CLUSTER_OPTIONS: &[OptionRow] = &[
         help: "Print the books in place of marks and totals",
         ..FLAG
     },
+    HELP,
 ];
 
 /// The options of the command `settle`.
@@ -162,14 +176,18 @@ const SETTLE_OPTIONS: &[OptionRow] = &[
         help: "Print the trace in place of marks and totals",
         ..FLAG
     },
+    HELP,
 ];
 
 /// The option of the command `check`.
-const CHECK_OPTIONS: &[OptionRow] = &[OptionRow {
-    name: "marks",
-    help: "Check the mark log of any lock service, not a trace",
-    ..FLAG
-}];
+const CHECK_OPTIONS: &[OptionRow] = &[
+    OptionRow {
+        name: "marks",
+        help: "Check the mark log of any lock service, not a trace",
+        ..FLAG
+    },
+    HELP,
+];
 
 /// The options of the command `draw`: what it reads, and the first and the last line of the part that is drawn.
 const DRAW_OPTIONS: &[OptionRow] = &[
@@ -191,15 +209,11 @@ const DRAW_OPTIONS: &[OptionRow] = &[
         hides_default: true,
         ..LONG
     },
+    HELP,
 ];
 
-/// The option that each command has after its own.
-const HELP_OPTION: OptionRow = OptionRow {
-    name: "help",
-    help: "Print help, or a summary with -h",
-    action: ArgAction::Help,
-    ..FLAG
-};
+/// The option of the command `node`.
+const NODE_OPTIONS: &[OptionRow] = &[HELP];
 
 /// Returns the options of a command, in their order.
 pub fn options_of(kind: CommandKind) -> &'static [OptionRow<'static>] {
@@ -210,14 +224,14 @@ pub fn options_of(kind: CommandKind) -> &'static [OptionRow<'static>] {
         CommandKind::Draw => DRAW_OPTIONS,
         CommandKind::Cluster => CLUSTER_OPTIONS,
         CommandKind::Settle => SETTLE_OPTIONS,
-        CommandKind::Node => &[],
+        CommandKind::Node => NODE_OPTIONS,
     }
 }
 
 /// Makes an option. If it takes one of several words, the text below the options lists them, and its own help leaves
 /// them out.
-fn option_of<'a>(alloc: Global, row: &OptionRow<'a>) -> Arg<'a> {
-    Arg::new(alloc, row.name)
+pub fn option_of<'a>(alloc: Global, row: &OptionRow<'a>) -> Arg<'a> {
+    let option = Arg::new(alloc, row.name)
         .long(row.name)
         .help(row.help)
         .hide_default_value(row.hides_default)
@@ -225,17 +239,9 @@ fn option_of<'a>(alloc: Global, row: &OptionRow<'a>) -> Arg<'a> {
         .action(row.action)
         .value_parser(row.parser)
         .required(row.is_required)
-        .default_values(row.defaults)
-}
-
-/// Gives a command the options of these rows, in their order, and after them the one for help.
-pub fn with_options<'a>(
-    alloc: Global,
-    mut command: Command<'a>,
-    rows: &[OptionRow<'a>],
-) -> Result<Command<'a>, AllocError> {
-    for row in rows {
-        command = command.arg(option_of(alloc, row))?;
+        .default_values(row.defaults);
+    match row.short {
+        Some(short) => option.short(short),
+        None => option,
     }
-    command.arg(option_of(alloc, &HELP_OPTION).short('h'))
 }
