@@ -1,11 +1,11 @@
 //! What the parser says about arguments that are not a command line, on one line.
 use crate::command_line::command_rows::{command, command_named};
 use crate::command_line::{PolicyName, format_of, policy_name};
-use crate::notice::Notice;
+use crate::notice::{NO_MEMORY, Notice};
 use crate::policy::is_choice;
 use crate::unused_options::is_given;
 use clap::error::ErrorKind;
-use clap::{ArgMatches, Command, Error as ParseError};
+use clap::{ArgMatches, Error as ParseError};
 use ra_world::Note;
 use std::alloc::Global;
 
@@ -83,14 +83,15 @@ fn range_of(option: &str) -> Option<&'static str> {
 /// Returns the option that takes a value and is followed by an argument that the parser takes for an option, though it is
 /// none, such as a negative number, and that argument, or `None`.
 fn no_option_in(arguments: &[String]) -> Option<(&str, &str)> {
-    for place in 1..arguments.len() {
-        let option = arguments[place].as_str();
-        if range_of(option).is_some()
-            && let Some(next) = arguments.get(place + 1)
-            && let [b'-', letter, ..] = next.as_bytes()
+    for place in 2..arguments.len() {
+        let next = arguments[place].as_str();
+        if let [b'-', letter, ..] = next.as_bytes()
             && !matches!(letter, b'-' | b'h' | b'V')
         {
-            return Some((option, next.as_str()));
+            let option = arguments[place - 1].as_str();
+            if range_of(option).is_some() {
+                return Some((option, next));
+            }
         }
     }
     None
@@ -149,43 +150,22 @@ fn push_value(note: &mut Note, arguments: &[String], said: &str) -> bool {
     true
 }
 
-/// Adds a line of what the parser says: a tip after a semicolon, and any other after a space.
-fn push_line(note: &mut Note, line: &str) {
-    let (joint, shown) = match line.strip_prefix("tip: ") {
-        Some(tip) => ("; ", tip),
-        None if note.is_empty() || line.is_empty() => ("", line),
-        None => (" ", line),
-    };
-    note.push(joint);
-    note.shown(shown);
-}
-
-/// Adds what the parser says, without the lines of the usage and what follows them.
+/// Adds what the parser says, without the lines of the usage and what follows them: a tip after a semicolon, and any
+/// other line after a space.
 fn push_said(note: &mut Note, said: &str) {
     let said = said.strip_prefix("error: ").unwrap_or(said);
     for line in said.lines() {
         if line.starts_with("Usage:") || line.starts_with("For more information") {
             return;
         }
-        push_line(note, line.trim());
-    }
-}
-
-/// Adds what an argument may be that the parser did not expect: one of the choices, which are one argument, or a file.
-fn push_unexpected(
-    alloc: Global,
-    note: &mut Note,
-    arguments: &[String],
-    name: &str,
-    argument: &str,
-) {
-    if is_given(arguments, "--choices") && is_choice(alloc, argument) {
-        note.push("; all choices are one argument: quote them, as in --choices \"c1 m0\"");
-    } else {
-        note.push("; to read a file, run ra ");
-        note.push(name);
-        note.push(" < ");
-        note.shown(argument);
+        let line = line.trim();
+        let (joint, shown) = match line.strip_prefix("tip: ") {
+            Some(tip) => ("; ", tip),
+            None if note.is_empty() || line.is_empty() => ("", line),
+            None => (" ", line),
+        };
+        note.push(joint);
+        note.shown(shown);
     }
 }
 
@@ -206,17 +186,28 @@ fn push_help(note: &mut Note, arguments: &[String]) {
 }
 
 /// Adds what the parser says, or which numbers an option takes, and what an unexpected argument may be that is not an
-/// option.
+/// option: one of the choices, which are one argument, or a file.
 fn push_parsed(alloc: Global, note: &mut Note, arguments: &[String], said: &str) {
     if push_value(note, arguments, said) {
         return;
     }
     push_said(note, said);
-    if let Some(name) = command_named(arguments)
-        && let Some((argument, _)) = between(said, "unexpected argument '", "' found")
-        && !argument.starts_with('-')
-    {
-        push_unexpected(alloc, note, arguments, name, argument);
+    let Some(name) = command_named(arguments) else {
+        return;
+    };
+    let Some((argument, _)) = between(said, "unexpected argument '", "' found") else {
+        return;
+    };
+    if argument.starts_with('-') {
+        return;
+    }
+    if is_given(arguments, "--choices") && is_choice(alloc, argument) {
+        note.push("; all choices are one argument: quote them, as in --choices \"c1 m0\"");
+    } else {
+        note.push("; to read a file, run ra ");
+        note.push(name);
+        note.push(" < ");
+        note.shown(argument);
     }
 }
 
@@ -257,9 +248,34 @@ fn push_seeds(note: &mut Note, seeds: &str) {
     note.push("; see ra sim --help");
 }
 
-/// Returns what is wrong with what many seeds are to print of a run that is looked for, or `None`.
-fn search_fault(sim: &ArgMatches) -> Option<&'static str> {
+/// Returns what is wrong with arguments of the command `sim` in which the parser finds nothing wrong, or `None` if it is
+/// the seeds. The causes are tried in the order in which a task is made from the arguments.
+fn sim_fault(arguments: &[String], sim: &ArgMatches) -> Option<&'static str> {
+    let Some(policy) = policy_name(arguments, sim) else {
+        return Some(
+            "--repeat must be at most 400, and --lose and --repeat together at most 1000; see ra sim --help",
+        );
+    };
+    let states = sim.get_flag("state");
     let shrinks = sim.get_flag("shrink");
+    if format_of(&policy, arguments, sim).is_none() {
+        return Some(if states {
+            STATE_TEXT
+        } else if shrinks {
+            "--shrink cannot be used with --trace, --as-choices or --state, nor with --policy faulty unless --repeat is 0; see ra sim --help"
+        } else {
+            "--as-choices cannot be used with --trace, nor with --policy faulty unless --repeat is 0; see ra sim --help"
+        });
+    }
+    if sim.get_str("seeds").is_none() {
+        return Some("--find requires --seeds; see ra sim --help");
+    }
+    if !matches!(policy, PolicyName::Seeded(_) | PolicyName::Faulty { .. }) {
+        return Some("--seeds requires --policy seeded or faulty; see ra sim --help");
+    }
+    if states {
+        return Some(STATE_TEXT);
+    }
     match sim.get_str("find") {
         None if shrinks || sim.get_flag("trace") || sim.get_flag("as-choices") => Some(
             "--seeds takes --trace, --as-choices or --shrink only with --find; see ra sim --help",
@@ -271,68 +287,26 @@ fn search_fault(sim: &ArgMatches) -> Option<&'static str> {
     }
 }
 
-/// Adds what is wrong with arguments of the command `sim` that ask for many seeds: the seeds, if nothing else is.
-fn push_survey(note: &mut Note, policy: &PolicyName, sim: &ArgMatches) {
-    let fault = if !matches!(policy, PolicyName::Seeded(_) | PolicyName::Faulty { .. }) {
-        Some("--seeds requires --policy seeded or faulty; see ra sim --help")
-    } else if sim.get_flag("state") {
-        Some(STATE_TEXT)
-    } else {
-        search_fault(sim)
-    };
-    match fault {
-        Some(text) => note.push(text),
-        None => push_seeds(note, sim.get_str("seeds").unwrap_or("")),
-    }
-}
-
-/// Adds what is wrong with arguments of the command `sim` that name this policy, the next cause after the policy.
-fn push_under(note: &mut Note, arguments: &[String], policy: &PolicyName, sim: &ArgMatches) {
-    if format_of(policy, arguments, sim).is_none() {
-        let text = if sim.get_flag("state") {
-            STATE_TEXT
-        } else if sim.get_flag("shrink") {
-            "--shrink cannot be used with --trace, --as-choices or --state, nor with --policy faulty unless --repeat is 0; see ra sim --help"
-        } else {
-            "--as-choices cannot be used with --trace, nor with --policy faulty unless --repeat is 0; see ra sim --help"
-        };
-        note.push(text);
-    } else if sim.get_str("seeds").is_some() {
-        push_survey(note, policy, sim);
-    } else {
-        note.push("--find requires --seeds; see ra sim --help");
-    }
-}
-
 /// Adds what is wrong with arguments in which the parser finds nothing wrong, so the cause is something that it does not
-/// check. The causes for `sim` are tried in the order in which a task is made from the arguments.
+/// check.
 fn push_unseen(note: &mut Note, arguments: &[String], matches: &ArgMatches) {
     let Some((command, given)) = matches.subcommand() else {
         push_help(note, arguments);
         return;
     };
     // `node` and `settle` have an argument that the parser passes over, which only `--` is.
-    match command {
-        "draw" => note.push("--from must be at least 1, and at most --to; see ra draw --help"),
-        "cluster" => note.push("--books cannot be used with --trace; see ra cluster --help"),
-        "node" => note.push("node takes no arguments; see ra node --help"),
-        "settle" => note.push(
+    let fault = match command {
+        "draw" => Some("--from must be at least 1, and at most --to; see ra draw --help"),
+        "cluster" => Some("--books cannot be used with --trace; see ra cluster --help"),
+        "node" => Some("node takes no arguments; see ra node --help"),
+        "settle" => Some(
             "settle takes no arguments but --repeats and --trace; see ra settle --help",
         ),
-        _ => match policy_name(arguments, given) {
-            Some(policy) => push_under(note, arguments, &policy, given),
-            None => note.push(
-                "--repeat must be at most 400, and --lose and --repeat together at most 1000; see ra sim --help",
-            ),
-        },
-    }
-}
-
-/// Adds what is wrong with the arguments.
-fn push_usage<'a>(alloc: Global, note: &mut Note, arguments: &'a [String], command: Command<'a>) {
-    match command.try_get_matches_from(arguments) {
-        Ok(matches) => push_unseen(note, arguments, &matches),
-        Err(error) => push_error(alloc, note, arguments, &error),
+        _ => sim_fault(arguments, given),
+    };
+    match fault {
+        Some(text) => note.push(text),
+        None => push_seeds(note, given.get_str("seeds").unwrap_or("")),
     }
 }
 
@@ -340,10 +314,13 @@ fn push_usage<'a>(alloc: Global, note: &mut Note, arguments: &'a [String], comma
 /// the parser knows one, and where to read more. The parser is run again, so that the contract of `parse` need not
 /// mention notes.
 pub fn usage_note(alloc: Global, arguments: &[String]) -> Notice {
+    let Ok(command) = command(alloc, false) else {
+        return Notice::Text(NO_MEMORY);
+    };
     let mut note = Note::new(alloc);
-    match command(alloc, false) {
-        Ok(command) => push_usage(alloc, &mut note, arguments, command),
-        Err(_) => note.refuse_if(true),
+    match command.try_get_matches_from(arguments) {
+        Ok(matches) => push_unseen(&mut note, arguments, &matches),
+        Err(error) => push_error(alloc, &mut note, arguments, &error),
     }
     Notice::of(note)
 }
