@@ -18,7 +18,7 @@ use crate::command_line::input_kind::InputKind;
 use crate::command_line::search::{Search, SurveyTask};
 use crate::lone_command::is_command_alone;
 use clap::error::ErrorKind;
-use clap::{ArgMatches, Command, Error as ParseError};
+use clap::{ArgMatches, Error as ParseError};
 use ra_schedule::{Ending, Faults, OutputKind, SeedRange};
 use ra_world::Part;
 use std::alloc::Global;
@@ -106,8 +106,10 @@ pub fn text_of<'a>(arguments: &'a [String], option: &str) -> Option<&'a str>
 fn number_of(arguments: &[String], option: &str) -> Option<u16>
     ensures { IfSome result (Gives (map string_bytes arguments.now) option.now) }
 {
-    let text = text_of(arguments, option)?;
-    text.parse().ok()
+    match text_of(arguments, option) {
+        Some(text) => text.parse().ok(),
+        None => None,
+    }
 }
 
 /// Returns the task of the command `answer`, with the numbers that the arguments give. The parser has found that they
@@ -158,7 +160,9 @@ pub fn text_or<'a>(arguments: &'a [String], option: &str, default: &'a str) -> &
 pub fn policy_name(arguments: &[String], sim: &ArgMatches) -> Option<PolicyName>
     ensures { IfSome result (λ policy. NamesFaithfully (map string_bytes arguments.now) → IsFaithful policy) }
 {
-    let seed = sim.get_one("seed")?;
+    let Some(seed) = sim.get_one("seed") else {
+        return None;
+    };
     let faults = faults_of(arguments)?;
     let word = text_or(arguments, "--policy", "oldest");
     match word {
@@ -175,9 +179,15 @@ pub fn policy_name(arguments: &[String], sim: &ArgMatches) -> Option<PolicyName>
 fn seeds_of(text: &str) -> Option<SeedRange>
     ensures { IfSome result (λ seeds. seeds.first ≤ seeds.last) }
 {
-    let (first, last) = text.split_once("..")?;
-    let first = first.parse().ok()?;
-    let last = last.parse().ok()?;
+    let Some((first, last)) = text.split_once("..") else {
+        return None;
+    };
+    let Ok(first) = first.parse() else {
+        return None;
+    };
+    let Ok(last) = last.parse() else {
+        return None;
+    };
     if first <= last {
         Some(SeedRange { first, last })
     } else {
@@ -220,7 +230,9 @@ pub fn format_of(policy: &PolicyName, arguments: &[String], sim: &ArgMatches) ->
     ensures shrunk { IfSome result (λ format. ¬ Any (λ argument. string_bytes argument ≡ codes "--shrink") arguments.now
         → format ≢ OutputKind.Shrunk) }
 {
-    let repeat: u16 = sim.get_one("repeat")?;
+    let Some(repeat): Option<u16> = sim.get_one("repeat") else {
+        return None;
+    };
     let lists = has_argument(arguments, "--as-choices");
     let shrinks = has_argument(arguments, "--shrink");
     let may_repeat = repeat > 0 && matches!(policy, PolicyName::Faulty { .. });
@@ -331,8 +343,12 @@ fn kind_of(arguments: &[String]) -> InputKind
 fn draw_task<'a>(arguments: &[String], given: &ArgMatches<'a>) -> Option<Task<'a>>
     ensures { IfSome result (IsOfCommand (map string_bytes arguments.now)) }
 {
-    let from: u64 = given.get_one("from")?;
-    let to: u64 = given.get_one("to")?;
+    let Some(from): Option<u64> = given.get_one("from") else {
+        return None;
+    };
+    let Some(to): Option<u64> = given.get_one("to") else {
+        return None;
+    };
     if from == 0 || from > to {
         return None;
     }
@@ -383,7 +399,9 @@ fn command_argument(arguments: &[String]) -> Option<&str>
 fn task_of<'a>(arguments: &'a [String], matches: &ArgMatches<'a>) -> Option<Task<'a>>
     ensures { IfSome result (AsksForTask (map string_bytes arguments.now)) }
 {
-    let (_, given) = matches.subcommand()?;
+    let Some((_, given)) = matches.subcommand() else {
+        return None;
+    };
     let argument = command_argument(arguments)?;
     match argument {
         "answer" => answer_task(arguments),
@@ -448,21 +466,6 @@ pub fn parse<'a>(alloc: Global, arguments: &'a [String]) -> Result<Task<'a>, Com
     let Ok(command) = command(alloc, asks_for_summary(arguments)) else {
         return Err(CommandFault::Memory);
     };
-    task_by(alloc, arguments, command)
-}
-
-/// Returns the task of the arguments, as the parser of this command line understands them.
-///
-/// # Errors
-///
-/// Those of `parse`.
-fn task_by<'a>(
-    alloc: Global,
-    arguments: &'a [String],
-    command: Command<'a>,
-) -> Result<Task<'a>, CommandFault>
-    ensures { IfOk result (AsksForTask (map string_bytes arguments.now)) }
-{
     match command.try_get_matches_from(arguments) {
         Ok(matches) => task_of(arguments, &matches).ok_or(CommandFault::Usage),
         Err(error) => help_of(alloc, arguments, &error),
