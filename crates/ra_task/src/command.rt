@@ -25,16 +25,15 @@ pub enum Command<'a> {
 impl<'a> Command<'a> {
     /// Returns whether a run of `sim` is to be shrunk, or one that is looked for. It does not allocate.
     pub fn shrinks(&self) -> bool {
-        let Command::Task(task) = self else {
-            return false;
-        };
-        match *task {
-            Task::Sim { format, .. } => matches!(format, OutputKind::Shrunk),
-            Task::Survey(
-                SurveyTask {
-                    find: Some(Search { format, .. }),
-                    ..
-                },
+        match self {
+            Command::Task(
+                Task::Sim { format, .. }
+                | Task::Survey(
+                    SurveyTask {
+                        find: Some(Search { format, .. }),
+                        ..
+                    },
+                ),
             ) => matches!(format, OutputKind::Shrunk),
             _ => false,
         }

@@ -44,11 +44,7 @@ pub fn is_given(arguments: &[String], option: &str) -> bool {
 /// failure of the writer.
 fn write_limits<N: Write>(arguments: &[String], options: &[Limited], policy: &str, notes: &mut N) {
     for limited in options {
-        let mut is_unused = is_given(arguments, limited.option);
-        for &other in limited.policies {
-            is_unused = is_unused && other != policy;
-        }
-        if is_unused {
+        if is_given(arguments, limited.option) && !limited.policies.contains(&policy) {
             write_line(notes, limited.text);
         }
     }
