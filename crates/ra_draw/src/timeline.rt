@@ -259,11 +259,6 @@ impl Timeline {
     pub fn follow(&mut self, alloc: Global, text: &[u8], part: Part) -> Result<(), Memory> {
         let (first, _) = cut(text, b'\n');
         let mut world = world_of(alloc, first)?;
-        let followed = self.take_lines(alloc, &mut world, text, part);
-        match world {
-            Some(world) => world.discard(),
-            None => {}
-        }
-        followed
+        self.take_lines(alloc, &mut world, text, part)
     }
 }

@@ -25,12 +25,21 @@ use std::marker::Model;
 /// compared; only clauses and proofs see the grants themselves. A name is found by a fixed hash, unless it is
 /// the one of the last call or the one that first came after that: among names that someone picked so that they collide, a
 /// look-up is linear in their number.
-#[derive(Drop)]
 pub struct Table {
     /// A table for each name on which an entry ever waited.
     name_tables: IndexMap<Name, NameTable>,
     /// At which place among these the last one was that was asked of. No clause relies on it.
     latest: usize,
+}
+
+// What it owns is freed here, so that no other crate proves how each of its parts is dropped.
+impl Drop for Table {
+    fn drop(self) {
+        let Table {
+            name_tables: _,
+            latest: _,
+        } = self;
+    }
 }
 
 impl Model for Table {
@@ -93,9 +102,6 @@ impl Table {
             latest: 0,
         })
     }
-
-    /// Frees its memory, so that a caller in another crate need not prove how each of its parts is dropped.
-    pub fn discard(self) {}
 
     /// Lets the entry wait, in expected time linear in the number of entries that wait and hold on its name. Now and
     /// then it moves all that is kept by names into more memory, which is constant on average.

@@ -83,10 +83,7 @@ impl Checker {
                 marks: Marks::new(alloc),
                 come: 0,
             })),
-            Err(_) => {
-                world.discard();
-                Err(TraceError::Memory)
-            }
+            Err(_) => Err(TraceError::Memory),
         }
     }
 

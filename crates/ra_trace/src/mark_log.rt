@@ -160,8 +160,7 @@ fn check_by<R: Read, S: LineSource<R>>(
         grants: 0,
     };
     let verdict = verdict_after::<R, S>(reader, &mut log, limit as usize);
-    let MarkLog { table, .. } = log;
-    table.discard();
+    drop(log);
     verdict
 }
 

@@ -232,7 +232,7 @@ pub fn trace_text(
     let mut text = Draft::new(alloc);
     let written = trace_run(alloc, &mut text, &mut world, nodes, start, steps);
     // Before any exit, so that it is not to be dropped at each.
-    world.discard();
+    drop(world);
     match written {
         Ok(()) => match text.finish() {
             Ok(text) => Ok(text),

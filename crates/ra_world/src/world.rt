@@ -33,13 +33,23 @@ pub type MarklessWorld = WorldOf<0>;
 ///
 /// If `KEEPS_MARKS` is 1 the world keeps the marks of its steps. (It is a number because the invariant of a type cannot
 /// be stated over a bool.) It keeps the messages under way, but only counts the steps and all messages sent.
-#[derive(Drop)]
 pub struct WorldOf<const KEEPS_MARKS: u8> {
     start: u64,
     /// The nodes by their numbers, from 1.
     nodes: Vec<Node>,
     /// What is kept of the steps.
     kept: KeptSteps<KEEPS_MARKS>,
+}
+
+// What it owns is freed here, so that no other crate proves how each of its parts is dropped.
+impl<const KEEPS_MARKS: u8> Drop for WorldOf<KEEPS_MARKS> {
+    fn drop(self) {
+        let WorldOf {
+            start: _,
+            nodes: _,
+            kept: _,
+        } = self;
+    }
 }
 
 impl<const KEEPS_MARKS: u8> Model for WorldOf<KEEPS_MARKS> {
@@ -90,12 +100,6 @@ impl<const KEEPS_MARKS: u8> WorldOf<KEEPS_MARKS> {
                 log: StepLog::new(alloc),
             },
         })
-    }
-
-    /// Frees its memory, so that a caller in another crate need not prove how each of its parts is dropped.
-    pub fn discard(self) {
-        let kept = self.kept;
-        let _marks = kept.log.into_marks();
     }
 
     /// Makes a step, and returns what came of it: the messages that it sent, which are now under way, and its marks. A
@@ -429,7 +433,11 @@ impl WorldOf<1> {
         ensures main_theorem { MainTheorem self.count result }
     {
         let figures = self.figures();
-        let kept = self.kept;
+        let WorldOf {
+            start: _,
+            nodes: _,
+            kept,
+        } = self;
         let marks = kept.log.into_marks();
         figures.with_marks(marks)
     }

@@ -122,7 +122,7 @@ fn text_of_run<T: Threads + Wait + Sync>(
 {
     let recorded = record_cluster(rt, alloc, script, &OpenGate)?;
     let text = recorded_text(alloc, printed, script.nodes(), &recorded);
-    recorded.discard();
+    drop(recorded);
     text.or(Err(RunScriptError::Memory))
 }
 

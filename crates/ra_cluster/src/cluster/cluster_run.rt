@@ -63,11 +63,6 @@ pub struct Recorded {
     pub settled: Settled,
 }
 
-impl Recorded {
-    /// Frees its memory, so that a caller in another crate need not prove how each of its parts is dropped.
-    pub fn discard(self) {}
-}
-
 /// Runs a script by threads: one for each node and one for each client. A client's thread does the client's operations
 /// one after the other, at the client's site. Once the clients' threads have ended, the post is closed; once the nodes'
 /// threads have ended, the books settle. The numbers begin at 0. If the result is Ok, nobody waits or is queued, and no

@@ -36,7 +36,7 @@ pub fn refusal_after(alloc: Global, lines: &[u8], mark: &Mark) -> Option<MarkCau
         return None;
     };
     let refusal = refusal_in(&mut table, lines, mark);
-    table.discard();
+    drop(table);
     match refusal {
         Ok(cause) => cause,
         Err(_) => None,

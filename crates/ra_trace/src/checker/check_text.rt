@@ -174,16 +174,7 @@ fn check_by<R: Read, S: LineSource<R>>(
     match opened {
         Some(mut checker) => {
             let verdict = verdict_after::<R, S>(alloc, reader, taken, &mut checker, limit, due);
-            // What the world and the table own is freed in their own crates.
-            let Checker {
-                version: _,
-                world,
-                table,
-                marks: _marks,
-                come: _,
-            } = checker;
-            world.discard();
-            table.discard();
+            drop(checker);
             verdict
         }
         None => Ok(Verdict::Invalid {
