@@ -1,5 +1,6 @@
 -- Texts that are put after another one part by part.
 use Rattle.std.proofs.Common.{◌≡◌, ◌≢◌, ℕ, List, [], ◌∷◌, ◌++◌, refl, sym, ap, ◌∙◌, append_assoc, append-nil}
+use Rattle.std.specs.Prelude.{Result, Ok, Err, OnOk, OnErr, IsErrAnd}
 use Rattle.ra_world.specs.Lines.{AddsPrefix}
 
 -- nothing was added
@@ -42,3 +43,15 @@ more_left old new first second added =
 pub both_added : (old mid new first second : List ℕ) → mid ≡ old ++ first → new ≡ mid ++ second → new ≡ old ++ (first ++ second)
 both_added old mid new first second is more =
     more ∙ ap (λ (xs : List ℕ). xs ++ second) is ∙ append_assoc old first second
+
+-- ---- A part that could not be added
+
+-- what holds in any case holds of an exit with an error
+pub at_an_error : {T E P : Type 0} (r : Result T E) → P → OnErr r P
+at_an_error (Ok x) holds = tt
+at_an_error (Err e) holds = holds
+
+-- an exit with an error has no value
+pub no_value : {T E : Type 0} (r : Result T E) (Q : E → Type 0) (P : Type 0) → IsErrAnd r Q → OnOk r P
+no_value (Ok x) Q P is = absurd is
+no_value (Err e) Q P is = tt

@@ -1,4 +1,4 @@
-use Rattle.std.proofs.Common.{rules, ◌≡◌, ◌<◌, ℕ, List, [], ◌++◌, length, take, arith, refl, sym, ap, ◌∙◌, subst}
+use Rattle.std.proofs.Common.{◌≡◌, ◌<◌, ℕ, List, [], ◌++◌, length, take, arith, refl, sym, ap, ◌∙◌, subst}
 use Rattle.std.specs.Io.KnownBytes.{Appends}
 use Rattle.std.proofs.KnownBytes.{Appends-nil, Appends-trans}
 use Rattle.std.proofs.lemmas.Bool.{eqb-true}
@@ -11,8 +11,8 @@ loop-rest-preserved g c =
     let so_far = c.loop-rest.invariant.written in
     let count = c.in_ok-count.count in
     record {
-      unfailed = search rules;
-      same_reference = search rules;
+      unfailed = c.in_ok-count.ensures.unfailed;
+      same_reference = c.write.ensures.same_reference ∙ c.loop-rest.invariant.same_reference;
       written = (
         so_far.0 ++ take count c.loop-rest.rest.now,
         cut_again _ so_far.0 c.loop-rest.rest.now count so_far.1,

@@ -1,6 +1,7 @@
-use Rattle.std.proofs.Common.{rules, ◌≡◌, ◌≤◌, ℕ, List, [], length, zero-le, arith, sym, ap, ◌∙◌, subst}
+use Rattle.std.proofs.Common.{◌≡◌, ◌≤◌, ℕ, List, [], length, zero-le, arith, sym, ap, ◌∙◌, subst, inl}
 use Rattle.ra_stamp.specs.declared.message.Message.{Message}
 use Rattle.ra_stamp.specs.declared.entry.Mark.{Mark}
+use Rattle.std.proofs.lemmas.Bool.{false≢true}
 use Rattle.std.proofs.lemmas.Result.{on_ok_weaker}
 use Rattle.ra_node.specs.Node.{NodeState}
 use Rattle.ra_node.specs.Carried.{replies_at_most, entries_at_most}
@@ -38,7 +39,7 @@ returns-in-Ok-clause-room g c sends marks new event =
 
 pub returns-clause-room : goal.returns-clause-room
 returns-clause-room g c =
-    let none : BringsNothing c.args.receiver.now c.args.message.now = c.brings_nothing.ensures.value.0 (search rules) in
+    let none : BringsNothing c.args.receiver.now c.args.message.now = c.brings_nothing.ensures.value.0 c.if-not-brings_nothing.false in
     on_ok_weaker c.make_room-2.result
     (λ (room : HasRoom c.make_room-2.new.self.log 0) (sends : List Message) (marks : List Mark) (new : NodeState) (event : ReceiveEvent c.args.receiver.now c.args.message.now sends marks new).
     let same = event_one c.args.receiver.now new none.0 (Receive c.args.message.now) sends [] marks [] event none.1 in (
@@ -52,3 +53,6 @@ returns-clause-messages g c = c.make_room-2.ensures.messages ∙ c.make_room.ens
 
 pub returns-clause-moves : goal.returns-clause-moves
 returns-clause-moves g c = c.make_room-2.ensures.moves ∙ c.make_room.ensures.moves
+
+pub returns-then-not-brings_nothing-clause-err : goal.returns-then-not-brings_nothing-clause-err
+returns-then-not-brings_nothing-clause-err g c = inl (λ brings. false≢true (sym c.if-not-brings_nothing.true ∙ c.brings_nothing.ensures.value.1 brings))
