@@ -1,5 +1,6 @@
 -- The table of a name, found and written by its place.
-use Rattle.std.proofs.Common.{◌≡◌, ◌<◌, ℕ, zero, suc, Bool, true, false, cond, not, ◌+◌, List, [], ◌∷◌, length, slice_get, position, Option, Some, None, IfSome, IsNone, is_some, refl, sym, ap, ◌∙◌, subst, arith}
+use Rattle.std.proofs.Common.{◌≡◌, ℕ, zero, suc, Bool, true, false, cond, not, ◌+◌, List, [], ◌∷◌, length, slice_get, position, Option, Some, None, IfSome, is_some, refl, sym, ap, ◌∙◌, subst, arith}
+use Rattle.std.specs.Prelude.{unwrap_or}
 use Rattle.std.specs.Str.{bytes_eq}
 use Rattle.std.specs.List.{AllByRecursion, IsDistinct, position_or_len}
 use Rattle.std.specs.Map.{lookup, set_value, keys_of, values_of}
@@ -44,7 +45,6 @@ is_place (first ∷ tables) name zero table distinct at =
     let same : first.0 ≡ name = ap (λ (y : List ℕ × LockTable). y.0) (same_Some first (name, table) at) in
     let yes : bytes_eq name first.0 ≡ true = (bytes_eq-Decides name first.0).1 (sym same) in
     record {
-      within = omega arith;
       found = ap (λ b. cond b (Some first.1) (lookup (bytes_eq name) tables)) (sym yes);
       written = λ new. ap (λ b. cond b ((first.0, new) ∷ tables) (first ∷ set_value (bytes_eq name) tables new)) (sym yes);
     }
@@ -56,7 +56,6 @@ is_place (first ∷ tables) name (suc place) table distinct at =
           let name_is : first.0 ≡ name = sym ((bytes_eq-Decides name first.0).0 same) in
           absurd (false≢true (sym apart ∙ (bytes_eq-Decides first.0 name).1 name_is))
       | false ↦ λ other. record {
-        within = omega (arith, there.within);
         found = there.found ∙ ap (λ b. cond b (Some first.1) (lookup (bytes_eq name) tables)) (sym other);
         written = λ new.
             ap (λ (l : List (List ℕ × LockTable)). first ∷ l) (there.written new)
@@ -92,21 +91,38 @@ some_place : (b : Bool) (first place : ℕ) → Some place ≡ cond b (Some firs
 some_place true first place is = same_Some place first is
 some_place false first place is = absurd (none-some place (sym is))
 
+none_found : (table : Option LockTable) → false ≡ is_some table → table ≡ None
+none_found None same = refl
+none_found (Some table) same = absurd (false≢true same)
+
+nothing_there : (tables : List (List ℕ × LockTable)) → slice_get (values_of tables) (length tables) ≡ None
+nothing_there [] = refl
+nothing_there (first ∷ tables) = nothing_there tables
+
+nothing_written : (tables : List (List ℕ × LockTable)) (test : List ℕ → Bool) (new : LockTable) → lookup test tables ≡ None
+    → set_value_at tables (length tables) new ≡ set_value test tables new
+nothing_written [] test new none = refl
+nothing_written (first ∷ tables) test new none =
+    elim (test first.0) as (λ b. cond b (Some first.1) (lookup test tables) ≡ None
+    → set_value_at (first ∷ tables) (length (first ∷ tables)) new ≡ cond b ((first.0, new) ∷ tables) (first ∷ set_value test tables new)) [
+      | true ↦ λ some. absurd (none-some first.1 (sym some))
+      | false ↦ λ missing. ap (λ (l : List (List ℕ × LockTable)). first ∷ l) (nothing_written tables test new missing)
+    ] none
+
 pub place_found : (tables : List (List ℕ × LockTable)) (name : List ℕ) (found : Option ℕ) → found ≡ position (bytes_eq name) (keys_of tables)
-    → IfSome found (λ place. place < length tables)
-    → IfSome found (λ place. slice_get (values_of tables) place ≡ lookup (bytes_eq name) tables) → IfSome found (IsPlaceOf tables name)
-place_found tables name None is within value = tt
-place_found tables name (Some place) is within value =
+    → is_some found ≡ is_some (lookup (bytes_eq name) tables)
+    → IfSome found (λ place. slice_get (values_of tables) place ≡ lookup (bytes_eq name) tables) → IsPlaceOf tables name (unwrap_or found (length tables))
+place_found tables name None is same value =
+    let none = none_found (lookup (bytes_eq name) tables) same in
+    record {
+      found = nothing_there tables ∙ sym none;
+      written = λ new. nothing_written tables (bytes_eq name) new none;
+    }
+place_found tables name (Some place) is same value =
     let first : place ≡ position_or_len (bytes_eq name) (keys_of tables) = some_place _ _ place is in
     record {
-      within = within;
       found = value;
       written = λ new.
           ap (λ (i : ℕ). set_value_at tables i new) first
           ∙ at_first tables (bytes_eq name) new;
     }
-
-pub none_found : (found : Option ℕ) (table : Option LockTable) → is_some found ≡ is_some table → IsNone found → table ≡ None
-none_found None None same none = refl
-none_found None (Some table) same none = absurd (false≢true same)
-none_found (Some place) table same none = absurd (false≢true (sym none))

@@ -48,9 +48,9 @@ module _ {X : Type 0} (part : X → List Entry) where
   abbrev pub AreOnTheirNames : List (List ℕ × X) → Type 0
   AreOnTheirNames name_tables = AllByRecursion (λ name_table. AreOn name_table.0 (part name_table.1)) name_tables
 
--- the table at this place, counted from 0, is the one of this name: the one that is found and written by the name
+-- this place, counted from 0, is that of the table of this name, the one that is found and written by the name. If the name has none,
+-- the place is past the end, where nothing is found or written
 pub record IsPlaceOf (name_tables : List (List ℕ × LockTable)) (name : List ℕ) (place : ℕ) : Type 0 where
-  pub within : place < length name_tables
   pub found : slice_get (values_of name_tables) place ≡ lookup (bytes_eq name) name_tables
   pub written : (new : LockTable) → set_value_at name_tables place new ≡ set_value (bytes_eq name) name_tables new
 

@@ -1,8 +1,7 @@
-ghost use Rattle.std.specs.Prelude.{◌≡◌, ◌↔◌, None, Contains, IsTrue, IsNone, IsOk, IsErrOf, IsOkUnless, IfOk, IfSome, OnOk, OnErr};
+ghost use Rattle.std.specs.Prelude.{◌≡◌, ◌↔◌, Contains, IsTrue, IsOk, IsErrOf, IsOkUnless, IfOk, OnOk, OnErr};
 ghost use Rattle.std.specs.List.{IsDistinct};
 ghost use Rattle.std.specs.Map.{keys_of};
 ghost use Rattle.std.specs.Str.{bytes_eq};
-ghost use Rattle.indexmap.specs.IndexMap.{get};
 ghost use Rattle.ra_stamp.specs.declared.entry.Mark.{Mark};
 ghost use Rattle.ra_table.specs.Table.{empty_table, MayRequest, MayEnter, TableStep};
 ghost use Rattle.ra_table.specs.Refusals.{IsNodeBusy, IsNotAbove, IsHeld, HasEarlier};
@@ -28,7 +27,8 @@ use std::marker::Model;
 pub struct Table {
     /// A table for each name on which an entry ever waited.
     name_tables: IndexMap<Name, NameTable>,
-    /// At which place among these the last one was that was asked of. No clause relies on it.
+    /// At which place among these the last one was that was asked of, or the number of tables if its name had none. No clause relies on
+    /// it.
     latest: usize,
 }
 
@@ -65,26 +65,21 @@ fn is_at(name_tables: &IndexMap<Name, NameTable>, place: usize, name: &Name) -> 
     }
 }
 
-/// Returns at which place the table of a name is, or `None` if it has none. It looks at the place that was found last, then at the next
-/// one, and only then by a hash of the name: most callers ask of one name several times, and of names in one order.
+/// Returns at which place the table of a name is, or the number of tables if it has none. It looks at the place that was found last, then
+/// at the next one, and only then by a hash of the name: most callers ask of one name several times, and of names in one order.
 #[inline(always)]
-fn place_of_name(
-    name_tables: &IndexMap<Name, NameTable>,
-    latest: usize,
-    name: &Name,
-) -> Option<usize>
+fn place_of_name(name_tables: &IndexMap<Name, NameTable>, latest: usize, name: &Name) -> usize
     requires { IsDistinct bytes_eq (keys_of name_tables.now.entries) }
-    ensures some { IfSome result (IsPlaceOf name_tables.now.entries name.now) }
-    ensures none { IsNone result → get bytes_eq name_tables.now name.now ≡ None }
+    ensures { IsPlaceOf name_tables.now.entries name.now result }
 {
     if is_at(name_tables, latest, name) {
-        return Some(latest);
+        return latest;
     }
     let next = latest.wrapping_add(1);
     if is_at(name_tables, next, name) {
-        return Some(next);
+        return next;
     }
-    name_tables.get_index_of(name)
+    name_tables.get_index_of(name).unwrap_or(name_tables.len())
 }
 
 impl Table {
@@ -125,16 +120,11 @@ impl Table {
         ensures allowed { IsOkUnless result RequestError.Memory ↔ MayRequest self.old entry }
         ensures exclusive { IsConflictFree self.new.holding }
     {
-        match place_of_name(&self.name_tables, self.latest, &entry.name) {
-            Some(place) => {
-                self.latest = place;
-                self.name_tables[place].request(&entry)
-            }
-            None => {
-                self.latest = self.name_tables.len();
-                NameTable::open(&mut self.name_tables, &entry)
-            }
-        }
+        self.latest = place_of_name(&self.name_tables, self.latest, &entry.name);
+        let Some(name_table) = self.name_tables.get_index_mut(self.latest) else {
+            return NameTable::open(&mut self.name_tables, &entry);
+        };
+        name_table.request(&entry)
     }
 
     /// Grants an entry that waits, so that it holds, in expected time linear in the number of entries that wait and
@@ -163,11 +153,11 @@ impl Table {
         ensures allowed { IsOkUnless result EnterError.Memory ↔ MayEnter self.old entry.now }
         ensures exclusive { IsConflictFree self.new.holding }
     {
-        let Some(place) = place_of_name(&self.name_tables, self.latest, &entry.name) else {
+        self.latest = place_of_name(&self.name_tables, self.latest, &entry.name);
+        let Some(name_table) = self.name_tables.get_index_mut(self.latest) else {
             return Err(EnterError::NotWaiting);
         };
-        self.latest = place;
-        self.name_tables[place].enter(entry)
+        name_table.enter(entry)
     }
 
     /// Ends the hold of an entry, in expected time linear in the number of entries that hold on its name. It does not
@@ -183,11 +173,11 @@ impl Table {
         ensures not_held { IsErrOf result LeaveError.NotHeld ↔ ¬ Contains self.old.holding entry.now }
         ensures exclusive { IsConflictFree self.new.holding }
     {
-        let Some(place) = place_of_name(&self.name_tables, self.latest, &entry.name) else {
+        self.latest = place_of_name(&self.name_tables, self.latest, &entry.name);
+        let Some(name_table) = self.name_tables.get_index_mut(self.latest) else {
             return Err(LeaveError::NotHeld);
         };
-        self.latest = place;
-        self.name_tables[place].leave(entry)
+        name_table.leave(entry)
     }
 
     /// Returns whether the entry may wait, unless memory runs out: its node neither waits nor holds on its name, and its number is above that of
