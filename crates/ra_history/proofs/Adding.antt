@@ -1,7 +1,7 @@
 -- A book with one more event, from what is kept of it.
 use Rattle.std.proofs.Common.{◌≡◌, ℕ, ◌+◌, ◌<◌, ◌≤◌, false, List, [], ◌∷◌, ◌++◌, length, take, get_or, All, Result, Ok, Err, refl, sym, ap, ◌∙◌, subst, append_assoc, arith}
 use Rattle.std.specs.Prelude.{IsOk, OnOk}
-use Rattle.std.proofs.lemmas.List.{map_more}
+use Rattle.std.proofs.lemmas.List.{map_more, map-append}
 use Rattle.ra_stamp.specs.declared.entry.Mark.{Mark}
 use Rattle.ra_stamp.specs.declared.message.Message.{Message}
 use Rattle.ra_frame.specs.declared.frame.Frame.{Frame}
@@ -134,17 +134,40 @@ happens_after {old} {new} {event} before_is room_is happens = record {
 
 -- ---- Frames that are put one after the other
 
-abbrev sent_of : Frame → Sent
-sent_of frame = record { frame = frame; lost = false }
+module _ (clock : ℕ) where
+  abbrev frame_at : Message → Frame
+  frame_at message = record { clock = clock; message = message }
 
-pub one_sent : (old now new : List Sent) (frames : List Frame) (i : ℕ) (frame : Frame) → i < length frames → frame ≡ get_or frames i frame
-    → now ≡ old ++ as_sent (take i frames) → new ≡ now ++ record { frame = frame; lost = false } ∷ [] → new ≡ old ++ as_sent (take (i + 1) frames)
-one_sent old now new frames i frame within at before is =
-    let more : as_sent (take (i + 1) frames) ≡ as_sent (take i frames) ++ sent_of frame ∷ [] =
-    map_more sent_of frames i frame within ∙ ap (λ (f : Frame). as_sent (take i frames) ++ sent_of f ∷ []) (sym at)
-    in
-    is ∙ ap (λ (ss : List Sent). ss ++ sent_of frame ∷ []) before ∙ append_assoc old (as_sent (take i frames)) (sent_of frame ∷ [])
-    ∙ ap (λ (ss : List Sent). old ++ ss) (sym more)
+  more_frames : (sends : List Message) (i : ℕ) (message : Message) → i < length sends → message ≡ get_or sends i message
+      → frames_at clock (take (i + 1) sends) ≡ frames_at clock (take i sends) ++ frame_at message ∷ []
+  more_frames sends i message within at =
+      map_more frame_at sends i message within ∙ ap (λ (m : Message). frames_at clock (take i sends) ++ frame_at m ∷ []) (sym at)
+
+  abbrev sent_at : Message → Sent
+  sent_at message = record { frame = frame_at message; lost = false }
+
+  more_sent : (sends : List Message) (i : ℕ) (message : Message) → i < length sends → message ≡ get_or sends i message
+      → as_sent (frames_at clock (take (i + 1) sends)) ≡ as_sent (frames_at clock (take i sends)) ++ sent_at message ∷ []
+  more_sent sends i message within at =
+      ap (λ (fs : List Frame). as_sent fs) (more_frames sends i message within at)
+      ∙ map-append (λ (f : Frame). record { frame = f; lost = false }) (frames_at clock (take i sends)) (frame_at message ∷ [])
+
+-- a list that has these items after the old ones has one more item
+one_put : {A : Type 0} (old now new some more : List A) (one : A) → now ≡ old ++ some → new ≡ now ++ one ∷ [] → more ≡ some ++ one ∷ [] → new ≡ old ++ more
+one_put old now new some more one before is more_is =
+    is ∙ ap (λ (xs : List _). xs ++ one ∷ []) before ∙ append_assoc old some (one ∷ []) ∙ ap (λ (xs : List _). old ++ xs) (sym more_is)
+
+pub one_frame : (old now new : List Frame) (clock : ℕ) (sends : List Message) (i : ℕ) (message : Message) → i < length sends → message ≡ get_or sends i message
+    → now ≡ old ++ frames_at clock (take i sends) → new ≡ now ++ record { clock = clock; message = message } ∷ []
+    → new ≡ old ++ frames_at clock (take (i + 1) sends)
+one_frame old now new clock sends i message within at before is =
+    one_put old now new _ _ (frame_at clock message) before is (more_frames clock sends i message within at)
+
+pub one_sent : (old now new : List Sent) (clock : ℕ) (sends : List Message) (i : ℕ) (message : Message) → i < length sends → message ≡ get_or sends i message
+    → now ≡ old ++ as_sent (frames_at clock (take i sends)) → new ≡ now ++ record { frame = record { clock = clock; message = message }; lost = false } ∷ []
+    → new ≡ old ++ as_sent (frames_at clock (take (i + 1) sends))
+one_sent old now new clock sends i message within at before is =
+    one_put old now new _ _ (sent_at clock message) before is (more_sent clock sends i message within at)
 
 pub one_longer : (old now new i : ℕ) → now ≡ old + i → new ≡ now + 1 → new ≡ old + (i + 1)
 one_longer old now new i before is = omega (arith, before, is)

@@ -18,13 +18,13 @@ ghost use Rattle.ra_node.specs.Node.{resource_at};
 
 use crate::book::departure::Departure;
 use crate::book::event_check::{check_event, event_refusal};
-use crate::book::event_room::{answers_to, make_room, room_to_ask, sent_for, with_room};
+use crate::book::event_room::{answers_to, make_room, most_sent, room_to_ask, with_room};
 use crate::book::frame_search::is_kept;
 use crate::book::kept_events::{clock_after, flag_lost, keep};
 use crate::book::taken::{Taken, latest_of};
 use crate::{BookError, BookEvent, BookKind, Events, MarkLostError, NewError, Posted, Sent, Stop};
 use ra_frame::{Frame, decode};
-use ra_node::{Node, events_count_clients};
+use ra_node::Node;
 use ra_stamp::{Entry, Memory, Mode, Name, NodeId};
 use std::alloc::Global;
 use std::marker::Model;
@@ -112,7 +112,6 @@ impl Book {
         ensures bad_node { IsErrOf result NewError.BadNode ↔ (IsNodeNumber nodes × (nodes < me)) }
         ensures no_memory { IsErrOf result NewError.Memory → ⊥ }
     {
-        events_count_clients();
         let node = Node::new(alloc, me, nodes, start)?;
         Ok(Book {
             me,
@@ -165,7 +164,6 @@ impl Book {
             × HasClock self.old (BookKind.Asked client name mode)) }
         ensures err { OnErr result (self.new ≡ self.old) }
     {
-        events_count_clients();
         let kind = BookKind::Asked { client, name, mode };
         let Some(clock) = self.next_clock(&kind) else {
             return Err(self.ask_refusal(client, name, mode));
@@ -215,7 +213,6 @@ impl Book {
             × HasClock self.old (BookKind.Gave client name)) }
         ensures err { OnErr result (self.new ≡ self.old) }
     {
-        events_count_clients();
         let clock = self.check_leave(client, name)?;
         let Some(departure) = self.departures.pop() else {
             // The client that holds is one for which there is a departure.
@@ -266,7 +263,6 @@ impl Book {
             × HasClock self.old (BookKind.Got frame)) }
         ensures err { OnErr result (self.new ≡ self.old) }
     {
-        events_count_clients();
         let (frame, clock) = self.check_receive(bytes)?;
         let sends = answers_to(&frame.message);
         let leaves = self.departures.len();
@@ -426,8 +422,9 @@ impl Book {
         ensures history { HasHistory self.new }
     {
         let leaves = self.departures.len();
+        let frames = most_sent(self.nodes, 0, leaves)?;
+        let sent = Vec::with_capacity(alloc, frames)?;
         let events = with_room(alloc, leaves as u64)?;
-        let sent = sent_for(alloc, self.nodes, leaves)?;
         self.taken.take(&self.events, &self.sent);
         let old_events = mem::replace(&mut self.events, events);
         let old_sent = mem::replace(&mut self.sent, sent);

@@ -139,18 +139,10 @@ pub fn run_steps(alloc: Global, books: &[Book], steps: Steps) -> Result<Settled,
     let first = &books[0];
     match run(alloc, first.nodes(), first.start(), &steps) {
         Ok(report) => Ok(Settled { steps, report }),
-        Err(refused) => Err(refusal_of(refused)),
-    }
-}
-
-/// Returns why books do not settle if their run is refused. The run of books that fit together is refused only if memory ran
-/// out, so that `settle` never has `NotSent` from here.
-fn refusal_of(refused: RunError) -> SettleError
-    ensures memory { refused ≡ RunError.Memory → result ≡ SettleError.Memory }
-    ensures not_sent { refused ≢ RunError.Memory → result ≡ SettleError.NotSent }
-{
-    match refused {
-        RunError::Memory => SettleError::Memory,
-        RunError::BadCount | RunError::Refused { .. } => SettleError::NotSent,
+        Err(refused) => match refused {
+            RunError::Memory => Err(SettleError::Memory),
+            // The steps are a run.
+            RunError::BadCount | RunError::Refused { .. } => unreachable!(),
+        },
     }
 }

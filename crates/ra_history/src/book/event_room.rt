@@ -89,27 +89,12 @@ pub fn with_room<T: Copy>(alloc: Global, count: u64) -> Result<Sequence<T>, Memo
     Ok(list)
 }
 
-/// Makes an empty list of sent frames, with room for those of this many leaves at one of this many nodes.
-///
-/// # Errors
-///
-/// `Memory`: memory ran out.
-pub fn sent_for(alloc: Global, nodes: u16, leaves: usize) -> Result<Vec<Sent>, Memory>
-    ensures items { IfOk result (λ sent. sent.items ≡ []) }
-    ensures len { IfOk result (λ sent. vec_len sent ≡ 0) }
-    ensures room { IfOk result (λ sent. leaves * (2 * nodes) ≤ vec_capacity sent) }
-{
-    let mut sent = Vec::new(alloc);
-    sent.reserve(most_sent(nodes, 0, leaves)?)?;
-    Ok(sent)
-}
-
 /// Returns how many frames are sent by an event that sends this many, and this many leaves after it, at most.
 ///
 /// # Errors
 ///
 /// `Memory`: no memory has room for this many.
-fn most_sent(nodes: u16, sends: u64, leaves: usize) -> Result<usize, Memory>
+pub fn most_sent(nodes: u16, sends: u64, leaves: usize) -> Result<usize, Memory>
     ensures { IfOk result (λ count. count ≡ sends + leaves * (2 * nodes)) }
 {
     let later = leaves.checked_mul(2 * usize::from(nodes)).ok_or(Memory)?;

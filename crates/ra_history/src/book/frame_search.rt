@@ -1,5 +1,5 @@
 //! Frames that are sought among those that a node sent, which ascend by clock.
-ghost use Rattle.std.specs.Prelude.{◌≡◌, ◌≢◌, ◌<◌, ◌↔◌, ℕ, false, All, Contains, slice_index_or, IsTrue, MatchOption};
+ghost use Rattle.std.specs.Prelude.{◌≡◌, ◌≢◌, ◌<◌, ◌↔◌, ℕ, ltb, false, All, Contains, slice_index_or, IsTrue, MatchOption};
 ghost use Rattle.ra_history.specs.declared.book.sent.Sent.{Sent};
 ghost use Rattle.ra_history.specs.Keeping.{Ascends, StandsFirst};
 
@@ -13,7 +13,7 @@ pub fn place_of(sent: &[Sent], frame: &Frame) -> Option<usize>
     requires { Ascends sent.now }
     ensures { MatchOption result (All (λ s. s.frame ≢ frame.now) sent.now) (StandsFirst sent.now frame.now) }
 {
-    for place in first_at(sent, frame.clock)..sent.len() {
+    for place in place_before(sent, frame.clock, 0)..sent.len() {
         let other = &sent[place];
         if is_of(other, frame) {
             return Some(place);
@@ -32,12 +32,13 @@ pub fn is_kept(sent: &[Sent], frame: &Frame) -> bool
     requires { Ascends sent.now }
     ensures { IsTrue result ↔ Contains sent.now (record { frame = frame.now; lost = false }) }
 {
-    if let Some(likely) = sent.get(likely_place(sent, frame)) {
+    let rank = rank_of(&frame.message);
+    if let Some(likely) = sent.get(place_before(sent, frame.clock, rank)) {
         if is_kept_of(likely, frame) {
             return true;
         }
     }
-    for place in first_at(sent, frame.clock)..sent.len() {
+    for place in place_before(sent, frame.clock, 0)..sent.len() {
         let other = &sent[place];
         if is_kept_of(other, frame) {
             return true;
@@ -49,23 +50,19 @@ pub fn is_kept(sent: &[Sent], frame: &Frame) -> bool
     false
 }
 
-/// Returns before which place all clocks are less than this one.
-fn first_at(sent: &[Sent], clock: u64) -> usize
-    requires { Ascends sent.now }
-    ensures { (k : ℕ) (d : Sent) → k < result → (slice_index_or sent.now k d).frame.clock < clock }
+/// Returns the place before which each frame has a lesser clock than this one, or this clock and a rank below this one. If the
+/// rank is not 0, and the frames of one clock are not in the order of [`rank_of`], it may be any place.
+fn place_before(sent: &[Sent], clock: u64, rank: u16) -> usize
+    ensures { Ascends sent.now → rank ≡ 0 → (k : ℕ) (d : Sent) → k < result → (slice_index_or sent.now k d).frame.clock < clock }
 {
-    sent.partition_point(|other| other.frame.clock < clock)
-}
-
-/// Returns the place of a frame that was sent, if the frames of its clock are in the order of [`rank_of`]. Otherwise it may be any
-/// place.
-fn likely_place(sent: &[Sent], frame: &Frame) -> usize {
-    let clock = frame.clock;
-    let rank = rank_of(&frame.message);
-    sent.partition_point(|other| {
-        let other = &other.frame;
-        other.clock < clock || (other.clock == clock && rank_of(&other.message) < rank)
-    })
+    sent.partition_point(
+        |other| -> bool
+            ensures { rank ≡ 0 → result ≡ ltb other.now.frame.clock clock }
+        {
+            let other = &other.frame;
+            other.clock < clock || (other.clock == clock && rank_of(&other.message) < rank)
+        },
+    )
 }
 
 /// Returns which one of the messages of an event a message is: each REPLY comes before each REQUEST, and those of one kind ascend

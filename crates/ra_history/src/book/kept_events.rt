@@ -50,31 +50,24 @@ pub fn keep(
 {
     let clock = event.clock;
     events.push(event).unwrap();
-    put_frames(&mut frames, clock, outcome.sends.as_slice());
-    put_sent(sent, frames.as_slice());
+    put_frames(&mut frames, sent, clock, outcome.sends.as_slice());
     let marks = outcome.marks;
     Posted { frames, marks }
 }
 
-/// Puts the frames that carry messages at this clock into a list that has room for them.
-fn put_frames(frames: &mut Frames, clock: u64, sends: &[Message])
-    requires { length sends.now ≤ frames.old.spare }
-    ensures { frames.new.items ≡ frames.old.items ++ frames_at clock sends.now }
+/// Puts the frames that carry messages at this clock into both lists, which have room for them. None of them is lost yet.
+fn put_frames(frames: &mut Frames, sent: &mut Vec<Sent>, clock: u64, sends: &[Message])
+    requires frames { length sends.now ≤ frames.old.spare }
+    requires sent { vec_len sent.old + length sends.now ≤ vec_capacity sent.old }
+    ensures frames { frames.new.items ≡ frames.old.items ++ frames_at clock sends.now }
+    ensures sent { sent.new.items ≡ sent.old.items ++ as_sent (frames_at clock sends.now) }
+    ensures len { vec_len sent.new ≡ vec_len sent.old + length sends.now }
+    ensures capacity { vec_capacity sent.new ≡ vec_capacity sent.old }
 {
     for message in sends {
         let message = *message;
-        frames.push(Frame { clock, message }).unwrap();
-    }
-}
-
-/// Puts frames, none of which is lost yet, into a list that has room for them.
-fn put_sent(sent: &mut Vec<Sent>, frames: &[Frame])
-    requires { vec_len sent.old + length frames.now ≤ vec_capacity sent.old }
-    ensures items { sent.new.items ≡ sent.old.items ++ as_sent frames.now }
-    ensures len { vec_len sent.new ≡ vec_len sent.old + length frames.now }
-    ensures capacity { vec_capacity sent.new ≡ vec_capacity sent.old }
-{
-    for frame in frames {
+        let frame = &Frame { clock, message };
+        frames.push(*frame).unwrap();
         let frame = *frame;
         sent.push_reserved(Sent { frame, lost: false });
     }

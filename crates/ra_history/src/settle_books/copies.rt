@@ -10,7 +10,7 @@ ghost use Rattle.ra_history.specs.SettlingParts.{HasCome, SettlesWithCopies};
 
 use crate::settle_books::event_merge::{PlacedEvent, events_in_order, step_of};
 use crate::settle_books::flagged_losses::push_losses;
-use crate::settle_books::order_keys::{FrameKey, frame_key};
+use crate::settle_books::order_keys::{FrameKey, message_key};
 use crate::settle_books::receipts::were_sent;
 use crate::settle_books::run_steps;
 use crate::{Book, BookKind, SettleError, Settled};
@@ -35,17 +35,22 @@ fn push_back(
     let BookKind::Got(frame) = one.event.kind else {
         return Ok(());
     };
-    if later.insert(frame_key(&frame))? {
+    if later.insert((frame.clock, message_key(&frame.message)))? {
         return Ok(());
     }
     back.push_reserved(Step::Repeat(frame.message));
     Ok(())
 }
 
-/// Returns the steps of events with copies, in reverse order. The cost is n log n.
-fn copied_back(alloc: Global, events: &[PlacedEvent]) -> Result<Vec<Step>, Memory>
-    ensures { IfOk result (λ back. AreWithCopies (all_placed_at events.now) (reverse back.items)) }
+/// Returns the steps of the events of all books in the settled order, with copies, in reverse order. The cost is n log n, and
+/// k n for k books.
+fn steps_back(alloc: Global, books: &[Book]) -> Result<Vec<Step>, Memory>
+    requires { IsCluster books.now }
+    ensures { IfOk result (λ back. (placed : List Placed) × IsSettledOrder books.now placed
+        × AreWithCopies placed (reverse back.items)) }
 {
+    let placed = events_in_order(alloc, books)?;
+    let events = placed.as_slice();
     let mut back = Vec::new(alloc);
     let mut later = BTreeSet::new(alloc);
     for turn in 0..events.len() {
@@ -53,16 +58,6 @@ fn copied_back(alloc: Global, events: &[PlacedEvent]) -> Result<Vec<Step>, Memor
         push_back(&mut back, &mut later, &events[events.len() - 1 - turn])?;
     }
     Ok(back)
-}
-
-/// Returns the steps of the events of all books in the settled order, with copies, in reverse order.
-fn steps_back(alloc: Global, books: &[Book]) -> Result<Vec<Step>, Memory>
-    requires { IsCluster books.now }
-    ensures { IfOk result (λ back. (placed : List Placed) × IsSettledOrder books.now placed
-        × AreWithCopies placed (reverse back.items)) }
-{
-    let events = events_in_order(alloc, books)?;
-    copied_back(alloc, events.as_slice())
 }
 
 /// Returns the steps of the events of all books in the settled order, with copies: directly before each by which a frame comes

@@ -26,7 +26,7 @@ fn push_losses_of(steps: &mut Steps, book: &Book) -> Result<(), Memory>
 {
     for place in 0..book.sent_len() {
         let Some(sent) = book.sent(place) else {
-            return Ok(());
+            unreachable!()
         };
         if sent.lost {
             steps.push(Step::Lose(sent.frame.message))?;

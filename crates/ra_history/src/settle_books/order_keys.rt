@@ -3,7 +3,6 @@
 ghost use Rattle.std.specs.Prelude.{◌≡◌};
 ghost use Rattle.ra_history.specs.Keys as spec;
 
-use ra_frame::Frame;
 use ra_stamp::{Entry, Message, Mode, Name, NodeId};
 
 /// All of a request or of a message, in this order: its number; the node that asks, or that the message is from; the client that
@@ -41,13 +40,6 @@ pub fn message_key(message: &Message) -> OrderKey
         mode,
         message.name(),
     )
-}
-
-/// Returns the key of a frame.
-pub fn frame_key(frame: &Frame) -> FrameKey
-    ensures { result ≡ spec.frame_key frame.now }
-{
-    (frame.clock, message_key(&frame.message))
 }
 
 /// Returns a number of its own for each mode, 1 or more.

@@ -1,5 +1,14 @@
+use Rattle.std.proofs.Common.{◌≡◌, ℕ, sym, ◌∙◌, inl, inr}
+use Rattle.ra_world.specs.declared.error.RunError.TheVariants.{BadCount, Refused, Memory}
+use Rattle.ra_world.specs.declared.error.StepError.{StepError}
 use Rattle.ra_history.proofs.SettledReport.{has_run, never_refused}
 use Rattle.ra_history.proofs.settle_books.run_steps.Goals as goal
+
+memory_alone : Memory ≡ BadCount → ⊥
+memory_alone is = cc
+
+never_another : (place : ℕ) (cause : StepError) → Memory ≡ Refused place cause → ⊥
+never_another place cause is = cc
 
 pub returns-in-Ok : goal.returns-in-Ok
 returns-in-Ok c =
@@ -7,9 +16,13 @@ returns-in-Ok c =
     c.in-Ok.ensures.main_theorem
 
 -- the steps are a run, so they are refused only because memory ran out
-pub returns-in-Err : goal.returns-in-Err
-returns-in-Err c =
+pub unreachable-requires : goal.unreachable-requires
+unreachable-requires c =
     let allowed = never_refused c.args.books.now c.index-books-0.result c.nodes.result c.start.result c.args.steps.items c.requires.cluster c.nodes.ensures.history c.index-books-0.is c.nodes.ensures.value
     c.start.ensures.value c.requires.run
     in
-    c.refusal_of.ensures.memory (c.in-Err.ensures.allowed allowed.0 allowed.1)
+    let is = c.in-Err.ensures.allowed allowed.0 allowed.1 in
+    elim c.in-BadCount.is [
+      | inl count ↦ memory_alone (sym is ∙ count)
+      | inr other ↦ never_another _ _ (sym is ∙ other.2)
+    ]

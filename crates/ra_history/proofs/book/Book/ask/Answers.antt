@@ -1,4 +1,5 @@
 use Rattle.std.proofs.Common.{◌+◌, List, ◌∷◌, [], ◌++◌, length, refl, ap, ◌∙◌, subst}
+use Rattle.ra_node.proofs.Counts.{ask_counts}
 use Rattle.ra_history.specs.declared.book.departure.Departure.{Departure}
 use Rattle.ra_history.specs.declared.book.event.BookKind.TheVariants.{Asked}
 use Rattle.ra_history.specs.Book.{BookState}
@@ -113,7 +114,7 @@ invariant_of-self-2 c =
     let departures = c.self.inside.departures.items in
     let departure = c.in-Ok.departure in
     let few = kept_histories_go_on.few book old new kind outcome.sends.items outcome.marks.items keeps happened in
-    let count = c.events_count_clients.ensures.ask old new c.args.client c.args.name c.args.mode outcome.sends.items outcome.marks.items
+    let count = ask_counts old new c.args.client c.args.name c.args.mode outcome.sends.items outcome.marks.items
     (kept_histories_go_on.node book old keeps).2 happened
     in
     record {

@@ -3,6 +3,7 @@ use Rattle.ra_stamp.specs.declared.entry.Entry.{Entry}
 use Rattle.ra_node.specs.Resource.{Holds}
 use Rattle.ra_node.specs.Room.{HasRoomToLeave}
 use Rattle.ra_node.specs.Node.{resource_at}
+use Rattle.ra_node.proofs.Counts.{leave_counts, holder_counts}
 use Rattle.ra_history.specs.declared.error.BookError.TheVariants.{Memory}
 use Rattle.ra_history.specs.declared.book.event.BookKind.TheVariants.{Gave}
 use Rattle.ra_history.specs.Book.{HasClock}
@@ -24,7 +25,7 @@ unreachable-requires c =
     (c.in_ok-clock.ensures.answers.allowed.0 tt)
     in
     let holds = allowed.1.0 in
-    let one = c.events_count_clients.ensures.holds node c.args.client c.args.name holds.0 holds.1 in
+    let one = holder_counts node c.args.client c.args.name holds.0 holds.1 in
     omega (arith, one, c.self.invariant.reserved.many, c.self.inside.departures.ok.0, c.in_default.ensures.cases.0)
 
 pub unreachable-requires-in_default-leave_into : goal.unreachable-requires-in_default-leave_into
@@ -89,7 +90,7 @@ invariant_of-self c =
     let outcome = c.in-Ok.outcome in
     let happened = c.in-Ok.ensures.ok in
     let few = kept_histories_go_on.few book old new kind outcome.sends.items outcome.marks.items keeps happened in
-    let count = c.events_count_clients.ensures.leave old new c.args.client c.args.name outcome.sends.items outcome.marks.items happened in
+    let count = leave_counts old new c.args.client c.args.name outcome.sends.items outcome.marks.items happened in
     record {
       keeps = adding.kept_after c.args.self.now book old new c.in_ok-clock.clock kind c.keep.new.events.items c.keep.new.sent.items keeps c.self.view_is
           c.in_ok-clock.ensures.checked.next kept_histories_go_on.node kept_histories_go_on.event c.keep.result (c.keep.ensures.kept old new happened);

@@ -1,12 +1,18 @@
-use Rattle.std.proofs.Common.{◌≤◌, sym, ap, ◌∙◌, subst}
+use Rattle.ra_automaton.specs.declared.error.NewError.{NewError}
+use Rattle.std.proofs.Common.{◌≤◌, sym, ap, ◌∙◌, subst, ◌≡◌, Result, Ok, Err}
 use Rattle.ra_stamp.specs.NodeId.{IsNodeNumber}
 use Rattle.ra_node.specs.Node.{NodeState, clients_count}
+use Rattle.ra_node.proofs.Counts.{opening_counts}
 use Rattle.ra_history.specs.Book.{TakenState, HasHistory, opening_book}
 use Rattle.ra_history.specs.Keeping.{Keeps}
 use Rattle.ra_history.proofs.Adding.{same_kept, same_history}
 use Rattle.ra_history.proofs.Departing.{reserved_first}
 use Rattle.ra_history.proofs.KeptLaws.{kept_histories_go_on}
 use Rattle.ra_history.proofs.book.Book.new.Goals as goal
+
+-- what is made is not refused
+made : {X : Type 0} (x : X) (e : NewError) → ◌≡◌ {A = Result X NewError} (Ok x) (Err e) → ⊥
+made x e is = cc
 
 pub invariant_of-result : goal.invariant_of-result
 invariant_of-result c =
@@ -19,7 +25,7 @@ invariant_of-result c =
           (same_kept opened _ _ c.new-2.result.items c.new-3.result.items
           (kept_histories_go_on.opened c.args.me c.args.nodes c.args.start count member) c.new-2.ensures c.new-3.ensures.items c.in_ok-node.ensures.ok);
       reserved = reserved_first c.args.nodes c.in_ok-node.node _ _ _ c.new-4.result.items
-          (ap clients_count c.in_ok-node.ensures.ok ∙ c.events_count_clients.ensures.opening c.args.me c.args.nodes c.args.start) c.new-4.ensures.items c.new-3.ensures.len;
+          (ap clients_count c.in_ok-node.ensures.ok ∙ opening_counts c.args.me c.args.nodes c.args.start) c.new-4.ensures.items c.new-3.ensures.len;
     }
 
 pub returns-clause-history : goal.returns-clause-history
@@ -35,3 +41,9 @@ returns-clause-history c =
 pub returns-clause-ok : goal.returns-clause-ok
 returns-clause-ok c = λ i.
     record (opening_book c.args.me c.args.nodes c.args.start) { taken = c.nothing.ensures i; events = c.new-2.ensures i; sent = c.new-3.ensures.items i }
+
+pub returns-clause-bad_node : goal.returns-clause-bad_node
+returns-clause-bad_node c = (λ is. absurd (made _ _ is), λ bad. absurd (made _ _ (c.in_ok-node.ensures.member.bad_node.1 bad)))
+
+pub returns-clause-bad_count : goal.returns-clause-bad_count
+returns-clause-bad_count c = (λ is. absurd (made _ _ is), λ bad. absurd (made _ _ (c.in_ok-node.ensures.member.bad_count.1 bad)))

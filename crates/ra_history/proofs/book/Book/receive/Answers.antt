@@ -1,4 +1,5 @@
 use Rattle.std.proofs.Common.{◌≤◌, ℕ, Ok, Err, length, vec_len, vec_capacity, refl, sym, subst, ◌∙◌}
+use Rattle.ra_node.proofs.Counts.{receive_counts}
 use Rattle.ra_history.specs.declared.book.event.BookKind.TheVariants.{Got}
 use Rattle.ra_history.specs.Departures.{HasRoomFor}
 use Rattle.ra_history.specs.Keeping.{book_of}
@@ -112,7 +113,7 @@ invariant_of-self-2 c =
     let few = subst (λ (n : ℕ). length outcome.sends.items ≤ n) (sym c.answers_to-sends.ensures)
     (kept_histories_go_on.few book old new (Got frame) outcome.sends.items outcome.marks.items keeps happened)
     in
-    let count = c.events_count_clients.ensures.receive old new frame.message outcome.sends.items outcome.marks.items happened in
+    let count = receive_counts old new frame.message outcome.sends.items outcome.marks.items happened in
     let room = room_after nodes c.answers_to-sends.result c.len-leaves.result _ _ _ c.in-Ok.frames c.in-Ok.ensures.room (length outcome.sends.items) few _ _ _ c.keep.ensures.used in
     record {
       keeps = adding.kept_after c.args.self.now book old new c.in_ok-frame.clock (Got frame) c.keep.new.events.items c.keep.new.sent.items keeps c.self.view_is

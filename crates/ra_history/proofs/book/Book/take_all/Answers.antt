@@ -1,8 +1,12 @@
-use Rattle.std.proofs.Common.{◌≡◌, ◌*◌, ◌≤◌, ℕ, length, vec_len, vec_capacity, refl, sym, ap, ◌∙◌, subst, arith}
+use Rattle.ra_history.specs.Book.{BookState}
+use Rattle.std.proofs.Common.{◌≡◌, ◌+◌, ◌*◌, ◌≤◌, ℕ, length, vec_len, vec_capacity, refl, sym, ap, ◌∙◌, subst, arith}
 use Rattle.ra_history.specs.Keeping.{book_of}
 use Rattle.ra_history.proofs.Kept.{history_of, all_taken, all_taken_is}
 use Rattle.ra_history.proofs.Departing.{events_anew, sent_anew}
 use Rattle.ra_history.proofs.book.Book.take_all.Goals as goal
+
+pub returns-in_err-frames-clause-history : goal.returns-in_err-frames-clause-history
+returns-in_err-frames-clause-history c = history_of c.args.self.now _ _ c.self.invariant.keeps c.self.view_is
 
 pub returns-in_err-events-clause-history : goal.returns-in_err-events-clause-history
 returns-in_err-events-clause-history c = history_of c.args.self.now _ _ c.self.invariant.keeps c.self.view_is
@@ -22,7 +26,10 @@ invariant_of-self c =
     let spare : events.spare ≡ c.in_ok-events.events.spare = ap (λ (e : _). e.spare) c.replace-old_events.ensures.after in
     let none : vec_len sent ≡ 0 = ap (λ (s : _). vec_len s) c.replace-old_sent.ensures.after ∙ c.in_ok-sent.ensures.len in
     let capacity : vec_capacity sent ≡ vec_capacity made = ap (λ (s : _). vec_capacity s) c.replace-old_sent.ensures.after in
-    let room : length departures.items * (2 * nodes) ≤ vec_capacity made = subst (λ (k : ℕ). k * (2 * nodes) ≤ vec_capacity made) leaves c.in_ok-sent.ensures.room in
+    let exact : vec_capacity made ≡ 0 + c.len-leaves.result * (2 * nodes) = c.in_ok-sent.ensures.exact ∙ c.in_ok-frames.ensures in
+    let room : length departures.items * (2 * nodes) ≤ vec_capacity made =
+    subst (λ (k : ℕ). k * (2 * nodes) ≤ vec_capacity made) leaves (omega (arith, exact))
+    in
     record {
       keeps = all_taken (book_of c.self.inside) node c.take.new.self events.items sent.items c.self.invariant.keeps
           c.take.ensures
@@ -44,3 +51,9 @@ returns-clause-ok c =
 
 pub returns-clause-history : goal.returns-clause-history
 returns-clause-history c = history_of _ _ _ (invariant_of-self c).keeps refl
+
+pub returns-clause-events : goal.returns-clause-events
+returns-clause-events c = ap (λ (e : _). e.items) c.replace-old_events.ensures.value ∙ ap (λ (b : BookState). b.events) c.self.view_is
+
+pub returns-clause-sent : goal.returns-clause-sent
+returns-clause-sent c = ap (λ (s : _). s.items) c.replace-old_sent.ensures.value ∙ ap (λ (b : BookState). b.sent) c.self.view_is

@@ -1,11 +1,11 @@
-use Rattle.std.proofs.Common.{sym, ◌∙◌, arith}
+use Rattle.std.proofs.Common.{refl, sym, ◌∙◌, arith}
 use Rattle.std.proofs.lemmas.Bool.{false≢true}
 use Rattle.ra_history.proofs.FrameSearch.{none_kept_below, none_kept_more, stands_kept, none_kept_behind, none_kept}
 use Rattle.ra_history.proofs.Truth.{yes, no}
 use Rattle.ra_history.proofs.book.frame_search.is_kept.Goals as goal
 
 pub loop-place-init : goal.loop-place-init
-loop-place-init c = none_kept_below c.args.sent.now c.args.frame.now c.first_at-place.result c.first_at-place.ensures
+loop-place-init c = none_kept_below c.args.sent.now c.args.frame.now c.place_before-place.result (c.place_before-place.ensures c.requires refl)
 
 pub loop-place-preserved : goal.loop-place-preserved
 loop-place-preserved c =
@@ -14,7 +14,7 @@ loop-place-preserved c =
 
 pub returns-then-is_kept_of : goal.returns-then-is_kept_of
 returns-then-is_kept_of c =
-    yes (stands_kept c.args.sent.now c.args.frame.now c.likely_place.result c.in-Some.likely.now c.in-Some.ensures.lookup.3.0 c.in-Some.ensures.lookup.1
+    yes (stands_kept c.args.sent.now c.args.frame.now c.place_before.result c.in-Some.likely.now c.in-Some.ensures.lookup.3.0 c.in-Some.ensures.lookup.1
     (c.is_kept_of.ensures.0 c.if-is_kept_of.true))
 
 pub returns-then-is_kept_of-2 : goal.returns-then-is_kept_of-2

@@ -1,10 +1,10 @@
-use Rattle.std.proofs.Common.{sym, ◌∙◌, arith}
+use Rattle.std.proofs.Common.{refl, sym, ◌∙◌, arith}
 use Rattle.std.proofs.lemmas.Bool.{false≢true}
 use Rattle.ra_history.proofs.FrameSearch.{none_below, none_more, stands, none_behind, none_at_all}
 use Rattle.ra_history.proofs.book.frame_search.place_of.Goals as goal
 
 pub loop-place-init : goal.loop-place-init
-loop-place-init c = none_below c.args.sent.now c.args.frame.now c.first_at-place.result c.first_at-place.ensures
+loop-place-init c = none_below c.args.sent.now c.args.frame.now c.place_before-place.result (c.place_before-place.ensures c.requires refl)
 
 pub loop-place-preserved : goal.loop-place-preserved
 loop-place-preserved c =

@@ -1,6 +1,6 @@
-use Rattle.std.proofs.Common.{length, sym}
+use Rattle.std.proofs.Common.{length, refl, sym, arith}
 use Rattle.ra_history.specs.EventMerge.{taken_of}
-use Rattle.ra_history.proofs.Taking.{no_head}
+use Rattle.ra_history.proofs.Taking.{no_head, head_within}
 use Rattle.ra_history.proofs.NextEvents.{earliest_there, one_is_there, one_more_taken, are_next_then}
 use Rattle.ra_history.proofs.settle_books.event_merge.take_earliest.Goals as goal
 
@@ -31,3 +31,11 @@ returns-clause-next c =
     let books = c.args.books.now in
     are_next_then books c.args.nexts.now c.requires c.in-Some.head (c.in-Some.ensures books c.requires) c.index-books-head.result c.index-books-head.is _
     c.next_after.result c.next_after.ensures
+
+pub bounds-nexts-head-2 : goal.bounds-nexts-head-2
+bounds-nexts-head-2 c =
+    let books = c.args.books.now in
+    omega (arith, head_within books (taken_of c.args.nexts.now) (length books) c.in-Some.head (c.in-Some.ensures books c.requires), c.requires.long)
+
+pub overflow_add-taken : goal.overflow_add-taken
+overflow_add-taken c = omega (arith, c.in-Some-next_of.ensures.fits refl)

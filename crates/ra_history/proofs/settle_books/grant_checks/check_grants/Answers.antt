@@ -1,7 +1,7 @@
 use Rattle.std.proofs.Common.{◌≡◌, true, false, sym, ◌∙◌, subst}
 use Rattle.std.specs.Prelude.{Contains}
 use Rattle.std.specs.BTreeSet as sorted
-use Rattle.std.proofs.lemmas.List.Elements.{All-more}
+use Rattle.std.proofs.lemmas.List.Elements.{All-more, All-nil}
 use Rattle.ra_history.specs.declared.error.SettleError.TheVariants.{Memory}
 use Rattle.ra_history.specs.declared.book.grant.Grant.{Grant}
 use Rattle.ra_history.specs.Keys.{OrderKey, entered_in}
@@ -38,3 +38,6 @@ pub returns : goal.returns
 returns c =
     grants_once c.args.grants.now c.args.marks.now (all_granted c.args.grants.now c.args.marks.now c.loop-grant.grant-index c.loop-grant-test.false c.loop-grant.invariant)
     c.check_once.result c.check_once.ensures
+
+pub loop-grant-init : goal.loop-grant-init
+loop-grant-init c = All-nil (λ g. Contains (entered_in c.args.marks.now) g.entry)

@@ -3,10 +3,10 @@ use Rattle.std.specs.Prelude.{AllPairs}
 use Rattle.std.specs.BTreeSet as sorted
 use Rattle.std.proofs.lemmas.List.{take_all}
 use Rattle.ra_history.specs.declared.book.grant.Grant.{Grant}
-use Rattle.ra_history.specs.Keys.{OrderKey}
+use Rattle.ra_history.specs.Keys.{OrderKey, entry_key}
 use Rattle.ra_history.proofs.KeyOrders.{key_cmp}
 use Rattle.ra_history.proofs.GrantMarks.{next_grant, grant_again}
-use Rattle.ra_history.proofs.KeySets.{when_new, when_old}
+use Rattle.ra_history.proofs.KeySets.{when_new, when_old, none_yet}
 use Rattle.ra_history.proofs.settle_books.grant_checks.check_once.Goals as goal
 
 pub returns-then-not-is_new : goal.returns-then-not-is_new
@@ -25,3 +25,6 @@ loop-grant-preserved c =
 pub returns : goal.returns
 returns c =
     subst (λ (grants : List Grant). AllPairs (λ a b. a ≢ b) grants) (take_all c.loop-grant.grant-index c.args.grants.now c.loop-grant-test.false) c.loop-grant.invariant.1
+
+pub loop-grant-init : goal.loop-grant-init
+loop-grant-init c = none_yet (λ (g : Grant). entry_key g.entry) c.new-seen.result c.new-seen.ensures.empty

@@ -2,10 +2,10 @@ use Rattle.std.proofs.Common.{◌≢◌, List, ◌++◌, map, take, sym, ◌∙�
 use Rattle.std.specs.Prelude.{AllPairs}
 use Rattle.std.proofs.lemmas.List.{take_all}
 use Rattle.ra_history.specs.declared.book.event.BookEvent.{BookEvent}
-use Rattle.ra_history.specs.Keys.{HasEach, messages_among}
+use Rattle.ra_history.specs.Keys.{HasEach, messages_among, message_key}
 use Rattle.ra_history.specs.Book.{BookState}
 use Rattle.ra_history.specs.Settled.{Repeats, all_received}
-use Rattle.ra_history.proofs.KeySets.{at_true, at_false}
+use Rattle.ra_history.proofs.KeySets.{at_true, at_false, none_yet}
 use Rattle.ra_history.proofs.Received.{all_messages_more, all_repeat}
 use Rattle.ra_history.proofs.settle_books.receipts.has_no_duplicates.Goals as goal
 
@@ -30,3 +30,6 @@ loop-book-preserved c =
 pub returns : goal.returns
 returns c =
     subst (λ (books : List BookState). AllPairs (λ a b. a ≢ b) (map (λ f. f.message) (all_received books))) (take_all c.loop-book.book-index c.args.books.now c.loop-book-test.false) c.loop-book.invariant.1
+
+pub loop-book-init : goal.loop-book-init
+loop-book-init c = none_yet (λ m. message_key m) c.new-came.result c.new-came.ensures.empty

@@ -1,5 +1,5 @@
 use Rattle.ra_history.proofs.CopiesBack.{AreDone}
-use Rattle.ra_history.proofs.settle_books.copies.copied_back.Given as goal
+use Rattle.ra_history.proofs.settle_books.copies.steps_back.Given as goal
 
 -- so many of the last events are done
 abbrev pub invariant-loop-turn : goal.invariant-loop-turn
