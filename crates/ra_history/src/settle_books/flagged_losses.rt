@@ -2,7 +2,7 @@
 ghost use Rattle.std.specs.Prelude.{◌≡◌, ◌++◌, All, map, OnOk};
 ghost use Rattle.ra_world.specs.declared.step.Step.{Step};
 ghost use Rattle.ra_history.specs.Book.{HasHistory};
-ghost use Rattle.ra_history.specs.Settled.{lost_among, all_lost};
+ghost use Rattle.ra_history.specs.Settled.{all_lost};
 
 use crate::Book;
 use ra_stamp::Memory;
@@ -14,22 +14,13 @@ pub fn push_losses(steps: &mut Steps, books: &[Book]) -> Result<(), Memory>
     ensures histories { OnOk result (All HasHistory books.now) }
 {
     for book in books {
-        push_losses_of(steps, book)?;
-    }
-    Ok(())
-}
-
-/// Puts the loss of each frame of a book that is flagged lost after the steps, in order of sending.
-fn push_losses_of(steps: &mut Steps, book: &Book) -> Result<(), Memory>
-    ensures ok { OnOk result (steps.new.items ≡ steps.old.items ++ map (λ m. Step.Lose m) (lost_among book.now.sent)) }
-    ensures history { HasHistory book.now }
-{
-    for place in 0..book.sent_len() {
-        let Some(sent) = book.sent(place) else {
-            unreachable!()
-        };
-        if sent.lost {
-            steps.push(Step::Lose(sent.frame.message))?;
+        for place in 0..book.sent_len() {
+            let Some(sent) = book.sent(place) else {
+                unreachable!()
+            };
+            if sent.lost {
+                steps.push(Step::Lose(sent.frame.message))?;
+            }
         }
     }
     Ok(())

@@ -1,13 +1,11 @@
 //! That each grant is of a request that was granted, and occurs once.
-ghost use Rattle.std.specs.Prelude.{◌≡◌, ◌≢◌, All, map, AllPairs, Contains, IfOk, MatchResult};
+ghost use Rattle.std.specs.Prelude.{◌≢◌, All, AllPairs, Contains, MatchResult};
 ghost use Rattle.ra_stamp.specs.declared.entry.Mark.{Mark};
 ghost use Rattle.ra_history.specs.SettlingParts.{RefusesGrants, RefusesRepeats};
-ghost use Rattle.ra_history.specs.Keys.{HasKeys, entered_in};
-ghost use Rattle.ra_history.specs.Keys as spec;
 
-use crate::settle_books::order_keys::{OrderKey, entry_key};
+use crate::settle_books::order_keys::entry_key;
 use crate::{Grant, SettleError};
-use ra_stamp::{Mark, Memory};
+use ra_stamp::Mark;
 use std::alloc::Global;
 use std::collections::BTreeSet;
 
@@ -26,26 +24,20 @@ pub fn check_grants(alloc: Global, grants: &[Grant], marks: &[Mark]) -> Result<(
         (λ _. All (λ g. Contains marks.now (Mark.Entered g.entry)) grants.now × AllPairs (λ a b. a ≢ b) grants.now)
         (RefusesGrants grants.now marks.now) }
 {
-    let entered = entered_by(alloc, marks)?;
+    let mut entered = BTreeSet::new(alloc);
+    for mark in marks {
+        if let Mark::Entered(entry) = mark {
+            let Ok(_) = entered.insert(entry_key(entry)) else {
+                return Err(SettleError::Memory);
+            };
+        }
+    }
     for grant in grants {
         if !entered.contains(&entry_key(&grant.entry)) {
             return Err(SettleError::GrantMissing);
         }
     }
     check_once(alloc, grants)
-}
-
-/// Returns the requests that have an Entered mark.
-fn entered_by(alloc: Global, marks: &[Mark]) -> Result<BTreeSet<OrderKey>, Memory>
-    ensures { IfOk result (λ entered. HasKeys entered (map (λ e. spec.entry_key e) (entered_in marks.now))) }
-{
-    let mut entered = BTreeSet::new(alloc);
-    for mark in marks {
-        if let Mark::Entered(entry) = mark {
-            entered.insert(entry_key(entry))?;
-        }
-    }
-    Ok(entered)
 }
 
 /// Checks that no two grants are equal.

@@ -1,13 +1,10 @@
 //! That what came was sent, and came once.
-ghost use Rattle.std.specs.Prelude.{◌≢◌, ◌↔◌, ◌++◌, List, All, AllPairs, map, IfOk, IsTrue, MatchBool, MatchResult};
-ghost use Rattle.std.specs.List.{Any};
-ghost use Rattle.ra_stamp.specs.declared.message.Message.{Message};
-ghost use Rattle.ra_history.specs.Keys.{HasEach, messages_among};
-ghost use Rattle.ra_history.specs.Settled.{IsCluster, BooksFit, HasTwice, HasUnsent, Repeats, WasSent, received_among, all_received};
+ghost use Rattle.std.specs.Prelude.{◌≢◌, ◌↔◌, All, AllPairs, map, IfOk, IsTrue, MatchBool, MatchResult};
+ghost use Rattle.ra_history.specs.Settled.{IsCluster, BooksFit, HasTwice, HasUnsent, WasSent, all_received};
 ghost use Rattle.ra_history.specs.SettlingParts.{RefusesReceived};
 
-use crate::settle_books::order_keys::{OrderKey, message_key};
-use crate::{Book, BookEvent, BookKind, SettleError};
+use crate::settle_books::order_keys::message_key;
+use crate::{Book, BookKind, SettleError};
 use ra_frame::Frame;
 use ra_stamp::Memory;
 use std::alloc::Global;
@@ -43,23 +40,12 @@ pub fn were_sent(books: &[Book]) -> bool
     ensures { MatchBool result (All (λ f. WasSent books.now f) (all_received books.now)) (HasUnsent books.now) }
 {
     for book in books {
-        if !are_sent(books, book.events().as_slice()) {
-            return false;
-        }
-    }
-    true
-}
-
-/// Returns whether each frame that came by these events was sent and not lost.
-fn are_sent(books: &[Book], events: &[BookEvent]) -> bool
-    requires { IsCluster books.now }
-    ensures { MatchBool result (All (λ f. WasSent books.now f) (received_among events.now))
-        (Any (λ f. WasSent books.now f → ⊥) (received_among events.now)) }
-{
-    for event in events {
-        if let BookKind::Got(frame) = &event.kind {
-            if !was_sent(books, frame) {
-                return false;
+        let events = book.events().as_slice();
+        for event in events {
+            if let BookKind::Got(frame) = &event.kind {
+                if !was_sent(books, frame) {
+                    return false;
+                }
             }
         }
     }
@@ -86,23 +72,12 @@ fn has_no_duplicates(alloc: Global, books: &[Book]) -> Result<bool, Memory>
 {
     let mut came = BTreeSet::new(alloc);
     for book in books {
-        if !put_messages(&mut came, book.events().as_slice())? {
-            return Ok(false);
-        }
-    }
-    Ok(true)
-}
-
-/// Puts the messages that came by these events into the set, up to the first that is there already. Returns whether there is
-/// no such message.
-fn put_messages(came: &mut BTreeSet<OrderKey>, events: &[BookEvent]) -> Result<bool, Memory>
-    ensures { (list : List Message) → HasEach came.old list → IfOk result (λ once. MatchBool once
-        (HasEach came.new (list ++ messages_among events.now)) (Repeats (list ++ messages_among events.now))) }
-{
-    for event in events {
-        if let BookKind::Got(frame) = &event.kind {
-            if !came.insert(message_key(&frame.message))? {
-                return Ok(false);
+        let events = book.events().as_slice();
+        for event in events {
+            if let BookKind::Got(frame) = &event.kind {
+                if !came.insert(message_key(&frame.message))? {
+                    return Ok(false);
+                }
             }
         }
     }

@@ -2,7 +2,6 @@ use Rattle.std.proofs.Common.{List, length, Option, refl, sym, ap, ◌∙◌}
 use Rattle.std.specs.Prelude.{option_map, slice_get}
 use Rattle.std.proofs.lemmas.Option.{slice_get_read, slice_get_past}
 use Rattle.ra_history.specs.declared.book.event.BookEvent.{BookEvent}
-use Rattle.ra_history.specs.declared.settle_books.event_merge.Next.{Next}
 use Rattle.ra_history.proofs.settle_books.event_merge.next_after.Goals as goal
 
 pub returns-in-Some : goal.returns-in-Some

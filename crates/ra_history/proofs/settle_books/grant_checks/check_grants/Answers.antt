@@ -1,36 +1,57 @@
-use Rattle.std.proofs.Common.{◌≡◌, true, false, sym, ◌∙◌, subst}
+use Rattle.std.proofs.Common.{◌≡◌, ℕ, ◌+◌, ◌≤◌, true, false, List, map, length, take, BTreeSet, sym, ◌∙◌, subst}
 use Rattle.std.specs.Prelude.{Contains}
 use Rattle.std.specs.BTreeSet as sorted
+use Rattle.std.proofs.lemmas.List.{take_all}
 use Rattle.std.proofs.lemmas.List.Elements.{All-more, All-nil}
-use Rattle.ra_history.specs.declared.error.SettleError.TheVariants.{Memory}
+use Rattle.ra_stamp.specs.declared.entry.Mark.{Mark}
 use Rattle.ra_history.specs.declared.book.grant.Grant.{Grant}
-use Rattle.ra_history.specs.Keys.{OrderKey, entered_in}
-use Rattle.ra_history.specs.SettlingParts.{RefusesGrants}
+use Rattle.ra_history.specs.Keys.{OrderKey, HasKeys, entered_in, entry_key}
 use Rattle.ra_history.proofs.KeyOrders.{key_cmp}
-use Rattle.ra_history.proofs.GrantMarks.{is_granted, is_not_granted, all_granted, grants_once}
-use Rattle.ra_history.proofs.Causes.{refused}
+use Rattle.ra_history.proofs.GrantMarks.{key_put, key_left_out, is_granted, is_not_granted, all_granted, grants_once}
 use Rattle.ra_history.proofs.settle_books.grant_checks.check_grants.Goals as goal
+use Rattle.ra_history.proofs.settle_books.grant_checks.check_grants.Goals.{in-Entered+in-Ok, in_default}
 
-pub returns-in_err-entered : goal.returns-in_err-entered
-returns-in_err-entered c = refused _ (RefusesGrants c.args.grants.now c.args.marks.now) Memory tt c.from_residual.result c.from_residual.ensures.1
+-- the requests of all marks are entered
+module _ (marks : List Mark) (set : BTreeSet OrderKey) (i : ℕ) where
+  entered_all : length marks ≤ i → HasKeys set (map (λ e. entry_key e) (entered_in (take i marks))) → HasKeys set (map (λ e. entry_key e) (entered_in marks))
+  entered_all all has = subst (λ (ms : List Mark). HasKeys set (map (λ e. entry_key e) (entered_in ms))) (take_all i marks all) has
+
+pub loop-mark-preserved : goal.loop-mark-preserved
+loop-mark-preserved c =
+    let marks = c.args.marks.now in
+    let i = c.loop-mark.mark-index in
+    let P = λ (set : BTreeSet OrderKey). HasKeys set (map (λ e. entry_key e) (entered_in (take (i + 1) marks))) in
+    elim c.match-mark.branch [
+      | in-Entered+in-Ok w ↦
+          let entry = w.in-Entered.entry in
+          let put : sorted.Updates key_cmp c.loop-mark.entered w.insert.new.self (entry_key entry) true =
+          subst (λ (k : OrderKey). sorted.Updates key_cmp c.loop-mark.entered w.insert.new.self k true) w.entry_key.ensures w.in-Ok.ensures.updates
+          in
+          subst P (sym w.entered-is)
+          (key_put c.loop-mark.entered w.insert.new.self marks i c.mark-item.result entry c.loop-mark-test.true c.mark-item.is w.in-Entered.is c.loop-mark.invariant put)
+      | in_default w ↦
+          subst P (sym w.entered-is)
+          (key_left_out c.loop-mark.entered marks i c.mark-item.result c.loop-mark-test.true c.mark-item.is w.in_default.not-Entered c.loop-mark.invariant)
+    ]
 
 pub returns-then-not-contains : goal.returns-then-not-contains
 returns-then-not-contains c =
-    let set = c.in_ok-entered.entered in
-    let is_not = subst (λ (k : OrderKey). sorted.contains key_cmp set k ≡ false) c.entry_key.ensures (sym c.contains.ensures ∙ c.if-not-contains.true) in (
+    let set = c.loop-mark.entered in
+    let marks = c.args.marks.now in
+    let is_not = subst (λ (k : OrderKey). sorted.contains key_cmp set k ≡ false) c.entry_key-in-loop-grant.ensures (sym c.contains.ensures ∙ c.if-not-contains.true) in (
       c.loop-grant.grant-index,
       c.grant-item.result,
       c.loop-grant-test.true,
       sym c.grant-item.is,
-      is_not_granted set c.args.marks.now c.grant-item.result.entry c.in_ok-entered.ensures is_not,
+      is_not_granted set marks c.grant-item.result.entry (entered_all marks set c.loop-mark.mark-index c.loop-mark-test.false c.loop-mark.invariant) is_not,
     )
 
 pub loop-grant-preserved : goal.loop-grant-preserved
 loop-grant-preserved c =
-    let set = c.in_ok-entered.entered in
+    let set = c.loop-mark.entered in
     let marks = c.args.marks.now in
-    let is = subst (λ (k : OrderKey). sorted.contains key_cmp set k ≡ true) c.entry_key.ensures (sym c.contains.ensures ∙ c.if-not-contains.false) in
-    let here = is_granted set marks c.grant-item.result.entry c.in_ok-entered.ensures is in
+    let is = subst (λ (k : OrderKey). sorted.contains key_cmp set k ≡ true) c.entry_key-in-loop-grant.ensures (sym c.contains.ensures ∙ c.if-not-contains.false) in
+    let here = is_granted set marks c.grant-item.result.entry (entered_all marks set c.loop-mark.mark-index c.loop-mark-test.false c.loop-mark.invariant) is in
     All-more (λ g. Contains (entered_in marks) g.entry) c.args.grants.now c.loop-grant.grant-index c.grant-item.result c.loop-grant-test.true c.loop-grant.invariant
     (subst (λ (g : Grant). Contains (entered_in marks) g.entry) c.grant-item.is here)
 
