@@ -121,8 +121,12 @@ impl Checker {
                 }
             }
             Line::Marked(mark) => self.take_mark(mark),
-            Line::Last if self.has_due() => Ok(Judgement::Wrong(Cause::Marks)),
-            Line::Last => Ok(Judgement::Last),
+            Line::Last => {
+                if self.has_due() {
+                    return Ok(Judgement::Wrong(Cause::Marks));
+                }
+                Ok(Judgement::Last)
+            }
         }
     }
 

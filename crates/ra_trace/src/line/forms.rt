@@ -1,5 +1,5 @@
 //! The forms of lines.
-ghost use Rattle.std.specs.Prelude.{◌≡◌, ◌++◌, ℕ, List, Some, None, MatchOption, codes, drop};
+ghost use Rattle.std.specs.Prelude.{◌≡◌, ◌++◌, ℕ, List, Some, None, MatchOption, drop};
 ghost use Rattle.ra_trace.specs.Forms as spec;
 
 use crate::line::Line;
@@ -416,17 +416,9 @@ fn read_line_without_mark(text: &[u8], line: &mut Option<Line>)
     if let Some(rest) = rest_after(b"release ", text) {
         return LineKind::Leave.read(rest, line);
     }
-    if let Some(rest) = rest_after(b"deliver ", text) {
-        return read_delivery(rest, line);
-    }
-    read_rare_line(text, line);
-}
-
-/// Reads the line that the word `deliver`, a space and this text are.
-#[inline(always)]
-fn read_delivery(message: &[u8], line: &mut Option<Line>)
-    ensures { line.new ≡ spec.line_by (drop 5 spec.forms) (codes "deliver " ++ message.now) }
-{
+    let Some(message) = rest_after(b"deliver ", text) else {
+        return read_rare_line(text, line);
+    };
     if let Some(rest) = rest_after(b"request ", message) {
         return LineKind::Request(Fate::Delivered).read(rest, line);
     }

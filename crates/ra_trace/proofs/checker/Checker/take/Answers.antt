@@ -2,7 +2,7 @@ use Rattle.std.proofs.Common.{◌≡◌, ◌≢◌, Err, true, refl, sym, ap, �
 use Rattle.ra_world.specs.declared.error.NodeRefusal.{NodeRefusal}
 use Rattle.ra_world.specs.declared.error.StepError.TheVariants.{NoNode, NotUnderWay, Node, Memory}
 use Rattle.ra_trace.specs.Forms.{allows_step}
-use Rattle.ra_trace.proofs.Taking.{step_is_not_last, step_not_allowed, step_comes_early, first_comes_again, step_is_taken, step_is_refused, step_is_not_under_way, step_may_come, no_node_is_of_client, node_is_of_client, not_under_way_is_of_message}
+use Rattle.ra_trace.proofs.Taking.{step_is_not_last, step_not_allowed, step_comes_early, first_comes_again, step_is_taken, step_is_refused, last_comes_early, step_is_not_under_way, step_may_come, no_node_is_of_client, node_is_of_client, not_under_way_is_of_message}
 use Rattle.ra_trace.proofs.checker.Checker.take.Goals as goal
 
 -- none of these is that memory ran out
@@ -86,3 +86,6 @@ returns-then-has_due-clause-judged c =
     let step = c.in-Stepped.step in
     let allowed : allows_step c.args.self.now.version step ≡ true = sym c.allows_step.ensures ∙ c.if-not-allows_step.false in
     rw c.in-Stepped.is (step_comes_early c.args.self.now step allowed (c.has_due.ensures.some c.if-has_due.true))
+
+pub returns-then-has_due-2-clause-judged : goal.returns-then-has_due-2-clause-judged
+returns-then-has_due-2-clause-judged c = rw c.in-Last.is (last_comes_early c.args.self.now (c.has_due-in-Last.ensures.some c.if-has_due-2.true))

@@ -1,12 +1,10 @@
-use Rattle.std.proofs.Common.{◌≡◌, ◌+◌, [], ◌∷◌, Ok, refl, sym, ap, ◌∙◌}
+use Rattle.std.proofs.Common.{◌≡◌, Ok, refl}
 use Rattle.ra_stamp.specs.declared.entry.Mark.{Mark}
-use Rattle.ra_world.specs.Quiet.{requests_in}
 use Rattle.ra_trace.specs.declared.line.Line.{Line}
 use Rattle.ra_trace.specs.declared.line.Line.TheVariants as line
 use Rattle.ra_trace.specs.declared.mark_log.MarkLog.{MarkLog}
 use Rattle.ra_trace.specs.declared.mark_log.MarkJudgement.TheVariants.{Wrong}
 use Rattle.ra_trace.specs.declared.mark_log.marks_verdict.MarkCause.TheVariants as cause
-use Rattle.ra_trace.specs.Marks.{grants_in}
 use Rattle.ra_trace.specs.MarksAlong.{JudgedLine}
 use Rattle.ra_trace.proofs.mark_log.MarkLog.take_line.Goals as goal
 
