@@ -1,5 +1,5 @@
 //! The clients of each node.
-ghost use Rattle.std.specs.Prelude.{◌≡◌, ◌-◌, ℕ, [], Some, Contains, slice_index_or, IfOk, IsTrue};
+ghost use Rattle.std.specs.Prelude.{◌≡◌, ◌-◌, ℕ, [], Some, Contains, slice_index_or, IfOk};
 ghost use Rattle.ra_schedule.specs.Enabled.{AreNodeClients, node_at, node_of};
 
 use crate::Script;
@@ -33,21 +33,14 @@ fn clients_of_node(alloc: Global, script: &Script, node: u16) -> Result<NodeClie
     let mut members = Vec::new(alloc);
     for place in 0..script.clients() {
         let client = place + 1;
-        if is_at(script, client, node) {
+        let Some(own) = script.node_of(client) else {
+            unreachable!()
+        };
+        if own.get() == node {
             members.push(client)?;
         }
     }
     Ok(NodeClients { members })
-}
-
-/// Returns whether the client with this number is at the node.
-fn is_at(script: &Script, client: u32, node: u16) -> bool
-    ensures { node_of script.now client ≡ Some node → IsTrue result }
-{
-    match script.node_of(client) {
-        Some(own) => own.get() == node,
-        None => false,
-    }
 }
 
 /// Returns the clients of each node, in the order of their numbers.
