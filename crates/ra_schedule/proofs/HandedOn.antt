@@ -9,7 +9,7 @@ use Rattle.ra_schedule.specs.Drive.{Answers, IsInTime, Drives, IsSummary, IsWhol
 use Rattle.ra_schedule.specs.Survey.{HasEnded}
 
 -- the fault of a result, whatever else it could be
-err_as : {X Y : Type 0} {d e : DriveError} → ◌≡◌ {A = Result X DriveError} (Err d) (Err e) → ◌≡◌ {A = Result Y DriveError} (Err d) (Err e)
+pub err_as : {X Y : Type 0} {d e : DriveError} → ◌≡◌ {A = Result X DriveError} (Err d) (Err e) → ◌≡◌ {A = Result Y DriveError} (Err d) (Err e)
 err_as {X} {Y} {d} {e} h = let same : d ≡ e = cc in ap Err same
 
 pub no_ok : {X : Type 0} {x : X} {e : DriveError} → Ok x ≡ Err e → ⊥

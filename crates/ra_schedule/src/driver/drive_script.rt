@@ -1,4 +1,4 @@
-ghost use Rattle.std.specs.Prelude.{◌≡◌, ◌↔◌, ℕ, Bool, length, IsTrue, IfOk};
+ghost use Rattle.std.specs.Prelude.{◌≡◌, ◌↔◌, ℕ, Bool, Err, length, IsTrue, IfOk, IfErr};
 ghost use Rattle.ra_schedule.specs.declared.choice.Policy.{Policy};
 ghost use Rattle.ra_schedule.specs.Progress.{Tracks, AreDone};
 ghost use Rattle.ra_schedule.specs.Drive.{Drives, IsWholeRun, IsRecording, IsSummary};
@@ -182,6 +182,7 @@ pub fn ended(
     ensures run { (policy : Policy) (limit : ℕ) (records : Bool)
         → IfOk driven (λ _. IsThrough script.now policy limit records cluster)
         → IfOk result (λ of. IsWholeRun script.now policy limit cluster.world.moves of.report of.finished) }
+    ensures refused { IfErr result (λ fault. driven ≡ Err fault) }
 {
     if let Err(fault) = driven {
         // A report owns little that is to be given back, and a world much.

@@ -1,6 +1,5 @@
 //! The state at the end of what a policy makes of a script.
-ghost use Rattle.std.specs.Prelude.{◌≡◌, ◌⊎◌, Ok, Err, string_bytes, IfOk, IfErr};
-ghost use Rattle.ra_schedule.specs.declared.driver.drive_script.Driven.{Driven};
+ghost use Rattle.std.specs.Prelude.{◌≡◌, ◌⊎◌, Err, string_bytes, IfOk, IfErr};
 ghost use Rattle.ra_schedule.specs.declared.error.DriveError.{DriveError};
 ghost use Rattle.ra_schedule.specs.Drive.{Drives};
 ghost use Rattle.ra_schedule.specs.Progress.{Tracks};
@@ -8,7 +7,7 @@ ghost use Rattle.ra_schedule.specs.Schedule.{steps_of};
 ghost use Rattle.ra_schedule.specs.StateText.{IsShown, ShowsState};
 
 use crate::driver::client_state::client_lines;
-use crate::driver::drive_script::{Driven, DrivenCluster, ended, opened};
+use crate::driver::drive_script::{DrivenCluster, ended, opened};
 use crate::script::script_names::names_of;
 use crate::{DriveError, Policy, Script};
 use std::alloc::Global;
@@ -41,7 +40,13 @@ pub fn show(
     let world = &mut cluster.world;
     let driven = cluster.driver.finish(alloc, script, policy, world, limit);
     let text = text_of(alloc, script, &cluster, driven);
-    shown_of(text, ended(script, cluster, driven))
+    let finished = match ended(script, cluster, driven) {
+        Ok(driven) => driven.finished,
+        // Then there is no text.
+        Err(_) => false,
+    };
+    let text = text?;
+    Ok(Shown { text, finished })
 }
 
 /// Returns the lines of the state to which a driver has come that recorded its steps, if it came to the end of the run.
@@ -62,6 +67,7 @@ fn text_of(
     requires steps { IfOk driven (λ _. cluster.now.driver.steps.items ≡ steps_of cluster.now.world.moves) }
     ensures ok { IfOk result (λ text. ShowsState script.now cluster.now.world.moves (string_bytes text)) }
     ensures err { IfErr result (λ fault. (driven ≡ Err fault) ⊎ (fault ≡ DriveError.Memory)) }
+    ensures refused { (fault : DriveError) → driven ≡ Err fault → result ≡ Err fault }
 {
     if let Err(fault) = driven {
         return Err(fault);
@@ -72,25 +78,4 @@ fn text_of(
     let clients = client_lines(alloc, script, world, steps, &driver.clients)?;
     let text = world.state_text(alloc, &names, clients.as_str())?;
     Ok(text)
-}
-
-/// Returns the lines of a state with what else is told of the run.
-///
-/// # Errors
-///
-/// The first that holds:
-///
-/// 1. Why the run did not come to its end.
-/// 2. Why there are no lines.
-fn shown_of(
-    text: Result<String, DriveError>,
-    driven: Result<Driven, DriveError>,
-) -> Result<Shown, DriveError>
-    ensures ok { IfOk result (λ shown. (text ≡ Ok shown.text)
-        × (of : Driven) × (driven ≡ Ok of) × (shown.finished ≡ of.finished)) }
-    ensures err { IfErr result (λ fault. (driven ≡ Err fault) ⊎ (text ≡ Err fault)) }
-{
-    let finished = driven?.finished;
-    let text = text?;
-    Ok(Shown { text, finished })
 }

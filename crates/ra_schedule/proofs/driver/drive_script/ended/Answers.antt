@@ -35,6 +35,9 @@ returns-in-Err-clause-made c policy limit records drives =
     refusal_on script policy limit (λ _. IsThrough script policy limit records c.args.cluster) (Records script policy limit records) c.in-Err.fault _ refl
     (subst (λ (r : Result (Unit {0}) DriveError). Drives script policy limit (λ _. IsThrough script policy limit records c.args.cluster) r) c.in-Err.is drives)
 
+pub returns-in-Err-clause-refused : goal.returns-in-Err-clause-refused
+returns-in-Err-clause-refused c = c.in-Err.is
+
 pub returns-clause-run : goal.returns-clause-run
 returns-clause-run c policy limit records done =
     let script = c.args.script.now in

@@ -4,7 +4,7 @@ use Rattle.ra_schedule.specs.declared.driver.client_progress.Progress.{Progress}
 use Rattle.ra_schedule.specs.declared.error.DriveError.{DriveError}
 use Rattle.ra_schedule.specs.Progress.{Tracks}
 use Rattle.ra_schedule.specs.Schedule.{steps_of}
-use Rattle.ra_schedule.proofs.HandedOn.{not_refused}
+use Rattle.ra_schedule.proofs.HandedOn.{err_as, not_refused}
 use Rattle.ra_schedule.proofs.driver.showing.text_of.Goals as goal
 use Rattle.ra_schedule.proofs.driver.showing.text_of.Goals.{In_default}
 
@@ -16,6 +16,21 @@ tracked c =
 
 pub returns-in-Err-clause-err : goal.returns-in-Err-clause-err
 returns-in-Err-clause-err c = inl c.in-Err.is
+
+pub returns-in-Err-clause-refused : goal.returns-in-Err-clause-refused
+returns-in-Err-clause-refused c fault is = err_as (sym c.in-Err.is ∙ is)
+
+pub returns-in_err-names-clause-refused : goal.returns-in_err-names-clause-refused
+returns-in_err-names-clause-refused c fault is = absurd (c.in_default.not-Err fault is)
+
+pub returns-in_err-clients-clause-refused : goal.returns-in_err-clients-clause-refused
+returns-in_err-clients-clause-refused c fault is = absurd (c.in_default.not-Err fault is)
+
+pub returns-in_err-text-clause-refused : goal.returns-in_err-text-clause-refused
+returns-in_err-text-clause-refused c fault is = absurd (c.in_default.not-Err fault is)
+
+pub returns-clause-refused : goal.returns-clause-refused
+returns-clause-refused c fault is = absurd (c.in_default.not-Err fault is)
 
 pub client_lines-requires-clause-tracked : goal.client_lines-requires-clause-tracked
 client_lines-requires-clause-tracked c =
