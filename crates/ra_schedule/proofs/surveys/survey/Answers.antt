@@ -68,3 +68,9 @@ pub returns-in_ok-outcome-clause-waiting_ends : goal.returns-in_ok-outcome-claus
 returns-in_ok-outcome-clause-waiting_ends g c =
     seeds_finish endings_rest_on_runs schedules_rest_on_runs c.args.script.now c.is_within_its_limits.ensures c.args.faults c.args.limit
     c.args.seeds.first c.args.seeds.last c.with_outcome-survey.result (returns-in_ok-outcome-clause-ok g c)
+
+pub returns-else-last-first-clause-ok : goal.returns-else-last-first-clause-ok
+returns-else-last-first-clause-ok g c = absurd (omega arith)
+
+pub returns-else-last-first-clause-told : goal.returns-else-last-first-clause-told
+returns-else-last-first-clause-told g c = absurd (omega arith)

@@ -21,6 +21,9 @@ returns-in_err-op-clause-none c none enabled =
 pub returns-in_err-node-clause-some : goal.returns-in_err-node-clause-some
 returns-in_err-node-clause-some c = rw c.from_residual.ensures tt
 
+pub returns-in_err-op-clause-some : goal.returns-in_err-op-clause-some
+returns-in_err-op-clause-some c = rw c.from_residual-in_err-op.ensures tt
+
 pub returns-then-accepts-clause-some : goal.returns-then-accepts-clause-some
 returns-then-accepts-clause-some c =
     let made : c.match-op.step ≡ step_of c.in_ok-node.node c.args.client c.in_ok-op.op =

@@ -1,4 +1,5 @@
 use Rattle.std.proofs.Common.{◌≡◌, ◌+◌, ◌-◌, ◌%◌, ◌<◌, ℕ, List, [], ◌∷◌, length, slice_get, Some, None, refl, sym, ap, ◌∙◌, subst, arith}
+use Rattle.std.proofs.lemmas.Bool.{true≢false}
 use Rattle.std.proofs.lemmas.Option.{slice_get-get_or}
 use Rattle.rand_pcg.specs.Lcg.{Lcg}
 use Rattle.rand_pcg.specs.Pcg.{pcg64}
@@ -35,6 +36,18 @@ returns-then-choices-eq0-clause-none c e =
       subst (LeavesUnderWay c.args.world.now.moves) (empty left (omega (arith, c.if-choices-eq0.true, clients, messages))) leaves,
       refl,
     )
+
+pub returns-in_err-client-clause-some : goal.returns-in_err-client-clause-some
+returns-in_err-client-clause-some c = rw c.from_residual.ensures tt
+
+pub returns-in_err-client-clause-named : goal.returns-in_err-client-clause-named
+returns-in_err-client-clause-named c = rw c.from_residual.ensures tt
+
+pub returns-else-number-count-clause-none : goal.returns-else-number-count-clause-none
+returns-else-number-count-clause-none c e = absurd (true≢false e)
+
+pub returns-in_ok-client-clause-none : goal.returns-in_ok-client-clause-none
+returns-in_ok-client-clause-none c e = absurd (true≢false e)
 
 pub returns-in_err-client-clause-none : goal.returns-in_err-client-clause-none
 returns-in_err-client-clause-none c e =

@@ -1,5 +1,5 @@
 use Rattle.std.proofs.Common.{◌<◌, ◌+◌, false, length, arith, refl, sym, ◌∙◌, below_more}
-use Rattle.std.proofs.lemmas.Bool.{false≢true}
+use Rattle.std.proofs.lemmas.Bool.{false≢true, true≢false}
 use Rattle.ra_schedule.specs.Shrinking.{CanGoOn}
 use Rattle.ra_schedule.proofs.LookedAt.{flag_of}
 use Rattle.ra_schedule.proofs.OldestChoices.{none_below, none_at_all, nothing_under_way, first_message}
@@ -17,6 +17,9 @@ returns-then-is_some-clause-some c =
       (let some = c.if-progress-gt0.true in omega (arith, done, some), flag.0 (sym c.is_some.ensures ∙ c.if-is_some.true)),
       none_below script moves place c.loop-place.invariant,
     )
+
+pub returns-then-is_some-clause-none : goal.returns-then-is_some-clause-none
+returns-then-is_some-clause-none c e = absurd (true≢false e)
 
 pub loop-place-init : goal.loop-place-init
 loop-place-init c k less on = absurd (omega (arith, less))

@@ -72,3 +72,9 @@ returns-else-is_end-clause-told g c =
     tells_seeds c.args.script.now c.args.faults c.args.limit c.args.seeds.first (c.loop-seed.seed + 1) _ _ _
     (told_more c.args.script.now c.args.faults c.args.limit c.args.seeds.first c.loop-seed.seed _ _ _ c.in_ok-outcome.outcome told
     c.in_ok-outcome.ensures c.ended.ensures) all
+
+pub returns-else-last-first-clause-ok : goal.returns-else-last-first-clause-ok
+returns-else-last-first-clause-ok g c = absurd (omega arith)
+
+pub returns-else-last-first-clause-told : goal.returns-else-last-first-clause-told
+returns-else-last-first-clause-told g c = absurd (omega arith)
