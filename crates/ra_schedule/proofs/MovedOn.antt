@@ -1,8 +1,14 @@
 -- A client that moves on by one operation.
-use Rattle.std.proofs.Common.{◌≡◌, ◌≢◌, ◌<◌, ◌≤◌, ◌+◌, ◌-◌, ◌||◌, ℕ, Bool, false, List, length, get_or, set, sym, ap, ◌∙◌, arith}
+use Rattle.std.proofs.Common.{◌≡◌, ◌≢◌, ◌⊎◌, ◌<◌, ◌≤◌, ◌+◌, ◌-◌, ◌||◌, ℕ, Bool, true, false, List, length, get_or, set, refl, sym, ap, subst, ◌∙◌, arith, inl, inr}
+use Rattle.std.proofs.lemmas.Bool.{cases_eq, eq-eqb, ne_eqb}
 use Rattle.std.proofs.lemmas.List.{get_or-set_other, get_or_default}
 use Rattle.std.proofs.lemmas.Grind.{get_or-set_at}
+use Rattle.ra_stamp.specs.declared.mode.Mode.{Mode}
+use Rattle.ra_world.specs.declared.step.Step.{Step}
+use Rattle.ra_world.specs.declared.step.Step.TheVariants.{Ask, Leave, Deliver, Lose, Repeat}
+use Rattle.ra_stamp.specs.declared.message.Message.{Message as Sent}
 use Rattle.ra_schedule.specs.declared.driver.client_progress.Progress.{Progress}
+use Rattle.ra_schedule.specs.Progress.{IsAfterStep}
 
 pub others_kept : (list : List Progress) (client k : ℕ) (d new : Progress) → 1 ≤ client → k + 1 ≢ client → get_or (set list (client - 1) new) k d ≡ get_or list k d
 others_kept list client k d new first other = get_or-set_other list (client - 1) k new d (λ e. other (omega (arith, first, e)))
@@ -34,3 +40,58 @@ stopped list client k d idle first within at =
     let here : get_or list (client - 1) idle ≡ get_or list k d = ap (λ (i : ℕ). get_or list i idle) place ∙ get_or_default list k idle d within in
     get_or-set_at list (client - 1) k (record { done = (get_or list (client - 1) idle).done; waiting = false }) d (sym place) (omega (arith, place, within))
     ∙ (λ i. record { done = (here i).done; waiting = false })
+
+-- ---- Steps
+
+-- a client after an ask
+pub after_ask : (step : Step) (node asker : ℕ) (name : List ℕ) (mode : Mode) (client : ℕ) (old new : Progress) → step ≡ Ask node asker name mode
+    → (client ≢ asker → new ≡ old) → (client ≡ asker → new ≡ record { done = old.done + 1; waiting = true || old.waiting })
+    → IsAfterStep client step old new
+after_ask step node asker name mode client old new is others this =
+    subst (λ (s : Step). IsAfterStep client s old new) (sym is)
+    (elim (cases_eq client asker) [
+      | inl same ↦
+          subst (IsAfterStep client (Ask node asker name mode) old) (sym (this same))
+          (record { done = rw (eq-eqb asker client (sym same)); waiting = (λ _. inl (sym same), λ _. refl) })
+      | inr apart ↦
+          subst (IsAfterStep client (Ask node asker name mode) old) (sym (others apart))
+          (record {
+            done = rw (ne_eqb asker client (λ same. apart (sym same))) (omega arith);
+            waiting = (λ waits. inr waits, λ either. elim either [ inl asks ↦ absurd (apart (sym asks)) | inr waits ↦ waits ]);
+          })
+    ])
+
+-- after a leave
+pub after_leave : (step : Step) (node leaver : ℕ) (name : List ℕ) (client : ℕ) (old new : Progress) → step ≡ Leave node leaver name
+    → (client ≢ leaver → new ≡ old) → (client ≡ leaver → new ≡ record { done = old.done + 1; waiting = false || old.waiting })
+    → IsAfterStep client step old new
+after_leave step node leaver name client old new is others this =
+    subst (λ (s : Step). IsAfterStep client s old new) (sym is)
+    (elim (cases_eq client leaver) [
+      | inl same ↦
+          subst (IsAfterStep client (Leave node leaver name) old) (sym (this same))
+          (record {
+            done = rw (eq-eqb leaver client (sym same));
+            waiting = (λ waits. inr waits, λ either. elim either [ inl asks ↦ absurd asks | inr waits ↦ waits ]);
+          })
+      | inr apart ↦
+          subst (IsAfterStep client (Leave node leaver name) old) (sym (others apart))
+          (record {
+            done = rw (ne_eqb leaver client (λ same. apart (sym same))) (omega arith);
+            waiting = (λ waits. inr waits, λ either. elim either [ inl asks ↦ absurd asks | inr waits ↦ waits ]);
+          })
+    ])
+
+-- after a step of nobody
+pub after_message : (step : Step) (client : ℕ) (old new : Progress)
+    → ((message : Sent) × (step ≡ Deliver message)) ⊎ (((message : Sent) × (step ≡ Lose message)) ⊎ ((message : Sent) × (step ≡ Repeat message)))
+    → new ≡ old → IsAfterStep client step old new
+after_message step client old new (inl (message, is)) same =
+    subst (λ (s : Step). IsAfterStep client s old new) (sym is) (subst (IsAfterStep client (Deliver message) old) (sym same)
+    (record { done = omega arith; waiting = (λ waits. inr waits, λ either. elim either [ inl asks ↦ absurd asks | inr waits ↦ waits ]) }))
+after_message step client old new (inr (inl (message, is))) same =
+    subst (λ (s : Step). IsAfterStep client s old new) (sym is) (subst (IsAfterStep client (Lose message) old) (sym same)
+    (record { done = omega arith; waiting = (λ waits. inr waits, λ either. elim either [ inl asks ↦ absurd asks | inr waits ↦ waits ]) }))
+after_message step client old new (inr (inr (message, is))) same =
+    subst (λ (s : Step). IsAfterStep client s old new) (sym is) (subst (IsAfterStep client (Repeat message) old) (sym same)
+    (record { done = omega arith; waiting = (λ waits. inr waits, λ either. elim either [ inl asks ↦ absurd asks | inr waits ↦ waits ]) }))

@@ -1,7 +1,7 @@
 //! How far the clients are.
 ghost use Rattle.std.specs.Prelude.{◌≡◌, ◌≢◌, ◌+◌, ◌<◌, ◌≤◌, ◌||◌, ℕ, length, false, slice_index_or};
 ghost use Rattle.ra_world.specs.Traffic.{Move};
-ghost use Rattle.ra_schedule.specs.Progress.{IsAfterStep, IsAfterMarks, IsProgressAfter, OfEach, AreCountable, AreStuck, NoneEnters};
+ghost use Rattle.ra_schedule.specs.Progress.{IsAfterMarks, IsProgressAfter, OfEach, AreCountable, AreStuck, NoneEnters};
 
 use crate::Script;
 use ra_stamp::Mark;
@@ -65,18 +65,6 @@ fn advance(list: &mut [Progress], client: u32, asks: bool)
     }
 }
 
-/// Notes a step: its client moves on.
-fn note_step(list: &mut [Progress], step: &Step)
-    requires { AreCountable list.old }
-    ensures { OfEach (λ client old new. IsAfterStep client step.now old new) list.old list.new }
-{
-    match *step {
-        Step::Ask { client, .. } => advance(list, client, true),
-        Step::Leave { client, .. } => advance(list, client, false),
-        Step::Deliver(_) | Step::Lose(_) | Step::Repeat(_) => {}
-    }
-}
-
 /// Notes that a client entered.
 fn stop_waiting(list: &mut [Progress], client: u32)
     ensures others { (k : ℕ) (d : Progress) → k + 1 ≢ client
@@ -101,11 +89,15 @@ fn note_marks(list: &mut [Progress], marks: &[Mark])
     }
 }
 
-/// Notes a step and its marks.
+/// Notes a step and its marks: its client moves on, and those that entered wait no longer.
 pub fn note_move(list: &mut [Progress], step: &Step, marks: &[Mark])
     requires { AreCountable list.old }
     ensures { (move : Move) → move.step ≡ step.now → move.marks ≡ marks.now → OfEach (IsProgressAfter move) list.old list.new }
 {
-    note_step(list, step);
+    match *step {
+        Step::Ask { client, .. } => advance(list, client, true),
+        Step::Leave { client, .. } => advance(list, client, false),
+        Step::Deliver(_) | Step::Lose(_) | Step::Repeat(_) => {}
+    }
     note_marks(list, marks);
 }
