@@ -136,7 +136,10 @@ impl Script {
         ensures err { OnErr result (self.new ≡ self.old) }
         ensures script { IsScript self.new }
     {
-        let Some(node) = self.node_for_client(node) else {
+        if self.clients.len() >= Script::MAX_CLIENTS {
+            return Err(AddClientError::Clients);
+        }
+        let Some(node) = self.nodes.node(node) else {
             return Err(AddClientError::Clients);
         };
         self.clients.push(Client {
@@ -259,19 +262,6 @@ impl Script {
             return None;
         }
         clients.get(client as usize - 1)
-    }
-
-    /// Returns the node with this number, or `None` if there is none, or no room for one more client.
-    fn node_for_client(&self, node: u16) -> Option<NodeId>
-        ensures value { IfSome result (λ member. member ≡ node) }
-        ensures room { IsSome result
-            ↔ ((length self.now.clients < 64) × (1 ≤ node) × (node ≤ self.now.nodes)) }
-        ensures script { IsScript self.now }
-    {
-        if self.clients.len() >= Script::MAX_CLIENTS {
-            return None;
-        }
-        self.nodes.node(node)
     }
 }
 
