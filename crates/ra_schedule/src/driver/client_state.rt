@@ -75,30 +75,6 @@ fn state_of(
     }
 }
 
-/// Adds an operation in words.
-fn push_op(text: &mut Draft, op: Op)
-    ensures { Adds text.old (spec.op_fields op) text.new }
-{
-    match op {
-        Op::Lock(name, mode) => {
-            text.push_field("lock");
-            text.push_field(name.as_str());
-            text.push_field(mode.word());
-        }
-        Op::Unlock(name) => {
-            text.push_field("unlock");
-            text.push_field(name.as_str());
-        }
-    }
-}
-
-/// Returns the word for whether an operation is enabled.
-fn enabled_word(enabled: bool) -> &'static str
-    ensures { result.now ≡ spec.enabled_word enabled }
-{
-    if enabled { "enabled" } else { "blocked" }
-}
-
 /// Adds what a client is at, in words.
 fn push_state(text: &mut Draft, state: ClientState)
     ensures { Adds text.old (spec.state_fields state) text.new }
@@ -113,8 +89,18 @@ fn push_state(text: &mut Draft, state: ClientState)
         }
         ClientState::Next(op, enabled) => {
             text.push_field("next");
-            push_op(text, op);
-            text.push_field(enabled_word(enabled));
+            match op {
+                Op::Lock(name, mode) => {
+                    text.push_field("lock");
+                    text.push_field(name.as_str());
+                    text.push_field(mode.word());
+                }
+                Op::Unlock(name) => {
+                    text.push_field("unlock");
+                    text.push_field(name.as_str());
+                }
+            }
+            text.push_field(if enabled { "enabled" } else { "blocked" });
         }
     }
 }
