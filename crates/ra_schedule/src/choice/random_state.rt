@@ -5,7 +5,7 @@ ghost use Rattle.ra_schedule.specs.Progress.{Tracks};
 
 use crate::choice::enabled::Enabled;
 use crate::driver::client_progress::Progress;
-use crate::script::node_clients::{NodeClients, members_at, node_at, node_clients_of};
+use crate::script::node_clients::{NodeClients, members_at, node_clients_of};
 use crate::{Policy, Script};
 use ra_stamp::{Mark, Memory};
 use ra_world::{Step, World};
@@ -76,7 +76,7 @@ pub fn note_step_in(
     let Some(draws) = draws else {
         return;
     };
-    let members = members_at(&draws.node_clients, node_at(step));
+    let members = members_at(&draws.node_clients, step);
     draws.enabled.look_at_all(script, world, clients, members);
     draws.enabled.look_at_entered(script, world, clients, marks);
 }

@@ -3,7 +3,7 @@ ghost use Rattle.std.specs.Prelude.{◌≡◌, ◌-◌, ℕ, [], Some, Contains,
 ghost use Rattle.ra_schedule.specs.Enabled.{AreNodeClients, node_at, node_of};
 
 use crate::Script;
-use ra_stamp::{Memory, NodeId};
+use ra_stamp::Memory;
 use ra_world::Step;
 use std::alloc::Global;
 use std::marker::Model;
@@ -59,27 +59,18 @@ pub fn node_clients_of(alloc: Global, script: &Script) -> Result<Vec<NodeClients
     Ok(node_clients)
 }
 
-/// Returns the clients of a node, or none if there is no such node.
-pub fn members_at(node_clients: &[NodeClients], node: Option<NodeId>) -> &[u32]
-    ensures { (client number : ℕ) → node ≡ Some number → Contains (slice_index_or node_clients.now (number - 1) []) client
+/// Returns the clients of the node at which a step happens, or none if it is a loss or a repeat, or there is no such node.
+pub fn members_at<'a>(node_clients: &'a [NodeClients], step: &Step) -> &'a [u32]
+    ensures { (client number : ℕ) → node_at step.now ≡ Some number → Contains (slice_index_or node_clients.now (number - 1) []) client
         → Contains result.now client }
 {
-    match node {
-        Some(node) if usize::from(node.get()) <= node_clients.len() => {
-            let clients = &node_clients[node.place()];
-            &clients.members
-        }
-        _ => &[],
-    }
-}
-
-/// Returns the node at which a step happens, or `None` if it is a loss or a repeat.
-pub fn node_at(step: &Step) -> Option<NodeId>
-    ensures { result ≡ node_at step.now }
-{
-    match step {
-        Step::Ask { node, .. } | Step::Leave { node, .. } => Some(*node),
-        Step::Deliver(message) => Some(message.to()),
-        Step::Lose(_) | Step::Repeat(_) => None,
+    let node = match step {
+        Step::Ask { node, .. } | Step::Leave { node, .. } => *node,
+        Step::Deliver(message) => message.to(),
+        Step::Lose(_) | Step::Repeat(_) => return &[],
+    };
+    match node_clients.get(node.place()) {
+        Some(clients) => &clients.members,
+        None => &[],
     }
 }

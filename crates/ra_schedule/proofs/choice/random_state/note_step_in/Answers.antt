@@ -47,7 +47,7 @@ returns-clause-draws c =
                         (before.flags k d had
                         (λ here.
                         let (node, is) = has_node script k (omega (arith, had, before.alike)) in
-                        absent.1 (c.members_at-members.ensures (k + 1) node (c.node_at.ensures ∙ sym here ∙ is) (node_clients (k + 1) node [] is)))
+                        absent.1 (c.members_at-members.ensures (k + 1) node (sym here ∙ is) (node_clients (k + 1) node [] is)))
                         silent.1)
                   ])
             ];
