@@ -1,5 +1,5 @@
 -- Decimals, and the choices of words.
-use Rattle.std.proofs.Common.{lit<, if◌then◌else◌, ◌≡◌, ℕ, ◌+◌, ◌-◌, ◌*◌, ◌^◌, ◌<◌, ◌≤◌, Bool, true, ◌&&◌, ◌||◌, ◌==◌, not, nat_le, List, [], ◌∷◌, ◌++◌, length, get_or, take, drop, Option, Some, None, option_map, refl, sym, ap, ◌∙◌, subst, arith, append_assoc, inl, inr}
+use Rattle.std.proofs.Common.{lit<, ◌≡◌, ℕ, ◌+◌, ◌-◌, ◌*◌, ◌^◌, ◌<◌, ◌≤◌, true, ◌&&◌, ◌||◌, ◌==◌, not, nat_le, List, [], ◌∷◌, ◌++◌, length, get_or, take, drop, Option, Some, None, option_map, refl, sym, ap, ◌∙◌, subst, arith, append_assoc, inl, inr}
 use Rattle.std.proofs.Math.Nat.{pow-le-pow_right}
 use Rattle.std.proofs.Math.Bool.{or-true}
 use Rattle.std.proofs.lemmas.Bool.{cases_Bool, and_parts, le-leb, leb-true, eqb-true}
@@ -10,7 +10,7 @@ use Rattle.std.proofs.lemmas.List.Sums.{fold_more}
 use Rattle.std.specs.Char.{is_ascii_digit}
 use Rattle.std.specs.List.{list_all, slice_split}
 use Rattle.ra_schedule.specs.declared.choice.Choice.{Choice}
-use Rattle.ra_schedule.specs.ChoicesText.{is_decimal, decimal_value, decimal_of, choice_with, choice_of, choices_in, choices_of}
+use Rattle.ra_schedule.specs.ChoicesText.{is_decimal, decimal_value, decimal_of, choice_of, choices_in, choices_of}
 
 -- a number of eight digits or fewer
 pub small_power : (value place : ℕ) → value < 10 ^ place → place < 9 → value < 100000000
@@ -66,10 +66,6 @@ decimal_of_parts digits is =
 -- what is no decimal has no number
 pub no_decimal : (digits : List ℕ) → (IsDecimal digits → ⊥) → None ≡ decimal_of digits
 no_decimal digits not = elim (cases_Bool (is_decimal digits)) [ inl is ↦ absurd (not (decimal_parts digits is)) | inr is ↦ rw is ]
-
--- a decimal has its number
-pub one_decimal : (digits : List ℕ) (value : ℕ) → IsDecimal digits → value ≡ decimal_value digits → Some value ≡ decimal_of digits
-one_decimal digits value is same = rw (decimal_of_parts digits is) (ap (λ (n : ℕ). Some n) same)
 
 -- the words up to a place were read as these
 pub record IsChosenTo (words : List (List ℕ)) (place : ℕ) (done : List Choice) : Type 0 where

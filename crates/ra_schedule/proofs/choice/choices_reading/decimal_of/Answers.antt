@@ -1,10 +1,9 @@
-use Rattle.std.proofs.Common.{◌≡◌, ◌<◌, ◌&&◌, ℕ, true, false, length, get_or, refl, sym, ap, ◌∙◌, take_all, arith}
+use Rattle.std.proofs.Common.{◌≡◌, ◌&&◌, false, get_or, sym, ap, ◌∙◌, arith}
 use Rattle.std.specs.Char.{is_ascii_digit}
 use Rattle.std.specs.List.{list_all}
 use Rattle.std.proofs.lemmas.Bool.{false≢true}
 use Rattle.std.proofs.lemmas.List.Folds.{list_all_at, list_all_more}
-use Rattle.ra_schedule.specs.ChoicesText.{decimal_value}
-use Rattle.ra_schedule.proofs.Numbers.{decimal_more, small_power, no_decimal, one_decimal}
+use Rattle.ra_schedule.proofs.Numbers.{decimal_more, small_power, no_decimal}
 use Rattle.ra_schedule.proofs.choice.choices_reading.decimal_of.Goals as goal
 
 pub returns-then-not-is_ascii_digit : goal.returns-then-not-is_ascii_digit
