@@ -7,13 +7,13 @@ use crate::timeline::{LockSpan, Timeline};
 use itoa::Buffer;
 pub use name_cut::NameCut;
 use name_cut::name_cut_of;
-pub use node_lane::Column;
-use node_lane::{NodeLane, short};
+pub use node_lane::NodeLane;
+use node_lane::short;
 use ra_stamp::{Memory, NodeId};
 use sizes::{
-    BAND_HEIGHT, BAND_ROWS, BOTTOM_MARGIN, COLUMN_WIDTH, COPIES_WIDTH, FEW_NODES_GAP,
-    LABEL_LETTERS, LANE_MARGIN, LEFT_MARGIN, LEGEND_WIDTH, MEAN_LETTER, MOST_WIDE, NARROW_GAP,
-    NARROW_ROW, RIGHT_MARGIN, ROWS_TOP, UNDER_WAY_ROWS, WIDE_LETTER, WIDE_ROW,
+    BAND_HEIGHT, BAND_ROWS, COLUMN_WIDTH, COPIES_WIDTH, FEW_NODES_GAP, LABEL_LETTERS, LANE_MARGIN,
+    LEFT_MARGIN, LEGEND_WIDTH, MEAN_LETTER, MOST_WIDE, NARROW_GAP, NARROW_ROW, RIGHT_MARGIN,
+    ROWS_TOP, UNDER_WAY_ROWS, WIDE_LETTER, WIDE_ROW,
 };
 use std::alloc::Global;
 
@@ -41,15 +41,19 @@ pub struct Layout {
     /// The last row of a step.
     steps: u32,
     /// The row after the last one.
-    end: u32,
+    pub end: u32,
     /// How names are shortened.
     pub cut: NameCut,
     /// About how wide a label is at most, with the greatest number and the longest name: letters have different widths.
     label: u64,
     /// Whether a message comes from the lane of copies.
     pub has_copies: bool,
+    /// How far to the right that lane is: after that of the last node, and a label.
+    pub copies_x: u64,
+    /// The width of the page.
+    pub width: u64,
     /// The lanes of the nodes, from node 1 on.
-    lanes: Vec<NodeLane>,
+    pub lanes: Vec<NodeLane>,
     pub bars: Vec<LockBar>,
 }
 
@@ -76,6 +80,8 @@ impl Layout {
             cut,
             label: (letters as u64).saturating_mul(MEAN_LETTER),
             has_copies,
+            copies_x: 0,
+            width: LEGEND_WIDTH,
             lanes: Vec::new(alloc),
             bars: Vec::new(alloc),
         }
@@ -89,13 +95,30 @@ impl Layout {
         for span in spans {
             self.add_bar(span)?;
         }
-        let gap = self.gap();
+        // The width between a lane and the bars of the next one.
+        let gap = match self.nodes {
+            0..=3 => FEW_NODES_GAP.max(self.label),
+            // A label does not reach over the bars of the next node, which may have names.
+            4..=MOST_WIDE => self.label,
+            _ => NARROW_GAP,
+        };
         let mut x = LEFT_MARGIN.saturating_add(self.label);
         for lane in &mut self.lanes {
-            x = u64::saturating_add(x, lane.gutter());
+            lane.gutter = u64::from(short(lane.columns.len())) * COLUMN_WIDTH + LANE_MARGIN;
+            x = u64::saturating_add(x, lane.gutter);
             lane.x = x;
             x = u64::saturating_add(x, gap);
         }
+        self.copies_x = x;
+        let last = if self.has_copies {
+            x.saturating_add(COPIES_WIDTH)
+        } else {
+            x.saturating_sub(gap)
+        };
+        self.width = last
+            .saturating_add(self.label)
+            .saturating_add(RIGHT_MARGIN)
+            .max(LEGEND_WIDTH);
         Ok(())
     }
 
@@ -120,16 +143,6 @@ impl Layout {
         Ok(())
     }
 
-    /// Returns the width between a lane and the bars of the next one.
-    fn gap(&self) -> u64 {
-        match self.nodes {
-            0..=3 => FEW_NODES_GAP.max(self.label),
-            // A label does not reach over the bars of the next node, which may have names.
-            4..=MOST_WIDE => self.label,
-            _ => NARROW_GAP,
-        }
-    }
-
     /// Returns whether the lanes are wide enough for labels.
     pub fn is_wide(&self) -> bool {
         self.nodes <= MOST_WIDE
@@ -145,23 +158,13 @@ impl Layout {
             .saturating_add(ROWS_TOP)
     }
 
-    /// Returns how many times the nodes are named again, each time below the row that ends a band.
-    pub fn bands(&self) -> u32 {
-        self.end.saturating_sub(1) / BAND_ROWS
-    }
-
-    /// Returns the row of a message under way at the end, and whether it has one of its own.
-    pub fn under_way_row(&self, place: u32) -> (u32, bool) {
+    /// Returns the row of a message under way at the end: one of its own, or the one after the last one.
+    pub fn under_way_row(&self, place: u32) -> u32 {
         if place < UNDER_WAY_ROWS {
-            (self.steps.saturating_add(place).saturating_add(1), true)
+            self.steps.saturating_add(place).saturating_add(1)
         } else {
-            (self.end, false)
+            self.end
         }
-    }
-
-    /// Returns how far down the row after the last one is.
-    pub fn bottom(&self) -> u64 {
-        self.y(self.end)
     }
 
     /// Returns how far to the right a node is.
@@ -180,18 +183,10 @@ impl Layout {
         }
     }
 
-    /// Returns the columns of a node.
-    pub fn columns(&self, node: NodeId) -> &[Column] {
-        match self.lanes.get(node.place()) {
-            Some(lane) => lane.columns.as_slice(),
-            None => &[],
-        }
-    }
-
     /// Returns how wide the bars of a node are, with what is between them and the lane.
     pub fn gutter(&self, node: NodeId) -> u64 {
         match self.lanes.get(node.place()) {
-            Some(lane) => lane.gutter(),
+            Some(lane) => lane.gutter,
             None => 0,
         }
     }
@@ -200,32 +195,5 @@ impl Layout {
     pub fn column_x(&self, node: NodeId, column: u32) -> u64 {
         self.x(node)
             .saturating_sub(LANE_MARGIN + (u64::from(column) + 1) * COLUMN_WIDTH)
-    }
-
-    /// Returns how far to the right the last node is.
-    fn last_x(&self) -> u64 {
-        match self.lanes.last() {
-            Some(lane) => lane.x,
-            None => 0,
-        }
-    }
-
-    /// Returns how far to the right the lane of copies is: after that of the last node, and a label.
-    pub fn copies_x(&self) -> u64 {
-        self.last_x().saturating_add(self.gap())
-    }
-
-    /// Returns its width and its height.
-    pub fn size(&self) -> (u64, u64) {
-        let last = if self.has_copies {
-            self.copies_x().saturating_add(COPIES_WIDTH)
-        } else {
-            self.last_x()
-        };
-        let width = last
-            .saturating_add(self.label)
-            .saturating_add(RIGHT_MARGIN)
-            .max(LEGEND_WIDTH);
-        (width, self.bottom().saturating_add(BOTTOM_MARGIN))
     }
 }

@@ -12,6 +12,7 @@ mod wording;
 
 use crate::Part;
 use crate::layout::Layout;
+use crate::layout::sizes::BOTTOM_MARGIN;
 use crate::timeline::Timeline;
 use layers::Layers;
 use legend::{LEGEND, LOOKS};
@@ -29,19 +30,29 @@ pub struct Totals {
     pub count: u128,
 }
 
-/// Adds how many things there are.
-fn put_count(svg: &mut SvgWriter, count: u64, thing: &str) {
-    let ending = if count == 1 { "" } else { "s" };
-    svg.write("$ $$", &[Number(count), Text(thing), Text(ending)]);
+/// Returns the ending of the word for this many things.
+fn ending(count: u64) -> &'static str {
+    if count == 1 { "" } else { "s" }
 }
 
 /// Adds what is drawn: how many nodes there are, the totals, and which lines if they are not all.
 fn put_headline(svg: &mut SvgWriter, nodes: u16, totals: &Totals, part: Part) {
-    put_count(svg, u64::from(nodes), "node");
-    svg.put(b", ");
-    put_count(svg, short(totals.requests), "request");
-    svg.put(b", ");
-    put_count(svg, short(totals.count), totals.counted);
+    // A text has far fewer of anything than the greatest `u64`.
+    let requests = u64::try_from(totals.requests).unwrap_or(u64::MAX);
+    let count = u64::try_from(totals.count).unwrap_or(u64::MAX);
+    let nodes = u64::from(nodes);
+    svg.write(
+        "$ node$, $ request$, $ $$",
+        &[
+            Number(nodes),
+            Text(ending(nodes)),
+            Number(requests),
+            Text(ending(requests)),
+            Number(count),
+            Text(totals.counted),
+            Text(ending(count)),
+        ],
+    );
     if part.from > 1 {
         svg.write(", from line $", &[Number(part.from)]);
     }
@@ -52,30 +63,19 @@ fn put_headline(svg: &mut SvgWriter, nodes: u16, totals: &Totals, part: Part) {
 
 /// Adds the size of the picture, its title, how shapes look, and the legend.
 fn put_head(svg: &mut SvgWriter, layout: &Layout, totals: &Totals, part: Part) {
-    let (width, height) = layout.size();
+    let width = layout.width;
+    let height = layout.y(layout.end).saturating_add(BOTTOM_MARGIN);
     svg.write(
         " width=\"$\" height=\"$\" viewBox=\"0 0 $ $\">\n<title>",
         &[Number(width), Number(height), Number(width), Number(height)],
     );
     put_headline(svg, layout.nodes, totals, part);
-    svg.put(b"</title>\n");
-    svg.put(LOOKS.as_bytes());
     svg.write(
-        "<rect width=\"$\" height=\"$\" fill=\"#fff\"/>\n<text x=\"16\" y=\"30\" class=\"headline\">",
-        &[Number(width), Number(height)],
+        "</title>\n$<rect width=\"$\" height=\"$\" fill=\"#fff\"/>\n<text x=\"16\" y=\"30\" class=\"headline\">",
+        &[Text(LOOKS), Number(width), Number(height)],
     );
     put_headline(svg, layout.nodes, totals, part);
-    svg.put(b"</text>\n");
-    svg.put(LEGEND.as_bytes());
-}
-
-/// Returns a number of a text, which has far fewer bytes than the greatest `u64`.
-fn short(count: u128) -> u64 {
-    if count < 1 << 64 {
-        count as u64
-    } else {
-        u64::MAX
-    }
+    svg.write("</text>\n$", &[Text(LEGEND)]);
 }
 
 /// Draws what was followed of a text, the attributes of the picture first, or nothing if memory ran out.
@@ -116,7 +116,10 @@ fn push(text: &mut Vec<u8>, more: &[u8]) -> Result<(), Memory>
 pub fn picture_of(alloc: Global, text: &[u8], part: Part, totals: Totals) -> Result<Vec<u8>, Memory>
     ensures { IfOk result (λ picture. IsPicture picture.items) }
 {
-    let mut layers = Layers::new(alloc);
+    let mut layers = Layers {
+        shapes: SvgWriter::new(alloc),
+        labels: SvgWriter::new(alloc),
+    };
     draw_part(alloc, &mut layers, text, part, &totals);
     let inner = layers.finish()?;
     let mut picture = Vec::new(alloc);

@@ -7,6 +7,7 @@ mod moment;
 
 use crate::Part;
 pub use deferral::{Deferral, DeferralSpans};
+use indexmap::IndexMap;
 pub use lock_span::{LockKey, LockSpan, LockSpans};
 pub use message_path::{MessageEnd, MessagePath, MessagePaths};
 pub use moment::Moment;
@@ -33,38 +34,6 @@ pub struct Row {
     pub act: Option<ClientAct>,
 }
 
-/// Returns what a client does by a step.
-fn act_of(step: &Step) -> Option<ClientAct> {
-    match *step {
-        Step::Ask {
-            node,
-            client,
-            name,
-            mode,
-        } => Some(ClientAct {
-            key: LockKey { node, client, name },
-            mode: Some(mode),
-        }),
-        Step::Leave { node, client, name } => Some(ClientAct {
-            key: LockKey { node, client, name },
-            mode: None,
-        }),
-        _ => None,
-    }
-}
-
-/// Returns a world for the run of a trace with this first line, or `None` if it is that of a mark log.
-fn world_of(alloc: Global, first: &[u8]) -> Result<Option<MarklessWorld>, Memory> {
-    let Some(Line::First { nodes, start, .. }) = &Line::parse(first) else {
-        return Ok(None);
-    };
-    match MarklessWorld::new(alloc, nodes.get(), *start) {
-        Ok(world) => Ok(Some(world)),
-        // A trace has 1 to 64 nodes, so memory ran out.
-        Err(_) => Err(Memory),
-    }
-}
-
 /// What is drawn of a run, as far as it was followed.
 #[derive(Drop)]
 pub struct Timeline {
@@ -86,9 +55,19 @@ impl Timeline {
             nodes: 1,
             now: Moment { line: 0, row: 0 },
             rows: Vec::new(alloc),
-            paths: MessagePaths::new(alloc),
-            deferrals: DeferralSpans::new(alloc),
-            spans: LockSpans::new(alloc),
+            paths: MessagePaths {
+                under_way: IndexMap::new(alloc),
+                drawn: Vec::new(alloc),
+                still_under_way: 0,
+            },
+            deferrals: DeferralSpans {
+                all: Vec::new(alloc),
+                open: IndexMap::new(alloc),
+            },
+            spans: LockSpans {
+                all: Vec::new(alloc),
+                open: IndexMap::new(alloc),
+            },
         }
     }
 
@@ -168,11 +147,11 @@ impl Timeline {
         let entry = mark.entry();
         let mode = match mark {
             Mark::Requested(_) => Some(entry.mode),
-            Mark::Entered(_) | Mark::Left(_) => None,
+            _ => None,
         };
         let act = match mark {
             Mark::Entered(_) => None,
-            Mark::Requested(_) | Mark::Left(_) => Some(ClientAct {
+            _ => Some(ClientAct {
                 key: LockKey {
                     node: entry.stamp.node,
                     client: entry.client,
@@ -202,7 +181,23 @@ impl Timeline {
                 Ok(())
             }
             Line::Stepped(step) => {
-                self.begin(number, act_of(step), is_drawn)?;
+                let act = match *step {
+                    Step::Ask {
+                        node,
+                        client,
+                        name,
+                        mode,
+                    } => Some(ClientAct {
+                        key: LockKey { node, client, name },
+                        mode: Some(mode),
+                    }),
+                    Step::Leave { node, client, name } => Some(ClientAct {
+                        key: LockKey { node, client, name },
+                        mode: None,
+                    }),
+                    _ => None,
+                };
+                self.begin(number, act, is_drawn)?;
                 self.make_step(alloc, world, step)
             }
             Line::Marked(mark) if world.is_none() => self.take_mark(number, mark, is_drawn),
@@ -255,10 +250,19 @@ impl Timeline {
         self.paths.close()
     }
 
-    /// Follows a trace or a mark log from its beginning to the end of the part.
+    /// Follows a trace or a mark log from its beginning to the end of the part. Only a trace has a world, for its run.
     pub fn follow(&mut self, alloc: Global, text: &[u8], part: Part) -> Result<(), Memory> {
         let (first, _) = cut(text, b'\n');
-        let mut world = world_of(alloc, first)?;
+        let mut world = match &Line::parse(first) {
+            Some(Line::First { nodes, start, .. }) => {
+                match MarklessWorld::new(alloc, nodes.get(), *start) {
+                    Ok(world) => Some(world),
+                    // A trace has 1 to 64 nodes, so memory ran out.
+                    Err(_) => return Err(Memory),
+                }
+            }
+            _ => None,
+        };
         self.take_lines(alloc, &mut world, text, part)
     }
 }

@@ -47,11 +47,6 @@ fn same_letters(one: &[u8], other: &[u8], at_end: bool) -> usize {
     most
 }
 
-/// Returns this many letters, or 0 if they are too few to be left out.
-fn worth(letters: usize) -> usize {
-    if letters < LEAST_CUT { 0 } else { letters }
-}
-
 impl CommonLetters {
     /// Takes a name.
     fn take(&mut self, name: &Name) {
@@ -99,8 +94,14 @@ pub fn name_cut_of(timeline: &Timeline) -> NameCut {
         };
     }
     let spare = common.shortest.saturating_sub(LEAST_KEPT);
-    let before = worth(common.before.min(spare));
-    let after = worth(common.after.min(spare.saturating_sub(before)));
+    let mut before = common.before.min(spare);
+    if before < LEAST_CUT {
+        before = 0;
+    }
+    let mut after = common.after.min(spare.saturating_sub(before));
+    if after < LEAST_CUT {
+        after = 0;
+    }
     NameCut {
         before,
         after,

@@ -1,37 +1,11 @@
 //! The lines of deferrals beside the lanes.
+use crate::layout::Layout;
 use crate::layout::sizes::{DEFERRAL_STEP, FARTHEST_DEFERRAL, NEAREST_DEFERRAL};
-use crate::layout::{Layout, Point};
 use crate::svg::layers::Layers;
 use crate::svg::svg_writer::PatternValue::{Node, Number, Text, Whole};
 use crate::timeline::{Deferral, Moment};
 
 impl Layers {
-    /// Draws the line of a deferral from a point, this far to the left of the lane, with this look.
-    fn draw_deferral_line(
-        &mut self,
-        layout: &Layout,
-        ended: Option<Moment>,
-        from: Point,
-        beside: u64,
-        look: &str,
-    ) {
-        let (down, back) = match ended {
-            Some(ended) => (layout.y(ended.row), beside),
-            None => (layout.bottom(), 0),
-        };
-        self.shapes.write(
-            "<path class=\"$\" d=\"M$ $h-$V$h$\"/>",
-            &[
-                Text(look),
-                Number(from.x),
-                Number(from.y),
-                Number(beside),
-                Number(down),
-                Number(back),
-            ],
-        );
-    }
-
     /// Draws the line of a deferral, this far to the left of the lane, from where the REQUEST came to where the REPLY is sent, and says
     /// what it is. Beneath it is one that is not seen, so that a pointer hits it easily.
     fn draw_deferral(&mut self, layout: &Layout, deferral: &Deferral, beside: u64) {
@@ -50,8 +24,27 @@ impl Layers {
         self.end_title(deferral.ended);
         let came = deferral.came.row;
         let from = layout.at(request.to(), came);
-        self.draw_deferral_line(layout, deferral.ended, from, beside, "hit");
-        self.draw_deferral_line(layout, deferral.ended, from, beside, "deferral");
+        let (down, back) = match deferral.ended {
+            Some(ended) => (layout.y(ended.row), beside),
+            None => (layout.y(layout.end), 0),
+        };
+        self.shapes.write(
+            "<path class=\"$\" d=\"M$ $h-$V$h$\"/><path class=\"$\" d=\"M$ $h-$V$h$\"/>",
+            &[
+                Text("hit"),
+                Number(from.x),
+                Number(from.y),
+                Number(beside),
+                Number(down),
+                Number(back),
+                Text("deferral"),
+                Number(from.x),
+                Number(from.y),
+                Number(beside),
+                Number(down),
+                Number(back),
+            ],
+        );
         if came > 0 {
             self.shapes.write(
                 "<path class=\"deferred\" d=\"M$ $m-3 -3h6v6h-6z\"/>",

@@ -1,14 +1,13 @@
 //! The shapes of a picture, and their labels: the lanes, what is on each row, and what the other files of this folder draw.
-use crate::layout::Layout;
 use crate::layout::sizes::{
     BAND_HEIGHT, BAND_ROWS, CLIENTS_Y, COLUMN_WIDTH, LANES_TOP, NODES_Y, ROW_NUMBERS_X,
 };
+use crate::layout::{Layout, NodeLane};
 use crate::svg::svg_writer::PatternValue::{Node, Number, Short, Text, Whole};
 use crate::svg::svg_writer::SvgWriter;
 use crate::svg::wording::MODE_TEXTS;
-use crate::timeline::{ClientAct, LockKey, Moment, Timeline};
+use crate::timeline::{ClientAct, Moment, Timeline};
 use ra_stamp::{Memory, NodeId};
-use std::alloc::Global;
 
 /// The two layers of a picture: the shapes, and the labels, which are in front of them all.
 #[derive(Drop)]
@@ -18,33 +17,6 @@ pub struct Layers {
 }
 
 impl Layers {
-    /// Makes empty ones.
-    pub fn new(alloc: Global) -> Layers {
-        Layers {
-            shapes: SvgWriter::new(alloc),
-            labels: SvgWriter::new(alloc),
-        }
-    }
-
-    /// Begins a label, to the quotation mark of its class.
-    pub fn begin_text(&mut self, x: u64, y: u64) {
-        self.labels
-            .write("<text x=\"$\" y=\"$\" class=\"", &[Number(x), Number(y)]);
-    }
-
-    /// Begins a shape of a client: what it does, and the name.
-    pub fn begin_act(&mut self, key: &LockKey, what: &'static str) {
-        self.shapes.write(
-            "<g><title>client $ at node $ $ $",
-            &[
-                Number(u64::from(key.client)),
-                Node(key.node),
-                Text(what),
-                Whole(&key.name),
-            ],
-        );
-    }
-
     /// Ends the title of a shape with the line to which it goes, or says that it goes on.
     pub fn end_title(&mut self, last: Option<Moment>) {
         match last {
@@ -63,7 +35,7 @@ impl Layers {
                 Number(x),
                 Number(LANES_TOP),
                 Number(x),
-                Number(layout.bottom()),
+                Number(layout.y(layout.end)),
                 Text(class),
             ],
         );
@@ -72,27 +44,35 @@ impl Layers {
     /// Names a node this far down.
     fn name_node(&mut self, layout: &Layout, node: NodeId, y: u64) {
         let word = if layout.is_wide() { "node " } else { "" };
-        self.begin_text(layout.x(node), y);
-        self.labels
-            .write("node\">$$</text>\n", &[Text(word), Node(node)]);
+        self.labels.write(
+            "<text x=\"$\" y=\"$\" class=\"node\">$$</text>\n",
+            &[Number(layout.x(node)), Number(y), Text(word), Node(node)],
+        );
     }
 
     /// Draws the lane of a node, and names it, again and again in a long picture, and the clients of its columns that have short numbers.
-    fn draw_node(&mut self, layout: &Layout, node: NodeId) {
+    fn draw_node(&mut self, layout: &Layout, node: NodeId, lane: &NodeLane) {
         self.shapes.write("<g><title>node $</title>", &[Node(node)]);
-        self.draw_lane(layout, layout.x(node), "lane");
+        self.draw_lane(layout, lane.x, "lane");
         self.name_node(layout, node, NODES_Y);
         let mut place = 0;
-        for column in layout.columns(node) {
+        for column in &lane.columns {
             let client = u64::from(column.client);
             if client < 1000 {
                 let left = layout.column_x(node, place);
-                self.begin_text(left.saturating_add(COLUMN_WIDTH / 2), CLIENTS_Y);
-                self.labels.write("client\">c$</text>\n", &[Number(client)]);
+                self.labels.write(
+                    "<text x=\"$\" y=\"$\" class=\"client\">c$</text>\n",
+                    &[
+                        Number(left.saturating_add(COLUMN_WIDTH / 2)),
+                        Number(CLIENTS_Y),
+                        Number(client),
+                    ],
+                );
             }
             place = u32::saturating_add(place, 1);
         }
-        for band in 0..layout.bands() {
+        // Each time below the row that ends a band.
+        for band in 0..layout.end.saturating_sub(1) / BAND_ROWS {
             let row = u32::saturating_add(band, 1).saturating_mul(BAND_ROWS);
             self.name_node(layout, node, layout.y(row).saturating_add(BAND_HEIGHT));
         }
@@ -102,21 +82,25 @@ impl Layers {
     fn draw_act(&mut self, layout: &Layout, act: &ClientAct, row: u32) {
         let key = &act.key;
         let place = layout.at(key.node, row);
-        let class = match act.mode {
-            Some(mode) => {
-                self.begin_act(key, "asks for");
-                self.shapes.write(", $", &[Text(MODE_TEXTS[mode as usize])]);
-                "ask"
-            }
-            None => {
-                self.begin_act(key, "leaves");
-                "leave"
-            }
+        let (what, class, mode, space, word) = match act.mode {
+            Some(mode) => (
+                "asks for",
+                "ask",
+                MODE_TEXTS[mode as usize],
+                " ",
+                mode.word(),
+            ),
+            None => ("leaves", "leave", "", "", ""),
         };
         // First comes a larger dot that is not seen, so that a pointer hits it easily.
         self.shapes.write(
-            "</title><circle cx=\"$\" cy=\"$\" r=\"10\" class=\"touch\"/><circle cx=\"$\" cy=\"$\" r=\"4\" class=\"$\"/></g>\n",
+            "<g><title>client $ at node $ $ $$</title><circle cx=\"$\" cy=\"$\" r=\"10\" class=\"touch\"/><circle cx=\"$\" cy=\"$\" r=\"4\" class=\"$\"/></g>\n",
             &[
+                Number(u64::from(key.client)),
+                Node(key.node),
+                Text(what),
+                Whole(&key.name),
+                Text(mode),
                 Number(place.x),
                 Number(place.y),
                 Number(place.x),
@@ -124,21 +108,17 @@ impl Layers {
                 Text(class),
             ],
         );
-        self.begin_text(place.x.saturating_add(8), place.y.saturating_sub(4));
         self.labels.write(
-            "label to-right\">$s $",
-            &[Text(class), Short(&key.name, layout.cut)],
+            "<text x=\"$\" y=\"$\" class=\"label to-right\">$s $$$</text>\n",
+            &[
+                Number(place.x.saturating_add(8)),
+                Number(place.y.saturating_sub(4)),
+                Text(class),
+                Short(&key.name, layout.cut),
+                Text(space),
+                Text(word),
+            ],
         );
-        if let Some(mode) = act.mode {
-            self.labels.write(" $", &[Text(mode.word())]);
-        }
-        self.labels.put(b"</text>\n");
-    }
-
-    /// Begins the label to the left of a row.
-    fn begin_row(&mut self, layout: &Layout, row: u32) {
-        self.begin_text(ROW_NUMBERS_X, layout.y(row).saturating_add(4));
-        self.labels.put(b"row\">");
     }
 
     /// Draws the number of each row, and what a client does on it, and says where the rows of messages under way at the end begin.
@@ -146,32 +126,40 @@ impl Layers {
         let mut number = 0;
         for row in &timeline.rows {
             number = u32::saturating_add(number, 1);
-            self.begin_row(layout, number);
-            self.labels.write("$</text>\n", &[Number(row.line)]);
+            let y = layout.y(number).saturating_add(4);
+            self.labels.write(
+                "<text x=\"$\" y=\"$\" class=\"row\">$</text>\n",
+                &[Number(ROW_NUMBERS_X), Number(y), Number(row.line)],
+            );
             if let Some(act) = &row.act {
                 self.draw_act(layout, act, number);
             }
         }
         if timeline.paths.still_under_way > 0 {
-            let (row, _) = layout.under_way_row(0);
-            self.begin_row(layout, row);
-            self.labels.put(b"end</text>\n");
+            let y = layout.y(layout.under_way_row(0)).saturating_add(4);
+            self.labels.write(
+                "<text x=\"$\" y=\"$\" class=\"row\">end</text>\n",
+                &[Number(ROW_NUMBERS_X), Number(y)],
+            );
         }
     }
 
     /// Draws all that there is on the page: first the lanes, and after those of the nodes that from which copies come.
     pub fn draw(&mut self, layout: &Layout, timeline: &Timeline) {
-        for number in 0..layout.nodes {
-            if let Some(node) = NodeId::new(number + 1) {
-                self.draw_node(layout, node);
+        let mut number = 0;
+        for lane in &layout.lanes {
+            number = u16::saturating_add(number, 1);
+            if let Some(node) = NodeId::new(number) {
+                self.draw_node(layout, node, lane);
             }
         }
         if layout.has_copies {
-            let x = layout.copies_x();
             self.shapes.put(b"<g><title>copies</title>");
-            self.draw_lane(layout, x, "copies");
-            self.begin_text(x, NODES_Y);
-            self.labels.put(b"node\">copies</text>\n");
+            self.draw_lane(layout, layout.copies_x, "copies");
+            self.labels.write(
+                "<text x=\"$\" y=\"$\" class=\"node\">copies</text>\n",
+                &[Number(layout.copies_x), Number(NODES_Y)],
+            );
         }
         for bar in &layout.bars {
             self.draw_lock_bar(layout, bar);

@@ -2,9 +2,9 @@
 use crate::layout::sizes::{COLUMN_WIDTH, WIDE_LETTER};
 use crate::layout::{Layout, LockBar};
 use crate::svg::layers::Layers;
-use crate::svg::svg_writer::PatternValue::{Number, Short, Text};
+use crate::svg::svg_writer::PatternValue::{Node, Number, Short, Text, Whole};
 use crate::svg::wording::MODE_TEXTS;
-use crate::timeline::Moment;
+use crate::timeline::{LockKey, Moment};
 
 /// A phase of a bar: what the client does then, and how that looks.
 struct BarPhase {
@@ -37,6 +37,19 @@ const INSIDE: BarPhase = BarPhase {
 };
 
 impl Layers {
+    /// Begins the shape of a phase: what the client does, and the name.
+    fn begin_phase(&mut self, key: &LockKey, what: &'static str) {
+        self.shapes.write(
+            "<g><title>client $ at node $ $ $",
+            &[
+                Number(u64::from(key.client)),
+                Node(key.node),
+                Text(what),
+                Whole(&key.name),
+            ],
+        );
+    }
+
     /// Draws a phase that began, from one moment to another or to the end of the bar, if it has a row, and says what the client does.
     /// Beneath it is one as wide as its column that is not seen, so that a pointer hits it easily.
     fn draw_phase(
@@ -55,13 +68,14 @@ impl Layers {
             None => bar.end,
         };
         if first.row < end {
-            self.begin_act(&bar.span.key, phase.what);
+            let key = &bar.span.key;
+            self.begin_phase(key, phase.what);
             self.shapes.write(
-                ", $, from line $",
+                "$, from line $",
                 &[Text(MODE_TEXTS[bar.span.mode as usize]), Number(first.line)],
             );
             self.end_title(last);
-            let x = layout.column_x(bar.span.key.node, bar.column);
+            let x = layout.column_x(key.node, bar.column);
             let y = layout.y(first.row);
             let height = layout.y(end).saturating_sub(y);
             self.shapes.write(

@@ -1,13 +1,13 @@
 //! What shapes say in words.
 use ra_stamp::Message;
 
-/// Each mode in words, in the order of `Mode`.
+/// Each mode in words, after a comma, in the order of `Mode`.
 pub const MODE_TEXTS: [&str; 5] = [
-    "shared",
-    "exclusive",
-    "intent shared",
-    "intent exclusive",
-    "shared and intent exclusive",
+    ", shared",
+    ", exclusive",
+    ", intent shared",
+    ", intent exclusive",
+    ", shared and intent exclusive",
 ];
 
 /// Returns the kind of a message.

@@ -2,7 +2,6 @@
 use crate::timeline::Moment;
 use indexmap::IndexMap;
 use ra_stamp::{Memory, Message, Name, NodeId};
-use std::alloc::Global;
 
 /// A REPLY that a node owes to another, for a name.
 type OwedReply = (NodeId, NodeId, Name);
@@ -19,18 +18,10 @@ pub struct Deferral {
 #[derive(Drop)]
 pub struct DeferralSpans {
     pub all: Vec<Deferral>,
-    open: IndexMap<OwedReply, usize>,
+    pub open: IndexMap<OwedReply, usize>,
 }
 
 impl DeferralSpans {
-    /// Makes those of a run in which nothing has happened yet.
-    pub fn new(alloc: Global) -> DeferralSpans {
-        DeferralSpans {
-            all: Vec::new(alloc),
-            open: IndexMap::new(alloc),
-        }
-    }
-
     /// Notes that a REQUEST is deferred. An earlier one of the same node for the same name ends with it, since one REPLY answers both.
     pub fn begin(&mut self, request: &Message, came: Moment) -> Result<(), Memory> {
         let owed = (request.to(), request.from(), request.name());

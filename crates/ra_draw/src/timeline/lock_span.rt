@@ -2,7 +2,6 @@
 use crate::timeline::Moment;
 use indexmap::IndexMap;
 use ra_stamp::{Mark, Memory, Mode, Name, NodeId};
-use std::alloc::Global;
 
 /// A client at a node, and a name that it asks for.
 #[derive(Clone, Copy)]
@@ -28,18 +27,10 @@ pub struct LockSpan {
 #[derive(Drop)]
 pub struct LockSpans {
     pub all: Vec<LockSpan>,
-    open: IndexMap<(NodeId, u32, Name), usize>,
+    pub open: IndexMap<(NodeId, u32, Name), usize>,
 }
 
 impl LockSpans {
-    /// Makes those of a run in which nothing has happened yet.
-    pub fn new(alloc: Global) -> LockSpans {
-        LockSpans {
-            all: Vec::new(alloc),
-            open: IndexMap::new(alloc),
-        }
-    }
-
     /// Notes that a client asks.
     pub fn ask(&mut self, key: &LockKey, mode: Mode, asked: Moment) -> Result<(), Memory> {
         let open = (key.node, key.client, key.name);

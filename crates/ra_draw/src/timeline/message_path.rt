@@ -28,7 +28,7 @@ pub struct MessagePath {
 
 /// Equal messages: when each came under way and whether as a copy, the first one first, and how many were taken since.
 #[derive(Drop)]
-struct EqualMessages {
+pub struct EqualMessages {
     starts: Vec<(Moment, bool)>,
     taken: usize,
 }
@@ -36,22 +36,13 @@ struct EqualMessages {
 /// The messages under way, and the paths of messages that are drawn so far.
 #[derive(Drop)]
 pub struct MessagePaths {
-    under_way: IndexMap<Message, EqualMessages>,
+    pub under_way: IndexMap<Message, EqualMessages>,
     pub drawn: Vec<MessagePath>,
     /// How many different messages are drawn as under way at the end.
     pub still_under_way: u32,
 }
 
 impl MessagePaths {
-    /// Makes those of a run in which nothing has happened yet.
-    pub fn new(alloc: Global) -> MessagePaths {
-        MessagePaths {
-            under_way: IndexMap::new(alloc),
-            drawn: Vec::new(alloc),
-            still_under_way: 0,
-        }
-    }
-
     /// Notes that a message came under way: it was sent, or it is a copy.
     pub fn begin(
         &mut self,
@@ -73,26 +64,19 @@ impl MessagePaths {
         Ok(())
     }
 
-    /// Takes the first of these messages, and returns when it came under way, and whether it is a copy.
-    fn take(&mut self, message: &Message) -> Option<(Moment, bool)> {
+    /// Notes that a message was delivered or lost, the first of equal ones. It is drawn unless that is before the part.
+    pub fn end(&mut self, message: &Message, end: Moment, is_lost: bool) -> Result<(), Memory> {
         let Some(equals) = self.under_way.get_mut(message) else {
-            return None;
+            return Ok(());
         };
-        let Some(&start) = equals.starts.get(equals.taken) else {
-            return None;
+        let Some(&(start, copied)) = equals.starts.get(equals.taken) else {
+            return Ok(());
         };
         equals.taken = equals.taken.saturating_add(1);
         if equals.taken == equals.starts.len() {
             self.under_way.swap_remove(message);
         }
-        Some(start)
-    }
-
-    /// Notes that a message was delivered or lost. It is drawn unless that is before the part.
-    pub fn end(&mut self, message: &Message, end: Moment, is_lost: bool) -> Result<(), Memory> {
-        if let Some((start, copied)) = self.take(message)
-            && end.row > 0
-        {
+        if end.row > 0 {
             self.drawn.push(MessagePath {
                 message: *message,
                 start,
@@ -111,34 +95,27 @@ impl MessagePaths {
     /// Notes that those under way, which came so in the part, are drawn.
     pub fn close(&mut self) -> Result<(), Memory> {
         for (message, equals) in self.under_way.iter() {
-            if push_under_way(&mut self.drawn, message, equals, self.still_under_way)? {
+            let mut is_first = true;
+            for at in equals.taken..equals.starts.len() {
+                let (start, copied) = equals.starts[at];
+                if start.row > 0 {
+                    self.drawn.push(MessagePath {
+                        message: *message,
+                        start,
+                        copied,
+                        end: MessageEnd::UnderWay {
+                            place: self.still_under_way,
+                            is_first,
+                        },
+                        is_deferred: false,
+                    })?;
+                    is_first = false;
+                }
+            }
+            if !is_first {
                 self.still_under_way = self.still_under_way.saturating_add(1);
             }
         }
         Ok(())
     }
-}
-
-/// Adds equal messages that are still under way, and returns whether any is drawn.
-fn push_under_way(
-    drawn: &mut Vec<MessagePath>,
-    message: &Message,
-    equals: &EqualMessages,
-    place: u32,
-) -> Result<bool, Memory> {
-    let mut is_first = true;
-    for at in equals.taken..equals.starts.len() {
-        let (start, copied) = equals.starts[at];
-        if start.row > 0 {
-            drawn.push(MessagePath {
-                message: *message,
-                start,
-                copied,
-                end: MessageEnd::UnderWay { place, is_first },
-                is_deferred: false,
-            })?;
-            is_first = false;
-        }
-    }
-    Ok(!is_first)
 }
