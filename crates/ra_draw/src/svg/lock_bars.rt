@@ -6,36 +6,6 @@ use crate::svg::svg_writer::PatternValue::{Node, Number, Short, Text, Whole};
 use crate::svg::wording::MODE_TEXTS;
 use crate::timeline::{LockKey, Moment};
 
-/// A phase of a bar: what the client does then, and how that looks.
-struct BarPhase {
-    what: &'static str,
-    look: &'static str,
-    /// How far to the right it is in its column.
-    inset: u64,
-    width: u64,
-}
-
-const QUEUED: BarPhase = BarPhase {
-    what: "is queued for",
-    look: "queued",
-    inset: 10,
-    width: 4,
-};
-
-const WAITING: BarPhase = BarPhase {
-    what: "waits for",
-    look: "waiting",
-    inset: 7,
-    width: 10,
-};
-
-const INSIDE: BarPhase = BarPhase {
-    what: "holds",
-    look: "inside",
-    inset: 3,
-    width: 18,
-};
-
 impl Layers {
     /// Begins the shape of a phase: what the client does, and the name.
     fn begin_phase(&mut self, key: &LockKey, what: &'static str) {
@@ -50,13 +20,16 @@ impl Layers {
         );
     }
 
-    /// Draws a phase that began, from one moment to another or to the end of the bar, if it has a row, and says what the client does.
-    /// Beneath it is one as wide as its column that is not seen, so that a pointer hits it easily.
+    /// Draws a phase that began, from one moment to another or to the end of the bar, if it has a row, and says what the client does. It has
+    /// this look, and begins so far to the right in its column. Beneath it is one as wide as the column that is not seen, so that a pointer
+    /// hits it easily.
     fn draw_phase(
         &mut self,
         layout: &Layout,
         bar: &LockBar,
-        phase: &BarPhase,
+        what: &'static str,
+        look: &'static str,
+        inset: u64,
         first: Option<Moment>,
         last: Option<Moment>,
     ) {
@@ -69,7 +42,7 @@ impl Layers {
         };
         if first.row < end {
             let key = &bar.span.key;
-            self.begin_phase(key, phase.what);
+            self.begin_phase(key, what);
             self.shapes.write(
                 "$, from line $",
                 &[Text(MODE_TEXTS[bar.span.mode as usize]), Number(first.line)],
@@ -85,11 +58,11 @@ impl Layers {
                     Number(y),
                     Number(COLUMN_WIDTH),
                     Number(height),
-                    Number(x.saturating_add(phase.inset)),
+                    Number(x.saturating_add(inset)),
                     Number(y),
-                    Number(phase.width),
+                    Number(COLUMN_WIDTH.saturating_sub(inset.saturating_mul(2))),
                     Number(height),
-                    Text(phase.look),
+                    Text(look),
                     Text(bar.span.mode.word()),
                 ],
             );
@@ -123,9 +96,10 @@ impl Layers {
     /// Draws the bar of a lock, phase by phase, and names it.
     pub fn draw_lock_bar(&mut self, layout: &Layout, bar: &LockBar) {
         let span = &bar.span;
-        self.draw_phase(layout, bar, &QUEUED, Some(span.asked), span.requested);
-        self.draw_phase(layout, bar, &WAITING, span.requested, span.entered);
-        self.draw_phase(layout, bar, &INSIDE, span.entered, span.left);
+        let (asked, requested, entered) = (Some(span.asked), span.requested, span.entered);
+        self.draw_phase(layout, bar, "is queued for", "queued", 10, asked, requested);
+        self.draw_phase(layout, bar, "waits for", "waiting", 7, requested, entered);
+        self.draw_phase(layout, bar, "holds", "inside", 3, entered, span.left);
         self.name_lock_bar(layout, bar);
     }
 }

@@ -44,27 +44,28 @@ impl Layers {
     }
 
     /// Labels a message beside the lane of the node to which it goes, on the side from which it does not come, if there is room on this
-    /// page. The label ends with this pattern.
-    fn label_head(
-        &mut self,
-        layout: &Layout,
-        message: &Message,
-        from: Point,
-        head: Point,
-        ending: &'static str,
-        values: &[PatternValue],
-    ) {
-        if layout.is_wide() {
-            let y = head.y.saturating_add(3);
-            let (x, side) = if from.x < head.x {
-                (head.x.saturating_add(8), "to-right")
-            } else {
-                let gutter = layout.gutter(message.to());
-                (head.x.saturating_sub(gutter.saturating_add(4)), "to-left")
-            };
-            let name = message.name();
-            self.label_message(layout, message, &name, x, y, side, ending, values);
-        }
+    /// page. Of equal messages that are under way the first one has a label, if it has a row of its own.
+    fn label_head(&mut self, layout: &Layout, path: &MessagePath, from: Point, head: Point) {
+        let message = &path.message;
+        let ending = match path.end {
+            _ if !layout.is_wide() => return,
+            MessageEnd::Delivered(_) if path.is_deferred => " deferred</text>\n",
+            MessageEnd::Delivered(_) => "</text>\n",
+            MessageEnd::Lost(_) => " lost</text>\n",
+            MessageEnd::UnderWay { place, is_first } if is_first && place < UNDER_WAY_ROWS => {
+                " to node $</text>\n"
+            }
+            MessageEnd::UnderWay { .. } => return,
+        };
+        let y = head.y.saturating_add(3);
+        let (x, side) = if from.x < head.x {
+            (head.x.saturating_add(8), "to-right")
+        } else {
+            let gutter = layout.gutter(message.to());
+            (head.x.saturating_sub(gutter.saturating_add(4)), "to-left")
+        };
+        let (name, node) = (message.name(), [Node(message.to())]);
+        self.label_message(layout, message, &name, x, y, side, ending, &node);
     }
 
     /// Begins the shape of a message: which one it is, and when it came under way.
@@ -112,23 +113,19 @@ impl Layers {
         }
     }
 
-    /// Ends the title of a message, and draws its line, and beneath it a wide one that is not seen, so that a pointer hits it easily. One that is not
-    /// delivered ends before the lane, on the side from which it comes, with a cross if it is lost.
-    fn draw_line(
-        &mut self,
-        layout: &Layout,
-        path: &MessagePath,
-        from: Point,
-        to: Point,
-        look: &'static str,
-    ) {
-        let x = match path.end {
-            MessageEnd::Delivered(_) => to.x,
-            _ if from.x < to.x => {
-                let gutter = layout.gutter(path.message.to());
-                to.x.saturating_sub(gutter.saturating_add(10))
-            }
-            _ => to.x.saturating_add(14),
+    /// Ends the title of a message, and draws its line, and beneath it a wide one that is not seen, so that a pointer hits it easily. One
+    /// that is not delivered ends before the lane, on the side from which it comes, with a cross if it is lost.
+    fn draw_line(&mut self, layout: &Layout, path: &MessagePath, from: Point, to: Point) {
+        let before = if from.x < to.x {
+            let gutter = layout.gutter(path.message.to());
+            to.x.saturating_sub(gutter.saturating_add(10))
+        } else {
+            to.x.saturating_add(14)
+        };
+        let (x, look) = match path.end {
+            MessageEnd::Delivered(_) => (to.x, "arrow"),
+            MessageEnd::Lost(_) => (before, "lost"),
+            MessageEnd::UnderWay { .. } => (before, "under-way"),
         };
         self.shapes.write(
             "</title><line x1=\"$\" y1=\"$\" x2=\"$\" y2=\"$\" class=\"hit\"/><line x1=\"$\" y1=\"$\" x2=\"$\" y2=\"$\" class=\"$ $\"/>",
@@ -156,45 +153,33 @@ impl Layers {
 
     /// Draws a message, from where it came under way to what became of it.
     pub fn draw_path(&mut self, layout: &Layout, path: &MessagePath) {
-        let message = &path.message;
-        let mut from = layout.at(message.from(), path.start.row);
+        let mut from = layout.at(path.message.from(), path.start.row);
         if path.copied {
             from.x = layout.copies_x;
         }
         self.begin_message(path);
-        // The row in which it ends, how its line looks, and with what its label ends.
-        let (row, look, ending) = match path.end {
+        let row = match path.end {
             MessageEnd::Delivered(end) => {
-                self.shapes
-                    .write(", delivered at line $", &[Number(end.line)]);
-                if path.is_deferred {
-                    self.shapes.put(b", deferred");
-                    (end.row, "arrow", " deferred</text>\n")
+                let said = if path.is_deferred {
+                    ", delivered at line $, deferred"
                 } else {
-                    (end.row, "arrow", "</text>\n")
-                }
+                    ", delivered at line $"
+                };
+                self.shapes.write(said, &[Number(end.line)]);
+                end.row
             }
             MessageEnd::Lost(end) => {
                 self.shapes.write(", lost at line $", &[Number(end.line)]);
-                (end.row, "lost", " lost</text>\n")
+                end.row
             }
             MessageEnd::UnderWay { place, .. } => {
                 self.shapes.put(b", still under way");
-                let row = layout.under_way_row(place);
-                (row, "under-way", " to node $</text>\n")
+                layout.under_way_row(place)
             }
         };
-        let to = layout.at(message.to(), row);
-        self.draw_line(layout, path, from, to, look);
-        match path.end {
-            // Of equal messages that are under way the first one has a label, if it has a row of its own.
-            MessageEnd::UnderWay { place, is_first } => {
-                if is_first && place < UNDER_WAY_ROWS {
-                    self.label_head(layout, message, from, to, ending, &[Node(message.to())]);
-                }
-            }
-            _ => self.label_head(layout, message, from, to, ending, &[]),
-        }
+        let to = layout.at(path.message.to(), row);
+        self.draw_line(layout, path, from, to);
+        self.label_head(layout, path, from, to);
         if path.copied && path.start.row > 0 {
             self.draw_copy(layout, path, from);
         }

@@ -63,14 +63,16 @@ impl SvgWriter {
         }
     }
 
-    /// Adds a pattern, in which these values take the places of `$`.
+    /// Adds a pattern, in which these values take the places of `$`. One that has no place is left out.
     pub fn write(&mut self, pattern: &str, values: &[PatternValue]) {
         let mut rest = pattern.as_bytes();
         for value in values {
-            let (before, after) = cut(rest, b'$');
+            let (before, Some(after)) = cut(rest, b'$') else {
+                break;
+            };
             self.put(before);
             self.put_value(value);
-            rest = after.unwrap_or(b"");
+            rest = after;
         }
         self.put(rest);
     }
