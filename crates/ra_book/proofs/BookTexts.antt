@@ -4,17 +4,16 @@ use Rattle.std.proofs.lemmas.List.{flat_map_more, length_push}
 use Rattle.std.proofs.lemmas.List.Elements.{All-nil, All-push}
 use Rattle.ra_history.specs.Book.{BookState}
 use Rattle.ra_book.specs.Book.{lines_text}
+use Rattle.ra_book.specs.BookText.{IsFirst}
 use Rattle.ra_book.specs.Input.{HasNoFeed}
-use Rattle.ra_book.specs.declared.text_settling.settle_error.SettleTextError.{SettleTextError}
-use Rattle.ra_book.specs.declared.text_settling.settle_error.SettleTextError.TheVariants as fault
 use Rattle.ra_book.specs.declared.text_settling.settle_error.TextCause.{TextCause}
 use Rattle.ra_book.specs.declared.text_settling.settle_error.TextCause.TheVariants as cause
 use Rattle.ra_book.specs.declared.text_settling.gathering.Gathered.{Gathered}
 use Rattle.ra_book.specs.declared.text_settling.gathering.LineFault.{LineFault}
 use Rattle.ra_book.specs.declared.text_settling.gathering.LineFault.TheVariants as line_fault
 use Rattle.ra_book.specs.Texts.{Begins, IsRead}
-use Rattle.ra_book.specs.Gathering.{HasGathered, IsGathered, IsNoBeginning, TakesEvent, TakesFirst, TakesLine, books_of}
-use Rattle.ra_book.specs.Verdicts.{IsNoLine, IsUnsettled, IsWrong, IsWrongAt}
+use Rattle.ra_book.specs.Gathering.{HasGathered, IsGathered, TakesEvent, TakesFirst, TakesLine, books_of}
+use Rattle.ra_book.specs.Verdicts.{IsNoLine, IsWrong, IsWrongAt}
 use Rattle.ra_book.proofs.Lines.{happened, opened}
 
 -- nothing was read yet
@@ -87,18 +86,17 @@ line_wrong text rest line behind turn number why old new h is free number_is wro
 })
 
 -- the first line is none of a book
-pub no_beginning : (text line rest : List ℕ) (fault : SettleTextError) → Begins text (line ∷ []) rest → IsNoBeginning line fault → IsUnsettled true text fault
-no_beginning text line rest fault.Memory begins h = tt
-no_beginning text line rest (fault.Invalid number why) begins h = subst (IsWrong true text number) (sym h.1) (inr (record {
+pub no_beginning : (text line rest : List ℕ) → Begins text (line ∷ []) rest → ((node nodes start : ℕ) → IsFirst line node nodes start → ⊥) → IsWrong true text 1 cause.Line
+no_beginning text line rest begins not_first = inr (record {
   before = [];
   line = line;
   rest = rest;
   begins = begins;
-  number_is = h.0;
+  number_is = refl;
   books = [];
   right = record { lines_are = tt; each = All-nil IsRead; beside = λ i j d low within. absurd (omega (arith, within)) };
-  wrong = (h.2, inl refl);
-}))
+  wrong = (not_first, inl refl);
+})
 
 -- ---- What is said of a line
 

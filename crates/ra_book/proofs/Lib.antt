@@ -3,6 +3,7 @@ pub mod Put
 pub mod Sends
 pub mod Taking
 pub mod Pieces
+pub mod Faults
 pub mod Served
 pub mod Told
 pub mod WrittenLines

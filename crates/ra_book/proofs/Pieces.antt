@@ -1,6 +1,8 @@
 -- What is shown of a line, and what is kept of it.
 use Rattle.std.proofs.Common.{◌≡◌, ◌≢◌, ℕ, ◌+◌, ◌<◌, ◌≤◌, ◌^◌, Bool, true, false, List, [], ◌∷◌, ◌++◌, length, take, refl, sym, ap, subst, ◌∙◌, append_assoc, length-append, arith, Option, Result, Ok, Err}
 use Rattle.std.proofs.Math.Seq.{take-append_seam}
+use Rattle.std.proofs.lemmas.Bool.{false≢true}
+use Rattle.std.specs.Result.{is_err, is_ok}
 use Rattle.std.proofs.lemmas.List.{append-nil}
 use Rattle.std.proofs.lemmas.List.Elements.{All-nil, All-append}
 use Rattle.std.specs.Io.KnownBytes.{Consumes}
@@ -15,6 +17,13 @@ use Rattle.ra_book.specs.Input.{HasNoFeed, IsKeptLine, IsPiece, Keeps, TakesShow
 -- more bytes than there is room for
 pub too_many : (text bytes more : List ℕ) → IsKeptLine text bytes false → 256 < length bytes + length more → IsKeptLine (text ++ more) bytes true
 too_many text bytes more kept many = omega (arith, many, ap length kept, length-append text more)
+
+-- there is no room for more bytes
+pub no_room : {E : Type 0} (r : Result (Unit {0}) E) (used more : ℕ) → is_err r ≡ true → (used + more ≤ 256 → is_ok r ≡ true) → 256 < used + more
+no_room (Ok done) used more err fits = absurd (false≢true err)
+no_room (Err fault) used more err fits =
+    let past : used + more ≤ 256 → ⊥ = λ within. false≢true (fits within) in
+    omega (arith, past)
 
 pub longer : (text bytes more : List ℕ) → IsKeptLine text bytes true → IsKeptLine (text ++ more) bytes true
 longer text bytes more long = omega (arith, long, length-append text more)

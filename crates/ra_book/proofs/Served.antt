@@ -9,13 +9,14 @@ use Rattle.std.proofs.KnownBytes.{Consumes-nil, Consumes-trans}
 use Rattle.ra_book.specs.declared.error.BookFault.{BookFault}
 use Rattle.ra_book.specs.declared.error.BookFault.TheVariants.{Line, Read, Write}
 use Rattle.ra_book.specs.declared.answering.line_refusal.Refusal.TheVariants as refusal
-use Rattle.ra_book.specs.Timed.{Timed}
+use Rattle.ra_book.specs.Timed.{Timed, opening}
 use Rattle.ra_book.specs.Answers.{Answers, AnswersAll, refused_line}
 use Rattle.ra_book.specs.declared.next_line.kept_line.KeptLine.{KeptLine}
 use Rattle.ra_book.specs.Input.{HasNoFeed, TakesOpen, TakesMost, HasEnded}
 use Rattle.ra_book.specs.NextLine.{ReadsLine}
 use Rattle.ra_book.specs.Book.{HasRead, IsAnswered, IsOwed, IsWritten, lines_text}
-use Rattle.ra_book.specs.Serving.{IsOpenedBy, OpensBy, Opens, AnswersSome, Serves}
+use Rattle.ra_book.specs.declared.next_line.first_line.FirstLine.{FirstLine}
+use Rattle.ra_book.specs.Serving.{OpensBy, Opens, AnswersSome, SaysFirst, Serves}
 
 -- nothing was read
 pub nothing : (old : Option (List ℕ)) → HasRead old old [] []
@@ -68,25 +69,26 @@ answers_more a b c (first ∷ lines) line text more h answer =
     (h.0, h.1, h.2 ++ more, h.3, (ap (λ (t : List ℕ). t ++ more) h.4 ∙ append_assoc h.1 h.2 more), answers_more h.0 b c lines line h.2 more h.5 answer)
 
 -- a book whose first line was read, and then these lines
-answered : (old mid new : Option (List ℕ)) (made after : Timed) (text : List ℕ) (line : List ℕ) → HasRead old mid (line ∷ []) [] → IsOpenedBy line made
-    → AnswersSome mid new made text after → IsAnswered old new (codes "ok\n" ++ text)
-answered old mid new made after text line read opened some = (
+answered : (old mid new : Option (List ℕ)) (first : FirstLine) (made after : Timed) (text : List ℕ) (line : List ℕ) → HasRead old mid (line ∷ []) [] → SaysFirst line first
+    → made ≡ opening first.member.node first.member.nodes first.start → AnswersSome mid new made text after → IsAnswered old new (codes "ok\n" ++ text)
+answered old mid new first made after text line read opened is some = (
   line ∷ some.0,
   some.1,
   read_on old mid new line some.0 some.1 read some.2,
-  (opened.0, opened.1, opened.2, after, text, opened.3, refl, subst (λ (at : Timed). AnswersAll at some.0 text after) opened.4 some.3),
+  (first.member.node, first.member.nodes, first.start, after, text, opened, refl, subst (λ (at : Timed). AnswersAll at some.0 text after) is some.3),
 )
 
-pub served : (old mid new : Option (List ℕ)) (made after : Timed) (ok text : List ℕ) (result : Result (Unit {0}) BookFault) → Opens old mid ok (Ok made)
-    → Serves mid new made text after result → IsOwed old new (ok ++ text) result
-served old mid new made after ok text (Ok done) opens serves =
+pub served : (old mid new : Option (List ℕ)) (first : FirstLine) (made after : Timed) (ok text : List ℕ) (result : Result (Unit {0}) BookFault)
+    → Opens old mid ok (Ok first) → made ≡ opening first.member.node first.member.nodes first.start → Serves mid new made text after result
+    → IsOwed old new (ok ++ text) result
+served old mid new first made after ok text (Ok done) opens made_is serves =
     let is : ok ≡ codes "ok\n" = opens.3 in
-    rw is (answered old mid new made after text opens.0 opens.1 opens.2 serves.0, (λ none. cc), serves.1)
-served old mid new made after ok text (Err Line) opens serves = absurd serves
-served old mid new made after ok text (Err Read) opens serves =
-    let is : ok ≡ codes "ok\n" = opens.3 in rw is (answered old mid new made after text opens.0 opens.1 opens.2 serves)
-served old mid new made after ok text (Err Write) opens serves =
-    let is : ok ≡ codes "ok\n" = opens.3 in rw is (inl (answered old mid new made after text opens.0 opens.1 opens.2 serves))
+    rw is (answered old mid new first made after text opens.0 opens.1 opens.2 made_is serves.0, (λ none. cc), serves.1)
+served old mid new first made after ok text (Err Line) opens made_is serves = absurd serves
+served old mid new first made after ok text (Err Read) opens made_is serves =
+    let is : ok ≡ codes "ok\n" = opens.3 in rw is (answered old mid new first made after text opens.0 opens.1 opens.2 made_is serves)
+served old mid new first made after ok text (Err Write) opens made_is serves =
+    let is : ok ≡ codes "ok\n" = opens.3 in rw is (inl (answered old mid new first made after text opens.0 opens.1 opens.2 made_is serves))
 
 -- a book that did not open
 pub unopened : (old new : Option (List ℕ)) (text : List ℕ) (fault : BookFault) → Opens old new text (Err fault) → IsOwed old new text (Err fault)
@@ -103,9 +105,9 @@ unwritten old new text (Err Write) owed = owed
 
 -- ---- The first line
 
-pub opens_by : (old new : Option (List ℕ)) (line text : List ℕ) (result : Result Timed BookFault) → Consumes old new (line ++ 10 ∷ []) → HasNoFeed line
+pub opens_by : (old new : Option (List ℕ)) (line text : List ℕ) (result : Result FirstLine BookFault) → Consumes old new (line ++ 10 ∷ []) → HasNoFeed line
     → OpensBy line text result → Opens old new text result
-opens_by old new line text (Ok made) took free opens = (line, line_more old old new [] line (nothing old) took free, opens.0, opens.1)
+opens_by old new line text (Ok first) took free opens = (line, line_more old old new [] line (nothing old) took free, opens.0, opens.1)
 opens_by old new line text (Err Line) took free opens = (inl (line, line_more old old new [] line (nothing old) took free, opens.0), opens.1)
 opens_by old new line text (Err Read) took free opens = absurd opens
 opens_by old new line text (Err Write) took free opens = absurd opens
@@ -180,9 +182,9 @@ pub ended_after : (old mid new : Option (List ℕ)) (a b : Timed) (text : List �
     → HasEnded mid new failed → HasEnded old new failed
 ended_after old mid new a b text turns failed (lines, read, answers, many) = ended_more old mid new (lines_text lines ++ []) failed read.taken
 
-pub ended_behind : (old mid new : Option (List ℕ)) (made : Timed) (ok : List ℕ) (failed : Bool) → Opens old mid ok (Ok made) → HasEnded mid new failed
+pub ended_behind : (old mid new : Option (List ℕ)) (first : FirstLine) (ok : List ℕ) (failed : Bool) → Opens old mid ok (Ok first) → HasEnded mid new failed
     → HasEnded old new failed
-ended_behind old mid new made ok failed (line, read, opened, said) = ended_more old mid new (lines_text (line ∷ []) ++ []) failed read.taken
+ended_behind old mid new first ok failed (line, read, opened, said) = ended_more old mid new (lines_text (line ∷ []) ++ []) failed read.taken
 
 -- ---- What was written in the end
 

@@ -20,6 +20,8 @@ use Rattle.ra_frame.specs.FrameText.{IsWrittenText}
 use Rattle.ra_frame.specs.declared.format.Format.TheVariants.{V2}
 use Rattle.ra_frame.specs.declared.frame.Frame.{Frame}
 use Rattle.ra_stamp.specs.Mode.{mode_word}
+use Rattle.ra_world.specs.declared.text.draft.Draft.{Draft}
+use Rattle.ra_world.specs.Drafting.{Says}
 use Rattle.ra_world.specs.Lines.{field}
 use Rattle.ra_trace.specs.TraceText.{IsClientNumber}
 use Rattle.ra_trace.proofs.Cuts.{IsFree}
@@ -32,7 +34,7 @@ use Rattle.ra_book.specs.Book.{lines_text}
 use Rattle.ra_book.specs.BookText.{IsFirst, first_text, form_text}
 use Rattle.ra_book.specs.BookText.Form.{Ask, Release, Receive}
 use Rattle.ra_book.specs.Input.{HasNoFeed}
-use Rattle.ra_book.specs.Written.{AddsEvent, AddsEvents, AddsLines, IsWrittenBook, IsWrittenEvent}
+use Rattle.ra_book.specs.Written.{AddsEvent, AddsLines, IsWrittenBook, IsWrittenEvent, SaysEvents}
 
 -- ---- No line feed
 
@@ -197,26 +199,26 @@ text_push : (lines : List (List ℕ)) (line : List ℕ) → lines_text (lines ++
 text_push [] line = append-nil (line ++ 10 ∷ [])
 text_push (l ∷ ls) line = ap (λ (t : List ℕ). (l ++ 10 ∷ []) ++ t) (text_push ls line) ∙ sym (append_assoc (l ++ 10 ∷ []) (lines_text ls) (line ++ 10 ∷ []))
 
-pub none_yet : (old : List ℕ) → AddsEvents old old []
-none_yet old = ([], tt, sym (append-nil old))
+pub none_yet : (draft : Draft) (first : List ℕ) → Says draft first → SaysEvents draft first []
+none_yet draft first says = ([], tt, λ kept. says kept ∙ sym (append-nil first))
 
-pub one_more : (old at new : List ℕ) (events : List BookEvent) (event : BookEvent) → AddsEvents old at events → AddsEvent at new event.kind
-    → AddsEvents old new (events ++ event ∷ [])
-one_more old at new events event (lines, are, is) (line, one, then) = (
+pub one_more : (old new : Draft) (first : List ℕ) (events : List BookEvent) (event : BookEvent) → SaysEvents old first events → AddsEvent old new event.kind
+    → SaysEvents new first (events ++ event ∷ [])
+one_more old new first events event (lines, are, says) (line, one, adds) = (
   lines ++ line ∷ [],
   subst (AllZip IsWrittenEvent (lines ++ line ∷ [])) (sym (map-append (λ (e : BookEvent). e.kind) events (event ∷ [])))
       (zip_push lines (map (λ (e : BookEvent). e.kind) events) line event.kind are one),
-  then ∙ (ap (λ (t : List ℕ). t ++ (line ++ 10 ∷ [])) is ∙ (append_assoc old (lines_text lines) (line ++ 10 ∷ []) ∙ ap (λ (t : List ℕ). old ++ t) (sym (text_push lines line)))),
+  λ kept. adds.says (first ++ lines_text lines) says kept
+      ∙ (append_assoc first (lines_text lines) (line ++ 10 ∷ []) ∙ ap (λ (t : List ℕ). first ++ t) (sym (text_push lines line))),
 )
 
 -- the first line, and the lines of the events
-pub whole_book : (book : BookState) → HasHistory book → (old at new : List ℕ) (node nodes start : ℕ) → node ≡ book.me → nodes ≡ book.nodes → start ≡ book.start
-    → start < 2 ^ 64 → at ≡ old ++ (first_text node nodes start ++ codes "\n") → AddsEvents at new book.events
-    → (lines : List (List ℕ)) × IsWrittenBook lines book × AddsLines old new lines
-whole_book book kept old at new node nodes start me_is nodes_is start_is begins first (lines, are, is) =
-    let line = first_text book.me book.nodes book.start in
-    let below : book.start < 2 ^ 64 = subst (λ (n : ℕ). n < 2 ^ 64) start_is begins in
-    let begun : at ≡ old ++ (line ++ codes "\n") = rw (sym me_is, sym nodes_is, sym start_is) first in (
+pub whole_book : (book : BookState) (text : List ℕ) (lines : List (List ℕ)) → HasHistory book → book.start < 2 ^ 64
+    → AllZip IsWrittenEvent lines (map (λ (e : BookEvent). e.kind) book.events)
+    → text ≡ (first_text book.me book.nodes book.start ++ codes "\n") ++ lines_text lines
+    → (lines : List (List ℕ)) × IsWrittenBook lines book × AddsLines [] text lines
+whole_book book text lines kept below are is =
+    let line = first_text book.me book.nodes book.start in (
       line ∷ lines,
       record {
         first = line;
@@ -226,5 +228,5 @@ whole_book book kept old at new node nodes start me_is nodes_is start_is begins 
         no_feed = first_free book.me book.nodes book.start kept.count kept.member below;
         are_events = are;
       },
-      is ∙ (ap (λ (t : List ℕ). t ++ lines_text lines) begun ∙ append_assoc old (line ++ codes "\n") (lines_text lines)),
+      is,
     )

@@ -83,16 +83,6 @@ TakesFirst old line new (Err line_fault.Memory) = Unit {0}
 
 -- ---- What is read of a text
 
--- this first line was read, and this was gathered
-abbrev pub HasBegun : List ℕ → Gathered → Type 0
-HasBegun line g = IsGathered (line ∷ []) g
-
--- it is no first line, and that is said
-abbrev pub IsNoBeginning : List ℕ → SettleTextError → Type 0
-IsNoBeginning line (fault.Invalid number why) =
-    (number ≡ 1) × (why ≡ cause.Line) × ((node nodes start : ℕ) → IsFirst line node nodes start → ⊥)
-IsNoBeginning line fault.Memory = Unit {0}
-
 -- all lines of the text were read and this was gathered, and the line after them would have this number
 pub record HasGathered (text : List ℕ) (g : Gathered) (next : ℕ) : Type 0 where
   pub lines : List (List ℕ)

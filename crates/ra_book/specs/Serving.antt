@@ -5,24 +5,25 @@ use Rattle.ra_book.specs.declared.error.BookFault.{BookFault}
 use Rattle.ra_book.specs.declared.error.BookFault.TheVariants.{Line, Read, Write}
 use Rattle.ra_book.specs.declared.answering.line_refusal.Refusal.TheVariants as refusal
 use Rattle.ra_book.specs.BookText.{IsFirst}
-use Rattle.ra_book.specs.Timed.{Timed, opening}
+use Rattle.ra_book.specs.Timed.{Timed}
+use Rattle.ra_book.specs.declared.next_line.first_line.FirstLine.{FirstLine}
 use Rattle.ra_book.specs.Answers.{AnswersAll, refused_line}
 use Rattle.ra_book.specs.Book.{HasRead, IsNoBook}
 
--- the node is that of a book with this first line
-abbrev pub IsOpenedBy : List ℕ → Timed → Type 0
-IsOpenedBy line made = (node : ℕ) × (nodes : ℕ) × (start : ℕ) × IsFirst line node nodes start × (made ≡ opening node nodes start)
+-- the line says this as the first one of a book
+abbrev pub SaysFirst : List ℕ → FirstLine → Type 0
+SaysFirst line first = IsFirst line first.member.node first.member.nodes first.start
 
 -- the answer to this first line
-abbrev pub OpensBy : List ℕ → List ℕ → Result Timed BookFault → Type 0
-OpensBy line text (Ok made) = IsOpenedBy line made × (text ≡ codes "ok\n")
+abbrev pub OpensBy : List ℕ → List ℕ → Result FirstLine BookFault → Type 0
+OpensBy line text (Ok first) = SaysFirst line first × (text ≡ codes "ok\n")
 OpensBy line text (Err Line) = ((node nodes start : ℕ) → IsFirst line node nodes start → ⊥) × (text ≡ refused_line refusal.Line)
 OpensBy line text (Err Read) = ⊥
 OpensBy line text (Err Write) = ⊥
 
 -- the first line was read, with this answer
-abbrev pub Opens : Option (List ℕ) → Option (List ℕ) → List ℕ → Result Timed BookFault → Type 0
-Opens old new text (Ok made) = (line : List ℕ) × HasRead old new (line ∷ []) [] × IsOpenedBy line made × (text ≡ codes "ok\n")
+abbrev pub Opens : Option (List ℕ) → Option (List ℕ) → List ℕ → Result FirstLine BookFault → Type 0
+Opens old new text (Ok first) = (line : List ℕ) × HasRead old new (line ∷ []) [] × SaysFirst line first × (text ≡ codes "ok\n")
 Opens old new text (Err Line) = IsNoBook old new × (text ≡ refused_line refusal.Line)
 Opens old new text (Err Read) = (part : List ℕ) × HasRead old new [] part × (text ≡ [])
 Opens old new text (Err Write) = (part : List ℕ) × HasRead old new [] part × (text ≡ [])

@@ -5,6 +5,8 @@ use Rattle.std.specs.List.{AllZip}
 use Rattle.hex.specs.Hex.{encode_lower}
 use Rattle.ra_frame.specs.Fits.{Fits}
 use Rattle.ra_frame.specs.FrameText.{IsWrittenText}
+use Rattle.ra_world.specs.declared.text.draft.Draft.{Draft}
+use Rattle.ra_world.specs.Drafting.{Adds, Says}
 use Rattle.ra_history.specs.declared.book.event.BookEvent.{BookEvent}
 use Rattle.ra_history.specs.declared.book.event.BookKind.{BookKind}
 use Rattle.ra_history.specs.declared.book.event.BookKind.TheVariants.{Asked, Gave, Got}
@@ -39,19 +41,19 @@ pub record IsWrittenBook (lines : List (List ℕ)) (book : BookState) : Type 0 w
 abbrev pub AddsLines : (old new : List ℕ) → List (List ℕ) → Type 0
 AddsLines old new lines = new ≡ old ++ lines_text lines
 
--- the line of the event was added to a text
-abbrev pub AddsEvent : (old new : List ℕ) → BookKind → Type 0
-AddsEvent old new kind = (line : List ℕ) × IsWrittenEvent line kind × (new ≡ old ++ (line ++ 10 ∷ []))
-
 -- the frame that comes by the event does not fit, so that it has no text
 abbrev pub IsUnfit : BookKind → Type 0
 IsUnfit (Asked client name mode) = ⊥
 IsUnfit (Gave client name) = ⊥
 IsUnfit (Got frame) = Fits frame → ⊥
 
--- ---- Only private contracts speak of it.
+-- ---- Only private contracts and proofs speak of it.
 
--- the lines of these events were added to a text
-abbrev pub AddsEvents : (old new : List ℕ) → List BookEvent → Type 0
-AddsEvents old new events =
-    (lines : List (List ℕ)) × AllZip IsWrittenEvent lines (map (λ event. event.kind) events) × (new ≡ old ++ lines_text lines)
+-- the line of the event was added to a draft
+abbrev pub AddsEvent : Draft → Draft → BookKind → Type 0
+AddsEvent old new kind = (line : List ℕ) × IsWrittenEvent line kind × Adds old (line ++ 10 ∷ []) new
+
+-- the draft is this text, and then the lines of these events
+abbrev pub SaysEvents : Draft → List ℕ → List BookEvent → Type 0
+SaysEvents draft first events =
+    (lines : List (List ℕ)) × AllZip IsWrittenEvent lines (map (λ event. event.kind) events) × Says draft (first ++ lines_text lines)

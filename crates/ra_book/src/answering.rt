@@ -6,12 +6,11 @@ pub mod node_event;
 pub mod timed_node;
 pub mod waiting_output;
 
-ghost use Rattle.std.specs.Prelude.{◌≡◌, ◌↔◌, [], true, false, ℕ, List, MatchOption, IsErrOf, OnOk};
+ghost use Rattle.std.specs.Prelude.{◌≡◌, ◌↔◌, [], true, false, ℕ, List, IsErrOf, OnOk};
 ghost use Rattle.ra_book.specs.Book.{IsOwed, IsWritten};
-ghost use Rattle.ra_book.specs.BookText.{IsFirst};
-ghost use Rattle.ra_book.specs.Input.{HasEnded, IsKeptLine};
+ghost use Rattle.ra_book.specs.Input.{HasEnded};
 ghost use Rattle.ra_book.specs.Output.{Puts};
-ghost use Rattle.ra_book.specs.Serving.{IsOpenedBy, OpensBy, Opens, Serves};
+ghost use Rattle.ra_book.specs.Serving.{Opens, Serves};
 ghost use Rattle.ra_book.specs.Answers.{refused_line};
 ghost use Rattle.ra_book.specs.declared.error.BookFault.{BookFault};
 ghost use Rattle.ra_book.specs.declared.answering.line_refusal.Refusal.{Refusal};
@@ -19,59 +18,43 @@ ghost use Rattle.ra_book.specs.declared.answering.line_refusal.Refusal.{Refusal}
 use crate::answering::answer_line::answer_line;
 use crate::answering::line_refusal::refused_line;
 use crate::answering::waiting_output::{Output, flush, put};
-use crate::next_line::kept_line::KeptLine;
 use crate::next_line::{Input, next_line};
 use crate::{BookFault, FirstLine, Refusal, TimedNode};
 use std::alloc::Global;
 use std::io::{BufRead, Write};
 
-/// Makes the node of a book that begins with this line, or returns `None` if it is no first line. It does not allocate.
-fn opened_by(alloc: Global, line: &KeptLine) -> Option<TimedNode>
-    ensures { (text : List ℕ) → IsKeptLine text line.now.bytes.items line.now.is_long
-        → MatchOption result ((node nodes start : ℕ) → IsFirst text node nodes start → ⊥) (IsOpenedBy text) }
-{
-    if line.is_long {
-        return None;
-    }
-    let Some(first) = FirstLine::parse(line.bytes.as_slice()) else {
-        return None;
-    };
-    Some(TimedNode::new(alloc, first.member, first.start))
-}
-
-/// Reads the first line, makes its node, and puts out the answer.
+/// Reads the first line, and puts out its answer.
 ///
 /// # Errors
 ///
 /// `Line`: it is not that of a book, or the input ends before it. This was put out. `Read`: the reader failed. `Write`: the
 /// writer failed.
 fn take_first<B: BufRead, W: Write>(
-    alloc: Global,
     reader: &mut B,
     input: &mut Input,
     writer: &mut W,
     out: &mut Output,
-) -> Result<TimedNode, BookFault>
-    requires { input.old.reading.failed ≡ false }
+) -> Result<FirstLine, BookFault>
+    requires { input.old.failed ≡ false }
     ensures opens { (text : List ℕ) × Opens (B.remaining reader.old) (B.remaining reader.new) text result
         × Puts (W.contents writer.old) (W.contents writer.new) out.old out.new text }
-    ensures unfailed { OnOk result (input.new.reading.failed ≡ false) }
-    ensures reader { IsErrOf result BookFault.Read → HasEnded (B.remaining reader.old) (B.remaining reader.new) input.new.reading.failed }
+    ensures unfailed { OnOk result (input.new.failed ≡ false) }
+    ensures reader { IsErrOf result BookFault.Read → HasEnded (B.remaining reader.old) (B.remaining reader.new) input.new.failed }
     ensures writer { IsErrOf result BookFault.Write → out.new.failed ≡ true }
 {
     let is_there = match next_line(reader, input, writer, out) {
         Ok(is_there) => is_there,
         Err(fault) => return Err(fault),
     };
-    let opened = if is_there {
-        opened_by(alloc, &input.line)
+    let first = if is_there && !input.line.is_long {
+        FirstLine::parse(input.line.bytes.as_slice())
     } else {
         None
     };
-    match opened {
-        Some(node) => {
+    match first {
+        Some(first) => {
             put(writer, out, b"ok\n");
-            Ok(node)
+            Ok(first)
         }
         None => {
             put(writer, out, refused_line(Refusal::Line).as_bytes());
@@ -93,10 +76,10 @@ fn take_events<B: BufRead, W: Write>(
     writer: &mut W,
     out: &mut Output,
 ) -> Result<(), BookFault>
-    requires { input.old.reading.failed ≡ false }
+    requires { input.old.failed ≡ false }
     ensures serves { (text : List ℕ) × Serves (B.remaining reader.old) (B.remaining reader.new) node.old text node.new result
         × Puts (W.contents writer.old) (W.contents writer.new) out.old out.new text }
-    ensures reader { IsErrOf result BookFault.Read → HasEnded (B.remaining reader.old) (B.remaining reader.new) input.new.reading.failed }
+    ensures reader { IsErrOf result BookFault.Read → HasEnded (B.remaining reader.old) (B.remaining reader.new) input.new.failed }
     ensures writer { IsErrOf result BookFault.Write → out.new.failed ≡ true }
 {
     for _line in 0..u64::MAX {
@@ -112,30 +95,6 @@ fn take_events<B: BufRead, W: Write>(
     Err(BookFault::Read)
 }
 
-/// Reads the lines of a book, and puts out their answers.
-///
-/// # Errors
-///
-/// Those of `answer_book`.
-fn take_book<B: BufRead, W: Write>(
-    alloc: Global,
-    reader: &mut B,
-    input: &mut Input,
-    writer: &mut W,
-    out: &mut Output,
-) -> Result<(), BookFault>
-    requires { input.old.reading.failed ≡ false }
-    ensures owed { (text : List ℕ) × IsOwed (B.remaining reader.old) (B.remaining reader.new) text result
-        × Puts (W.contents writer.old) (W.contents writer.new) out.old out.new text }
-    ensures reader { IsErrOf result BookFault.Read → HasEnded (B.remaining reader.old) (B.remaining reader.new) input.new.reading.failed }
-    ensures writer { IsErrOf result BookFault.Write → out.new.failed ≡ true }
-{
-    match take_first(alloc, reader, input, writer, out) {
-        Ok(mut node) => take_events(alloc, &mut node, reader, input, writer, out),
-        Err(fault) => Err(fault),
-    }
-}
-
 /// Reads the lines of a book, and writes their answers.
 ///
 /// # Errors
@@ -148,17 +107,22 @@ fn answer_from<B: BufRead, W: Write>(
     writer: &mut W,
     out: &mut Output,
 ) -> Result<(), BookFault>
-    requires unfailed { input.old.reading.failed ≡ false }
+    requires unfailed { input.old.failed ≡ false }
     requires waiting { out.old.waiting.items ≡ [] }
     ensures answered { (text : List ℕ) × IsOwed (B.remaining reader.old) (B.remaining reader.new) text result
         × IsWritten (W.contents writer.old) (W.contents writer.new) text result }
     // Only after a fault of the reader is `Read` answered, and exactly after one of the writer `Write`.
-    ensures reader { IsErrOf result BookFault.Read → HasEnded (B.remaining reader.old) (B.remaining reader.new) input.new.reading.failed }
+    ensures reader { IsErrOf result BookFault.Read → HasEnded (B.remaining reader.old) (B.remaining reader.new) input.new.failed }
     ensures writer { IsErrOf result BookFault.Write ↔ (out.new.failed ≡ true) }
 {
-    let taken = take_book(alloc, reader, input, writer, out);
-    flush(writer, out);
-    if out.has_failed() {
+    let taken = match take_first(reader, input, writer, out) {
+        Ok(first) => {
+            let mut node = TimedNode::new(alloc, first.member, first.start);
+            take_events(alloc, &mut node, reader, input, writer, out)
+        }
+        Err(fault) => Err(fault),
+    };
+    if flush(writer, out) {
         Err(BookFault::Write)
     } else {
         taken

@@ -12,36 +12,30 @@ ghost use Rattle.ra_book.specs.Input.{HasEnded};
 ghost use Rattle.ra_book.specs.NextLine.{ReadsLine};
 
 use crate::BookFault;
-use crate::answering::waiting_output::{Output, flush};
-use crate::next_line::input_piece::{Piece, Reading, take_piece};
+use crate::answering::waiting_output::{Output, flush_if};
+use crate::next_line::input_piece::{Piece, take_piece};
 use crate::next_line::kept_line::KeptLine;
 use std::io::{BufRead, Write};
 
-/// The line that is read, and what is known of the reader.
+/// The line that is read, and what is known of the reader. Only this file changes that.
 #[derive(Drop)]
 pub struct Input {
     pub line: KeptLine,
-    pub reading: Reading,
+    /// Whether the reader shows nothing more, so that to ask it may mean to wait.
+    is_drained: bool,
+    failed: bool,
 }
 
 impl Input {
     /// Makes one of which nothing was read.
     pub fn new() -> Input
-        ensures { result.reading.failed ≡ false }
+        ensures { result.failed ≡ false }
     {
         Input {
             line: KeptLine::new(),
-            reading: Reading::new(),
+            is_drained: true,
+            failed: false,
         }
-    }
-}
-
-/// Writes all that waits if the reader shows nothing more, so that to ask it may mean to wait.
-fn flush_if<W: Write>(is_drained: bool, writer: &mut W, out: &mut Output)
-    ensures { Puts (W.contents writer.old) (W.contents writer.new) out.old out.new [] }
-{
-    if is_drained {
-        flush(writer, out);
     }
 }
 
@@ -57,23 +51,25 @@ pub fn next_line<B: BufRead, W: Write>(
     writer: &mut W,
     out: &mut Output,
 ) -> Result<bool, BookFault>
-    requires { input.old.reading.failed ≡ false }
+    requires { input.old.failed ≡ false }
     ensures read { ReadsLine (B.remaining reader.old) (B.remaining reader.new) input.new.line result }
     ensures puts { Puts (W.contents writer.old) (W.contents writer.new) out.old out.new [] }
-    ensures unfailed { OnOk result (input.new.reading.failed ≡ false) }
+    ensures unfailed { OnOk result (input.new.failed ≡ false) }
     // Only after a fault of the reader is `Read` answered, and only after one of the writer `Write`.
-    ensures reader { IsErrOf result BookFault.Read → HasEnded (B.remaining reader.old) (B.remaining reader.new) input.new.reading.failed }
+    ensures reader { IsErrOf result BookFault.Read → HasEnded (B.remaining reader.old) (B.remaining reader.new) input.new.failed }
     ensures writer { IsErrOf result BookFault.Write → out.new.failed ≡ true }
 {
     input.line.clear();
     for _turn in 0..u64::MAX {
-        flush_if(input.reading.is_drained(), writer, out);
-        if out.has_failed() {
+        if flush_if(input.is_drained, writer, out) {
             return Err(BookFault::Write);
         }
-        let piece = match take_piece(reader, &mut input.line, &mut input.reading) {
+        let piece = match take_piece(reader, &mut input.line, &mut input.is_drained) {
             Ok(piece) => piece,
-            Err(_) => return Err(BookFault::Read),
+            Err(_) => {
+                input.failed = true;
+                return Err(BookFault::Read);
+            }
         };
         match piece {
             Piece::Part => {}

@@ -1,10 +1,9 @@
 //! The lines of answers.
-ghost use Rattle.std.specs.Prelude.{◌≡◌, ◌≤◌, ◌++◌, ℕ, List, [], length, codes, decimal, flat_map};
-ghost use Rattle.hex.specs.Hex.{encode_lower};
+ghost use Rattle.std.specs.Prelude.{◌≤◌, ℕ, List, length, flat_map};
 ghost use Rattle.ra_frame.specs.Fits.{Fits};
 ghost use Rattle.ra_frame.specs.FrameText.{IsWrittenText};
 ghost use Rattle.ra_stamp.specs.Message.{to_of};
-ghost use Rattle.ra_world.specs.Lines.{field, entry_fields};
+ghost use Rattle.ra_world.specs.Lines.{field};
 ghost use Rattle.ra_world.specs.Lines as lines;
 ghost use Rattle.ra_book.specs.Answers.{AreSends, IsPosted, send_line};
 ghost use Rattle.ra_book.specs.Output.{Puts};
@@ -14,7 +13,7 @@ use crate::answering::waiting_output::{Output, put};
 use itoa::{Buffer, Integer};
 use ra_frame::{Frame, MAX_FRAME, encoded};
 use ra_node::Outcome;
-use ra_stamp::{Entry, Mark, Message};
+use ra_stamp::{Mark, Message};
 use std::io::Write;
 
 /// Puts out a field, with the space before it.
@@ -33,27 +32,19 @@ fn put_number<W: Write, I: Integer>(writer: &mut W, out: &mut Output, number: I)
     put_field(writer, out, Buffer::new().format(number).as_bytes());
 }
 
-/// Puts out bytes as hexadecimal digits, with the space before them.
-fn put_bytes<W: Write>(writer: &mut W, out: &mut Output, bytes: &[u8])
-    requires { length bytes.now ≤ 56 }
-    ensures { Puts (W.contents writer.old) (W.contents writer.new) out.old out.new (field (encode_lower bytes.now)) }
-{
-    let mut room = [0; 2 * MAX_FRAME];
-    let digits = &mut room[..2 * bytes.len()];
-    hex::encode_to_slice(bytes, digits).unwrap();
-    put_field(writer, out, digits);
-}
-
-/// Puts out the line of a frame that fits.
+/// Puts out the line of a frame that fits, with its bytes as hexadecimal digits in lower case.
 fn put_frame<W: Write>(writer: &mut W, out: &mut Output, frame: &Frame)
     requires { Fits frame.now }
     ensures { (bytes : List ℕ) × IsWrittenText bytes frame.now
         × Puts (W.contents writer.old) (W.contents writer.new) out.old out.new (send_line (to_of frame.now.message) bytes) }
 {
     let bytes = encoded(frame);
+    let mut room = [0; 2 * MAX_FRAME];
+    let digits = &mut room[..2 * bytes.len()];
+    hex::encode_to_slice(bytes.as_slice(), digits).unwrap();
     put(writer, out, b"send");
     put_number(writer, out, frame.message.to().get());
-    put_bytes(writer, out, bytes.as_slice());
+    put_field(writer, out, digits);
     put(writer, out, b"\n");
 }
 
@@ -68,36 +59,23 @@ fn put_frames<W: Write>(writer: &mut W, out: &mut Output, clock: u64, sends: &[M
     }
 }
 
-/// Puts out the fields of a request.
-fn put_entry<W: Write>(writer: &mut W, out: &mut Output, entry: &Entry)
-    ensures { Puts (W.contents writer.old) (W.contents writer.new) out.old out.new (entry_fields entry.now) }
+/// Puts out the line of a mark: its word, and the fields of the request.
+fn put_mark<W: Write>(writer: &mut W, out: &mut Output, mark: &Mark)
+    ensures { Puts (W.contents writer.old) (W.contents writer.new) out.old out.new (lines.mark_line mark.now) }
 {
+    let word = match mark {
+        Mark::Requested(_) => "request",
+        Mark::Entered(_) => "enter",
+        Mark::Left(_) => "leave",
+    };
+    let entry = mark.entry();
+    put(writer, out, word.as_bytes());
     put_number(writer, out, entry.stamp.node.get());
     put_number(writer, out, entry.client);
     put_field(writer, out, entry.name.bytes());
     put_field(writer, out, entry.mode.word().as_bytes());
     put_number(writer, out, entry.stamp.seq);
-}
-
-/// Puts out the line of a word and a request.
-fn put_mark_line<W: Write>(writer: &mut W, out: &mut Output, word: &[u8], entry: &Entry)
-    requires { length word.now ≤ 256 }
-    ensures { Puts (W.contents writer.old) (W.contents writer.new) out.old out.new (word.now ++ entry_fields entry.now ++ codes "\n") }
-{
-    put(writer, out, word);
-    put_entry(writer, out, entry);
     put(writer, out, b"\n");
-}
-
-/// Puts out the line of a mark.
-fn put_mark<W: Write>(writer: &mut W, out: &mut Output, mark: &Mark)
-    ensures { Puts (W.contents writer.old) (W.contents writer.new) out.old out.new (lines.mark_line mark.now) }
-{
-    match mark {
-        Mark::Requested(entry) => put_mark_line(writer, out, b"request", entry),
-        Mark::Entered(entry) => put_mark_line(writer, out, b"enter", entry),
-        Mark::Left(entry) => put_mark_line(writer, out, b"leave", entry),
-    }
 }
 
 /// Puts out the lines of marks.

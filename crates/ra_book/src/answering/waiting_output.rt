@@ -29,13 +29,6 @@ impl Output {
             failed: false,
         }
     }
-
-    /// Returns whether the writer failed.
-    pub fn has_failed(&self) -> bool
-        ensures { result ≡ self.now.failed }
-    {
-        self.failed
-    }
 }
 
 /// Writes all that waits.
@@ -50,8 +43,9 @@ pub fn write_waiting<W: Write>(writer: &mut W, out: &mut Output)
     }
 }
 
-/// Writes all that waits, and has the writer pass it on. So it is done before more input is waited for.
-pub fn flush<W: Write>(writer: &mut W, out: &mut Output)
+/// Writes all that waits, and has the writer pass it on. Returns whether the writer failed, now or before.
+pub fn flush<W: Write>(writer: &mut W, out: &mut Output) -> bool
+    ensures failed { result ≡ out.new.failed }
     ensures puts { Puts (W.contents writer.old) (W.contents writer.new) out.old out.new [] }
     ensures none { out.new.failed ≡ false → out.new.waiting.items ≡ [] }
     ensures kept { out.old.failed ≡ true → out.new.failed ≡ true }
@@ -59,6 +53,20 @@ pub fn flush<W: Write>(writer: &mut W, out: &mut Output)
     write_waiting(writer, out);
     if !out.failed {
         out.failed = writer.flush().is_err();
+    }
+    out.failed
+}
+
+/// Does as [`flush`] if the reader is drained: it shows nothing more, so that to ask it may mean to wait. Returns whether the writer
+/// failed, now or before.
+pub fn flush_if<W: Write>(is_drained: bool, writer: &mut W, out: &mut Output) -> bool
+    ensures failed { result ≡ out.new.failed }
+    ensures puts { Puts (W.contents writer.old) (W.contents writer.new) out.old out.new [] }
+{
+    if is_drained {
+        flush(writer, out)
+    } else {
+        out.failed
     }
 }
 

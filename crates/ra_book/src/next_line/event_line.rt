@@ -1,6 +1,6 @@
 //! A line of a book as the event that it is.
-ghost use Rattle.std.specs.Prelude.{◌≡◌, ◌≤◌, ◌/◌, ◌++◌, ℕ, List, true, false, length, codes, IfOk, MatchResult};
-ghost use Rattle.ra_book.specs.BookText.{IsEvent, IsUnread, HasBytes};
+ghost use Rattle.std.specs.Prelude.{◌≡◌, ◌≤◌, ◌++◌, ℕ, List, length, codes, IfOk, MatchResult};
+ghost use Rattle.ra_book.specs.BookText.{IsEvent, IsUnread};
 ghost use Rattle.ra_book.specs.Timed.{CanCome};
 ghost use Rattle.ra_book.specs.declared.answering.line_refusal.Refusal.{Refusal};
 
@@ -15,15 +15,6 @@ pub const MAX_LINE: usize = 256;
 
 /// The most bytes that the digits of a line stand for.
 const MAX_BYTES: usize = MAX_LINE / 2;
-
-/// Puts the bytes that digits stand for into room for half as many, and returns whether there are any. It does not allocate.
-fn are_bytes(digits: &[u8], bytes: &mut [u8]) -> bool
-    requires { length digits.now / 2 ≡ length bytes.old }
-    ensures some { result ≡ true → HasBytes digits.now bytes.new }
-    ensures none { result ≡ false → (others : List ℕ) → HasBytes digits.now others → ⊥ }
-{
-    hex::decode_to_slice(digits, bytes).is_ok()
-}
 
 /// Returns the event that digits are, after `receive `: the frame whose text they stand for comes. It does not allocate.
 ///
@@ -41,7 +32,7 @@ fn receive_line(digits: &[u8]) -> Result<BookKind, Refusal>
 {
     let mut room = [0; MAX_BYTES];
     let bytes = &mut room[..digits.len() / 2];
-    if !are_bytes(digits, bytes) {
+    if hex::decode_to_slice(digits, bytes).is_err() {
         return Err(Refusal::Hex);
     }
     match decode(bytes) {
@@ -69,17 +60,15 @@ pub fn event_of(line: &[u8]) -> Result<BookKind, Refusal>
     if let Some(digits) = rest_after(b"receive ", line) {
         return receive_line(digits);
     }
-    if let Some(rest) = rest_after(b"ask ", line) {
-        return match ask_of(rest) {
-            Some(kind) => Ok(kind),
-            None => Err(Refusal::Line),
-        };
-    }
-    match rest_after(b"release ", line) {
-        Some(rest) => match release_of(rest) {
-            Some(kind) => Ok(kind),
-            None => Err(Refusal::Line),
-        },
+    let read = if let Some(rest) = rest_after(b"ask ", line) {
+        ask_of(rest)
+    } else if let Some(rest) = rest_after(b"release ", line) {
+        release_of(rest)
+    } else {
+        None
+    };
+    match read {
+        Some(kind) => Ok(kind),
         None => Err(Refusal::Line),
     }
 }

@@ -1,5 +1,5 @@
 //! Some bytes of the input.
-ghost use Rattle.std.specs.Prelude.{◌≡◌, ◌∷◌, [], true, false, IfOk, IfSome, IsNone, OnOk, OnErr};
+ghost use Rattle.std.specs.Prelude.{◌∷◌, [], IfOk, IfSome, IsNone, OnErr};
 ghost use Rattle.std.specs.Io.KnownBytes.{Consumes, IsAtEnd};
 ghost use Rattle.ra_book.specs.Input.{KeepsShown, TakesShown, TakesPiece};
 
@@ -21,33 +21,6 @@ pub enum Piece {
 /// That the reader failed.
 #[derive(Clone, Copy)]
 pub struct ReadFailed;
-
-/// What is known of a reader: whether it shows nothing more, so that to ask it may mean to wait, and whether it failed. Only
-/// this file asks the reader, and so only it changes this.
-#[derive(Clone, Copy)]
-pub struct Reading {
-    is_drained: bool,
-    failed: bool,
-}
-
-impl Reading {
-    /// Makes that of a reader that was not asked yet.
-    pub fn new() -> Reading
-        ensures { result.failed ≡ false }
-    {
-        Reading {
-            is_drained: true,
-            failed: false,
-        }
-    }
-
-    /// Returns whether the reader shows nothing more.
-    pub fn is_drained(&self) -> bool
-        ensures { result ≡ self.now.is_drained }
-    {
-        self.is_drained
-    }
-}
 
 /// What is taken of the bytes that a reader shows.
 #[derive(Clone, Copy)]
@@ -140,12 +113,12 @@ fn take_shown<B: BufRead>(reader: &mut B, line: &mut KeptLine) -> Result<TakenBy
 }
 
 /// Takes some bytes of a line, or finds that the input is at its end, and says in `is_drained` whether the reader shows
-/// nothing more.
+/// nothing more. It does not allocate.
 ///
 /// # Errors
 ///
 /// `ReadFailed`: the reader failed. It is not tried again.
-fn take_some<B: BufRead>(
+pub fn take_piece<B: BufRead>(
     reader: &mut B,
     line: &mut KeptLine,
     is_drained: &mut bool,
@@ -163,29 +136,5 @@ fn take_some<B: BufRead>(
         Ok(Piece::Part)
     } else {
         take_byte(reader, line)
-    }
-}
-
-/// Takes some bytes of a line, or finds that the input is at its end. The reader did not fail yet. It does not allocate.
-///
-/// # Errors
-///
-/// `ReadFailed`: the reader failed. It is not tried again.
-pub fn take_piece<B: BufRead>(
-    reader: &mut B,
-    line: &mut KeptLine,
-    reading: &mut Reading,
-) -> Result<Piece, ReadFailed>
-    requires { reading.old.failed ≡ false }
-    ensures takes { TakesPiece (B.remaining reader.old) (B.remaining reader.new) line.old line.new result }
-    ensures unfailed { OnOk result (reading.new.failed ≡ false) }
-    ensures failed { OnErr result (reading.new.failed ≡ true) }
-{
-    match take_some(reader, line, &mut reading.is_drained) {
-        Ok(piece) => Ok(piece),
-        Err(why) => {
-            reading.failed = true;
-            Err(why)
-        }
     }
 }

@@ -1,7 +1,7 @@
 //! A text of books that is read line by line.
 ghost use Rattle.std.specs.Prelude.{◌≡◌, ◌∷◌, [], ℕ, true, List, MatchResult};
 ghost use Rattle.ra_book.specs.Texts.{Begins};
-ghost use Rattle.ra_book.specs.Gathering.{HasBegun, HasGathered, IsGathered, IsNoBeginning};
+ghost use Rattle.ra_book.specs.Gathering.{HasGathered, IsGathered};
 ghost use Rattle.ra_book.specs.Verdicts.{IsUnsettled, IsWrong};
 ghost use Rattle.ra_book.specs.declared.text_settling.settle_error.TextCause.{TextCause};
 ghost use Rattle.ra_book.specs.declared.text_settling.gathering.LineFault.{LineFault};
@@ -12,29 +12,11 @@ use crate::{FirstLine, SettleTextError, TextCause};
 use ra_world::cut;
 use std::alloc::Global;
 
-/// Begins with the first line of a text.
-///
-/// # Errors
-///
-/// `Invalid` at line 1 with `Line`: it is not that of a book. `Memory`.
-fn begin(alloc: Global, line: &[u8]) -> Result<Gathered, SettleTextError>
-    ensures { MatchResult result (HasBegun line.now) (IsNoBeginning line.now) }
-{
-    let Some(first) = FirstLine::parse(line) else {
-        return Err(SettleTextError::Invalid {
-            line: 1,
-            cause: TextCause::Line,
-        });
-    };
-    match opened(alloc, &first) {
-        Some(last) => Ok(Gathered {
-            earlier: Vec::new(alloc),
-            last,
-            came: CameList::new(alloc),
-        }),
-        None => Err(SettleTextError::Memory),
-    }
-}
+/// The text does not begin with the first line of a book.
+const NO_FIRST_LINE: SettleTextError = SettleTextError::Invalid {
+    line: 1,
+    cause: TextCause::Line,
+};
 
 /// Returns why reading ends at the line of this number.
 fn fault_at(number: u64, fault: LineFault) -> SettleTextError
@@ -91,14 +73,18 @@ pub fn read_books(alloc: Global, text: &[u8]) -> Result<(Gathered, u64), SettleT
 {
     let (line, after) = cut(text, b'\n');
     let Some(rest) = after else {
-        return Err(SettleTextError::Invalid {
-            line: 1,
-            cause: TextCause::Line,
-        });
+        return Err(NO_FIRST_LINE);
     };
-    let mut gathered = match begin(alloc, line) {
-        Ok(gathered) => gathered,
-        Err(fault) => return Err(fault),
+    let Some(first) = FirstLine::parse(line) else {
+        return Err(NO_FIRST_LINE);
+    };
+    let Some(last) = opened(alloc, &first) else {
+        return Err(SettleTextError::Memory);
+    };
+    let mut gathered = Gathered {
+        earlier: Vec::new(alloc),
+        last,
+        came: CameList::new(alloc),
     };
     match read_lines(alloc, &mut gathered, rest) {
         Ok(next) => Ok((gathered, next)),

@@ -10,22 +10,8 @@ use ra_history::{Book, MarkLostError};
 use ra_stamp::{Memory, Message, Messages};
 use std::alloc::Global;
 
-/// Returns whether the frame is among those that a book sent. The frame is flagged lost there, since a book finds a frame only
-/// to flag it. The cost is logarithmic in the number of these frames.
-fn has_sent(book: &mut Book, frame: &Frame) -> bool
-    ensures sent { IsTrue result ↔ Contains (sender_of book.old).frames frame.now }
-    ensures same { sender_of book.new ≡ sender_of book.old }
-{
-    match book.mark_lost(frame) {
-        Ok(()) => true,
-        // It came before.
-        Err(MarkLostError::AlreadyLost) => true,
-        Err(MarkLostError::NotSent) => false,
-    }
-}
-
-/// Returns whether the frame is among those that its sender's book sent, by books of the nodes 1 to n, in order. It flags the
-/// frame as lost.
+/// Returns whether the frame is among those that its sender's book sent, by books of the nodes 1 to n, in order. The frame is
+/// flagged lost there, since a book finds a frame only to flag it. The cost is logarithmic in the number of these frames.
 fn was_sent(books: &mut [Book], frame: &Frame) -> bool
     requires { AreNumbered (senders_of books.old) }
     ensures sent { IsTrue result ↔ IsSentBy (senders_of books.old) frame.now }
@@ -33,8 +19,12 @@ fn was_sent(books: &mut [Book], frame: &Frame) -> bool
 {
     let place = frame.message.from().place();
     if place < books.len() {
-        let book = &mut books[place];
-        has_sent(book, frame)
+        match books[place].mark_lost(frame) {
+            Ok(()) => true,
+            // It came before.
+            Err(MarkLostError::AlreadyLost) => true,
+            Err(MarkLostError::NotSent) => false,
+        }
     } else {
         false
     }

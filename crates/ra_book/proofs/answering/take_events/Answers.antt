@@ -1,7 +1,8 @@
-use Rattle.std.proofs.Common.{◌≡◌, Bool, Ok, Err, [], ap, arith, ◌++◌, inr, subst}
+use Rattle.std.proofs.Common.{◌≡◌, Bool, Ok, Err, [], ap, arith, ◌++◌, inr, refl, subst}
 use Rattle.ra_book.specs.declared.error.BookFault.TheVariants.{Read}
 use Rattle.std.proofs.lemmas.List.{append-nil}
 use Rattle.ra_book.specs.NextLine.{ReadsLine}
+use Rattle.ra_book.proofs.Faults.{fault_is, ok_no_err}
 use Rattle.ra_book.proofs.Put.{both, none, renamed}
 use Rattle.ra_book.proofs.Served.{all_answered, ended_after, most_read, none_answered, one_answered, stopped, too_many_lines}
 use Rattle.ra_book.proofs.answering.take_events.Goals as goal
@@ -29,7 +30,7 @@ returns-in-Err-clause-serves g c =
 pub returns-in-Err-clause-reader : goal.returns-in-Err-clause-reader
 returns-in-Err-clause-reader g c =
     let said = rw c.in-Err.is at c.next_line.ensures.reader in
-    λ is. let same : c.in-Err.fault ≡ Read = cc in ended_after _ _ _ _ _ _ _ _ c.loop-line.invariant.answered.1 (said (ap Err same))
+    λ is. let same : c.in-Err.fault ≡ Read = fault_is _ _ _ _ refl refl is in ended_after _ _ _ _ _ _ _ _ c.loop-line.invariant.answered.1 (said (ap Err same))
 
 pub returns-then-not-is_there-clause-serves : goal.returns-then-not-is_there-clause-serves
 returns-then-not-is_there-clause-serves g c =
@@ -45,3 +46,6 @@ returns-clause-serves g c =
 
 pub returns-clause-reader : goal.returns-clause-reader
 returns-clause-reader g c = λ is. inr (most_read _ _ _ _ _ _ c.loop-line.invariant.answered.1 (omega arith))
+
+pub returns-then-not-is_there-clause-reader : goal.returns-then-not-is_there-clause-reader
+returns-then-not-is_there-clause-reader g c = λ is. absurd (ok_no_err is)

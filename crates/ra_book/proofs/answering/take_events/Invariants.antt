@@ -8,5 +8,5 @@ abbrev pub invariant-loop-line : goal.invariant-loop-line
 invariant-loop-line g l = record {
   answered : (text : List ℕ) × HasAnswered (g.B.Read.remaining l.fn.reader) (g.B.Read.remaining l.reader) l.fn.node text l.node l._line
       × Puts (g.W.Write.contents l.fn.writer) (g.W.Write.contents l.writer) l.fn.out l.out text;
-  unfailed : l.input.reading.failed ≡ false;
+  unfailed : l.input.failed ≡ false;
 }

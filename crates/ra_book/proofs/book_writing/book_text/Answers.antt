@@ -1,17 +1,58 @@
-use Rattle.std.proofs.Common.{◌≡◌, ◌++◌, List, ℕ, [], ap, string_bytes, codes, subst, ◌∙◌}
+use Rattle.std.proofs.Common.{◌≡◌, ◌+◌, ◌<◌, ◌^◌, ◌++◌, ◌∷◌, List, ℕ, [], ap, string_bytes, codes, decimal, get_or, length, subst, sym, take, ◌∙◌, arith}
+use Rattle.std.proofs.lemmas.List.{take_more, take_all}
+use Rattle.std.specs.Prelude.{map}
+use Rattle.std.specs.List.{AllZip}
+use Rattle.ra_world.specs.Lines.{field}
+use Rattle.ra_world.proofs.Drafts.{adds_as, adds_both}
+use Rattle.ra_history.specs.declared.book.event.BookEvent.{BookEvent}
 use Rattle.ra_book.specs.BookText.{first_text}
-use Rattle.ra_book.specs.Written.{AddsEvents}
-use Rattle.ra_book.proofs.WrittenLines.{whole_book}
+use Rattle.ra_book.specs.Written.{IsWrittenEvent, SaysEvents}
+use Rattle.ra_book.proofs.WrittenLines.{none_yet, one_more, whole_book}
 use Rattle.ra_book.proofs.book_writing.book_text.Goals as goal
+
+pub loop-event-init : goal.loop-event-init
+loop-event-init c =
+    let number = λ (n : ℕ). field (decimal n) in
+    let node = adds_as c.push_number.ensures (ap number (c.get.ensures.value ∙ c.me.ensures.value)) in
+    let nodes = adds_as c.push_number-2.ensures (ap number c.nodes.ensures.value) in
+    let start = adds_as c.push_number-3.ensures (ap number c.start.ensures.value) in
+    let adds = adds_both (adds_both (adds_both (adds_both c.push.ensures node) nodes) start) c.end_line.ensures in
+    none_yet c.end_line.new.self _ (adds.says [] c.new-text.ensures)
+
+pub loop-event-preserved : goal.loop-event-preserved
+loop-event-preserved c =
+    let book = c.args.book.now in
+    let events = book.events in
+    let i = c.loop-event.event-index in
+    let event = c.event-item.result in
+    let all : c.as_slice-event-items.result.now ≡ events = c.as_slice-event-items.ensures ∙ c.events.ensures.value in
+    let item : event ≡ get_or events i event = c.event-item.is ∙ ap (λ (es : List BookEvent). get_or es i event) all in
+    let more : i < length events = subst (λ (es : List BookEvent). i < length es) all c.loop-event-test.true in
+    let next : take (i + 1) events ≡ take i events ++ event ∷ [] = take_more events i event more ∙ ap (λ (e : BookEvent). take i events ++ e ∷ []) (sym item) in
+    let first = first_text book.me book.nodes book.start ++ codes "\n" in
+    subst (SaysEvents c.push_event.new.text first) (sym next)
+    (one_more c.loop-event.text c.push_event.new.text first (take i events) event c.loop-event.invariant (rw c.if-not-push_event.false at c.push_event.ensures))
+
+pub returns-then-not-push_event-clause-unfit : goal.returns-then-not-push_event-clause-unfit
+returns-then-not-push_event-clause-unfit c _ =
+    let events = c.args.book.now.events in
+    let i = c.loop-event.event-index in
+    let event = c.event-item.result in
+    let all : c.as_slice-event-items.result.now ≡ events = c.as_slice-event-items.ensures ∙ c.events.ensures.value in
+    let item : event ≡ get_or events i event = c.event-item.is ∙ ap (λ (es : List BookEvent). get_or es i event) all in
+    let more : i < length events = subst (λ (es : List BookEvent). i < length es) all c.loop-event-test.true in
+    (i, event, more, sym item, rw c.if-not-push_event.true at c.push_event.ensures)
 
 pub returns-clause-ok : goal.returns-clause-ok
 returns-clause-ok c =
     let book = c.args.book.now in
-    let kept = c.events.ensures.history in
-    let line = first_text c.me.result c.nodes.result c.start.result ++ codes "\n" in
-    let first : string_bytes c.push_first.new.text ≡ [] ++ line =
-    c.in_ok-push_first.ensures.text ∙ ap (λ (t : List ℕ). t ++ line) c.new-text.ensures.bytes
+    let i = c.loop-event.event-index in
+    let all : c.as_slice-event-items.result.now ≡ book.events = c.as_slice-event-items.ensures ∙ c.events.ensures.value in
+    let whole : take i book.events ≡ book.events =
+    subst (λ (es : List BookEvent). take i es ≡ es) all (take_all i c.as_slice-event-items.result.now c.loop-event-test.false)
     in
-    whole_book book kept [] (string_bytes c.push_first.new.text) (string_bytes c.push_events.new.text)
-    c.me.result c.nodes.result c.start.result c.me.ensures.value c.nodes.ensures.value c.start.ensures.value c.in_ok-push_first.ensures.begins first
-    (subst (AddsEvents (string_bytes c.push_first.new.text) (string_bytes c.push_events.new.text)) (c.as_slice.ensures ∙ c.events.ensures.value) c.in_ok-push_events.ensures.ok)
+    let (lines, are, says) = c.loop-event.invariant in
+    let below : book.start < 2 ^ 64 = omega (arith, c.start.ensures.value) in
+    whole_book book (string_bytes c.in_ok-finish.field-0) lines c.events.ensures.history below
+    (subst (λ (es : List BookEvent). AllZip IsWrittenEvent lines (map (λ (e : BookEvent). e.kind) es)) whole are)
+    (c.in_ok-finish.ensures _ says)

@@ -1,6 +1,8 @@
-use Rattle.std.proofs.Common.{◌≡◌, rules, subst, sym, List, ℕ}
+use Rattle.std.proofs.Common.{◌≡◌, ap, sym, subst, rules}
 use Rattle.std.specs.Str.{IsUtf8}
 use Rattle.hex.specs.Hex.{encode_lower}
+use Rattle.ra_world.specs.Lines.{field}
+use Rattle.ra_world.proofs.Drafts.{adds_as}
 use Rattle.ra_book.proofs.WrittenLines.{digits_are_utf8}
 use Rattle.ra_book.proofs.book_writing.push_bytes.Goals as goal
 
@@ -9,3 +11,8 @@ unwrap-requires-2 c =
     let written : c.encode_to_slice.new.output ≡ encode_lower c.args.bytes.now = search rules in
     let text : IsUtf8 c.encode_to_slice.new.output = subst IsUtf8 (sym written) (digits_are_utf8 c.args.bytes.now) in
     search (rules, text)
+
+pub returns-clause-text : goal.returns-clause-text
+returns-clause-text c =
+    let digits : c.unwrap-2.result.now ≡ encode_lower c.args.bytes.now = search rules in
+    adds_as c.push_field.ensures (ap field digits)

@@ -8,5 +8,5 @@ abbrev pub invariant-loop-turn : goal.invariant-loop-turn
 invariant-loop-turn g l = record {
   some : HasSome (g.B.Read.remaining l.fn.reader) (g.B.Read.remaining l.reader) l.input.line l._turn;
   puts : Puts (g.W.Write.contents l.fn.writer) (g.W.Write.contents l.writer) l.fn.out l.out [];
-  unfailed : l.input.reading.failed ≡ false;
+  unfailed : l.input.failed ≡ false;
 }

@@ -1,4 +1,4 @@
-use Rattle.std.proofs.Common.{◌≡◌, List, ℕ, decimal, ap, ◌∙◌, rules}
+use Rattle.std.proofs.Common.{◌≡◌, ℕ, decimal, ap, ◌∙◌, rules}
 use Rattle.hex.specs.Hex.{encode_lower}
 use Rattle.ra_stamp.specs.Message.{to_of}
 use Rattle.ra_world.specs.Lines.{field}
@@ -10,7 +10,8 @@ returns g c =
     let same : c.as_slice.result.now ≡ c.encoded-bytes.result.items = search rules in
     let to : c.to.result ≡ to_of c.args.frame.now.message = search rules in
     let number = renamed _ _ _ _ _ _ (ap (λ (n : ℕ). field (decimal n)) (c.get.ensures.value ∙ to)) c.put_number.ensures in
-    let digits = renamed _ _ _ _ _ _ (ap (λ (bs : List ℕ). field (encode_lower bs)) same) c.put_bytes.ensures in (
+    let written : c.encode_to_slice.new.output ≡ encode_lower c.as_slice.result.now = search rules in
+    let digits = renamed _ _ _ _ _ _ (ap field (written ∙ ap encode_lower same)) c.put_field.ensures in (
       c.encoded-bytes.result.items,
       c.encoded-bytes.ensures,
       both _ _ _ _ _ _ _ _ (both _ _ _ _ _ _ _ _ (both _ _ _ _ _ _ _ _ c.put.ensures number) digits) c.put-2.ensures,

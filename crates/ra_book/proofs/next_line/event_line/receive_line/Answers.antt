@@ -1,17 +1,18 @@
-use Rattle.std.proofs.Common.{refl}
+use Rattle.std.proofs.Common.{List, ℕ, refl, rules}
+use Rattle.ra_book.specs.BookText.{HasBytes}
 use Rattle.ra_book.proofs.next_line.event_line.receive_line.Goals as goal
 
-pub returns-then-not-are_bytes-clause-read : goal.returns-then-not-are_bytes-clause-read
-returns-then-not-are_bytes-clause-read c line is short =
-    (c.args.digits.now, (short, tt, is), c.are_bytes.ensures.none c.if-not-are_bytes.true)
+pub returns-then-is_err-clause-read : goal.returns-then-is_err-clause-read
+returns-then-is_err-clause-read c line is short =
+    let none : (bytes : List ℕ) → HasBytes c.args.digits.now bytes → ⊥ = search rules in
+    (c.args.digits.now, (short, tt, is), none)
 
 pub returns-in-Ok-clause-read : goal.returns-in-Ok-clause-read
 returns-in-Ok-clause-read c line is short =
-    (c.args.digits.now, (short, tt, is), (c.are_bytes.new.bytes, c.are_bytes.ensures.some c.if-not-are_bytes.false, c.in-Ok.ensures.found))
+    let some : HasBytes c.args.digits.now c.decode_to_slice.new.out = search rules in
+    (c.args.digits.now, (short, tt, is), (c.decode_to_slice.new.out, some, c.in-Ok.ensures.found))
 
 pub returns-in-Err-clause-read : goal.returns-in-Err-clause-read
-returns-in-Err-clause-read c line is short = (
-  c.args.digits.now,
-  (short, tt, is),
-  (c.are_bytes.new.bytes, c.are_bytes.ensures.some c.if-not-are_bytes.false, (c.in-Err.ensures.fault c.in-Err.fault).0 refl),
-)
+returns-in-Err-clause-read c line is short =
+    let some : HasBytes c.args.digits.now c.decode_to_slice.new.out = search rules in
+    (c.args.digits.now, (short, tt, is), (c.decode_to_slice.new.out, some, (c.in-Err.ensures.fault c.in-Err.fault).0 refl))

@@ -1,4 +1,4 @@
-use Rattle.std.proofs.Common.{◌≡◌, ◌≤◌, ◌<◌, ◌++◌, List, ℕ, Some, codes, length, sym, ap, ◌∙◌, subst, arith, refl}
+use Rattle.std.proofs.Common.{◌≡◌, ◌≤◌, ◌<◌, ℕ, codes, length, sym, ap, ◌∙◌, subst, arith}
 use Rattle.ra_stamp.specs.Member.{Membership}
 use Rattle.ra_trace.proofs.Cuts.{rest_after-only}
 use Rattle.ra_book.proofs.Forms.{no_book, no_first, first_read, first_above, no_member}
