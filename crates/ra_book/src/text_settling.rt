@@ -6,7 +6,7 @@ pub mod read_books;
 pub mod searching;
 pub mod settle_error;
 
-ghost use Rattle.std.specs.Prelude.{◌≡◌, ◌⊎◌, ◌∷◌, ◌++◌, [], ℕ, List, All, IfErr, IfOk, IfSome, IsErrOf, IsOkUnless, MatchResult, OnOk};
+ghost use Rattle.std.specs.Prelude.{◌⊎◌, ℕ, List, All, IfErr, IfOk, IsErrOf, IsOkUnless, MatchResult, OnOk};
 ghost use Rattle.ra_history.specs.Settled.{IsCluster};
 ghost use Rattle.ra_book.specs.Texts.{IsRead};
 ghost use Rattle.ra_book.specs.Gathering.{HasGathered, IsGathered, IsMadeOf, IsTwiceBy, IsUnfit};
@@ -127,18 +127,6 @@ fn settle_books(
     }
 }
 
-/// Puts the last book after those before it, or returns `None` if memory runs out.
-fn with_last(earlier: Vec<Book>, last: Book) -> Option<Vec<Book>>
-    ensures { IfSome result (λ books. books.items ≡ earlier.items ++ last ∷ []) }
-{
-    let mut books = earlier;
-    if books.reserve(1).is_err() {
-        return None;
-    }
-    books.push_reserved(last);
-    Some(books)
-}
-
 /// Settles the books that were gathered from a text, in which the line after the last one would have this number.
 ///
 /// # Errors
@@ -160,13 +148,12 @@ fn settle_gathered(
         came,
     } = gathered;
     let nodes = usize::from(last.nodes());
-    match with_last(earlier, last) {
-        Some(books) => {
-            let mut books = books;
-            settle_books(alloc, &mut books, nodes, came.as_slice(), next, repeats)
-        }
-        None => Err(SettleTextError::Memory),
+    let mut books = earlier;
+    if books.reserve(1).is_err() {
+        return Err(SettleTextError::Memory);
     }
+    books.push_reserved(last);
+    settle_books(alloc, &mut books, nodes, came.as_slice(), next, repeats)
 }
 
 /// Reads the books of all nodes, and settles them.
