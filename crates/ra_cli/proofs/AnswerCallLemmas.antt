@@ -7,6 +7,7 @@ use Rattle.ra_stamp.specs.declared.message.Message.{Message}
 use Rattle.ra_stamp.specs.Message.{to_of}
 use Rattle.ra_automaton.specs.declared.error.ReceiveError.{ReceiveError}
 use Rattle.ra_automaton.specs.declared.error.ReceiveError.TheVariants as receive
+use Rattle.ra_frame.specs.declared.error.FrameError.{FrameError}
 use Rattle.ra_frame.specs.declared.frame.Frame.{Frame}
 use Rattle.ra_world.specs.declared.error.ReadFault.{ReadFault}
 use Rattle.ra_world.specs.declared.error.ReadFault.TheVariants as read
@@ -34,6 +35,15 @@ pub of_message : (node nodes : ℕ) (message : Message) (why : AnswerError) → 
 of_message node nodes message why (inl (is, other)) = ((λ read. absurd cc), (λ write. absurd cc))
 of_message node nodes message why (inr (inl (is, strange))) = ((λ read. absurd cc), (λ write. absurd cc))
 of_message node nodes message why (inr (inr is)) = ((λ read. absurd cc), (λ write. absurd cc))
+
+pub of_frame : (wrong : FrameError) → IsOfInput (fault.Frame wrong)
+of_frame wrong = ((λ read. absurd cc), (λ write. absurd cc))
+
+pub of_clock : IsOfInput fault.ClockFull
+of_clock = ((λ read. absurd cc), (λ write. absurd cc))
+
+pub of_memory : IsOfInput fault.Memory
+of_memory = ((λ read. absurd cc), (λ write. absurd cc))
 
 -- a message that an automaton does not take is unwanted
 pub not_taken : (node nodes : ℕ) (message : Message) (why : ReceiveError) → (why ≡ receive.WrongNode → to_of message ≢ node)

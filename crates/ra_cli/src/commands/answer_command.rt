@@ -12,7 +12,7 @@ use crate::input_line::line_of;
 use hex::FromHexError;
 use ra_automaton::{Automaton, Reaction, ReceiveError};
 use ra_book::MAX_LINE;
-use ra_frame::{Frame, decode, encode};
+use ra_frame::{Frame, MAX_FRAME, decode, encoded};
 use ra_stamp::{Member, MemberError, Memory, Message, Messages, NodeId};
 use ra_world::{read_up_to, write_out};
 use std::alloc::Global;
@@ -88,32 +88,23 @@ fn frame_in(alloc: Global, input: &[u8]) -> Result<Frame, AnswerError>
     }
 }
 
-/// Adds digits and a line feed to the text.
+/// Adds a frame's line to the text: its bytes as hexadecimal digits in lower case, and a line feed.
 ///
 /// # Errors
 ///
 /// `Memory`: a prefix of the line may be there.
-fn push_digits(text: &mut Vec<u8>, digits: &[u8]) -> Result<(), Memory>
-    ensures { OnOk result (text.new.items ≡ text.old.items ++ (digits.now ++ 10 ∷ [])) }
-{
-    text.extend_from_slice(digits)?;
-    text.push(b'\n')?;
-    Ok(())
-}
-
-/// Adds a frame's line to the text.
-///
-/// # Errors
-///
-/// `Memory`: a prefix of the line may be there.
-fn push_line(alloc: Global, text: &mut Vec<u8>, frame: &Frame) -> Result<(), Memory>
+fn push_line(text: &mut Vec<u8>, frame: &Frame) -> Result<(), Memory>
     requires { Fits frame.now }
     ensures ok { OnOk result ((bytes : List ℕ) × IsWrittenText bytes frame.now
         × (text.new.items ≡ text.old.items ++ (encode_lower bytes ++ 10 ∷ []))) }
 {
-    let bytes = encode(alloc, frame)?;
-    let digits = hex::encode(alloc, &bytes)?;
-    push_digits(text, digits.as_bytes())
+    let bytes = encoded(frame);
+    let mut room = [0; 2 * MAX_FRAME];
+    let digits = &mut room[..2 * bytes.len()];
+    hex::encode_to_slice(bytes.as_slice(), digits).unwrap();
+    text.extend_from_slice(digits)?;
+    text.push(b'\n')?;
+    Ok(())
 }
 
 /// Returns the lines of the frames of messages that are sent at a clock, in time linear in their number.
@@ -127,7 +118,7 @@ fn lines_of(alloc: Global, clock: u64, sends: &Messages) -> Result<Vec<u8>, Memo
 {
     let mut text = Vec::new(alloc);
     for &message in sends.as_slice() {
-        push_line(alloc, &mut text, &Frame { clock, message })?;
+        push_line(&mut text, &Frame { clock, message })?;
     }
     Ok(text)
 }

@@ -3,9 +3,9 @@ ghost use Rattle.std.specs.Prelude.{◌≡◌, ◌++◌, codes, decimal, string_
 ghost use Rattle.ra_world.specs.Lines.{field, total_line};
 ghost use Rattle.ra_cli.specs.Checks as spec;
 
-use itoa::Buffer;
 use ra_stamp::Memory;
 use ra_trace::{Cause, Verdict};
+use ra_world::Draft;
 use std::alloc::Global;
 
 /// Returns the word of a cause. It does not allocate.
@@ -30,17 +30,14 @@ pub fn valid_text(alloc: Global, requests: u128, word: &str, total: u128) -> Res
     ensures { IfOk result (λ text. string_bytes text
         ≡ codes "valid\n" ++ total_line (codes "requests") requests ++ total_line word.now total) }
 {
-    let (mut first, mut second) = (Buffer::new(), Buffer::new());
-    let parts = [
-        "valid\nrequests ",
-        first.format(requests),
-        "\n",
-        word,
-        " ",
-        second.format(total),
-        "\n",
-    ];
-    Ok(parts.concat(alloc)?)
+    let mut text = Draft::new(alloc);
+    text.push("valid\nrequests");
+    text.push_number(requests);
+    text.end_line();
+    text.push(word);
+    text.push_number(total);
+    text.end_line();
+    text.finish()
 }
 
 /// Returns the line of a text that is invalid, with its first wrong line and the word for the cause.
@@ -52,9 +49,12 @@ pub fn invalid_text(alloc: Global, line: u64, word: &str) -> Result<String, Memo
     ensures { IfOk result (λ text. string_bytes text
         ≡ codes "invalid" ++ field (decimal line) ++ field word.now ++ codes "\n") }
 {
-    let mut digits = Buffer::new();
-    let parts = ["invalid ", digits.format(line), " ", word, "\n"];
-    Ok(parts.concat(alloc)?)
+    let mut text = Draft::new(alloc);
+    text.push("invalid");
+    text.push_number(line);
+    text.push_field(word);
+    text.end_line();
+    text.finish()
 }
 
 /// Returns the lines of a verdict: that the text is a trace, and how many requests and messages there are, or that it is not one,

@@ -1,7 +1,7 @@
-use Rattle.std.proofs.Common.{◌≡◌, ℕ, ◌+◌, sym, subst, arith, rules}
+use Rattle.std.proofs.Common.{◌≡◌, ℕ, ◌+◌, ◌<◌, ◌^◌, sym, subst, arith, rules}
 use Rattle.std.proofs.lemmas.Result.{err_from_is_err_and}
 use Rattle.ra_cli.specs.Answer.{AreLines, clock_after}
-use Rattle.ra_cli.proofs.AnswerCallLemmas.{unwanted, of_message}
+use Rattle.ra_cli.proofs.AnswerCallLemmas.{unwanted, of_clock, of_memory, of_message}
 use Rattle.ra_cli.proofs.commands.answer_command.answer_to.Goals as goal
 
 pub returns-in_err-frame : goal.returns-in_err-frame
@@ -18,7 +18,12 @@ returns-in_err-reaction c =
     )
 
 pub returns : goal.returns
-returns c = (c.requires, ((λ read. absurd cc), (λ write. absurd cc)))
+returns c = (c.requires, of_memory)
+
+pub returns-then-frame-eq-MAX_CLOCK : goal.returns-then-frame-eq-MAX_CLOCK
+returns-then-frame-eq-MAX_CLOCK c =
+    let late : 2 ^ 62 < clock_after 0 c.in_ok-frame.frame.clock = omega (arith, c.if-frame-eq-MAX_CLOCK.true) in
+    ((c.requires, c.in_ok-frame.frame, c.in_ok-frame.ensures.0, c.in_ok-reaction.ensures.addressed, late), of_clock)
 
 pub returns-in-Ok : goal.returns-in-Ok
 returns-in-Ok c =
