@@ -43,7 +43,7 @@ impl fmt::Display for ScriptError {
 }
 
 /// Why a script was not performed, in the order in which the causes are looked for.
-#[derive(Clone, Copy, Debug, PartialEq, Eq, Error)]
+#[derive(Clone, Copy, PartialEq, Eq, Error)]
 pub enum PerformError {
     /// The reader failed.
     Read,
@@ -59,15 +59,26 @@ pub enum PerformError {
     Write,
 }
 
-// By hand, since a derived one takes ten times as long to prove.
+// By hand, since derived ones take several times as long to prove.
 impl fmt::Display for PerformError {
     /// Prints one word: that of the inner refusal, or the name of the variant.
     fn fmt<W: fmt::Write>(&self, f: &mut fmt::Formatter<W>) -> fmt::Result {
-        match self {
-            PerformError::Script(refusal) => fmt::Display::fmt(refusal, f),
-            PerformError::Drive(refusal) => fmt::Display::fmt(refusal, f),
-            _ => fmt::Debug::fmt(self, f),
-        }
+        let word = match self {
+            PerformError::Script(refusal) => return fmt::Display::fmt(refusal, f),
+            PerformError::Drive(refusal) => return fmt::Display::fmt(refusal, f),
+            PerformError::Read => "Read",
+            PerformError::Choice => "Choice",
+            PerformError::Memory => "Memory",
+            PerformError::Write => "Write",
+        };
+        f.write_str(word)
+    }
+}
+
+impl fmt::Debug for PerformError {
+    /// Prints that word, too.
+    fn fmt<W: fmt::Write>(&self, f: &mut fmt::Formatter<W>) -> fmt::Result {
+        fmt::Display::fmt(self, f)
     }
 }
 

@@ -1,9 +1,8 @@
-ghost use Rattle.std.specs.Prelude.{◌≡◌, ℕ, List, [], ◌∷◌, ◌++◌, Some, None, if◌then◌else◌, ok_or, map, option_map, option_and_then, OnOk, IfOk, IfErr};
+ghost use Rattle.std.specs.Prelude.{◌≡◌, Some, None, if◌then◌else◌, ok_or, map, option_map, option_and_then, IfOk, IfErr};
 ghost use Rattle.toml.specs.Data.{as_str, as_table};
 ghost use Rattle.toml.specs.View.{view, array_view, table_view};
 ghost use Rattle.ra_script.specs.Faults.{IsRefusal};
 ghost use Rattle.ra_script.specs.Document as spec;
-ghost use Rattle.ra_script.specs.Document.{ClientTable};
 ghost use Rattle.ra_script.specs.ScriptText.{natural, is_up_to};
 
 use crate::ScriptError;
@@ -73,23 +72,6 @@ pub fn array_at<'a>(table: &'a Table, key: &str) -> Option<&'a Array>
     }
 }
 
-/// Adds the string of a value.
-///
-/// # Errors
-///
-/// `Shape`: it is no string. `Memory`.
-fn push_string<'a>(strings: &mut Vec<&'a str>, item: &'a Value) -> Result<(), ScriptError>
-    ensures ok { OnOk result ((string : List ℕ) × (as_str (view item.now) ≡ Some string)
-        × (spec.texts strings.new.items ≡ spec.texts strings.old.items ++ string ∷ [])) }
-    ensures err { IfErr result (IsRefusal (ok_or (as_str (view item.now)) ScriptError.Shape)) }
-{
-    match item.as_str() {
-        Some(string) => strings.push(string)?,
-        None => return Err(ScriptError::Shape),
-    }
-    Ok(())
-}
-
 /// Returns the strings of an array that has nothing else.
 ///
 /// # Errors
@@ -101,10 +83,10 @@ fn strings_of<'a>(alloc: Global, items: &'a Array) -> Result<Vec<&'a str>, Scrip
 {
     let mut strings = Vec::new(alloc);
     for item in items {
-        match push_string(&mut strings, item) {
-            Ok(()) => {}
-            Err(fault) => return Err(fault),
-        }
+        let Some(string) = item.as_str() else {
+            return Err(ScriptError::Shape);
+        };
+        strings.push(string)?;
     }
     Ok(strings)
 }
@@ -145,24 +127,6 @@ pub fn client_of<'a>(alloc: Global, value: &'a Value) -> Result<ClientRef<'a>, S
     }
 }
 
-/// Adds the client of a value.
-///
-/// # Errors
-///
-/// `Shape`: it is no client's table. `Memory`, which may come before it.
-fn push_client<'a>(
-    alloc: Global,
-    clients: &mut Vec<ClientRef<'a>>,
-    table: &'a Value,
-) -> Result<(), ScriptError>
-    ensures ok { OnOk result ((client : ClientTable) × (spec.client_of (view table.now) ≡ Some client)
-        × (map spec.client_table clients.new.items ≡ map spec.client_table clients.old.items ++ client ∷ [])) }
-    ensures err { IfErr result (IsRefusal (ok_or (spec.client_of (view table.now)) ScriptError.Shape)) }
-{
-    clients.push(client_of(alloc, table)?)?;
-    Ok(())
-}
-
 /// Returns the clients of an array that has nothing else.
 ///
 /// # Errors
@@ -175,8 +139,8 @@ fn clients_of<'a>(alloc: Global, tables: &'a Array) -> Result<Vec<ClientRef<'a>>
 {
     let mut clients = Vec::new(alloc);
     for table in tables {
-        match push_client(alloc, &mut clients, table) {
-            Ok(()) => {}
+        match client_of(alloc, table) {
+            Ok(client) => clients.push(client)?,
             Err(fault) => return Err(fault),
         }
     }

@@ -69,17 +69,8 @@ fn say_refused(note: &mut Note, client: usize, place: usize, op: &str, fault: Sc
     });
 }
 
-/// Says which operation of the last client is the first to be refused, if there is one.
-fn say_ops(note: &mut Note, script: &mut Script, client: usize, ops: &[&str]) {
-    for (place, &op) in ops.iter().enumerate() {
-        if let Err(fault) = add_op(script, op) {
-            say_refused(note, client, place + 1, op, fault);
-            return;
-        }
-    }
-}
-
-/// Says what is wrong with the client that has this number, if anything is. The client goes into the script.
+/// Says what is wrong with the client that has this number, if anything is: that it has too many operations, or which of
+/// them is the first to be refused. The client goes into the script.
 fn say_client(alloc: Global, note: &mut Note, script: &mut Script, client: usize, ops: &[&str]) {
     let count = ops.len();
     if count > Script::MAX_OPS {
@@ -91,7 +82,12 @@ fn say_client(alloc: Global, note: &mut Note, script: &mut Script, client: usize
         return;
     }
     note.refuse_if(script.add_client(alloc, 1).is_err());
-    say_ops(note, script, client, ops);
+    for (place, &op) in ops.iter().enumerate() {
+        if let Err(fault) = add_op(script, op) {
+            say_refused(note, client, place + 1, op, fault);
+            return;
+        }
+    }
 }
 
 /// Says what is wrong with the first client that has a fault, if there is one. The clients go into the script.

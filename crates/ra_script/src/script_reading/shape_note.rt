@@ -23,18 +23,8 @@ fn unknown_key<'a>(table: &'a Table, first: &str, second: &str) -> Option<&'a st
     None
 }
 
-/// Says that a key is missing or its value has the wrong type, and what such a table has.
-fn say_wanting(note: &mut Note, table: &Table, key: &str, known: &str) {
-    note.push(key);
-    note.push(if table.get(key).is_some() {
-        " has the wrong type: "
-    } else {
-        " is missing: "
-    });
-    note.push(known);
-}
-
-/// Says what is wrong with a table that must have an integer and an array, or returns the array if nothing is wrong.
+/// Says what is wrong with a table that must have an integer and an array, or returns the array if nothing is wrong. A key
+/// is unknown, or the first that is wanting is missing, or its value has the wrong type.
 fn array_in<'a>(
     note: &mut Note,
     table: &'a Table,
@@ -49,15 +39,22 @@ fn array_in<'a>(
         note.push(known);
         return None;
     }
-    if integer_at(table, integer).is_none() {
-        say_wanting(note, table, integer, known);
-        return None;
-    }
     let found = array_at(table, array);
-    if found.is_none() {
-        say_wanting(note, table, array, known);
-    }
-    found
+    let wanting = if integer_at(table, integer).is_none() {
+        integer
+    } else if found.is_none() {
+        array
+    } else {
+        return found;
+    };
+    note.push(wanting);
+    note.push(if table.get(wanting).is_some() {
+        " has the wrong type: "
+    } else {
+        " is missing: "
+    });
+    note.push(known);
+    None
 }
 
 /// Says what is wrong with the shape of a client, of whose operations the first that is not a string.

@@ -51,3 +51,8 @@ returns-in-Err-clause-limit c = not_both (length c.args.text.now) c.if-text-gt-M
 
 pub returns-in-Err-clause-memory : goal.returns-in-Err-clause-memory
 returns-in-Err-clause-memory c memory = is_text c.args.text.now c.if-text-gt-MAX_SCRIPT.false c.in-Ok.ensures.cases.1
+
+-- ---- It is no document
+
+pub returns-in-Err-2-clause-limit : goal.returns-in-Err-2-clause-limit
+returns-in-Err-2-clause-limit c = not_both (length c.args.text.now) c.if-text-gt-MAX_SCRIPT.false
