@@ -13,7 +13,7 @@ ghost use Rattle.ra_task.specs.Asked.{AsksForTask, IsOfCommand};
 ghost use Rattle.ra_task.specs.Finishing.{IsFaithful, RunsFaithfully};
 
 use crate::cluster_output::ClusterOutput;
-use crate::command_line::command_rows::command;
+use crate::command_line::command_rows::matches_of;
 use crate::command_line::input_kind::InputKind;
 use crate::command_line::search::{Search, SurveyTask};
 use crate::lone_command::is_command_alone;
@@ -80,8 +80,10 @@ pub enum CommandFault {
 fn text_in<'a>(argument: &'a str, option: &str) -> Option<&'a str>
     ensures { IfSome result (λ text. argument.now ≡ option.now ++ 61 ∷ text.now) }
 {
-    let rest = argument.strip_prefix(option)?;
-    rest.strip_prefix('=')
+    match argument.strip_prefix(option) {
+        Some(rest) => rest.strip_prefix('='),
+        None => None,
+    }
 }
 
 /// Returns the text that the arguments give an option, or `None`. The first argument is the program's name. It does not
@@ -117,8 +119,12 @@ fn number_of(arguments: &[String], option: &str) -> Option<u16>
 fn answer_task<'a>(arguments: &[String]) -> Option<Task<'a>>
     ensures { IfSome result (IsOfCommand (map string_bytes arguments.now)) }
 {
-    let node = number_of(arguments, "--node")?;
-    let nodes = number_of(arguments, "--nodes")?;
+    let Some(node) = number_of(arguments, "--node") else {
+        return None;
+    };
+    let Some(nodes) = number_of(arguments, "--nodes") else {
+        return None;
+    };
     Some(Task::Answer { node, nodes })
 }
 
@@ -131,17 +137,6 @@ fn number_or_zero(arguments: &[String], option: &str) -> u16
         Some(number) => number,
         None => 0,
     }
-}
-
-/// Returns the faults of chance that the arguments of the command `sim` give, or `None` if they give no such faults.
-fn faults_of(arguments: &[String]) -> Option<Faults>
-    ensures { IfSome result (λ faults. GivesNothingBut (map string_bytes arguments.now) (codes "--lose") 0
-        → GivesNothingBut (map string_bytes arguments.now) (codes "--repeat") 0 → (faults.lose ≡ 0) × (faults.repeat ≡ 0)) }
-{
-    let lose = number_or_zero(arguments, "--lose");
-    let repeat = number_or_zero(arguments, "--repeat");
-    let faults = Faults::new(lose, repeat)?;
-    Some(faults)
 }
 
 /// Returns the text that the arguments give an option, or its default. It does not allocate.
@@ -163,7 +158,11 @@ pub fn policy_name(arguments: &[String], sim: &ArgMatches) -> Option<PolicyName>
     let Some(seed) = sim.get_one("seed") else {
         return None;
     };
-    let faults = faults_of(arguments)?;
+    let lose = number_or_zero(arguments, "--lose");
+    let repeat = number_or_zero(arguments, "--repeat");
+    let Some(faults) = Faults::new(lose, repeat) else {
+        return None;
+    };
     let word = text_or(arguments, "--policy", "oldest");
     match word {
         "newest" => Some(PolicyName::Newest),
@@ -295,9 +294,15 @@ fn survey_task<'a>(
     ensures asked { IfSome result (λ task. (arguments : List (List ℕ)) → IsOfCommand arguments task) }
     ensures faithful { IfSome result (λ task. IsFaithful policy → RunsFaithfully task) }
 {
-    let faults = chance_of(policy)?;
-    let find = search_of(ending, format)?;
-    let seeds = seeds_of(seeds)?;
+    let Some(faults) = chance_of(policy) else {
+        return None;
+    };
+    let Some(find) = search_of(ending, format) else {
+        return None;
+    };
+    let Some(seeds) = seeds_of(seeds) else {
+        return None;
+    };
     Some(Task::Survey(SurveyTask {
         faults,
         find,
@@ -310,9 +315,13 @@ fn sim_task<'a>(arguments: &'a [String], sim: &ArgMatches<'a>) -> Option<Task<'a
     ensures asked { IfSome result (IsOfCommand (map string_bytes arguments.now)) }
     ensures faithful { IfSome result (λ task. NamesFaithfully (map string_bytes arguments.now) → RunsFaithfully task) }
 {
-    let policy = policy_name(arguments, sim)?;
+    let Some(policy) = policy_name(arguments, sim) else {
+        return None;
+    };
     let choices = text_or(arguments, "--choices", "");
-    let format = format_of(&policy, arguments, sim)?;
+    let Some(format) = format_of(&policy, arguments, sim) else {
+        return None;
+    };
     let ending = ending_of(sim);
     if let Some(seeds) = sim.get_str("seeds") {
         return survey_task(policy, seeds, ending, format);
@@ -390,8 +399,10 @@ fn cluster_task<'a>(arguments: &[String]) -> Option<Task<'a>>
 fn command_argument(arguments: &[String]) -> Option<&str>
     ensures { IfSome result (λ argument. slice_get (map string_bytes arguments.now) 1 ≡ Some argument.now) }
 {
-    let argument = arguments.get(1)?;
-    Some(argument.as_str())
+    match arguments.get(1) {
+        Some(argument) => Some(argument.as_str()),
+        None => None,
+    }
 }
 
 /// Returns the task of a command line that was understood, or `None` if it has no command. The parser has found that
@@ -402,7 +413,9 @@ fn task_of<'a>(arguments: &'a [String], matches: &ArgMatches<'a>) -> Option<Task
     let Some((_, given)) = matches.subcommand() else {
         return None;
     };
-    let argument = command_argument(arguments)?;
+    let Some(argument) = command_argument(arguments) else {
+        return None;
+    };
     match argument {
         "answer" => answer_task(arguments),
         "sim" => sim_task(arguments, given),
@@ -463,10 +476,10 @@ pub fn parse<'a>(alloc: Global, arguments: &'a [String]) -> Result<Task<'a>, Com
             format: OutputKind::Lines,
         });
     }
-    let Ok(command) = command(alloc, asks_for_summary(arguments)) else {
+    let Ok(parsed) = matches_of(alloc, arguments, asks_for_summary(arguments)) else {
         return Err(CommandFault::Memory);
     };
-    match command.try_get_matches_from(arguments) {
+    match parsed {
         Ok(matches) => task_of(arguments, &matches).ok_or(CommandFault::Usage),
         Err(error) => help_of(alloc, arguments, &error),
     }

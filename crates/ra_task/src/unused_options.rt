@@ -40,21 +40,15 @@ pub fn is_given(arguments: &[String], option: &str) -> bool {
     text_of(arguments, option).is_some()
 }
 
-/// Writes a line for each option that is given but has no effect under the policy. It does not allocate, and ignores a
-/// failure of the writer.
-fn write_limits<N: Write>(arguments: &[String], options: &[Limited], policy: &str, notes: &mut N) {
-    for limited in options {
-        if is_given(arguments, limited.option) && !limited.policies.contains(&policy) {
-            write_line(notes, limited.text);
-        }
-    }
-}
-
 /// Writes a line for each option of `sim` that is given but has no effect. It does not allocate, and ignores a failure
 /// of the writer.
 pub fn write_unused_options<N: Write>(arguments: &[String], notes: &mut N) {
     let policy = text_or(arguments, "--policy", "oldest");
-    write_limits(arguments, LIMITED, policy, notes);
+    for limited in LIMITED {
+        if is_given(arguments, limited.option) && !limited.policies.contains(&policy) {
+            write_line(notes, limited.text);
+        }
+    }
     if policy == "listed" && text_or(arguments, "--choices", "").is_empty() {
         write_line(
             notes,

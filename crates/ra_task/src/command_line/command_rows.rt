@@ -1,7 +1,7 @@
 //! The commands of `ra`, each a row of a table, so that the same few lines make them all.
 use crate::command_line::helps::{STATUS_HELP, SUMMARY_HELP, help_on};
 use crate::command_line::option_rows::{option_of, options_of};
-use clap::Command;
+use clap::{ArgMatches, Command, Error as ParseError};
 use std::alloc::{AllocError, Global};
 
 /// The version of the program, and the versions of the formats that it reads. After a release it is the next one with
@@ -101,8 +101,17 @@ fn command_of<'a>(
     Ok(command)
 }
 
-/// Makes the command line that `ra` understands, with the whole help of each command or with its summary.
-pub fn command<'a>(alloc: Global, is_summary: bool) -> Result<Command<'a>, AllocError> {
+/// Returns what the parser makes of the arguments, of which the first is the program's name. It knows the whole help of
+/// each command, or its summary.
+///
+/// # Errors
+///
+/// `AllocError`: memory ran out for the commands and their options.
+pub fn matches_of<'a>(
+    alloc: Global,
+    arguments: &'a [String],
+    is_summary: bool,
+) -> Result<Result<ArgMatches<'a>, ParseError>, AllocError> {
     let mut program = Command::new(alloc, "ra")
         .version(VERSION)
         .about("Simulate, run, check and draw a lock cluster that works by messages alone")
@@ -113,5 +122,5 @@ pub fn command<'a>(alloc: Global, is_summary: bool) -> Result<Command<'a>, Alloc
         let command = command_of(alloc, row, is_summary)?;
         program = program.subcommand(command)?;
     }
-    Ok(program)
+    Ok(program.try_get_matches_from(arguments))
 }

@@ -1,11 +1,12 @@
 //! What the parser says about arguments that are not a command line, on one line.
-use crate::command_line::command_rows::{command, command_named};
+use crate::command_line::command_rows::{command_named, matches_of};
 use crate::command_line::{PolicyName, format_of, policy_name};
 use crate::notice::{NO_MEMORY, Notice};
 use crate::policy::is_choice;
 use crate::unused_options::is_given;
 use clap::error::ErrorKind;
 use clap::{ArgMatches, Error as ParseError};
+use ra_schedule::OutputKind;
 use ra_world::Note;
 use std::alloc::Global;
 
@@ -256,31 +257,28 @@ fn sim_fault(arguments: &[String], sim: &ArgMatches) -> Option<&'static str> {
             "--repeat must be at most 400, and --lose and --repeat together at most 1000; see ra sim --help",
         );
     };
-    let states = sim.get_flag("state");
-    let shrinks = sim.get_flag("shrink");
-    if format_of(&policy, arguments, sim).is_none() {
-        return Some(if states {
+    let Some(format) = format_of(&policy, arguments, sim) else {
+        return Some(if sim.get_flag("state") {
             STATE_TEXT
-        } else if shrinks {
+        } else if sim.get_flag("shrink") {
             "--shrink cannot be used with --trace, --as-choices or --state, nor with --policy faulty unless --repeat is 0; see ra sim --help"
         } else {
             "--as-choices cannot be used with --trace, nor with --policy faulty unless --repeat is 0; see ra sim --help"
         });
-    }
+    };
     if sim.get_str("seeds").is_none() {
         return Some("--find requires --seeds; see ra sim --help");
     }
     if !matches!(policy, PolicyName::Seeded(_) | PolicyName::Faulty { .. }) {
         return Some("--seeds requires --policy seeded or faulty; see ra sim --help");
     }
-    if states {
-        return Some(STATE_TEXT);
-    }
-    match sim.get_str("find") {
-        None if shrinks || sim.get_flag("trace") || sim.get_flag("as-choices") => Some(
+    match (format, sim.get_str("find")) {
+        (OutputKind::State, _) => Some(STATE_TEXT),
+        (OutputKind::Lines, None) => None,
+        (_, None) => Some(
             "--seeds takes --trace, --as-choices or --shrink only with --find; see ra sim --help",
         ),
-        Some("finished") if shrinks => Some(
+        (OutputKind::Shrunk, Some("finished")) => Some(
             "--shrink cannot be used with --find finished; see ra sim --help",
         ),
         _ => None,
@@ -314,11 +312,11 @@ fn push_unseen(note: &mut Note, arguments: &[String], matches: &ArgMatches) {
 /// the parser knows one, and where to read more. The parser is run again, so that the contract of `parse` need not
 /// mention notes.
 pub fn usage_note(alloc: Global, arguments: &[String]) -> Notice {
-    let Ok(command) = command(alloc, false) else {
+    let Ok(parsed) = matches_of(alloc, arguments, false) else {
         return Notice::Text(NO_MEMORY);
     };
     let mut note = Note::new(alloc);
-    match command.try_get_matches_from(arguments) {
+    match parsed {
         Ok(matches) => push_unseen(&mut note, arguments, &matches),
         Err(error) => push_error(alloc, &mut note, arguments, &error),
     }

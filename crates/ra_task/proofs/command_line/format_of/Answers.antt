@@ -16,3 +16,9 @@ returns-clause-shrunk c =
     under (λ (format : OutputKind). format ≢ Shrunk)
     (Any (λ (argument : String Global). string_bytes argument ≡ codes "--shrink") c.args.arguments.now → ⊥) (c.has_argument-shrinks.result ≡ false)
     (not_found c.has_argument-shrinks.result _ c.has_argument-shrinks.ensures) c.flagged_format.result c.flagged_format.ensures.shrunk
+
+pub returns-in_default-clause-choices : goal.returns-in_default-clause-choices
+returns-in_default-clause-choices c = tt
+
+pub returns-in_default-clause-shrunk : goal.returns-in_default-clause-shrunk
+returns-in_default-clause-shrunk c = tt

@@ -15,14 +15,14 @@ returns-then-is_command_alone-clause-asked c = record { help = tt; numbers = tt;
 pub returns-in_default-clause-plain : goal.returns-in_default-clause-plain
 returns-in_default-clause-plain c are = sim_arguments _ (c.is_command_alone.ensures.1 are) c.if-is_command_alone.false
 
-pub returns-in-Ok-try_get_matches_from-clause-plain : goal.returns-in-Ok-try_get_matches_from-clause-plain
-returns-in-Ok-try_get_matches_from-clause-plain c are = sim_arguments _ (c.is_command_alone.ensures.1 are) c.if-is_command_alone.false
+pub returns-in-Ok-parsed-clause-plain : goal.returns-in-Ok-parsed-clause-plain
+returns-in-Ok-parsed-clause-plain c are = sim_arguments _ (c.is_command_alone.ensures.1 are) c.if-is_command_alone.false
 
 pub returns-in-Err-clause-plain : goal.returns-in-Err-clause-plain
 returns-in-Err-clause-plain c are = sim_arguments _ (c.is_command_alone.ensures.1 are) c.if-is_command_alone.false
 
-pub returns-in-Ok-try_get_matches_from-clause-asked : goal.returns-in-Ok-try_get_matches_from-clause-asked
-returns-in-Ok-try_get_matches_from-clause-asked c = rw c.ok_or.ensures.value (found c.task_of.result _ _ c.task_of.ensures)
+pub returns-in-Ok-parsed-clause-asked : goal.returns-in-Ok-parsed-clause-asked
+returns-in-Ok-parsed-clause-asked c = rw c.ok_or.ensures.value (found c.task_of.result _ _ c.task_of.ensures)
 
 pub returns-in-Err-clause-asked : goal.returns-in-Err-clause-asked
 returns-in-Err-clause-asked c = c.help_of.ensures

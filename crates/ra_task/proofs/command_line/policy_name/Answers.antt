@@ -1,4 +1,4 @@
-use Rattle.std.proofs.Common.{◌≡◌, ℕ, List, ◌⊎◌, map, string_bytes, codes, sym, ◌∙◌, subst, inl, inr}
+use Rattle.std.proofs.Common.{◌≡◌, ℕ, List, ◌⊎◌, map, string_bytes, codes, sym, ap, ◌∙◌, subst, inl, inr}
 use Rattle.std.proofs.lemmas.Bool.{false≢true}
 use lib.Pointwise.{bytes_decides}
 use Rattle.ra_schedule.specs.Faults.{FaultRates}
@@ -31,10 +31,19 @@ pub returns-in-faulty : goal.returns-in-faulty
 returns-in-faulty c names =
     let arguments = map string_bytes c.args.arguments.now in
     let word = c.text_or-word.result.now in
-    faultless arguments word c.in_ok-faults.faults names c.text_or-word.ensures c.in_ok-faults.ensures c.in-faulty.is
+    let same = c.in-Some-new.ensures.value in
+    let zero : GivesNothingBut arguments (codes "--lose") 0 → GivesNothingBut arguments (codes "--repeat") 0 → (c.in-Some-new.faults.lose ≡ 0) × (c.in-Some-new.faults.repeat ≡ 0) =
+    λ lose repeat. (ap (λ (f : FaultRates). f.lose) same ∙ c.number_or_zero-lose.ensures lose, ap (λ (f : FaultRates). f.repeat) same ∙ c.number_or_zero-repeat.ensures repeat) in
+    faultless arguments word c.in-Some-new.faults names c.text_or-word.ensures zero c.in-faulty.is
 
 pub returns-in-listed : goal.returns-in-listed
 returns-in-listed c names =
     let arguments = map string_bytes c.args.arguments.now in
     let word = c.text_or-word.result.now in
     unlisted arguments word names c.text_or-word.ensures c.in-listed.is
+
+pub returns-in_default-new : goal.returns-in_default-new
+returns-in_default-new c = tt
+
+pub returns-in_default : goal.returns-in_default
+returns-in_default c = tt

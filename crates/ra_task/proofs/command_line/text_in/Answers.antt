@@ -8,10 +8,10 @@ behind : (byte : ℕ) (argument option rest : List ℕ) (text : Option (Bor (Lis
 behind byte argument option rest None whole stripped = tt
 behind byte argument option rest (Some text) whole stripped = whole ∙ ap (λ (back : List ℕ). option ++ back) stripped
 
-pub returns : goal.returns
-returns c =
-    let rest = c.in_ok-rest.rest.now in
-    let (place, found, left, length) = c.in_ok-rest.ensures.cases in
-    behind 61 c.args.argument.now c.args.option.now rest c.strip_prefix-2.result
+pub returns-in-Some : goal.returns-in-Some
+returns-in-Some c =
+    let rest = c.in-Some.rest.now in
+    let (place, found, left, length) = c.in-Some.ensures.cases in
+    behind 61 c.args.argument.now c.args.option.now rest c.strip_prefix-in-Some.result
     (found.1 ∙ ap (λ (back : List ℕ). c.args.option.now ++ back) (sym left))
-    (strip_prefix_char 61 rest c.strip_prefix-2.result c.strip_prefix-2.ensures.cases (omega arith))
+    (strip_prefix_char 61 rest c.strip_prefix-in-Some.result c.strip_prefix-in-Some.ensures.cases (omega arith))

@@ -1,4 +1,7 @@
-use Rattle.std.proofs.Common.{◌≡◌, ℕ, List, [], ◌∷◌, length, map, slice_index_or, String, Global, string_bytes, ap, sym, ◌∙◌, arith}
+use Rattle.std.proofs.Common.{◌≡◌, ◌↔◌, ℕ, false, List, [], ◌∷◌, length, map, slice_index_or, String, Global, string_bytes, ap, sym, ◌∙◌, arith}
+use Rattle.std.specs.Prelude.{IsTrue}
+use Rattle.std.proofs.lemmas.Bool.{false≢true}
+use Rattle.std.proofs.lemmas.List.{length-map}
 use lib.Pointwise.{bytes_decides}
 use Rattle.ra_task.proofs.lone_command.is_command_alone.Goals as goal
 
@@ -32,3 +35,14 @@ returns-in-len2 c =
       λ true. there arguments argument command two (sym c.argument-item.is) (sym c.as_str.ensures.value ∙ same.0 (sym c.eq.ensures ∙ true)),
       λ are. c.eq.ensures ∙ same.1 (c.as_str.ensures.value ∙ back arguments argument command two (sym c.argument-item.is) are),
     )
+
+-- of fewer or more arguments, none is the command alone
+other : (arguments : List (String Global)) (command : List ℕ) → (length arguments ≡ 2 → ⊥) → IsTrue false ↔ AreAlone (map string_bytes arguments) command
+other arguments command others =
+    (λ is. absurd (false≢true is), λ are. let same = length-map arguments string_bytes in let two = ap length are.1 in absurd (others (omega (arith, same, two))))
+
+pub returns-in_default : goal.returns-in_default
+returns-in_default c = other c.args.arguments.now c.args.command.now (λ two. omega (arith, two, c.in_default.len_below))
+
+pub returns-in_default-2 : goal.returns-in_default-2
+returns-in_default-2 c = other c.args.arguments.now c.args.command.now (λ two. omega (arith, two, c.in_default.len_at_least))
