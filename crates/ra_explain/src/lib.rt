@@ -15,5 +15,5 @@ pub use trace_notes::blockers::{MAX_CLIENTS, TellsBlocker, push_blockers, want_t
 pub use trace_notes::line_cause::{LineCause, line_note};
 pub use trace_notes::open_request::{OpenRequest, Stage};
 pub use trace_notes::open_text::{OpenText, Sought};
-pub use trace_notes::refused_step::{push_exhausted, push_not_held, push_stage};
+pub use trace_notes::refused_step::{push_exhausted, push_stage};
 pub use trace_notes::text_end::end_note;

@@ -2,8 +2,7 @@
 use crate::refused_event::Standing;
 use ra_book::Refusal;
 use ra_explain::{
-    Stage, push_digits_fault, push_exhausted, push_frame_fault, push_not_held, push_numbered,
-    push_stage,
+    Stage, push_digits_fault, push_exhausted, push_frame_fault, push_numbered, push_stage,
 };
 use ra_frame::Frame;
 use ra_history::BookError;
@@ -16,28 +15,25 @@ const RECEIVE: &[u8] = b"receive ";
 /// Adds why a client may not do what it does at the line: how far it is, and what is expected before it asks again or leaves, or that no
 /// number is left.
 fn push_client(note: &mut Note, why: BookError, standing: &Standing) {
-    let (client, name) = (standing.client, &standing.name);
     let asks = match why {
         BookError::Busy => true,
         BookError::NotHeld => false,
         _ => {
-            push_exhausted(note, name);
+            push_exhausted(note, &standing.name);
             return;
         }
     };
-    match standing.stage {
-        Some(stage) => push_stage(
-            note,
-            client,
-            stage,
-            name,
-            standing.mode,
-            None,
-            standing.since,
-        ),
-        None => push_not_held(note, client, name, None),
-    }
-    note.push(match standing.stage {
+    let stage = standing.stage;
+    push_stage(
+        note,
+        standing.client,
+        &standing.name,
+        None,
+        stage,
+        standing.mode,
+        standing.since,
+    );
+    note.push(match stage {
         Some(Stage::Holds) if asks => " and may not ask for it again: expected its release first",
         _ if asks => " and may not ask for it again: expected its grant and its release first",
         Some(_) => " and does not hold it: expected its grant first",
@@ -45,15 +41,23 @@ fn push_client(note: &mut Note, why: BookError, standing: &Standing) {
     });
 }
 
-/// Adds why this node of a book does not take the event of a line: for its frame, if one comes by it, or for what its client does, if
-/// one asks or leaves by it.
-fn push_untaken(
+/// Adds why this node of a book does not take a line, and what would be right. The frame comes by the line, if one does, and the client
+/// asks or leaves by it, if one does.
+pub fn push_refused(
     note: &mut Note,
+    line: &[u8],
     frame: &Option<Frame>,
     member: Member,
-    cause: BookError,
+    why: Refusal,
     standing: &Option<Standing>,
 ) {
+    let digits = line.get(RECEIVE.len()..).unwrap_or(b"");
+    let cause = match why {
+        Refusal::Line => return,
+        Refusal::Hex => return push_digits_fault(note, digits, RECEIVE.len()),
+        Refusal::Frame(fault) => return push_frame_fault(note, digits, fault),
+        Refusal::Event(cause) => cause,
+    };
     if let BookError::ClockFull = cause {
         note.push(
             "the clock of this event would be above the greatest, 4611686018427387904 (2^62)",
@@ -68,24 +72,5 @@ fn push_untaken(
             push_numbered(note, "the frame is from node ", frame.message.from().get());
             push_numbered(note, ": the nodes are 1 to ", member.nodes());
         }
-    }
-}
-
-/// Adds why this node of a book does not take a line, and what would be right. The frame comes by the line, if one does, and the client
-/// asks or leaves by it, if one does.
-pub fn push_refused(
-    note: &mut Note,
-    line: &[u8],
-    frame: &Option<Frame>,
-    member: Member,
-    why: Refusal,
-    standing: &Option<Standing>,
-) {
-    let digits = line.get(RECEIVE.len()..).unwrap_or(b"");
-    match why {
-        Refusal::Line => {}
-        Refusal::Hex => push_digits_fault(note, digits, RECEIVE.len()),
-        Refusal::Frame(fault) => push_frame_fault(note, digits, fault),
-        Refusal::Event(cause) => push_untaken(note, frame, member, cause, standing),
     }
 }

@@ -14,13 +14,16 @@ pub const CLOCK: usize = 6;
 /// The number of fields before the name, and so the index of the name.
 pub const NAME: usize = 8;
 
+/// The index of a byte of the name.
+pub const NAME_BYTE: usize = 9;
+
 /// The index of the field that each fault is in, in the order of `FrameError`. It is that of the name if none before it has the fault.
 pub const FAULTY: [usize; 12] = [
     NAME, 0, 1, SENDER, RECEIVER, RECEIVER, MODE, 5, CLOCK, 7, NAME, NAME,
 ];
 
-/// The names of the fields, in their order.
-const NAMES: [&str; 9] = [
+/// The names of the fields, in their order, and that of a byte of the last one.
+pub const NAMES: [&str; 10] = [
     "the version",
     "the kind",
     "the sender",
@@ -30,6 +33,7 @@ const NAMES: [&str; 9] = [
     "the event clock",
     "the length of the name",
     "the name",
+    "the name byte",
 ];
 
 /// What they may contain in version 2.
@@ -45,42 +49,42 @@ const RANGES: [&str; 9] = [
     "names consist of A-Z, a-z, 0-9, _, - and .",
 ];
 
-/// What a node must be in version 1.
-const NODE_1: &str = "must be 01 to 10 (nodes 1 to 16) in version 1";
-
-/// What a mode must be in version 1.
-const MODE_1: &str = "must be 00 or 01 in a REQUEST, and 00 in a REPLY, in version 1";
-
-/// A field of a frame, or a part of one.
+/// A field of a frame, or a byte of its name.
 #[derive(Clone, Copy)]
 pub struct FrameField {
-    pub name: &'static str,
+    /// Its index in the order of all, or that of the name's bytes.
+    pub index: usize,
     /// Where it begins, in bytes counted from 0.
     pub place: usize,
     /// How many bytes it has.
     pub width: usize,
-    /// What it may contain.
-    pub range: &'static str,
 }
 
-/// Returns the field with this index in the frame of these digits. If they name no version, it is that of a frame of the newest one. The
-/// name is as long as the byte before it says.
-pub fn field_at(digits: &[u8], index: usize) -> FrameField {
+/// Returns the format of the frame of these digits. If they name no version, it is that of the newest one.
+fn format_in(digits: &[u8]) -> Format {
     let [version, ..] = number_at(digits, 0, 1).to_le_bytes();
-    let format = format_of(&[version]).unwrap_or(Format::V2);
-    let places = format.places();
+    format_of(&[version]).unwrap_or(Format::V2)
+}
+
+/// Returns the field with this index in the frame of these digits. The name is as long as the byte before it says.
+pub fn field_at(digits: &[u8], index: usize) -> FrameField {
+    let places = format_in(digits).places();
     let place = *places.get(index).unwrap_or(&0);
     FrameField {
-        name: NAMES.get(index).unwrap_or(&""),
+        index,
         place,
         width: match places.get(index.saturating_add(1)) {
             Some(next) => next.saturating_sub(place),
             None => number_at(digits, place.saturating_sub(1), 1) as usize,
         },
-        range: match (format, index) {
-            (Format::V1, SENDER | RECEIVER) => NODE_1,
-            (Format::V1, MODE) => MODE_1,
-            _ => RANGES.get(index).unwrap_or(&""),
-        },
+    }
+}
+
+/// Returns what the field with this index may contain in the frame of these digits.
+pub fn range_at(digits: &[u8], index: usize) -> &'static str {
+    match (format_in(digits), index) {
+        (Format::V1, SENDER | RECEIVER) => "must be 01 to 10 (nodes 1 to 16) in version 1",
+        (Format::V1, MODE) => "must be 00 or 01 in a REQUEST, and 00 in a REPLY, in version 1",
+        _ => RANGES.get(index).unwrap_or(&""),
     }
 }

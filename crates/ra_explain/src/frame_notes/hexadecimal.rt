@@ -7,32 +7,28 @@ use std::alloc::Global;
 /// The most bytes that a line may have, without its line feed.
 const MAX_LINE: usize = 256;
 
-/// Adds which byte of a line is not a hexadecimal digit, by its place in the digits, before which this many other bytes come.
-fn push_no_digit(note: &mut Note, before: usize, place: usize, byte: u8) {
-    push_number_in(
-        note,
-        "not a hexadecimal digit at offset ",
-        place.saturating_add(before),
-        " of the line: ",
-    );
-    match byte {
-        // A line that has the digits alone may be the last one of its text without a line feed.
-        b'\r' if before == 0 => {
-            note.push("a carriage return (end the line with a line feed alone, or with nothing)");
-        }
-        b'\r' => note.push("a carriage return (end the line with a line feed alone)"),
-        b'\t' => note.push("a tab"),
-        b' '..=b'~' => note.quoted(&[byte]),
-        _ => push_numbered(note, "the byte value ", byte),
-    }
-}
-
 /// Adds why the bytes of a line, after this many others, are not an even number of hexadecimal digits: which byte is not
 /// one, or how many digits there are.
 pub fn push_digits_fault(note: &mut Note, digits: &[u8], before: usize) {
     for (place, byte) in digits.iter().enumerate() {
         if !byte.is_ascii_hexdigit() {
-            push_no_digit(note, before, place, *byte);
+            push_number_in(
+                note,
+                "not a hexadecimal digit at offset ",
+                place.saturating_add(before),
+                " of the line: ",
+            );
+            match *byte {
+                // A line that has the digits alone may be the last one of its text without a line feed.
+                b'\r' => note.push(if before == 0 {
+                    "a carriage return (end the line with a line feed alone, or with nothing)"
+                } else {
+                    "a carriage return (end the line with a line feed alone)"
+                }),
+                b'\t' => note.push("a tab"),
+                b' '..=b'~' => note.quoted(&[*byte]),
+                _ => push_numbered(note, "the byte value ", *byte),
+            }
             return;
         }
     }

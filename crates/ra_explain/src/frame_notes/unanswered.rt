@@ -1,6 +1,6 @@
 //! Which field of a frame is the reason that a node does not answer it.
-use crate::frame_notes::digits::number_at;
-use crate::frame_notes::frame_fault::push_field;
+use crate::frame_notes::digits::{number_at, part};
+use crate::frame_notes::frame_fault::push_offsets;
 use crate::frame_notes::frame_field::{CLOCK, RECEIVER, SENDER, field_at};
 use crate::note_parts::push_number_in;
 use ra_stamp::Memory;
@@ -34,24 +34,36 @@ pub fn unanswered_note(
 ) -> Result<Option<String>, Memory> {
     let mut note = Note::new(alloc);
     let (digits, _) = cut(input, b'\n');
-    let (index, before, after) = match why {
-        Unanswered::WrongNode => (RECEIVER, ": the frame is for node ", ", but --node is "),
-        // The sender is not this node: a frame from its own receiver is faulty, and one for another node is not
-        // answered.
-        Unanswered::Stranger => (SENDER, ": the frame is from node ", ", but --nodes is "),
-        Unanswered::ClockFull => (CLOCK, "", ""),
+    let index = match why {
+        Unanswered::WrongNode => RECEIVER,
+        Unanswered::Stranger => SENDER,
+        Unanswered::ClockFull => CLOCK,
     };
     let field = field_at(digits, index);
-    push_field(&mut note, digits, &field);
+    push_offsets(&mut note, &field);
+    note.push("is ");
+    note.bytes(part(digits, field.place, field.width));
     let number = number_at(digits, field.place, field.width);
     match why {
-        Unanswered::WrongNode | Unanswered::Stranger => {
-            push_number_in(&mut note, before, number, after);
-            note.push(if let Unanswered::WrongNode = why {
-                node
-            } else {
-                nodes
-            });
+        Unanswered::WrongNode => {
+            push_number_in(
+                &mut note,
+                ": the frame is for node ",
+                number,
+                ", but --node is ",
+            );
+            note.push(node);
+        }
+        // The sender is not this node: a frame from its own receiver is faulty, and one for another node is not
+        // answered.
+        Unanswered::Stranger => {
+            push_number_in(
+                &mut note,
+                ": the frame is from node ",
+                number,
+                ", but --nodes is ",
+            );
+            note.push(nodes);
         }
         Unanswered::ClockFull => note.push(", the greatest: no clock is left for an answer"),
     }

@@ -21,26 +21,23 @@ pub enum LineCause {
     Marks(MarkCause),
 }
 
-/// Adds why a line is wrong after those before it, which are gone through once more for that, or `other` if nothing more precise is
-/// found. It is a step that is refused, a message that is not under way, or a mark.
+/// Adds why a line is wrong that has the form of one, or `other` if nothing more precise is found. It is a step that is refused, a
+/// message that is not under way, or a mark. For most causes, the lines before it are gone through once more.
 fn push_after(alloc: Global, note: &mut Note, line: &TextLine<'_>, cause: LineCause, other: &str) {
-    let replay = Replay::of(alloc, line.before, line.bytes);
+    let before = match cause {
+        // These lines tell of a grant alone why it is not due.
+        LineCause::Due(None) if line.bytes.starts_with(b"enter ") => line.before,
+        LineCause::Due(_) | LineCause::Trace(Cause::Marks) => b"",
+        _ => line.before,
+    };
+    let replay = Replay::of(alloc, before, line.bytes);
     match cause {
+        LineCause::Due(due) => push_due(alloc, note, &replay, &due),
+        LineCause::Trace(Cause::Marks) => note.push(other),
         LineCause::Trace(Cause::Refused) => push_refused(note, line, &replay, other),
         LineCause::Trace(Cause::NotUnderWay) => push_not_under_way(note, line, &replay, other),
+        LineCause::Trace(_) => push_obstacle(alloc, note, line, &replay, None, other),
         LineCause::Marks(why) => push_obstacle(alloc, note, line, &replay, Some(why), other),
-        _ => push_obstacle(alloc, note, line, &replay, None, other),
-    }
-}
-
-/// Adds why a line is wrong, which is `other` if nothing more precise is found.
-fn push_cause(alloc: Global, note: &mut Note, line: &TextLine<'_>, cause: LineCause, other: &str) {
-    match cause {
-        LineCause::Trace(Cause::Line) => push_trace_text(note, line, other),
-        LineCause::Trace(Cause::Marks) => note.push(other),
-        LineCause::Due(due) => push_due(alloc, note, line, &due),
-        LineCause::Marks(MarkCause::Line) => push_mark_text(note, line, other),
-        _ => push_after(alloc, note, line, cause, other),
     }
 }
 
@@ -68,6 +65,10 @@ pub fn line_note(
         note.quoted(line.bytes);
     }
     note.push(": ");
-    push_cause(alloc, &mut note, &line, cause, other);
+    match cause {
+        LineCause::Trace(Cause::Line) => push_trace_text(&mut note, &line, other),
+        LineCause::Marks(MarkCause::Line) => push_mark_text(&mut note, &line, other),
+        _ => push_after(alloc, &mut note, &line, cause, other),
+    }
     note.finish()
 }

@@ -50,12 +50,11 @@ pub fn kind_of<'a>(kinds: &[LineKind], line: &'a [u8]) -> Option<(LineKind, Opti
 
 /// Returns the version that the first line of a text names, or `None` if it does not name one.
 pub fn version_of(text: &[u8]) -> Option<Version> {
-    for kind in FIRST_LINES {
-        if let LineKind::First(version) = kind
-            && text.starts_with(kind.words().as_bytes())
-        {
-            return Some(*version);
-        }
+    if text.starts_with(LineKind::First(Version::One).words().as_bytes()) {
+        Some(Version::One)
+    } else if text.starts_with(LineKind::First(Version::Two).words().as_bytes()) {
+        Some(Version::Two)
+    } else {
+        None
     }
-    None
 }

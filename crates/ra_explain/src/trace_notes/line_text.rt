@@ -14,12 +14,6 @@ const WORDS: &str =
 const NOT_FIRST: &str =
     "expected trace 2 NODES START, or trace 1 NODES START in version 1, as the first line of a trace";
 
-/// The text for a first line that occurs again.
-const FIRST_AGAIN: &str = "only the first line of a trace may begin with trace";
-
-/// The text for a repeat in version 1.
-const NO_REPEATS: &str = "version 1 has no repeats";
-
 /// Returns the text for a line that does not end as lines must, or `None`.
 fn end_text(line: &TextLine<'_>) -> Option<&'static str> {
     if line.has_feed {
@@ -39,49 +33,41 @@ fn end_text(line: &TextLine<'_>) -> Option<&'static str> {
     })
 }
 
-/// Returns what is said of a line that has none of the words that it may begin with: that a tab does not separate fields if it has
-/// one, and otherwise `text`.
-fn unless_tab<'a>(line: &[u8], text: &'a str) -> &'a str {
-    if line.contains(&b'\t') { TAB } else { text }
-}
-
 /// Adds the text for a line that does not belong in a trace or is out of place, or `other` if nothing is found.
 pub fn push_trace_text(note: &mut Note, line: &TextLine<'_>, other: &str) {
     let text = line.bytes;
-    let said = if line.is_after_end {
-        "nothing may follow end, the last line of a trace"
+    if line.is_after_end {
+        note.push("nothing may follow end, the last line of a trace");
     } else if let Some(ending) = end_text(line) {
-        ending
+        note.push(ending);
     } else if line.number == 1 {
-        if push_line_fault(note, FIRST_LINES, text, version_of(text)) {
-            return;
+        if !push_line_fault(note, FIRST_LINES, text, version_of(text)) {
+            note.push(hint_at(&[AT_BOTH, AT_FIRST], text, NOT_FIRST));
         }
-        hint_at(&[AT_BOTH, AT_FIRST], text, NOT_FIRST)
     } else if kind_of(FIRST_LINES, text).is_some() {
-        FIRST_AGAIN
+        note.push("only the first line of a trace may begin with trace");
     } else if text.starts_with(b"repeat ")
         && matches!(version_of(line.before), Some(Version::One))
     {
-        NO_REPEATS
-    } else if kind_of(LATER_LINES, text).is_none() {
-        unless_tab(text, hint_at(&[AT_LATER], text, WORDS))
-    } else if push_line_fault(note, LATER_LINES, text, version_of(line.before)) {
-        return;
+        note.push("version 1 has no repeats");
+    } else if kind_of(LATER_LINES, text).is_some() {
+        if !push_line_fault(note, LATER_LINES, text, version_of(line.before)) {
+            note.push(other);
+        }
+    } else if text.contains(&b'\t') {
+        note.push(TAB);
     } else {
-        other
-    };
-    note.push(said);
+        note.push(hint_at(&[AT_LATER], text, WORDS));
+    }
 }
 
 /// Adds the text for a line that is not a mark, or `other` if nothing is found.
 pub fn push_mark_text(note: &mut Note, line: &TextLine<'_>, other: &str) {
     let text = line.bytes;
-    let said = if let Some(ending) = end_text(line) {
-        ending
-    } else if push_line_fault(note, MARKS, text, Some(Version::Two)) {
-        return;
-    } else {
-        hint_at(&[AT_BOTH, AT_MARKS], text, unless_tab(text, other))
-    };
-    note.push(said);
+    if let Some(ending) = end_text(line) {
+        note.push(ending);
+    } else if !push_line_fault(note, MARKS, text, Some(Version::Two)) {
+        let otherwise = if text.contains(&b'\t') { TAB } else { other };
+        note.push(hint_at(&[AT_BOTH, AT_MARKS], text, otherwise));
+    }
 }

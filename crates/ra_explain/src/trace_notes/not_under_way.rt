@@ -58,13 +58,12 @@ pub fn push_not_under_way(note: &mut Note, line: &TextLine<'_>, replay: &Replay,
         }
         return;
     }
-    let sought = Sought::AtNode(message.to(), message.name());
-    match replay.open.next_of(0, &sought) {
-        Some(request)
-            if matches!(message, Message::Reply { .. })
-                && request.entry.stamp.seq == message.seq() => {
-            push_awaited(note, replay, message, request);
-        }
-        _ => note.push(NEVER_SENT),
+    if let Message::Reply { to, name, seq, .. } = message
+        && let Some(request) = replay.open.next_of(0, &Sought::AtNode(*to, *name))
+        && request.entry.stamp.seq == *seq
+    {
+        push_awaited(note, replay, message, request);
+    } else {
+        note.push(NEVER_SENT);
     }
 }

@@ -6,7 +6,7 @@ use crate::trace_notes::replay::Replay;
 use crate::trace_notes::table_steps::refusal_after;
 use crate::trace_notes::text_line::TextLine;
 use ra_stamp::Entry;
-use ra_trace::{Line, MarkCause};
+use ra_trace::MarkCause;
 use ra_world::Note;
 use std::alloc::Global;
 
@@ -55,14 +55,14 @@ fn push_fate(note: &mut Note, entry: &Entry, replay: &Replay, cause: MarkCause) 
     let at_node = Sought::AtNode(entry.stamp.node, entry.name);
     let of_client = Sought::Of(entry.client, entry.name);
     if let Some(request) = replay.open.request_of(entry) {
-        let text = if request.holds() {
+        let text = if request.stage.is(Stage::Holds) {
             ": it was granted in line "
         } else {
             ": it has waited since line "
         };
         push_numbered(note, text, request.since);
-    } else if let Some(released) = replay.release_of(entry) {
-        push_numbered(note, ": it was released in line ", released.since);
+    } else if replay.released_at > 0 {
+        push_numbered(note, ": it was released in line ", replay.released_at);
     } else if !push_other(note, ": ", replay.open.next_of(0, &at_node))
         && !push_other(note, ": ", replay.open.next_of(0, &of_client))
     {
@@ -106,8 +106,8 @@ pub fn push_obstacle(
     log_cause: Option<MarkCause>,
     other: &str,
 ) {
-    let mark = match Line::parse(line.bytes) {
-        Some(Line::Marked(mark)) if replay.open.is_whole => mark,
+    let mark = match &replay.mark {
+        Some(mark) if replay.open.is_whole => mark,
         _ => {
             note.push(other);
             return;
@@ -115,7 +115,7 @@ pub fn push_obstacle(
     };
     let (cause, text) = match log_cause {
         Some(_) => (log_cause, other),
-        None => match refusal_after(alloc, line.before, &mark) {
+        None => match refusal_after(alloc, line.before, mark) {
             Some(cause) => (Some(cause), IN_TABLE[cause as usize]),
             None => (None, other),
         },

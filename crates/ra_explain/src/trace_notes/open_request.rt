@@ -41,11 +41,6 @@ pub struct OpenRequest {
 }
 
 impl OpenRequest {
-    /// Returns whether it was granted.
-    pub fn holds(&self) -> bool {
-        self.stage.is(Stage::Holds)
-    }
-
     /// Returns whether it waits for a name or holds it.
     pub fn is_on(&self, name: &Name) -> bool {
         !self.stage.is(Stage::Queued) && self.entry.name == *name
@@ -55,7 +50,7 @@ impl OpenRequest {
     pub fn blocks(&self, entry: &Entry) -> bool {
         self.is_on(&entry.name)
             && conflicts(self.entry.mode, entry.mode)
-            && (self.holds() || self.entry.stamp < entry.stamp)
+            && (self.stage.is(Stage::Holds) || self.entry.stamp < entry.stamp)
     }
 
     /// Adds whose it is, what that client does with the name, and in or since which line.
@@ -69,7 +64,7 @@ impl OpenRequest {
 
     /// Adds that it is in the way of another one, since it holds or came first.
     pub fn push_in_the_way(&self, note: &mut Note) {
-        if self.holds() {
+        if self.stage.is(Stage::Holds) {
             self.push(note, Stage::Holds.done(), " since line ");
         } else {
             self.push(note, " asked for ", " in line ");

@@ -84,7 +84,9 @@ impl OpenText {
     /// Returns the request of an entry, if that waits or holds.
     pub fn request_of(&self, entry: &Entry) -> Option<&OpenRequest> {
         match self.clients.get(&key_of(entry)) {
-            Some(request) if request.is_on(&entry.name) && request.entry == *entry => Some(request),
+            Some(request) if !request.stage.is(Stage::Queued) && request.entry == *entry => {
+                Some(request)
+            }
             _ => None,
         }
     }

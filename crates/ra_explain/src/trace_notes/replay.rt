@@ -16,13 +16,14 @@ pub struct Replay {
     pub nodes: u16,
     /// Which clients wait, are queued and hold after them.
     pub open: OpenText,
-    /// The entry of the mark that the line is, if it is one.
-    entry: Option<Entry>,
+    /// The mark that the line is, if it is one. Its entry is meant by what follows.
+    pub mark: Option<Mark>,
     /// The greatest number that was granted for the name of the entry, and its line. Both are 0 if none was.
     pub granted: u64,
     pub granted_at: u64,
-    /// The request of the entry, if it was released, and otherwise the last one that its node released for the name, if there is one,
-    /// with the line in which it was.
+    /// The line in which the entry was released, or 0 if it was not.
+    pub released_at: u64,
+    /// The last request that its node released for the name, if there is one, with the line in which it was.
     pub released: Option<OpenRequest>,
     /// Which nodes have a REPLY to the request of the entry delivered, by their numbers.
     replied: [bool; NUMBERS],
@@ -37,8 +38,8 @@ pub struct Replay {
 impl Replay {
     /// Goes through these lines for what they say of the one after them, or of their end if that is empty. The cost is linear in them.
     pub fn of(alloc: Global, lines: &[u8], subject: &[u8]) -> Replay {
-        let (entry, message) = match &Line::parse(subject) {
-            Some(Line::Marked(mark)) => (Some(*mark.entry()), None),
+        let (mark, message) = match &Line::parse(subject) {
+            Some(Line::Marked(mark)) => (Some(*mark), None),
             Some(Line::Stepped(Step::Deliver(sent) | Step::Lose(sent) | Step::Repeat(sent))) => {
                 (None, Some(*sent))
             }
@@ -47,9 +48,10 @@ impl Replay {
         let mut replay = Replay {
             nodes: 0,
             open: OpenText::new(alloc),
-            entry,
+            mark,
             granted: 0,
             granted_at: 0,
+            released_at: 0,
             released: None,
             replied: [false; NUMBERS],
             message,
@@ -136,15 +138,16 @@ impl Replay {
 
     /// Takes that a message is delivered, which may be a REPLY to the request of the entry.
     fn take_reply(&mut self, message: &Message) {
+        let Some(mark) = &self.mark else {
+            return;
+        };
+        let entry = mark.entry();
         let from = message.from();
-        let reply = match &self.entry {
-            Some(entry) => Message::Reply {
-                from,
-                to: entry.stamp.node,
-                name: entry.name,
-                seq: entry.stamp.seq,
-            },
-            None => return,
+        let reply = Message::Reply {
+            from,
+            to: entry.stamp.node,
+            name: entry.name,
+            seq: entry.stamp.seq,
         };
         if *message == reply
             && let Some(has) = self.replied.get_mut(usize::from(from.get()))
@@ -153,12 +156,12 @@ impl Replay {
         }
     }
 
-    /// Takes the mark in the line with this number, for what is over on the name of the entry. A release by the node of the entry says
-    /// more than those before, but for that of the entry itself.
+    /// Takes the mark in the line with this number, for what is over on the name of the entry.
     fn take_mark(&mut self, mark: &Mark, number: u64) {
-        let Some(entry) = self.entry else {
+        let Some(subject) = self.mark else {
             return;
         };
+        let entry = *subject.entry();
         let made = mark.entry();
         if made.name != entry.name {
             return;
@@ -168,9 +171,10 @@ impl Replay {
                 self.granted = made.stamp.seq;
                 self.granted_at = number;
             }
-            Mark::Left(_)
-                if made.stamp.node == entry.stamp.node
-                    && (*made == entry || self.release_of(&entry).is_none()) => {
+            Mark::Left(_) if made.stamp.node == entry.stamp.node => {
+                if *made == entry {
+                    self.released_at = number;
+                }
                 self.released = Some(OpenRequest {
                     entry: *made,
                     stage: Stage::Queued,
@@ -178,14 +182,6 @@ impl Replay {
                 });
             }
             _ => {}
-        }
-    }
-
-    /// Returns the request of the entry, if it was released.
-    pub fn release_of(&self, entry: &Entry) -> Option<&OpenRequest> {
-        match &self.released {
-            Some(released) if released.entry == *entry => Some(released),
-            _ => None,
         }
     }
 

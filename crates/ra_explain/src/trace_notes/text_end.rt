@@ -1,6 +1,4 @@
 //! What is left at the end of a trace or of a mark log.
-ghost use Rattle.std.specs.Prelude.{◌≤◌, length};
-
 use crate::note_parts::push_number_in;
 use crate::trace_notes::blockers::{ByLine, MAX_CLIENTS, push_blockers, want_text};
 use crate::trace_notes::line_form::version_of;
@@ -40,16 +38,6 @@ struct LineCounts {
 /// How many bytes are looked at together for line feeds.
 const BLOCK: usize = 64;
 
-/// Returns which of the first 64 bytes are line feeds, by a bit for each.
-#[inline(always)]
-fn feeds_of(block: &[u8]) -> u64
-    requires { 64 ≤ length block.now }
-{
-    u8x64::from_slice(block)
-        .simd_eq(u8x64::splat(b'\n'))
-        .to_bitmask()
-}
-
 impl LineCounts {
     /// Counts the lines of a trace or of a mark log. The cost is linear in the text.
     fn of(text: &[u8]) -> LineCounts {
@@ -68,7 +56,11 @@ impl LineCounts {
             let Some(after) = rest.get(BLOCK..) else {
                 break;
             };
-            counts.add_after(feeds_of(rest), rest);
+            // Which of the first 64 bytes are line feeds, by a bit for each.
+            let feeds = u8x64::from_slice(rest)
+                .simd_eq(u8x64::splat(b'\n'))
+                .to_bitmask();
+            counts.add_after(feeds, rest);
             rest = after;
         }
         for _ in 0..BLOCK {
@@ -112,23 +104,10 @@ impl LineCounts {
             _ => {}
         }
     }
-
-    /// Returns how much is left, if this many messages were sent. A client that asked is queued until its request is made, which
-    /// waits until it is granted. In a mark log nobody asks.
-    fn left(&self, sent: u64) -> LeftOver {
-        let taken = self.losses.saturating_add(self.deliveries);
-        LeftOver {
-            under_way: sent.saturating_add(self.repeats).saturating_sub(taken),
-            lost: self.losses,
-            waiting: self.requests.saturating_sub(self.enters),
-            queued: self.asks.saturating_sub(self.requests),
-            holding: self.enters.saturating_sub(self.leaves),
-        }
-    }
 }
 
-/// Adds the first clients at a stage, and what is in the way of those that wait or are queued: `want` if no other client blocks one that
-/// waits. Returns how many clients are named then, if this many are named before.
+/// Adds the first clients at a stage, and what is in the way of those that wait or are queued: `want` if no other client is. Returns how
+/// many clients are named then, if this many are named before.
 fn push_clients(note: &mut Note, open: &OpenText, stage: Stage, before: u64, want: &str) -> u64 {
     let (mut after, mut named) = (0, before);
     for _ in 0..MAX_CLIENTS {
@@ -139,14 +118,11 @@ fn push_clients(note: &mut Note, open: &OpenText, stage: Stage, before: u64, wan
         request.push(note, stage.done(), " since line ");
         let entry = &request.entry;
         let in_the_way = match stage {
-            Stage::Waits => Some((Sought::Blocking(*entry), want)),
-            Stage::Queued => Some((Sought::AtNode(entry.stamp.node, entry.name), "")),
-            Stage::Holds => None,
+            Stage::Waits => Sought::Blocking(*entry),
+            _ => Sought::AtNode(entry.stamp.node, entry.name),
         };
-        if let Some((sought, otherwise)) = in_the_way {
-            if !push_blockers(note, open, &sought, &ByLine) {
-                note.push(otherwise);
-            }
+        if !stage.is(Stage::Holds) && !push_blockers(note, open, &in_the_way, &ByLine) {
+            note.push(want);
         }
         after = request.since;
         named = u64::saturating_add(named, 1);
@@ -193,8 +169,8 @@ fn push_end(alloc: Global, note: &mut Note, text: &[u8], left: &LeftOver) {
     if replay.open.is_whole {
         let open = &replay.open;
         let waiting = push_clients(note, open, Stage::Waits, 0, want);
-        let queued = push_clients(note, open, Stage::Queued, waiting, want);
-        push_clients(note, open, Stage::Holds, queued, want);
+        let queued = push_clients(note, open, Stage::Queued, waiting, "");
+        push_clients(note, open, Stage::Holds, queued, "");
     } else {
         note.push("; there was no room to name them");
     }
@@ -217,7 +193,17 @@ pub fn end_note(alloc: Global, text: &[u8], sent: u128) -> Result<Option<String>
     } else {
         u64::MAX
     };
-    let left = LineCounts::of(text).left(sent);
+    let counts = LineCounts::of(text);
+    let left = LeftOver {
+        under_way: sent
+            .saturating_add(counts.repeats)
+            .saturating_sub(counts.losses.saturating_add(counts.deliveries)),
+        lost: counts.losses,
+        // A client that asked is queued until its request is made, which waits until it is granted. In a mark log nobody asks.
+        waiting: counts.requests.saturating_sub(counts.enters),
+        queued: counts.asks.saturating_sub(counts.requests),
+        holding: counts.enters.saturating_sub(counts.leaves),
+    };
     if text.is_empty() {
         note.push("the log has no mark, so nothing was judged");
     } else if left.under_way > 0 || left.waiting > 0 || left.queued > 0 || left.holding > 0 {

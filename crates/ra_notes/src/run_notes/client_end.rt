@@ -79,17 +79,6 @@ impl<'a> RunEnd<'a> {
         }
     }
 
-    /// Returns how many operations of a client the marks of the run complete.
-    fn done_by(&self, client: u32) -> u64 {
-        let mut done = 0;
-        for mark in self.report.marks.as_slice() {
-            if mark.entry().client == client && !matches!(mark, Mark::Requested(_)) {
-                done = u64::saturating_add(done, 1);
-            }
-        }
-        done
-    }
-
     /// Returns whether a client has begun more than `done` operations. If the choices are not listed, each client goes
     /// on as long as it can.
     fn has_begun(&self, client: u32, done: u64) -> bool {
@@ -105,25 +94,23 @@ impl<'a> RunEnd<'a> {
         begun > done
     }
 
-    /// Returns the entry of a client that waits for a name, if it does.
-    fn waiting_for(&self, client: u32, name: &Name) -> Option<Entry> {
-        let Some(node) = self.script.node_of(client) else {
-            return None;
-        };
-        match self.requests.clients.get(&(node, client, *name)) {
-            Some(request) if request.stage.is(Stage::Waits) => Some(request.entry),
-            _ => None,
-        }
-    }
-
     /// Returns the state of a client.
     pub fn client_end(&self, client: u32) -> ClientEnd {
-        let done = self.done_by(client);
+        // How many of its operations the marks of the run complete.
+        let mut done = 0;
+        for mark in self.report.marks.as_slice() {
+            if mark.entry().client == client && !matches!(mark, Mark::Requested(_)) {
+                done = u64::saturating_add(done, 1);
+            }
+        }
         match &self.script.op(client, done) {
             None => return ClientEnd::Done,
             Some(Op::Lock(name, mode)) => {
-                if let Some(entry) = self.waiting_for(client, name) {
-                    return ClientEnd::Waits(entry);
+                if let Some(node) = self.script.node_of(client)
+                    && let Some(request) = self.requests.clients.get(&(node, client, *name))
+                    && request.stage.is(Stage::Waits)
+                {
+                    return ClientEnd::Waits(request.entry);
                 }
                 if self.has_begun(client, done) {
                     return ClientEnd::Queued {
@@ -142,7 +129,7 @@ impl TellsBlocker for RunEnd<'_> {
     fn push_blocker(&self, note: &mut Note, request: &OpenRequest) {
         let client = request.entry.client;
         note.client(client);
-        note.push(if !request.holds() {
+        note.push(if !request.stage.is(Stage::Holds) {
             " asked earlier"
         } else if let ClientEnd::Done = self.client_end(client) {
             ", which has finished, holds it"

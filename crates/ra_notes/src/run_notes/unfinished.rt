@@ -1,8 +1,10 @@
 //! Which clients wait for which others at the end of a run.
 use crate::run_notes::client_end::{ClientEnd, RunEnd};
 use crate::script_notes::script_text::{run_of, script_in};
-use ra_explain::{MAX_CLIENTS, Sought, push_blockers, push_number_in, push_numbered, want_text};
-use ra_schedule::{Policy, Script, Summary};
+use ra_explain::{
+    MAX_CLIENTS, Sought, Stage, push_blockers, push_number_in, push_numbered, want_text,
+};
+use ra_schedule::{Policy, Script};
 use ra_stamp::{Memory, NodeId};
 use ra_world::Note;
 use std::alloc::Global;
@@ -18,7 +20,7 @@ fn push_reason(note: &mut Note, ending: &RunEnd<'_>, node: NodeId, client_end: &
         }
         ClientEnd::Queued { name, .. } => {
             if let Some(first) = ending.requests.next_of(0, &Sought::AtNode(node, *name)) {
-                let does = if first.holds() {
+                let does = if first.stage.is(Stage::Holds) {
                     ", which holds it"
                 } else {
                     ", which waits for it"
@@ -59,16 +61,11 @@ fn push_clients(note: &mut Note, ending: &RunEnd<'_>, waits: bool, before: u64) 
     count
 }
 
-/// Adds what is left to do at the end of a policy's run of a script, of which this is the summary, first for those that wait or are
-/// queued.
-fn push_ending(
-    alloc: Global,
-    note: &mut Note,
-    script: &Script,
-    policy: &Policy,
-    summary: &Summary,
-) {
-    if !summary.finished {
+/// Adds what is left to do when a policy has driven a script, first for those that wait or are queued.
+pub fn push_run(alloc: Global, note: &mut Note, script: &Script, policy: &Policy) {
+    if let Some(summary) = run_of(alloc, note, script, policy)
+        && !summary.finished
+    {
         let ending = RunEnd::new(alloc, note, script, policy, &summary.report);
         note.push("the run did not finish: ");
         let waiting = push_clients(note, &ending, true, 0);
@@ -77,13 +74,6 @@ fn push_ending(
         if count == 0 {
             note.push("all operations are done, but messages are under way");
         }
-    }
-}
-
-/// Adds what is left to do when a policy has driven a script.
-pub fn push_run(alloc: Global, note: &mut Note, script: &Script, policy: &Policy) {
-    if let Some(summary) = run_of(alloc, note, script, policy) {
-        push_ending(alloc, note, script, policy, &summary);
     }
 }
 
