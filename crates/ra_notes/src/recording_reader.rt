@@ -28,24 +28,6 @@ impl Seen {
     /// The most bytes that are remembered of another input: as many as are read of a script.
     pub const MAX_BYTES: usize = MAX_SCRIPT + 1;
 
-    /// Makes that of a reader of which nothing was read, by a command with these arguments.
-    fn new(alloc: Global, arguments: &[String]) -> Seen {
-        let is_check = match arguments.get(1) {
-            Some(command) => command.as_str() == "check",
-            None => false,
-        };
-        Seen {
-            bytes: Vec::new(alloc),
-            most: if is_check {
-                Seen::MAX_TEXT
-            } else {
-                Seen::MAX_BYTES
-            },
-            taken: 0,
-            is_whole: true,
-        }
-    }
-
     /// Returns the first bytes that were read, and what the reader showed after them. There are at most 16,777,344 by
     /// the command `check`, so a text that it checks is whole, and 65,537 by another one. Returns `None` if memory ran
     /// out.
@@ -98,9 +80,18 @@ impl<R> RecordingReader<R> {
     pub fn new(alloc: Global, arguments: &[String], inner: R) -> RecordingReader<R>
         ensures { result.inner ≡ inner }
     {
+        let most = match arguments.get(1) {
+            Some(command) if command.as_str() == "check" => Seen::MAX_TEXT,
+            _ => Seen::MAX_BYTES,
+        };
         RecordingReader {
             inner,
-            seen: Seen::new(alloc, arguments),
+            seen: Seen {
+                bytes: Vec::new(alloc),
+                most,
+                taken: 0,
+                is_whole: true,
+            },
         }
     }
 

@@ -47,33 +47,6 @@ impl Standing {
     }
 }
 
-/// Has a node take a line, and notes what it did to a client.
-///
-/// # Errors
-///
-/// Why the node does not take it.
-fn take_line(
-    alloc: Global,
-    node: &mut TimedNode,
-    standing: &mut Option<Standing>,
-    line: u64,
-    shown: &[u8],
-) -> Result<(), Refusal> {
-    let kind = match event_of(shown) {
-        Ok(kind) => kind,
-        Err(why) => return Err(why),
-    };
-    match node.take(alloc, &kind) {
-        Ok(outcome) => {
-            if let Some(client) = standing {
-                client.take(line, &kind, outcome.marks.as_slice());
-            }
-            Ok(())
-        }
-        Err(cause) => Err(Refusal::Event(cause)),
-    }
-}
-
 /// Has a node take the lines of its book to the one of this number, and notes what they did to a client. Returns why it does not take
 /// one of them, or `None` if it takes them all.
 fn first_refusal(
@@ -88,8 +61,17 @@ fn first_refusal(
         let (shown, Some(after)) = cut(rest, b'\n') else {
             break;
         };
-        if let Err(why) = take_line(alloc, node, standing, place, shown) {
-            return Some(why);
+        let kind = match event_of(shown) {
+            Ok(kind) => kind,
+            Err(why) => return Some(why),
+        };
+        match node.take(alloc, &kind) {
+            Ok(outcome) => {
+                if let Some(client) = standing {
+                    client.take(place, &kind, outcome.marks.as_slice());
+                }
+            }
+            Err(cause) => return Some(Refusal::Event(cause)),
         }
         rest = after;
     }
@@ -118,7 +100,9 @@ pub fn refused_event(
         }
         _ => None,
     };
-    match first_refusal(alloc, &mut node, &mut standing, opening, number) {
+    let refusal = first_refusal(alloc, &mut node, &mut standing, opening, number);
+    node.discard();
+    match refusal {
         None | Some(Refusal::Event(BookError::Memory)) => None,
         Some(why) => Some((why, standing)),
     }

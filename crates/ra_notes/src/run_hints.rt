@@ -1,6 +1,6 @@
 //! Hints for the user when nothing was refused but something may surprise: options that have no effect, names that stay
 //! locked, and which seed was found.
-use crate::input_places::write_told;
+use crate::input_places::{PlaceNote, write_told};
 use crate::script_notes::script_end::script_end_note;
 use ra_explain::{push_number_in, push_numbered};
 use ra_schedule::Ending;
@@ -9,9 +9,8 @@ use ra_world::Note;
 use std::alloc::Global;
 use std::io::Write;
 
-/// Writes which seed made the run that was found, and perhaps shrunk, unless memory runs out. It ignores a failure of
-/// the writer.
-fn write_seed<N: Write>(alloc: Global, shrinks: bool, seed: u64, notes: &mut N) {
+/// Returns which seed made the run that was found, and perhaps shrunk.
+fn seed_note(alloc: Global, shrinks: bool, seed: u64) -> PlaceNote {
     let (run, options) = if shrinks {
         (
             "the run that was shrunk has seed ",
@@ -29,7 +28,7 @@ fn write_seed<N: Write>(alloc: Global, shrinks: bool, seed: u64, notes: &mut N) 
         " in place of ",
     );
     note.push(options);
-    write_told(&note.finish(), notes);
+    note.finish()
 }
 
 /// Writes the hints on a command that was done, or ended with something left to do. With many seeds, `last_seed` is the
@@ -46,25 +45,21 @@ pub fn write_hints<N: Write>(
     let Command::Task(task) = asked else {
         return;
     };
-    match *task {
-        Task::Sim { .. } => {
-            write_unused_options(arguments, notes);
-            if let Some(script) = script
-                && is_done
-            {
-                write_told(&script_end_note(alloc, script), notes);
+    let told = match task {
+        Task::Sim { .. } => match script {
+            Some(script) if is_done => script_end_note(alloc, script),
+            _ => Ok(None),
+        },
+        // A run was found if a finished one was looked for and the command was done, or a stuck one and it was not.
+        Task::Survey(survey) => match (survey.find, last_seed) {
+            (Some(Search { ending, .. }), Some(seed))
+                if matches!(ending, Ending::Finished) == is_done => {
+                seed_note(alloc, asked.shrinks(), seed)
             }
-        }
-        Task::Survey(ref survey) => {
-            write_unused_options(arguments, notes);
-            // A run was found if a finished one was looked for and the command was done, or a stuck one and it was not.
-            if let Some(seed) = last_seed
-                && let Some(Search { ending, .. }) = survey.find
-                && matches!(ending, Ending::Finished) == is_done
-            {
-                write_seed(alloc, asked.shrinks(), seed, notes);
-            }
-        }
-        _ => {}
-    }
+            _ => Ok(None),
+        },
+        _ => return,
+    };
+    write_unused_options(arguments, notes);
+    write_told(&told, notes);
 }

@@ -42,36 +42,33 @@ impl<'a, N: Write> SeedProgress<'a, N> {
     pub fn last(&self) -> Option<u64> {
         self.last
     }
-
-    /// Writes the progress so far, unless memory runs out. It ignores a failure of the writer.
-    fn write(&mut self, seed: u64) {
-        let mut note = Note::new(self.alloc);
-        push_number_in(&mut note, "", self.done, " seeds done, up to seed ");
-        push_number_in(&mut note, "", seed, ": ");
-        push_number_in(&mut note, "", self.finished, " finished");
-        write_told(&note.finish(), self.notes);
-    }
 }
 
 impl<'a, N: Write> Observer for SeedProgress<'a, N> {
     fn ended(&mut self, seed: u64, outcome: SeedOutcome) {
         let turns = match outcome {
-            SeedOutcome::Finished(RunCost { turns, .. })
-            | SeedOutcome::Stuck(RunCost { turns, .. }) => turns,
+            SeedOutcome::Finished(RunCost { turns, .. }) => {
+                self.finished = self.finished.saturating_add(1);
+                turns
+            }
+            SeedOutcome::Stuck(RunCost { turns, .. }) => turns,
             SeedOutcome::Limit => WORK_OF_A_LINE,
         };
         self.last = Some(seed);
         self.done = self.done.saturating_add(1);
-        if let SeedOutcome::Finished(_) = outcome {
-            self.finished = self.finished.saturating_add(1);
-        }
         self.work = self
             .work
             .saturating_add(turns)
             .saturating_add(WORK_OF_A_RUN);
         if self.work >= WORK_OF_A_LINE {
             self.work = 0;
-            self.write(seed);
+            // The progress so far is not written if memory runs out. A failure of the writer is ignored.
+            let mut note = Note::new(self.alloc);
+            note.number(self.done);
+            push_number_in(&mut note, " seeds done, up to seed ", seed, ": ");
+            note.number(self.finished);
+            note.push(" finished");
+            write_told(&note.finish(), self.notes);
         }
     }
 }

@@ -35,15 +35,17 @@ impl<W> SeenWriter<W> {
         self.fault
     }
 
-    /// Remembers that the writer failed with this error.
-    fn remember(&mut self, error: &io::Error)
+    /// Remembers how the writer failed, if it did.
+    fn remember<T>(&mut self, written: &io::Result<T>)
         ensures { self.new.inner ≡ self.old.inner }
     {
-        self.fault = Some(match error.kind() {
-            ErrorKind::BrokenPipe => OutputFault::Unread,
-            ErrorKind::StorageFull => OutputFault::Full,
-            _ => OutputFault::Other,
-        });
+        if let Err(error) = written {
+            self.fault = Some(match error.kind() {
+                ErrorKind::BrokenPipe => OutputFault::Unread,
+                ErrorKind::StorageFull => OutputFault::Full,
+                _ => OutputFault::Other,
+            });
+        }
     }
 }
 
@@ -51,36 +53,25 @@ impl<W: Write> Write for SeenWriter<W> {
     ghost contents = { λ writer. W.contents writer.inner };
 
     fn write(&mut self, buf: &[u8]) -> io::Result<usize> {
-        match self.inner.write(buf) {
-            Ok(0) if !buf.is_empty() => {
-                self.fault = Some(OutputFault::Other);
-                Ok(0)
-            }
-            Ok(count) => Ok(count),
-            Err(error) => {
-                self.remember(&error);
-                Err(error)
-            }
+        let written = self.inner.write(buf);
+        self.remember(&written);
+        if let Ok(0) = &written
+            && !buf.is_empty()
+        {
+            self.fault = Some(OutputFault::Other);
         }
+        written
     }
 
     fn flush(&mut self) -> io::Result<()> {
-        match self.inner.flush() {
-            Ok(()) => Ok(()),
-            Err(error) => {
-                self.remember(&error);
-                Err(error)
-            }
-        }
+        let flushed = self.inner.flush();
+        self.remember(&flushed);
+        flushed
     }
 
     fn write_all(&mut self, buf: &[u8]) -> io::Result<()> {
-        match self.inner.write_all(buf) {
-            Ok(()) => Ok(()),
-            Err(error) => {
-                self.remember(&error);
-                Err(error)
-            }
-        }
+        let written = self.inner.write_all(buf);
+        self.remember(&written);
+        written
     }
 }

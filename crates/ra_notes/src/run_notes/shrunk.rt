@@ -2,7 +2,7 @@
 use crate::run_notes::unfinished::push_run;
 use crate::script_notes::script_text::{run_of, script_in};
 use ra_explain::push_number_in;
-use ra_schedule::{Choices, DriveError, Policy, Script, Shrunk, shrink};
+use ra_schedule::{DriveError, Policy, Script, Shrunk, shrink};
 use ra_script::MAX_TURNS;
 use ra_stamp::Memory;
 use ra_world::Note;
@@ -10,18 +10,6 @@ use std::alloc::Global;
 
 /// What comes between two lines of a note.
 const NEXT_LINE: &str = "\nra: ";
-
-/// Returns the choices to which a policy's run of a script is shrunk, or `None` if it is not stuck or refused. If memory ran out,
-/// the note records it.
-fn shorter(alloc: Global, note: &mut Note, script: &Script, policy: &Policy) -> Option<Choices> {
-    match shrink(alloc, script, policy, MAX_TURNS) {
-        Ok(Shrunk { choices, .. }) => choices,
-        Err(fault) => {
-            note.refuse_if(fault == DriveError::Memory);
-            None
-        }
-    }
-}
 
 /// Adds how many choices a policy's run of a script has, and that it is shrunk to this many.
 fn push_shorter(alloc: Global, note: &mut Note, script: &Script, policy: &Policy, choices: u64) {
@@ -32,18 +20,6 @@ fn push_shorter(alloc: Global, note: &mut Note, script: &Script, policy: &Policy
             push_number_in(note, "shrunk from ", summary.turns, " choices to ");
             note.number(choices);
         }
-    }
-}
-
-/// Adds by how much a policy's run of a script is shrunk, and on a line of its own what is left to do then.
-fn push_shrunk(alloc: Global, note: &mut Note, script: &Script, policy: &Policy) {
-    match shorter(alloc, note, script, policy) {
-        Some(choices) => {
-            push_shorter(alloc, note, script, policy, choices.len());
-            note.push(NEXT_LINE);
-            push_run(alloc, note, script, &Policy::Listed(choices));
-        }
-        None => push_run(alloc, note, script, policy),
     }
 }
 
@@ -61,7 +37,20 @@ pub fn shrunk_note(
 ) -> Result<Option<String>, Memory> {
     let mut note = Note::new(alloc);
     if let Some(script) = script_in(alloc, &mut note, script) {
-        push_shrunk(alloc, &mut note, &script, policy);
+        match shrink(alloc, &script, policy, MAX_TURNS) {
+            Ok(
+                Shrunk {
+                    choices: Some(choices),
+                    ..
+                },
+            ) => {
+                push_shorter(alloc, &mut note, &script, policy, choices.len());
+                note.push(NEXT_LINE);
+                push_run(alloc, &mut note, &script, &Policy::Listed(choices));
+            }
+            Err(DriveError::Memory) => note.refuse_if(true),
+            _ => push_run(alloc, &mut note, &script, policy),
+        }
     }
     note.finish()
 }

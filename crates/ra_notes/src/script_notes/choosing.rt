@@ -37,31 +37,25 @@ fn makeable(alloc: Global, note: &mut Note, script: &Script, choices: &Choices) 
     low
 }
 
-/// Adds why the choice of a client can't be made.
-fn push_client(note: &mut Note, ending: &RunEnd<'_>, client: u32) {
-    let clients = ending.script.clients();
-    if client >= 1 && client <= clients {
-        note.client(client);
-        ending.client_end(client).push(note);
-        note.push(" at that point");
-    } else if clients == 1 {
-        note.push("the script has only client 1");
-    } else {
-        push_numbered(note, "the script has clients 1 to ", clients);
-    }
-}
-
 /// Adds why a choice can't be made at the end of a run: of a client's choice, what the client does, and otherwise how many messages are
 /// under way, and which places they have.
 fn push_reason(note: &mut Note, ending: &RunEnd<'_>, choice: Choice) {
-    if let Choice::Client(client) = choice {
-        push_client(note, ending, client);
-        return;
-    }
     let count = ending.report.under_way;
-    match count {
-        0 => note.push("no message is under way at that point"),
-        1 => note.push("one message is under way at that point, at place 0"),
+    match choice {
+        Choice::Client(client) => {
+            let clients = ending.script.clients();
+            if client >= 1 && client <= clients {
+                note.client(client);
+                ending.client_end(client).push(note);
+                note.push(" at that point");
+            } else if clients == 1 {
+                note.push("the script has only client 1");
+            } else {
+                push_numbered(note, "the script has clients 1 to ", clients);
+            }
+        }
+        _ if count == 0 => note.push("no message is under way at that point"),
+        _ if count == 1 => note.push("one message is under way at that point, at place 0"),
         _ => {
             note.number(count);
             let text = " messages are under way at that point, at places 0 to ";
@@ -70,45 +64,24 @@ fn push_reason(note: &mut Note, ending: &RunEnd<'_>, choice: Choice) {
     }
 }
 
-/// Adds why a choice can't be made after a policy's run of a script.
-fn push_reason_after(
-    alloc: Global,
-    note: &mut Note,
-    script: &Script,
-    policy: &Policy,
-    choice: Choice,
-) {
-    if let Some(summary) = run_of(alloc, note, script, policy) {
-        let ending = RunEnd::new(alloc, note, script, policy, &summary.report);
-        push_reason(note, &ending, choice);
-    }
-}
-
-/// Adds that the choice at a place can't be made, as it is written, and why.
+/// Adds that the choice at a place can't be made, as it is written, and why: by what there is at the end of the run of the choices before
+/// it.
 fn push_choice_at(alloc: Global, note: &mut Note, script: &Script, choices: &Choices, place: u64) {
     let Some(choice) = choices.at(place) else {
         return;
     };
     push_number_in(note, "choice ", place.saturating_add(1), " of --choices, ");
-    match choice {
-        Choice::Client(client) => push_numbered(note, "c", client),
-        Choice::Message(number) => push_numbered(note, "m", number),
-        Choice::Lost(number) => push_numbered(note, "l", number),
-        Choice::Repeated(number) => push_numbered(note, "r", number),
-    }
-    note.push(", is not possible: ");
+    let (letter, number) = match choice {
+        Choice::Client(client) => ("c", u64::from(client)),
+        Choice::Message(number) => ("m", number),
+        Choice::Lost(number) => ("l", number),
+        Choice::Repeated(number) => ("r", number),
+    };
+    push_number_in(note, letter, number, ", is not possible: ");
     let policy = first_of(alloc, note, choices, place);
-    push_reason_after(alloc, note, script, &policy, choice);
-}
-
-/// Adds what is said about the choices of a text.
-fn push_choices(alloc: Global, note: &mut Note, script: &Script, choices: &str) {
-    match read_choices(alloc, choices) {
-        Ok(choices) => {
-            let place = makeable(alloc, note, script, &choices);
-            push_choice_at(alloc, note, script, &choices, place);
-        }
-        Err(fault) => note.refuse_if(fault == ChoicesError::Memory),
+    if let Some(summary) = run_of(alloc, note, script, &policy) {
+        let ending = RunEnd::new(alloc, note, script, &policy, &summary.report);
+        push_reason(note, &ending, choice);
     }
 }
 
@@ -122,7 +95,13 @@ fn push_choices(alloc: Global, note: &mut Note, script: &Script, choices: &str) 
 pub fn choices_note(alloc: Global, script: &[u8], choices: &str) -> Result<Option<String>, Memory> {
     let mut note = Note::new(alloc);
     if let Some(script) = script_in(alloc, &mut note, script) {
-        push_choices(alloc, &mut note, &script, choices);
+        match read_choices(alloc, choices) {
+            Ok(choices) => {
+                let place = makeable(alloc, &mut note, &script, &choices);
+                push_choice_at(alloc, &mut note, &script, &choices, place);
+            }
+            Err(fault) => note.refuse_if(fault == ChoicesError::Memory),
+        }
     }
     note.finish()
 }

@@ -13,30 +13,6 @@ fn push_name(note: &mut Note, script: &Script, client: u32, place: u64) {
     }
 }
 
-/// Adds which operation of a client locks which name.
-fn push_lock(note: &mut Note, script: &Script, client: u32, place: u64) {
-    note.client(client);
-    push_number_in(note, ", operation ", place.saturating_add(1), ": locks ");
-    push_name(note, script, client, place);
-}
-
-/// Adds where the order of names is first broken in a script. If it is nowhere, it adds where a name is first kept.
-fn push_order(note: &mut Note, script: &Script) {
-    if let Some(found) = first_out_of_order(script) {
-        push_lock(note, script, found.client, found.place);
-        note.push(" while holding ");
-        push_name(note, script, found.client, found.since);
-        note.push(
-            ", which does not sort before it, so clients could deadlock: lock names in ascending byte order, or run the script with ra sim",
-        );
-    } else if let Some(kept) = first_unreleased(script) {
-        push_lock(note, script, kept.client, kept.place);
-        note.push(
-            " and never unlocks it, so others could wait for it forever: unlock the name, or run the script with ra sim",
-        );
-    }
-}
-
 /// Returns a note on the first operation in a script that locks a name while its client holds that name or a greater
 /// one. If no operation does, the note is on the first operation that locks a name its client never unlocks. Returns
 /// `None` if there is neither. The cost is the number of a client's operations times the number of names that it holds
@@ -48,7 +24,34 @@ fn push_order(note: &mut Note, script: &Script) {
 pub fn order_note(alloc: Global, script: &[u8]) -> Result<Option<String>, Memory> {
     let mut note = Note::new(alloc);
     if let Some(script) = script_in(alloc, &mut note, script) {
-        push_order(&mut note, &script);
+        let found = if let Some(found) = first_out_of_order(&script) {
+            Some((found.client, found.place, Some(found.since)))
+        } else if let Some(kept) = first_unreleased(&script) {
+            Some((kept.client, kept.place, None))
+        } else {
+            None
+        };
+        if let Some((client, place, since)) = found {
+            note.client(client);
+            push_number_in(
+                &mut note,
+                ", operation ",
+                place.saturating_add(1),
+                ": locks ",
+            );
+            push_name(&mut note, &script, client, place);
+            if let Some(since) = since {
+                note.push(" while holding ");
+                push_name(&mut note, &script, client, since);
+                note.push(
+                    ", which does not sort before it, so clients could deadlock: lock names in ascending byte order, or run the script with ra sim",
+                );
+            } else {
+                note.push(
+                    " and never unlocks it, so others could wait for it forever: unlock the name, or run the script with ra sim",
+                );
+            }
+        }
     }
     note.finish()
 }

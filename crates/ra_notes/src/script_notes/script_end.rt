@@ -15,8 +15,22 @@ fn push_kept(note: &mut Note, script: &Script, client: u32, clients: u64) -> u64
     let mut names = 0;
     for place in 0..script.ops_of(client).unwrap_or(0) {
         if is_unreleased(script, client, place) {
-            if clients < MOST && names < MOST {
-                push_lock(note, client, &script.op(client, place), clients, names);
+            if clients < MOST
+                && names < MOST
+                && let Some(Op::Lock(name, mode)) = &script.op(client, place)
+            {
+                let joint = if names > 0 {
+                    ", "
+                } else {
+                    note.push(if clients > 0 {
+                        "; "
+                    } else {
+                        "the run finished with names still locked: "
+                    });
+                    note.client(client);
+                    " holds "
+                };
+                push_name_and_mode(note, joint, name, *mode);
             }
             names = u64::saturating_add(names, 1);
         }
@@ -25,25 +39,6 @@ fn push_kept(note: &mut Note, script: &Script, client: u32, clients: u64) -> u64
         note.push_more(" and ", names, MOST);
     }
     clients.saturating_add(names.min(1))
-}
-
-/// Adds a name that a client holds, after this many other clients and this many other names of this one.
-fn push_lock(note: &mut Note, client: u32, op: &Option<Op>, clients: u64, names: u64) {
-    let Some(Op::Lock(name, mode)) = op else {
-        return;
-    };
-    let joint = if names > 0 {
-        ", "
-    } else {
-        note.push(if clients > 0 {
-            "; "
-        } else {
-            "the run finished with names still locked: "
-        });
-        note.client(client);
-        " holds "
-    };
-    push_name_and_mode(note, joint, name, *mode);
 }
 
 /// Returns which names the clients of the script of a text hold at their ends, or `None` if they hold none. It is meant
