@@ -60,15 +60,11 @@ pub struct FrameField {
     pub width: usize,
 }
 
-/// Returns the format of the frame of these digits. If they name no version, it is that of the newest one.
-fn format_in(digits: &[u8]) -> Format {
-    let [version, ..] = number_at(digits, 0, 1).to_le_bytes();
-    format_of(&[version]).unwrap_or(Format::V2)
-}
-
-/// Returns the field with this index in the frame of these digits. The name is as long as the byte before it says.
+/// Returns the field with this index in the frame of these digits. If they name no version, it is that of a frame of the newest one. The
+/// name is as long as the byte before it says.
 pub fn field_at(digits: &[u8], index: usize) -> FrameField {
-    let places = format_in(digits).places();
+    let [version, ..] = number_at(digits, 0, 1).to_le_bytes();
+    let places = format_of(&[version]).unwrap_or(Format::V2).places();
     let place = *places.get(index).unwrap_or(&0);
     FrameField {
         index,
@@ -82,9 +78,10 @@ pub fn field_at(digits: &[u8], index: usize) -> FrameField {
 
 /// Returns what the field with this index may contain in the frame of these digits.
 pub fn range_at(digits: &[u8], index: usize) -> &'static str {
-    match (format_in(digits), index) {
-        (Format::V1, SENDER | RECEIVER) => "must be 01 to 10 (nodes 1 to 16) in version 1",
-        (Format::V1, MODE) => "must be 00 or 01 in a REQUEST, and 00 in a REPLY, in version 1",
+    let [version, ..] = number_at(digits, 0, 1).to_le_bytes();
+    match (format_of(&[version]), index) {
+        (Ok(Format::V1), SENDER | RECEIVER) => "must be 01 to 10 (nodes 1 to 16) in version 1",
+        (Ok(Format::V1), MODE) => "must be 00 or 01 in a REQUEST, and 00 in a REPLY, in version 1",
         _ => RANGES.get(index).unwrap_or(&""),
     }
 }

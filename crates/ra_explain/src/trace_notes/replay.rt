@@ -94,10 +94,9 @@ impl Replay {
                 };
                 self.open.keep(&queued, Stage::Queued, number);
             }
-            Some(Line::Stepped(Step::Deliver(message))) => {
-                self.take_message(message, number, false);
-                self.take_reply(message);
-            }
+            Some(Line::Stepped(Step::Deliver(message))) => self.take_message(
+                message, number, false,
+            ),
             Some(Line::Stepped(Step::Lose(message))) => self.take_message(message, number, true),
             Some(Line::Marked(mark)) => {
                 self.open.take_mark(mark, number);
@@ -107,52 +106,47 @@ impl Replay {
         }
     }
 
-    /// Takes that a message is delivered or lost in the line with this number.
+    /// Takes that a message is delivered or lost in the line with this number. If it is delivered, it may be the REQUEST that the sought
+    /// message answers, or a REPLY to the request of the entry.
     fn take_message(&mut self, message: &Message, number: u64, is_lost: bool) {
-        let Some(sought) = self.message else {
-            return;
-        };
-        if *message == sought {
-            self.taken = Some((number, is_lost));
-        } else if let Message::Request {
-            from,
-            to,
-            name,
-            seq,
-            ..
-        } = *message
-            && !is_lost
-        {
-            // The message may be the REPLY to this REQUEST.
-            let reply = Message::Reply {
-                from: to,
-                to: from,
+        if let Some(sought) = self.message {
+            if *message == sought {
+                self.taken = Some((number, is_lost));
+            } else if let Message::Request {
+                from,
+                to,
                 name,
                 seq,
-            };
-            if sought == reply {
-                self.came = Some(number);
+                ..
+            } = *message
+                && !is_lost
+            {
+                let reply = Message::Reply {
+                    from: to,
+                    to: from,
+                    name,
+                    seq,
+                };
+                if sought == reply {
+                    self.came = Some(number);
+                }
             }
-        }
-    }
-
-    /// Takes that a message is delivered, which may be a REPLY to the request of the entry.
-    fn take_reply(&mut self, message: &Message) {
-        let Some(mark) = &self.mark else {
-            return;
-        };
-        let entry = mark.entry();
-        let from = message.from();
-        let reply = Message::Reply {
-            from,
-            to: entry.stamp.node,
-            name: entry.name,
-            seq: entry.stamp.seq,
-        };
-        if *message == reply
-            && let Some(has) = self.replied.get_mut(usize::from(from.get()))
+        } else if let Some(mark) = &self.mark
+            && !is_lost
         {
-            *has = true;
+            let entry = mark.entry();
+            let from = message.from();
+            let reply = Message::Reply {
+                from,
+                to: entry.stamp.node,
+                name: entry.name,
+                seq: entry.stamp.seq,
+            };
+            if *message == reply
+                && let Some(has) = self.replied.get_mut(usize::from(from.get()))
+            {
+                *has = true;
+            }
         }
     }
 
