@@ -101,7 +101,7 @@ pub fn refused_event(
         _ => None,
     };
     let refusal = first_refusal(alloc, &mut node, &mut standing, opening, number);
-    node.discard();
+    drop(node);
     match refusal {
         None | Some(Refusal::Event(BookError::Memory)) => None,
         Some(why) => Some((why, standing)),

@@ -68,9 +68,6 @@ impl TimedNode {
     {
         take_event(alloc, &mut self.node, &mut self.clock, kind)
     }
-
-    /// Frees its memory, so that a caller in another crate need not prove how each of its parts is dropped.
-    pub fn discard(self) {}
 }
 
 /// Makes an event happen at a node, whose clock is this.
