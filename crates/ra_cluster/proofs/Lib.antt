@@ -5,3 +5,4 @@ mod Records
 mod Planned
 mod LockCounts
 mod GoingOn
+mod NoError

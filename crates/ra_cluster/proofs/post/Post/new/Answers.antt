@@ -1,7 +1,8 @@
-use Rattle.std.proofs.Common.{◌≡◌, Result, Ok, Err, refl, arith}
+use Rattle.std.proofs.Common.{◌≡◌, ℕ, ◌+◌, vec_len, Result, Ok, Err, refl, ap, ◌∙◌, arith}
 use Rattle.ra_stamp.specs.NodeId.{IsNodeNumber}
 use Rattle.ra_cluster.specs.declared.post.NewPostError.{NewPostError}
 use Rattle.ra_cluster.specs.declared.post.NewPostError.TheVariants.{BadCount, Memory}
+use Rattle.ra_cluster.proofs.NoError.{not_err}
 use Rattle.ra_cluster.proofs.post.Post.new.Goals as goal
 
 -- what is made is not refused
@@ -27,3 +28,8 @@ returns-then-is_err c =
       inboxes = tt;
       count = record { bad_count = (λ is. absurd (another is), λ bad. absurd (bad good)); allowed = (λ _. good, λ _. refl) };
     }
+
+pub loop-node-preserved : goal.loop-node-preserved
+loop-node-preserved c =
+    not_err (vec_len c.open_inbox.new.inboxes ≡ vec_len c.loop-node.inboxes + 1) c.open_inbox.result c.if-is_err.ensures.value c.open_inbox.ensures
+    ∙ ap (λ (n : ℕ). n + 1) c.loop-node.invariant

@@ -7,3 +7,6 @@ invariant_of-self-2 g c =
       flagged = still_none c.waiter.new.self.book _ c.in_ok-posted.posted.frames.items c.in_ok-posted.posted.marks.items c.ask.new.self
           c.in_ok-posted.ensures.ok c.waiter.new.self.may_have_lost c.waiter.new.self.flagged;
     }
+
+pub stepped-requires : goal.stepped-requires
+stepped-requires g c = c.in_ok-posted.ensures.fits
