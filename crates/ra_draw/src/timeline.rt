@@ -84,10 +84,14 @@ impl Timeline {
             },
         ) = &act
         {
-            self.spans.ask(key, *mode, self.now)?;
+            let Ok(()) = self.spans.ask(key, *mode, self.now) else {
+                return Err(Memory);
+            };
         }
         if is_drawn {
-            self.rows.push(Row { line, act })?;
+            let Ok(()) = self.rows.push(Row { line, act }) else {
+                return Err(Memory);
+            };
         }
         Ok(())
     }
@@ -105,7 +109,9 @@ impl Timeline {
             {
                 path.is_deferred = true;
             }
-            self.deferrals.begin(request, self.now)?;
+            let Ok(()) = self.deferrals.begin(request, self.now) else {
+                return Err(Memory);
+            };
         }
         for message in sends {
             if let Step::Leave { .. } = step
@@ -113,7 +119,9 @@ impl Timeline {
             {
                 self.deferrals.end(&(*from, *to, *name), self.now);
             }
-            self.paths.begin(alloc, message, self.now, false)?;
+            let Ok(()) = self.paths.begin(alloc, message, self.now, false) else {
+                return Err(Memory);
+            };
         }
         Ok(())
     }
@@ -131,7 +139,9 @@ impl Timeline {
             Step::Repeat(message) => self.paths.begin(alloc, message, self.now, true),
             Step::Ask { .. } | Step::Leave { .. } => Ok(()),
         };
-        noted?;
+        let Ok(()) = noted else {
+            return Err(Memory);
+        };
         let Some(world) = world else {
             return Ok(());
         };
@@ -160,7 +170,9 @@ impl Timeline {
                 mode,
             }),
         };
-        self.begin(number, act, is_drawn)?;
+        let Ok(()) = self.begin(number, act, is_drawn) else {
+            return Err(Memory);
+        };
         self.nodes = self.nodes.max(entry.stamp.node.get());
         self.spans.take(mark, self.now);
         Ok(())
@@ -197,7 +209,9 @@ impl Timeline {
                     }),
                     _ => None,
                 };
-                self.begin(number, act, is_drawn)?;
+                let Ok(()) = self.begin(number, act, is_drawn) else {
+                    return Err(Memory);
+                };
                 self.make_step(alloc, world, step)
             }
             Line::Marked(mark) if world.is_none() => self.take_mark(number, mark, is_drawn),
@@ -241,7 +255,9 @@ impl Timeline {
             rest = after;
             if let Some(line) = Line::parse(text) {
                 let number = before + 1;
-                self.take(alloc, world, number, &line, number >= part.from)?;
+                let Ok(()) = self.take(alloc, world, number, &line, number >= part.from) else {
+                    return Err(Memory);
+                };
             }
         }
         if world.is_some() {

@@ -44,7 +44,9 @@ impl NodeLane {
         let mut place = match self.firsts.get(&client) {
             Some(place) => *place,
             None => {
-                self.firsts.insert(client, new)?;
+                let Ok(_) = self.firsts.insert(client, new) else {
+                    return Err(Memory);
+                };
                 new
             }
         };
@@ -64,12 +66,15 @@ impl NodeLane {
                 }
             }
         }
-        self.columns.push(Column {
+        let column = Column {
             client,
             end: last,
             next: None,
-        })?;
-        Ok(new)
+        };
+        match self.columns.push(column) {
+            Ok(()) => Ok(new),
+            Err(_) => Err(Memory),
+        }
     }
 }
 

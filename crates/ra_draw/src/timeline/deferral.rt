@@ -26,13 +26,18 @@ impl DeferralSpans {
     pub fn begin(&mut self, request: &Message, came: Moment) -> Result<(), Memory> {
         let owed = (request.to(), request.from(), request.name());
         self.end(&owed, came);
-        self.open.insert(owed, self.all.len())?;
-        self.all.push(Deferral {
+        let Ok(_) = self.open.insert(owed, self.all.len()) else {
+            return Err(Memory);
+        };
+        let deferral = Deferral {
             request: *request,
             came,
             ended: None,
-        })?;
-        Ok(())
+        };
+        match self.all.push(deferral) {
+            Ok(()) => Ok(()),
+            Err(_) => Err(Memory),
+        }
     }
 
     /// Ends the deferral of a REPLY that is owed, if there is one.

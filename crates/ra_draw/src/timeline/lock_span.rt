@@ -34,16 +34,21 @@ impl LockSpans {
     /// Notes that a client asks.
     pub fn ask(&mut self, key: &LockKey, mode: Mode, asked: Moment) -> Result<(), Memory> {
         let open = (key.node, key.client, key.name);
-        self.open.insert(open, self.all.len())?;
-        self.all.push(LockSpan {
+        let Ok(_) = self.open.insert(open, self.all.len()) else {
+            return Err(Memory);
+        };
+        let span = LockSpan {
             key: *key,
             mode,
             asked,
             requested: None,
             entered: None,
             left: None,
-        })?;
-        Ok(())
+        };
+        match self.all.push(span) {
+            Ok(()) => Ok(()),
+            Err(_) => Err(Memory),
+        }
     }
 
     /// Notes what becomes of a client that asked: its request gets a number, it is granted the name, or it gives the name back.

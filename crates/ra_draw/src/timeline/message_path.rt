@@ -59,7 +59,9 @@ impl MessagePaths {
             self.under_way.insert(*message, none)?;
         }
         if let Some(equals) = self.under_way.get_mut(message) {
-            equals.starts.push((start, copied))?;
+            let Ok(()) = equals.starts.push((start, copied)) else {
+                return Err(Memory);
+            };
         }
         Ok(())
     }
@@ -77,7 +79,7 @@ impl MessagePaths {
             self.under_way.swap_remove(message);
         }
         if end.row > 0 {
-            self.drawn.push(MessagePath {
+            let path = MessagePath {
                 message: *message,
                 start,
                 copied,
@@ -87,7 +89,10 @@ impl MessagePaths {
                     MessageEnd::Delivered(end)
                 },
                 is_deferred: false,
-            })?;
+            };
+            let Ok(()) = self.drawn.push(path) else {
+                return Err(Memory);
+            };
         }
         Ok(())
     }
@@ -99,7 +104,7 @@ impl MessagePaths {
             for at in equals.taken..equals.starts.len() {
                 let (start, copied) = equals.starts[at];
                 if start.row > 0 {
-                    self.drawn.push(MessagePath {
+                    let path = MessagePath {
                         message: *message,
                         start,
                         copied,
@@ -108,7 +113,10 @@ impl MessagePaths {
                             is_first,
                         },
                         is_deferred: false,
-                    })?;
+                    };
+                    let Ok(()) = self.drawn.push(path) else {
+                        return Err(Memory);
+                    };
                     is_first = false;
                 }
             }
