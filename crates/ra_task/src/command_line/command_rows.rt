@@ -1,5 +1,5 @@
 //! The commands of `ra`, each a row of a table, so that the same few lines make them all.
-use crate::command_line::helps::{STATUS_HELP, SUMMARY_HELP, help_on};
+use crate::command_line::helps::{STATUS_HELP, help_on};
 use crate::command_line::option_rows::{option_of, options_of};
 use clap::{ArgMatches, Command, Error as ParseError};
 use std::alloc::{AllocError, Global};
@@ -80,20 +80,15 @@ pub fn command_named(arguments: &[String]) -> Option<&str> {
     None
 }
 
-/// Makes a command. The summary of its help has its options, and names --help.
+/// Makes a command with its options, and with the whole of its help or its summary.
 fn command_of<'a>(
     alloc: Global,
     row: &CommandRow<'a>,
     is_summary: bool,
 ) -> Result<Command<'a>, AllocError> {
-    let after = if is_summary {
-        SUMMARY_HELP
-    } else {
-        help_on(row.kind)
-    };
     let mut command = Command::new(alloc, row.name)
         .about(row.about)
-        .after_help(after)
+        .after_help(help_on(row.kind, is_summary))
         .disable_help_flag(true);
     for option in options_of(row.kind) {
         command = command.arg(option_of(alloc, option))?;

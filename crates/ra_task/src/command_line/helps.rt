@@ -316,7 +316,7 @@ Exit status:
   3  invalid";
 
 /// The summary of the help of each command, below its options.
-pub const SUMMARY_HELP: &str = "\
+const SUMMARY_HELP: &str = "\
 The command reads standard input. See --help for what it reads and prints, an
 example, and the exit statuses.";
 
@@ -356,9 +356,10 @@ fn settle_help() -> &'static str {
     SETTLE_HELP
 }
 
-/// Returns the help of a command, below its options.
-pub fn help_on(kind: CommandKind) -> &'static str {
+/// Returns the help of a command, below its options, or its summary, which names --help.
+pub fn help_on(kind: CommandKind, is_summary: bool) -> &'static str {
     match kind {
+        _ if is_summary => SUMMARY_HELP,
         CommandKind::Answer => ANSWER_HELP,
         CommandKind::Sim => sim_help(),
         CommandKind::Cluster => cluster_help(),

@@ -106,8 +106,10 @@ fn cut_at<'a>(text: &'a str, mark: &str) -> Option<(&'a str, &'a str)> {
 
 /// Returns what the parser says between two marks, and what follows the second, or `None`.
 fn between<'a>(said: &'a str, first: &str, second: &str) -> Option<(&'a str, &'a str)> {
-    let (_, rest) = cut_at(said, first)?;
-    cut_at(rest, second)
+    match cut_at(said, first) {
+        Some((_, rest)) => cut_at(rest, second),
+        None => None,
+    }
 }
 
 /// Returns the option of which the parser says that its number is wrong, and that number, or `None`. It says why after
