@@ -5,20 +5,12 @@ use ra_explain::{LineCause, Unanswered, unanswered_note};
 use ra_schedule::{Policy, chance};
 use ra_script::{PerformError, explain_script};
 use ra_stamp::{Mark, Memory};
-use ra_task::{Command, Task, policy_of, text_of, write_line};
+use ra_task::{Command, Task, policy_of, text_of};
 use ra_trace::{Cause, check_buffered_with_due};
 use std::alloc::Global;
-use std::io::Write;
 
 /// What is said of a place, or nothing, if there is nothing to say or no memory for it: then the cause alone is named.
 pub type PlaceNote = Result<Option<String>, Memory>;
-
-/// Writes what is said as a line, if there is something. It ignores a failure of the writer.
-pub fn write_told<N: Write>(told: &PlaceNote, notes: &mut N) {
-    if let Ok(Some(text)) = told {
-        write_line(notes, text.as_str());
-    }
-}
 
 /// Returns what is said of a script that is not performed.
 pub fn perform_place(alloc: Global, choices: &str, script: &[u8], why: PerformError) -> PlaceNote {

@@ -1,10 +1,10 @@
 //! Hints for the user when nothing was refused but something may surprise: options that have no effect, names that stay
 //! locked, and which seed was found.
-use crate::input_places::{PlaceNote, write_told};
+use crate::input_places::PlaceNote;
 use crate::script_notes::script_end::script_end_note;
 use ra_explain::{push_number_in, push_numbered};
 use ra_schedule::Ending;
-use ra_task::{Command, Search, Task, write_unused_options};
+use ra_task::{Command, Search, Task, write_line, write_unused_options};
 use ra_world::Note;
 use std::alloc::Global;
 use std::io::Write;
@@ -61,5 +61,7 @@ pub fn write_hints<N: Write>(
         _ => return,
     };
     write_unused_options(arguments, notes);
-    write_told(&told, notes);
+    if let Ok(Some(text)) = &told {
+        write_line(notes, text.as_str());
+    }
 }

@@ -1,7 +1,7 @@
 //! What the user is told while many seeds take long.
-use crate::input_places::write_told;
 use ra_explain::push_number_in;
 use ra_schedule::{Observer, RunCost, SeedOutcome};
+use ra_task::write_line;
 use ra_world::Note;
 use std::alloc::Global;
 use std::io::Write;
@@ -68,7 +68,9 @@ impl<'a, N: Write> Observer for SeedProgress<'a, N> {
             push_number_in(&mut note, " seeds done, up to seed ", seed, ": ");
             note.number(self.finished);
             note.push(" finished");
-            write_told(&note.finish(), self.notes);
+            if let Ok(Some(text)) = &note.finish() {
+                write_line(self.notes, text.as_str());
+            }
         }
     }
 }

@@ -10,44 +10,36 @@ use ra_history::BookKind;
 use ra_world::{Note, cut};
 use std::alloc::Global;
 
-/// Adds which book is missing after these, of as many as the first one says. Returns whether one is.
-fn push_missing(note: &mut Note, openings: &Openings<'_>) -> bool {
+/// Adds why the books of these first lines are not those of all nodes. If another one begins at a line, its node has a book already, or it
+/// has another number of nodes or another start. Otherwise it adds which one is missing of as many as the first one says. Returns
+/// whether it adds why.
+fn push_books(note: &mut Note, openings: &Openings<'_>, another: &Option<FirstLine>) -> bool {
     let Some(opening) = &openings.first else {
         return false;
     };
     let nodes = opening.member.nodes();
+    if let Some(another) = another {
+        let again = openings.line_of(another.member.node().get());
+        if again > 0 {
+            let text = ": this node has a book already, which begins at line ";
+            push_number_in(note, text, again, ": expected one book of each node");
+        } else {
+            push_numbered(note, ": expected NODES ", nodes);
+            push_numbered(note, " and START ", opening.start);
+            push_numbered(note, ", as at line ", opening.line);
+        }
+        return true;
+    }
     for before in 0..nodes {
         let node = before + 1;
         if openings.line_of(node) == 0 {
             push_numbered(note, ": the book of node ", node);
-            push_number_in(
-                note,
-                " is missing: expected one book of each of ",
-                nodes,
-                " nodes",
-            );
+            let text = " is missing: expected one book of each of ";
+            push_number_in(note, text, nodes, " nodes");
             return true;
         }
     }
     false
-}
-
-/// Adds why a line cannot be the first one of a book after these: its node has a book already, or it has another number of nodes or
-/// another start. Returns whether there is a book before it.
-fn push_first(note: &mut Note, openings: &Openings<'_>, first: &FirstLine) -> bool {
-    let Some(opening) = &openings.first else {
-        return false;
-    };
-    let again = openings.line_of(first.member.node().get());
-    if again > 0 {
-        let text = ": this node has a book already, which begins at line ";
-        push_number_in(note, text, again, ": expected one book of each node");
-    } else {
-        push_numbered(note, ": expected NODES ", opening.member.nodes());
-        push_numbered(note, " and START ", opening.start);
-        push_numbered(note, ", as at line ", opening.line);
-    }
-    true
 }
 
 /// Adds in which book a line is, and which frame comes by it, if one does, and why the node of the book refuses it, if that is the
@@ -97,12 +89,14 @@ pub fn unsettled_note(alloc: Global, text: &[u8], number: u64, cause: TextCause)
     let is_told = if let (line, Some(_)) = cut(rest, b'\n') {
         note.push(", ");
         note.quoted(line);
-        match FirstLine::parse(line) {
-            Some(first) => is_of_books && push_first(&mut note, &openings, &first),
-            None => push_event(alloc, &mut note, &openings, line, number, cause),
+        let another = FirstLine::parse(line);
+        if another.is_some() {
+            is_of_books && push_books(&mut note, &openings, &another)
+        } else {
+            push_event(alloc, &mut note, &openings, line, number, cause)
         }
     } else {
-        is_of_books && push_missing(&mut note, &openings)
+        is_of_books && push_books(&mut note, &openings, &None)
     };
     if !is_told {
         note.push(": ");
