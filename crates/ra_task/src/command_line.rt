@@ -94,7 +94,9 @@ pub fn text_of<'a>(arguments: &'a [String], option: &str) -> Option<&'a str>
     for place in 1..arguments.len() {
         let argument = arguments[place].as_str();
         if argument == option {
-            let next = arguments.get(place + 1)?;
+            let Some(next) = arguments.get(place + 1) else {
+                return None;
+            };
             return Some(next.as_str());
         }
         if let Some(text) = text_in(argument, option) {
