@@ -44,6 +44,16 @@ neither options one one_long at no_repeats no_trace asked are = of asked.repeats
     of true Trace (inl are) = let count = ap length are in omega (arith, one_long, same, count)
     of true Trace (inr are) = let count = ap length are in omega (arith, one_long, same, count)
 
+-- two options
+both : (options : List (String Global)) (one other : String Global) (first second : List ℕ) → length options ≡ 2 → slice_index_or options 0 one ≡ one
+    → slice_index_or options 1 other ≡ other → string_bytes one ≡ first → string_bytes other ≡ second → map string_bytes options ≡ first ∷ second ∷ []
+both [] one other first second count at next is then = absurd (omega (arith, count))
+both (a ∷ []) one other first second count at next is then = absurd (omega (arith, count))
+both (a ∷ b ∷ []) one other first second count at next is then =
+    let here : string_bytes a ≡ first = ap string_bytes at ∙ is in
+    let there : string_bytes b ≡ second = ap string_bytes next ∙ then in cc
+both (a ∷ b ∷ c ∷ options) one other first second count at next is then = absurd (omega (arith, count))
+
 pub returns-in_default : goal.returns-in_default
 returns-in_default c = many c.args.options.now c.in_default.len_at_least
 
@@ -59,3 +69,19 @@ returns-in-text c =
 pub returns-in-text-2 : goal.returns-in-text-2
 returns-in-text-2 c =
     only c.args.options.now c.one-item.result _ (omega (arith, c.in-len1.len_at_least, c.in-len1.len_below)) (sym c.one-item.is) (sym c.as_str.ensures.value ∙ c.in-text-2.is)
+
+pub returns-in-text-text : goal.returns-in-text-text
+returns-in-text-text c =
+    inl (
+    both c.args.options.now c.one-item-then-options-lt3.result c.other-item.result _ _ (omega (arith, c.in-len2.len_at_least, c.in-len2.len_below))
+    (sym c.one-item-then-options-lt3.is) (sym c.other-item.is) (sym c.as_str-in-len2.ensures.value ∙ c.in-text-text.is-text-0)
+    (sym c.as_str-in-len2-2.ensures.value ∙ c.in-text-text.is-text-2-1)
+    )
+
+pub returns-in-text-text-2 : goal.returns-in-text-text-2
+returns-in-text-text-2 c =
+    inr (
+    both c.args.options.now c.one-item-then-options-lt3.result c.other-item.result _ _ (omega (arith, c.in-len2.len_at_least, c.in-len2.len_below))
+    (sym c.one-item-then-options-lt3.is) (sym c.other-item.is) (sym c.as_str-in-len2.ensures.value ∙ c.in-text-text.is-text-2-0)
+    (sym c.as_str-in-len2-2.ensures.value ∙ c.in-text-text.is-text-1)
+    )
