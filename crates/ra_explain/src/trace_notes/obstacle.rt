@@ -1,6 +1,6 @@
 //! What is in the way of a mark that a lock table does not allow.
 use crate::note_parts::{push_number_in, push_numbered};
-use crate::trace_notes::open_request::{OpenRequest, Stage};
+use crate::trace_notes::open_request::Stage;
 use crate::trace_notes::open_text::{OpenText, Sought};
 use crate::trace_notes::replay::Replay;
 use crate::trace_notes::table_steps::refusal_after;
@@ -22,8 +22,9 @@ const IN_TABLE: [&str; 7] = [
     "the lock table does not allow this mark: no such request holds the name",
 ];
 
-/// Adds a request that is in the way of another one, with its number, if there is one. Returns whether there is.
-fn push_other(note: &mut Note, joint: &str, request: Option<&OpenRequest>) -> bool {
+/// Adds the first of these requests, which is in the way of another one, with its number, if there is one. Returns whether there is.
+fn push_other(note: &mut Note, joint: &str, open: &OpenText, sought: &Sought) -> bool {
+    let request = open.next_of(0, sought);
     if let Some(request) = request {
         note.push(joint);
         request.push_in_the_way(note);
@@ -32,29 +33,12 @@ fn push_other(note: &mut Note, joint: &str, request: Option<&OpenRequest>) -> bo
     request.is_some()
 }
 
-/// Adds the last request that the node of an entry released, or if there is none, that the entry was never requested and, if it should
-/// hold, who holds its name.
-fn push_never(note: &mut Note, entry: &Entry, replay: &Replay, cause: MarkCause) {
-    if let Some(released) = &replay.released {
-        note.push(": ");
-        released.push(note, " last released ", " in line ");
-        push_numbered(note, ", with number ", released.entry.stamp.seq);
-        return;
-    }
-    note.push(": it was never requested");
-    if let MarkCause::NotHeld = cause {
-        let holds = Sought::On(Stage::Holds, entry.name);
-        push_other(note, "; ", replay.open.next_of(0, &holds));
-    }
-}
-
 /// Adds what became of an entry that should wait or hold and does not: it already holds, still waits, was released, or
 /// was never requested. If it was not, a request like it is named in its place: the one of its node that waits or holds, the first
 /// of its client that does, or the last one that its node released. If none is, and it should hold, who holds its name.
 fn push_fate(note: &mut Note, entry: &Entry, replay: &Replay, cause: MarkCause) {
-    let at_node = Sought::AtNode(entry.stamp.node, entry.name);
-    let of_client = Sought::Of(entry.client, entry.name);
-    if let Some(request) = replay.open.request_of(entry) {
+    let open = &replay.open;
+    if let Some(request) = open.request_of(entry) {
         let text = if request.stage.is(Stage::Holds) {
             ": it was granted in line "
         } else {
@@ -63,10 +47,23 @@ fn push_fate(note: &mut Note, entry: &Entry, replay: &Replay, cause: MarkCause) 
         push_numbered(note, text, request.since);
     } else if replay.released_at > 0 {
         push_numbered(note, ": it was released in line ", replay.released_at);
-    } else if !push_other(note, ": ", replay.open.next_of(0, &at_node))
-        && !push_other(note, ": ", replay.open.next_of(0, &of_client))
+    } else if !push_other(
+        note,
+        ": ",
+        open,
+        &Sought::AtNode(entry.stamp.node, entry.name),
+    ) && !push_other(note, ": ", open, &Sought::Of(entry.client, entry.name))
     {
-        push_never(note, entry, replay, cause);
+        if let Some(released) = &replay.released {
+            note.push(": ");
+            released.push(note, " last released ", " in line ");
+            push_numbered(note, ", with number ", released.entry.stamp.seq);
+            return;
+        }
+        note.push(": it was never requested");
+        if let MarkCause::NotHeld = cause {
+            push_other(note, "; ", open, &Sought::On(Stage::Holds, entry.name));
+        }
     }
 }
 
