@@ -56,11 +56,18 @@ impl LineCounts {
             let Some(after) = rest.get(BLOCK..) else {
                 break;
             };
-            // Which of the first 64 bytes are line feeds, by a bit for each.
-            let feeds = u8x64::from_slice(rest)
+            // Which of the first 64 bytes are line feeds, by a bit for each. A line follows each of them.
+            let mut feeds = u8x64::from_slice(rest)
                 .simd_eq(u8x64::splat(b'\n'))
                 .to_bitmask();
-            counts.add_after(feeds, rest);
+            for _ in 0..BLOCK {
+                if feeds == 0 {
+                    break;
+                }
+                let place = feeds.trailing_zeros() as usize;
+                counts.add(rest.get(place.saturating_add(1)..).unwrap_or(b""));
+                feeds &= feeds.wrapping_sub(1);
+            }
             rest = after;
         }
         for _ in 0..BLOCK {
@@ -71,20 +78,6 @@ impl LineCounts {
             counts.add(rest);
         }
         counts
-    }
-
-    /// Counts the lines of a text that follow these line feeds in it, each of them by its first letters.
-    #[inline(always)]
-    fn add_after(&mut self, feeds: u64, text: &[u8]) {
-        let mut left = feeds;
-        for _ in 0..BLOCK {
-            if left == 0 {
-                break;
-            }
-            let place = left.trailing_zeros() as usize;
-            self.add(text.get(place.saturating_add(1)..).unwrap_or(b""));
-            left &= left.wrapping_sub(1);
-        }
     }
 
     /// Counts the first line of a text. Its first three letters tell which one it is, and each line has as many.
