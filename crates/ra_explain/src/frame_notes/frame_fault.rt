@@ -1,11 +1,11 @@
 //! Where the fault of a frame is in its line of digits.
-use crate::frame_notes::digits::{number_at, part};
+use crate::frame_notes::digits::{no_name_byte, part};
 use crate::frame_notes::frame_field::{
     FAULTY, FrameField, NAME, NAME_BYTE, NAMES, field_at, range_at,
 };
 use crate::note_parts::{push_number_in, push_numbered};
 use ra_frame::FrameError;
-use ra_stamp::{Memory, Name};
+use ra_stamp::Memory;
 use ra_world::{Note, cut};
 use std::alloc::Global;
 
@@ -36,14 +36,7 @@ pub fn push_frame_fault(note: &mut Note, digits: &[u8], fault: FrameError) {
             }
         }
     } else if let FrameError::NameByte = fault {
-        // It is the first byte that no name has.
-        for _ in 0..field.width {
-            let [byte, ..] = number_at(digits, field.place, 1).to_le_bytes();
-            if Name::of(&[byte]).is_none() {
-                break;
-            }
-            field.place = field.place.saturating_add(1);
-        }
+        field.place = no_name_byte(digits, field.place, field.width);
         field.width = 1;
         field.index = NAME_BYTE;
     }

@@ -46,23 +46,15 @@ pub fn unanswered_note(
     let number = number_at(digits, field.place, field.width);
     match why {
         Unanswered::WrongNode => {
-            push_number_in(
-                &mut note,
-                ": the frame is for node ",
-                number,
-                ", but --node is ",
-            );
+            let text = ": the frame is for node ";
+            push_number_in(&mut note, text, number, ", but --node is ");
             note.push(node);
         }
         // The sender is not this node: a frame from its own receiver is faulty, and one for another node is not
         // answered.
         Unanswered::Stranger => {
-            push_number_in(
-                &mut note,
-                ": the frame is from node ",
-                number,
-                ", but --nodes is ",
-            );
+            let text = ": the frame is from node ";
+            push_number_in(&mut note, text, number, ", but --nodes is ");
             note.push(nodes);
         }
         Unanswered::ClockFull => note.push(", the greatest: no clock is left for an answer"),

@@ -67,16 +67,8 @@ pub fn push_refused(note: &mut Note, line: &TextLine<'_>, replay: &Replay, other
     } else if replay.nodes == 0 || !replay.open.is_whole {
         note.push(other);
     } else if let Some(open) = replay.open.clients.get(&(node, client, name)) {
-        let stage = Some(open.stage);
-        push_stage(
-            note,
-            client,
-            &name,
-            Some(node),
-            stage,
-            open.entry.mode,
-            open.since,
-        );
+        let (at, stage, mode) = (Some(node), Some(open.stage), open.entry.mode);
+        push_stage(note, client, &name, at, stage, mode, open.since);
         note.push(if is_ask {
             " and may not ask for it again"
         } else {

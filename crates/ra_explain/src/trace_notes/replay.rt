@@ -131,9 +131,7 @@ impl Replay {
                     self.came = Some(number);
                 }
             }
-        } else if let Some(mark) = &self.mark
-            && !is_lost
-        {
+        } else if !is_lost && let Some(mark) = &self.mark {
             let entry = mark.entry();
             let from = message.from();
             let reply = Message::Reply {
