@@ -202,7 +202,15 @@ impl Inbox {
     /// `Memory`: there is no room for the first frame.
     pub(crate) fn take<R: Wait>(&self, rt: &R, taken: &mut Vec<Vec<u8>>) -> Result<bool, Memory> {
         taken.reserve(1)?;
-        let Some(first) = self.first(rt) else {
+        let first = match self.frames.try_recv(rt) {
+            Ok(first) => Some(first),
+            Err(_) => {
+                // To sleep and to be woken costs more than to let others run, which may send something meanwhile.
+                thread::yield_now();
+                self.frames.recv(rt).ok()
+            }
+        };
+        let Some(first) = first else {
             return Ok(false);
         };
         taken.push_reserved(first);
@@ -216,17 +224,5 @@ impl Inbox {
             taken.push_reserved(next);
         }
         Ok(true)
-    }
-
-    /// Waits for the next frame, and returns its bytes, or `None` if the inbox is empty and the post closed.
-    fn first<R: Wait>(&self, rt: &R) -> Option<Vec<u8>> {
-        match self.frames.try_recv(rt) {
-            Ok(first) => Some(first),
-            Err(_) => {
-                // To sleep and to be woken costs more than to let others run, which may send something meanwhile.
-                thread::yield_now();
-                self.frames.recv(rt).ok()
-            }
-        }
     }
 }

@@ -11,11 +11,12 @@ ghost use Rattle.std.specs.Prelude.{◌≡◌, ◌⊎◌, ◌≤◌, [], All, If
 ghost use Rattle.ra_stamp.specs.NodeId.{IsNodeNumber};
 ghost use Rattle.ra_frame.specs.Fits.{Fits};
 
-use crate::cluster::all_sites::{stop_after, stop_all};
+use crate::cluster::all_sites::stop_all;
 use crate::site::closed_book::{is_whole_of, stopped_book};
 use crate::site::desk::{Desk, Halt, Handed, Stepped};
 use crate::site::request::Request;
 use crate::site::sending::Sending;
+use crate::site::stop_causes::stop_of;
 use crate::site::ticket::{SharedTicket, Ticket};
 use crate::{Book, BookError, Events, Gate, Grant, Inbox, NewError, Post, Stop, TakeError};
 use ra_frame::Frame;
@@ -219,7 +220,9 @@ impl Site {
                 stop_all(rt, sites, Stop::Send);
             }
             if let Err(halt) = received {
-                stop_after(rt, sites, self.halt(rt, halt, sites));
+                if let Some(stop) = stop_of(self.halt(rt, halt, sites)) {
+                    stop_all(rt, sites, stop);
+                }
                 break;
             }
             stepped.clear();

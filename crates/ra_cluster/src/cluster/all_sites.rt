@@ -3,8 +3,7 @@ ghost use Rattle.std.specs.Prelude.{◌≡◌, ◌↔◌, ◌++◌, ◌∷◌, [
 ghost use Rattle.std.specs.List.{range_with_len};
 ghost use Rattle.ra_cluster.specs.Sites.{AreSitesWith};
 
-use crate::site::stop_causes::stop_of;
-use crate::{Book, Site, SiteError, Stop};
+use crate::{Book, Site, Stop};
 use ra_stamp::{Memory, NodeId};
 use std::alloc::Global;
 use std::sync::Wait;
@@ -73,12 +72,5 @@ fn push_site(
 pub fn stop_all<R: Wait>(rt: &R, sites: &[Site], stop: Stop) {
     for site in sites {
         site.stop(rt, stop);
-    }
-}
-
-/// Stops each site after a call of one of them was refused, unless that one is stopped already.
-pub fn stop_after<R: Wait>(rt: &R, sites: &[Site], refused: SiteError) {
-    if let Some(stop) = stop_of(refused) {
-        stop_all(rt, sites, stop);
     }
 }

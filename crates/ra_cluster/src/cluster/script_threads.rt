@@ -95,29 +95,17 @@ fn do_op<R: Wait, G: Gate + Drop>(
                 Ok(grant) => grant,
                 Err(refused) => return Err(refused),
             };
-            if let Some(stop) = keep_grant(rt, grant, run.grants, &cluster.gate) {
-                cluster.stop(rt, stop);
-                return Err(CallError::Site(SiteError::Stopped(stop)));
-            }
-            Ok(())
+            // It is kept, and shown to the gate.
+            let stop = if run.grants.lock(rt).push(grant).is_err() {
+                Stop::Memory
+            } else if cluster.gate.inside(&grant.entry) {
+                return Ok(());
+            } else {
+                Stop::Gate
+            };
+            cluster.stop(rt, stop);
+            Err(CallError::Site(SiteError::Stopped(stop)))
         }
         Op::Unlock(name) => cluster.unlock(rt, alloc, node, client, name),
-    }
-}
-
-/// Keeps a grant, and shows it to the gate. Returns why the cluster is to be stopped, or `None` if it goes on.
-fn keep_grant<R: Wait, G: Gate>(
-    rt: &R,
-    grant: Grant,
-    grants: &Mutex<Vec<Grant>>,
-    gate: &G,
-) -> Option<Stop> {
-    if grants.lock(rt).push(grant).is_err() {
-        return Some(Stop::Memory);
-    }
-    if gate.inside(&grant.entry) {
-        None
-    } else {
-        Some(Stop::Gate)
     }
 }
