@@ -29,10 +29,16 @@ pub fn draw_marks<R: Read, W: Write>(
     ensures { DrawsLog part (R.remaining reader.old) (R.remaining reader.new)
         (W.contents writer.old) (W.contents writer.new) (writer.new ≡ writer.old) text.new.items result }
 {
-    *text = read_text(alloc, reader)?;
+    *text = match read_text(alloc, reader) {
+        Ok(read) => read,
+        Err(fault) => return Err(fault),
+    };
     let input = text.as_slice();
     let mut unread = input;
-    let verdict = check_marks_within(alloc, &mut unread, MAX_TEXT)?;
+    let verdict = match check_marks_within(alloc, &mut unread, MAX_TEXT) {
+        Ok(verdict) => verdict,
+        Err(fault) => return Err(DrawError::from(fault)),
+    };
     let MarksVerdict::Valid { requests, grants } = verdict else {
         return Ok(verdict);
     };
@@ -41,6 +47,8 @@ pub fn draw_marks<R: Read, W: Write>(
         counted: "grant",
         count: u128::from(grants),
     };
-    write_picture(alloc, input, writer, part, totals)?;
-    Ok(verdict)
+    match write_picture(alloc, input, writer, part, totals) {
+        Ok(()) => Ok(verdict),
+        Err(fault) => Err(fault),
+    }
 }

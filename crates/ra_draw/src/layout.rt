@@ -93,7 +93,9 @@ impl Layout {
             self.lanes.push(NodeLane::new(alloc))?;
         }
         for span in spans {
-            self.add_bar(span)?;
+            let Ok(()) = self.add_bar(span) else {
+                return Err(Memory);
+            };
         }
         // The width between a lane and the bars of the next one.
         let gap = match self.nodes {
@@ -134,13 +136,18 @@ impl Layout {
         let Some(lane) = self.lanes.get_mut(span.key.node.place()) else {
             return Ok(());
         };
-        let column = lane.take(span.key.client, span.asked.row, end)?;
-        self.bars.push(LockBar {
+        let Ok(column) = lane.take(span.key.client, span.asked.row, end) else {
+            return Err(Memory);
+        };
+        let bar = LockBar {
             span: *span,
             column,
             end,
-        })?;
-        Ok(())
+        };
+        match self.bars.push(bar) {
+            Ok(()) => Ok(()),
+            Err(_) => Err(Memory),
+        }
     }
 
     /// Returns whether the lanes are wide enough for labels.
@@ -180,14 +187,6 @@ impl Layout {
         Point {
             x: self.x(node),
             y: self.y(row),
-        }
-    }
-
-    /// Returns how wide the bars of a node are, with what is between them and the lane.
-    pub fn gutter(&self, node: NodeId) -> u64 {
-        match self.lanes.get(node.place()) {
-            Some(lane) => lane.gutter,
-            None => 0,
         }
     }
 

@@ -21,13 +21,16 @@ impl Layers {
                 Number(deferral.came.line),
             ],
         );
-        self.end_title(deferral.ended);
+        let (said, line, down, back) = match deferral.ended {
+            Some(ended) => {
+                let down = layout.y(ended.row);
+                (" to line $</title>", ended.line, down, beside)
+            }
+            None => (" on</title>", 0, layout.y(layout.end), 0),
+        };
+        self.shapes.write(said, &[Number(line)]);
         let came = deferral.came.row;
         let from = layout.at(request.to(), came);
-        let (down, back) = match deferral.ended {
-            Some(ended) => (layout.y(ended.row), beside),
-            None => (layout.y(layout.end), 0),
-        };
         self.shapes.write(
             "<path class=\"$\" d=\"M$ $h-$V$h$\"/><path class=\"$\" d=\"M$ $h-$V$h$\"/>",
             &[

@@ -6,7 +6,7 @@ use crate::layout::{Layout, NodeLane};
 use crate::svg::svg_writer::PatternValue::{Node, Number, Short, Text, Whole};
 use crate::svg::svg_writer::SvgWriter;
 use crate::svg::wording::MODE_TEXTS;
-use crate::timeline::{ClientAct, Moment, Timeline};
+use crate::timeline::{ClientAct, Timeline};
 use ra_stamp::{Memory, NodeId};
 
 /// The two layers of a picture: the shapes, and the labels, which are in front of them all.
@@ -17,16 +17,6 @@ pub struct Layers {
 }
 
 impl Layers {
-    /// Ends the title of a shape with the line to which it goes, or says that it goes on.
-    pub fn end_title(&mut self, last: Option<Moment>) {
-        match last {
-            Some(last) => self
-                .shapes
-                .write(" to line $</title>", &[Number(last.line)]),
-            None => self.shapes.put(b" on</title>"),
-        }
-    }
-
     /// Draws the line of a lane, with this class.
     fn draw_lane(&mut self, layout: &Layout, x: u64, class: &'static str) {
         self.shapes.write(

@@ -36,9 +36,9 @@ impl Layers {
         let Some(first) = first else {
             return;
         };
-        let end = match last {
-            Some(last) => last.row,
-            None => bar.end,
+        let (end, said, line) = match last {
+            Some(last) => (last.row, " to line $</title>", last.line),
+            None => (bar.end, " on</title>", 0),
         };
         if first.row < end {
             let key = &bar.span.key;
@@ -47,7 +47,7 @@ impl Layers {
                 "$, from line $",
                 &[Text(MODE_TEXTS[bar.span.mode as usize]), Number(first.line)],
             );
-            self.end_title(last);
+            self.shapes.write(said, &[Number(line)]);
             let x = layout.column_x(key.node, bar.column);
             let y = layout.y(first.row);
             let height = layout.y(end).saturating_sub(y);

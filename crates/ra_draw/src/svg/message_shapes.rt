@@ -45,7 +45,14 @@ impl Layers {
 
     /// Labels a message beside the lane of the node to which it goes, on the side from which it does not come, if there is room on this
     /// page. Of equal messages that are under way the first one has a label, if it has a row of its own.
-    fn label_head(&mut self, layout: &Layout, path: &MessagePath, from: Point, head: Point) {
+    fn label_head(
+        &mut self,
+        layout: &Layout,
+        path: &MessagePath,
+        from: Point,
+        head: Point,
+        gutter: u64,
+    ) {
         let message = &path.message;
         let ending = match path.end {
             _ if !layout.is_wide() => return,
@@ -61,7 +68,6 @@ impl Layers {
         let (x, side) = if from.x < head.x {
             (head.x.saturating_add(8), "to-right")
         } else {
-            let gutter = layout.gutter(message.to());
             (head.x.saturating_sub(gutter.saturating_add(4)), "to-left")
         };
         let (name, node) = (message.name(), [Node(message.to())]);
@@ -115,9 +121,8 @@ impl Layers {
 
     /// Ends the title of a message, and draws its line, and beneath it a wide one that is not seen, so that a pointer hits it easily. One
     /// that is not delivered ends before the lane, on the side from which it comes, with a cross if it is lost.
-    fn draw_line(&mut self, layout: &Layout, path: &MessagePath, from: Point, to: Point) {
+    fn draw_line(&mut self, path: &MessagePath, from: Point, to: Point, gutter: u64) {
         let before = if from.x < to.x {
-            let gutter = layout.gutter(path.message.to());
             to.x.saturating_sub(gutter.saturating_add(10))
         } else {
             to.x.saturating_add(14)
@@ -177,9 +182,14 @@ impl Layers {
                 layout.under_way_row(place)
             }
         };
-        let to = layout.at(path.message.to(), row);
-        self.draw_line(layout, path, from, to);
-        self.label_head(layout, path, from, to);
+        let node = path.message.to();
+        let to = layout.at(node, row);
+        let gutter = match layout.lanes.get(node.place()) {
+            Some(lane) => lane.gutter,
+            None => 0,
+        };
+        self.draw_line(path, from, to, gutter);
+        self.label_head(layout, path, from, to, gutter);
         if path.copied && path.start.row > 0 {
             self.draw_copy(layout, path, from);
         }
