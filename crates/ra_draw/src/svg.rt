@@ -1,5 +1,5 @@
 //! The picture of a run.
-ghost use Rattle.std.specs.Prelude.{◌≡◌, ◌++◌, IfOk, OnOk};
+ghost use Rattle.std.specs.Prelude.{◌≡◌, ◌++◌, IfOk, OnOk, codes};
 ghost use Rattle.ra_draw.specs.Drawing.{IsPicture};
 
 mod deferral_shapes;
@@ -104,12 +104,22 @@ fn draw_part(alloc: Global, layers: &mut Layers, text: &[u8], part: Part, totals
     draw_timeline(alloc, layers, &timeline, followed, totals, part);
 }
 
-/// Adds a text.
-fn push(text: &mut Vec<u8>, more: &[u8]) -> Result<(), Memory>
-    ensures { OnOk result (text.new.items ≡ text.old.items ++ more.now) }
+/// Adds the one element of the picture, which contains this.
+fn push_element(picture: &mut Vec<u8>, inner: &[u8]) -> Result<(), Memory>
+    ensures { OnOk result (picture.new.items ≡ picture.old.items
+        ++ codes "<svg xmlns=\"http://www.w3.org/2000/svg\"" ++ inner.now ++ codes "</svg>\n") }
 {
-    text.extend_from_slice(more)?;
-    Ok(())
+    let start = "<svg xmlns=\"http://www.w3.org/2000/svg\"".as_bytes();
+    let Ok(()) = picture.extend_from_slice(start) else {
+        return Err(Memory);
+    };
+    let Ok(()) = picture.extend_from_slice(inner) else {
+        return Err(Memory);
+    };
+    match picture.extend_from_slice("</svg>\n".as_bytes()) {
+        Ok(()) => Ok(()),
+        Err(_) => Err(Memory),
+    }
 }
 
 /// Returns the picture of a part of a text that has these totals.
@@ -121,13 +131,12 @@ pub fn picture_of(alloc: Global, text: &[u8], part: Part, totals: Totals) -> Res
         labels: SvgWriter::new(alloc),
     };
     draw_part(alloc, &mut layers, text, part, &totals);
-    let inner = layers.finish()?;
+    let Ok(inner) = layers.finish() else {
+        return Err(Memory);
+    };
     let mut picture = Vec::new(alloc);
-    push(
-        &mut picture,
-        "<svg xmlns=\"http://www.w3.org/2000/svg\"".as_bytes(),
-    )?;
-    push(&mut picture, &inner)?;
-    push(&mut picture, "</svg>\n".as_bytes())?;
-    Ok(picture)
+    match push_element(&mut picture, &inner) {
+        Ok(()) => Ok(picture),
+        Err(_) => Err(Memory),
+    }
 }
