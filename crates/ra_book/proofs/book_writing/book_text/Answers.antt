@@ -17,7 +17,7 @@ loop-event-init c =
     let nodes = adds_as c.push_number-2.ensures (ap number c.nodes.ensures.value) in
     let start = adds_as c.push_number-3.ensures (ap number c.start.ensures.value) in
     let adds = adds_both (adds_both (adds_both (adds_both c.push.ensures node) nodes) start) c.end_line.ensures in
-    none_yet c.end_line.new.self _ (adds.says [] c.new-text.ensures)
+    none_yet c.end_line.new.self _ (adds.says [] c.new-text.ensures.says)
 
 pub loop-event-preserved : goal.loop-event-preserved
 loop-event-preserved c =
@@ -55,4 +55,4 @@ returns-clause-ok c =
     let below : book.start < 2 ^ 64 = omega (arith, c.start.ensures.value) in
     whole_book book (string_bytes c.in_ok-finish.field-0) lines c.events.ensures.history below
     (subst (λ (es : List BookEvent). AllZip IsWrittenEvent lines (map (λ (e : BookEvent). e.kind) es)) whole are)
-    (c.in_ok-finish.ensures _ says)
+    (c.in_ok-finish.ensures.text _ says)

@@ -54,7 +54,7 @@ returns-in-Err c =
     let opened : IsOpened c.args.nodes c.args.start c.in-Ok.world =
     record { number = c.in-Ok.ensures.count; is = c.in-Ok.ensures.ok; run = c.in-Ok.ensures.run } in
     let tells = stopped c.args.nodes c.args.start c.args.steps.now.items (Err c.in-Err.fault) c.in-Err.fault refl opened.number
-    (c.in-Err.ensures c.new-text.ensures opened) in
+    (c.in-Err.ensures c.new-text.ensures.says opened) in
     record {
       ok = tt;
       bad_count = tells.bad_count;
@@ -73,10 +73,10 @@ returns-in-Ok-finish c =
     let start = c.args.start in
     let opened : IsOpened c.args.nodes c.args.start c.in-Ok.world =
     record { number = c.in-Ok.ensures.count; is = c.in-Ok.ensures.ok; run = c.in-Ok.ensures.run } in
-    let (moves, bytes, made, trace, says) = c.in-Ok-written.ensures c.new-text.ensures opened in
+    let (moves, bytes, made, trace, says) = c.in-Ok-written.ensures c.new-text.ensures.says opened in
     let tells = all_made n start c.args.steps.now.items c.in-Ok-finish.text opened.number in
     record {
-      ok = (moves, made, subst (IsTrace n start moves) (sym (c.in-Ok-finish.ensures bytes says)) trace);
+      ok = (moves, made, subst (IsTrace n start moves) (sym (c.in-Ok-finish.ensures.text bytes says)) trace);
       bad_count = tells.bad_count;
       refused = tells.refused;
       never = tells.never;

@@ -6,4 +6,4 @@ pub returns : goal.returns
 returns c =
     let ends = adds_both (adds_both c.push_tally.ensures c.push_tally-2.ensures) c.push_tally-3.ensures in
     let all = adds_both (adds_both ends c.push_spread.ensures) c.push_spread-2.ensures in
-    c.finish.ensures _ (all.says [] c.new-text.ensures)
+    c.finish.ensures.text _ (all.says [] c.new-text.ensures.says)

@@ -6,4 +6,4 @@ pub returns : goal.returns
 returns c =
     let requests = adds_both (adds_both c.push.ensures c.push_number.ensures) c.end_line.ensures in
     let total = adds_both (adds_both c.push-2.ensures c.push_number-2.ensures) c.end_line-2.ensures in
-    c.finish.ensures _ ((adds_both requests total).says [] c.new-text.ensures)
+    c.finish.ensures.text _ ((adds_both requests total).says [] c.new-text.ensures.says)
