@@ -1,5 +1,5 @@
 //! The arguments that ask to settle books.
-ghost use Rattle.std.specs.Prelude.{◌≡◌, ◌↔◌, ◌∷◌, [], map, string_bytes, IsTrue, MatchOption};
+ghost use Rattle.std.specs.Prelude.{map, string_bytes, MatchOption};
 ghost use Rattle.ra_task.specs.SettleArguments.{AreNoOptions, AreOptionsFor, AreSettleArguments, AsksToSettle};
 
 /// What `ra settle` prints of the run into which books settle.
