@@ -209,9 +209,7 @@ impl Timeline {
                     }),
                     _ => None,
                 };
-                let Ok(()) = self.begin(number, act, is_drawn) else {
-                    return Err(Memory);
-                };
+                self.begin(number, act, is_drawn)?;
                 self.make_step(alloc, world, step)
             }
             Line::Marked(mark) if world.is_none() => self.take_mark(number, mark, is_drawn),

@@ -6,9 +6,8 @@ use crate::svg::svg_writer::PatternValue::{Node, Number, Text, Whole};
 use crate::timeline::{Deferral, Moment};
 
 impl Layers {
-    /// Draws the line of a deferral, this far to the left of the lane, from where the REQUEST came to where the REPLY is sent, and says
-    /// what it is. Beneath it is one that is not seen, so that a pointer hits it easily.
-    fn draw_deferral(&mut self, layout: &Layout, deferral: &Deferral, beside: u64) {
+    /// Begins the shape of a deferral: what it is, and from which line to which one, or that it goes on.
+    fn begin_deferral(&mut self, deferral: &Deferral) {
         let request = &deferral.request;
         let name = request.name();
         self.shapes.write(
@@ -21,16 +20,23 @@ impl Layers {
                 Number(deferral.came.line),
             ],
         );
-        let (said, line, down, back) = match deferral.ended {
-            Some(ended) => {
-                let down = layout.y(ended.row);
-                (" to line $</title>", ended.line, down, beside)
-            }
-            None => (" on</title>", 0, layout.y(layout.end), 0),
+        let (said, line) = match deferral.ended {
+            Some(ended) => (" to line $</title>", ended.line),
+            None => (" on</title>", 0),
         };
         self.shapes.write(said, &[Number(line)]);
+    }
+
+    /// Draws the line of a deferral, this far to the left of the lane, from where the REQUEST came to where the REPLY is sent, and says
+    /// what it is. Beneath it is one that is not seen, so that a pointer hits it easily.
+    fn draw_deferral(&mut self, layout: &Layout, deferral: &Deferral, beside: u64) {
+        self.begin_deferral(deferral);
         let came = deferral.came.row;
-        let from = layout.at(request.to(), came);
+        let from = layout.at(deferral.request.to(), came);
+        let (down, back) = match deferral.ended {
+            Some(ended) => (layout.y(ended.row), beside),
+            None => (layout.y(layout.end), 0),
+        };
         self.shapes.write(
             "<path class=\"$\" d=\"M$ $h-$V$h$\"/><path class=\"$\" d=\"M$ $h-$V$h$\"/>",
             &[

@@ -33,22 +33,19 @@ impl Layers {
         first: Option<Moment>,
         last: Option<Moment>,
     ) {
-        let Some(first) = first else {
-            return;
-        };
         let (end, said, line) = match last {
             Some(last) => (last.row, " to line $</title>", last.line),
             None => (bar.end, " on</title>", 0),
         };
-        if first.row < end {
-            let key = &bar.span.key;
-            self.begin_phase(key, what);
-            self.shapes.write(
-                "$, from line $",
-                &[Text(MODE_TEXTS[bar.span.mode as usize]), Number(first.line)],
-            );
+        if let Some(first) = first
+            && first.row < end
+        {
+            self.begin_phase(&bar.span.key, what);
+            self.shapes
+                .put(MODE_TEXTS[bar.span.mode as usize].as_bytes());
+            self.shapes.write(", from line $", &[Number(first.line)]);
             self.shapes.write(said, &[Number(line)]);
-            let x = layout.column_x(key.node, bar.column);
+            let x = layout.column_x(bar.span.key.node, bar.column);
             let y = layout.y(first.row);
             let height = layout.y(end).saturating_sub(y);
             self.shapes.write(
