@@ -1,11 +1,10 @@
 -- The lines of frames, one after the other, and the line of a mark.
 use Rattle.std.proofs.Common.{◌≡◌, ℕ, List, [], ◌∷◌, ◌++◌, codes, refl, sym, ap, ◌∙◌, append_assoc}
 use Rattle.std.proofs.lemmas.List.{append-nil}
-use Rattle.ra_stamp.specs.Mark.{entry_of_mark}
+use Rattle.ra_stamp.specs.Mark.{entry_of_mark, mark_word}
 use Rattle.ra_stamp.specs.Message.{to_of}
 use Rattle.ra_stamp.specs.declared.entry.Entry.{Entry}
 use Rattle.ra_stamp.specs.declared.entry.Mark.{Mark}
-use Rattle.ra_stamp.specs.declared.entry.Mark.TheVariants.{Requested, Entered, Left}
 use Rattle.ra_stamp.specs.declared.message.Message.{Message}
 use Rattle.ra_frame.specs.FrameText.{IsWrittenText}
 use Rattle.ra_world.specs.Lines.{entry_fields, mark_line}
@@ -19,15 +18,7 @@ sends_more clock (m ∷ ms) message text bytes h w =
     let line = send_line (to_of message) bytes in
     (h.0, h.1 ++ line, h.2, ap (λ (t : List ℕ). t ++ line) h.3 ∙ append_assoc (send_line (to_of m) h.0) h.1 line, sends_more clock ms message h.1 bytes h.4 w)
 
--- the word of a mark
-abbrev pub mark_word : Mark → List ℕ
-mark_word (Requested entry) = codes "request"
-mark_word (Entered entry) = codes "enter"
-mark_word (Left entry) = codes "leave"
-
--- its line is the word and the fields of the request
+-- the line of a mark is its word and the fields of its request
 pub mark_text : (mark : Mark) (word : List ℕ) (entry : Entry) → entry ≡ entry_of_mark mark → word ≡ mark_word mark
     → word ++ entry_fields entry ++ codes "\n" ≡ mark_line mark
-mark_text (Requested e) word entry same said = rw (said, same) refl
-mark_text (Entered e) word entry same said = rw (said, same) refl
-mark_text (Left e) word entry same said = rw (said, same) refl
+mark_text mark word entry same said = rw (said, same) refl

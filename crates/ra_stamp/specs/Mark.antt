@@ -1,4 +1,5 @@
--- The entry of which a mark tells.
+-- The word of a mark, and the entry of which it tells.
+use Rattle.std.specs.Prelude.{ℕ, List, codes}
 use Rattle.ra_stamp.specs.declared.entry.Entry.{Entry}
 use Rattle.ra_stamp.specs.declared.entry.Mark.{Mark}
 use Rattle.ra_stamp.specs.declared.entry.Mark.TheVariants.{Requested, Entered, Left}
@@ -8,3 +9,9 @@ abbrev pub entry_of_mark : Mark → Entry
 entry_of_mark (Requested entry) = entry
 entry_of_mark (Entered entry) = entry
 entry_of_mark (Left entry) = entry
+
+-- its word in texts
+abbrev pub mark_word : Mark → List ℕ
+mark_word (Requested entry) = codes "request"
+mark_word (Entered entry) = codes "enter"
+mark_word (Left entry) = codes "leave"

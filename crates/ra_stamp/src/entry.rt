@@ -1,5 +1,5 @@
 ghost use Rattle.std.specs.Prelude.{◌≡◌};
-ghost use Rattle.ra_stamp.specs.Mark.{entry_of_mark};
+ghost use Rattle.ra_stamp.specs.Mark.{entry_of_mark, mark_word};
 
 use crate::{Mode, Name, Sequence, Stamp};
 use std::fmt;
@@ -30,6 +30,17 @@ pub enum Mark {
 }
 
 impl Mark {
+    /// Returns its word: `request`, `enter` or `leave`. It does not allocate.
+    pub fn word(&self) -> &'static str
+        ensures { result.now ≡ mark_word self.now }
+    {
+        match self {
+            Mark::Requested(_) => "request",
+            Mark::Entered(_) => "enter",
+            Mark::Left(_) => "leave",
+        }
+    }
+
     /// Returns the entry of which it tells. It does not allocate.
     pub fn entry(&self) -> &Entry
         ensures { result.now ≡ entry_of_mark self.now }
@@ -55,11 +66,6 @@ impl fmt::Display for Entry {
 
 impl fmt::Display for Mark {
     fn fmt<W: fmt::Write>(&self, f: &mut fmt::Formatter<W>) -> fmt::Result {
-        let word = match self {
-            Mark::Requested(_) => "request",
-            Mark::Entered(_) => "enter",
-            Mark::Left(_) => "leave",
-        };
-        write!(f, "{word} {}", self.entry())
+        write!(f, "{} {}", self.word(), self.entry())
     }
 }

@@ -1,10 +1,10 @@
 -- The printed lines of a report. A line is words with one space between two, and a line feed at its end. Numbers are
 -- decimal, without leading zeros.
 use Rattle.std.specs.Prelude.{◌≡◌, ◌≢◌, ℕ, List, [], ◌++◌, codes, decimal, flat_map}
+use Rattle.ra_stamp.specs.Mark.{mark_word, entry_of_mark}
 use Rattle.ra_stamp.specs.Mode.{mode_word}
 use Rattle.ra_stamp.specs.declared.entry.Entry.{Entry}
 use Rattle.ra_stamp.specs.declared.entry.Mark.{Mark}
-use Rattle.ra_stamp.specs.declared.entry.Mark.TheVariants.{Requested, Entered, Left}
 use Rattle.ra_world.specs.declared.text.report.Report.{Report}
 
 -- a field that follows the first word of a line, with the space before it
@@ -17,11 +17,9 @@ entry_fields entry =
     field (decimal entry.stamp.node) ++ field (decimal entry.client) ++ field entry.name ++ field (mode_word entry.mode)
     ++ field (decimal entry.stamp.seq)
 
--- the line of a mark: the word `request`, `enter` or `leave`, and then the fields of its request
+-- the line of a mark: its word, `request`, `enter` or `leave`, and then the fields of its request
 abbrev pub mark_line : Mark → List ℕ
-mark_line (Requested entry) = codes "request" ++ entry_fields entry ++ codes "\n"
-mark_line (Entered entry) = codes "enter" ++ entry_fields entry ++ codes "\n"
-mark_line (Left entry) = codes "leave" ++ entry_fields entry ++ codes "\n"
+mark_line mark = mark_word mark ++ entry_fields (entry_of_mark mark) ++ codes "\n"
 
 -- the line of a total: a word, and then the number
 abbrev pub total_line : List ℕ → ℕ → List ℕ

@@ -63,13 +63,8 @@ fn put_frames<W: Write>(writer: &mut W, out: &mut Output, clock: u64, sends: &[M
 fn put_mark<W: Write>(writer: &mut W, out: &mut Output, mark: &Mark)
     ensures { Puts (W.contents writer.old) (W.contents writer.new) out.old out.new (lines.mark_line mark.now) }
 {
-    let word = match mark {
-        Mark::Requested(_) => "request",
-        Mark::Entered(_) => "enter",
-        Mark::Left(_) => "leave",
-    };
     let entry = mark.entry();
-    put(writer, out, word.as_bytes());
+    put(writer, out, mark.word().as_bytes());
     put_number(writer, out, entry.stamp.node.get());
     put_number(writer, out, entry.client);
     put_field(writer, out, entry.name.bytes());

@@ -62,12 +62,7 @@ pub fn push_mark_line(text: &mut String, mark: &Mark) -> Result<(), Memory>
     ensures ok { OnOk result (string_bytes text.new ≡ string_bytes text.old ++ spec.mark_line mark.now) }
     ensures err { OnErr result (spec.AddsPrefix (string_bytes text.old) (string_bytes text.new) (spec.mark_line mark.now)) }
 {
-    let word = match mark {
-        Mark::Requested(_) => "request",
-        Mark::Entered(_) => "enter",
-        Mark::Left(_) => "leave",
-    };
-    push_entry_line(text, word, mark.entry())
+    push_entry_line(text, mark.word(), mark.entry())
 }
 
 /// Adds the line of a total.

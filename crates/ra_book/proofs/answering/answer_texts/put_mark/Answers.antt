@@ -1,9 +1,8 @@
-use Rattle.std.proofs.Common.{◌≡◌, ◌++◌, ℕ, codes, decimal, ap, sym, ◌∙◌, rules}
+use Rattle.std.proofs.Common.{◌≡◌, ◌++◌, ℕ, codes, decimal, ap, ◌∙◌}
 use Rattle.ra_world.specs.Lines.{entry_fields, field, mark_line}
 use Rattle.ra_book.proofs.Put.{both, renamed}
-use Rattle.ra_book.proofs.Sends.{mark_text, mark_word}
+use Rattle.ra_book.proofs.Sends.{mark_text}
 use Rattle.ra_book.proofs.answering.answer_texts.put_mark.Goals as goal
-use Rattle.ra_book.proofs.answering.answer_texts.put_mark.Goals.{in-Requested, in-Entered, in-Left}
 
 pub returns : goal.returns
 returns g c =
@@ -11,15 +10,9 @@ returns g c =
     let word = c.as_bytes.result.now in
     let node = renamed _ _ _ _ _ _ (ap (λ (n : ℕ). field (decimal n)) c.get.ensures.value) c.put_number.ensures in
     let name = renamed _ _ _ _ _ _ (ap field c.bytes.ensures.value) c.put_field.ensures in
-    let mode = renamed _ _ _ _ _ _ (ap field (c.as_bytes-2.ensures.value ∙ c.word.ensures)) c.put_field-2.ensures in
+    let mode = renamed _ _ _ _ _ _ (ap field (c.as_bytes-2.ensures.value ∙ c.word-2.ensures)) c.put_field-2.ensures in
     let names = both _ _ _ _ _ _ _ _ (both _ _ _ _ _ _ _ _ node c.put_number-2.ensures) name in
     let fields = both _ _ _ _ _ _ _ _ (both _ _ _ _ _ _ _ _ names mode) c.put_number-3.ensures in
-    let mark = c.args.mark.now in
-    let said : word ≡ mark_word mark =
-    elim c.match-mark.branch [
-      | in-Requested w ↦ let is : c.match-mark.word.now ≡ codes "request" = search rules in c.as_bytes.ensures.value ∙ is ∙ sym (ap mark_word w.in-Requested.is)
-      | in-Entered w ↦ let is : c.match-mark.word.now ≡ codes "enter" = search rules in c.as_bytes.ensures.value ∙ is ∙ sym (ap mark_word w.in-Entered.is)
-      | in-Left w ↦ let is : c.match-mark.word.now ≡ codes "leave" = search rules in c.as_bytes.ensures.value ∙ is ∙ sym (ap mark_word w.in-Left.is)
-    ] in
-    let same : word ++ entry_fields entry ++ codes "\n" ≡ mark_line mark = mark_text mark word entry c.entry-entry.ensures said in
+    let same : word ++ entry_fields entry ++ codes "\n" ≡ mark_line c.args.mark.now =
+        mark_text c.args.mark.now word entry c.entry-entry.ensures (c.as_bytes.ensures.value ∙ c.word.ensures) in
     renamed _ _ _ _ _ _ same (both _ _ _ _ _ _ _ _ (both _ _ _ _ _ _ _ _ c.put.ensures fields) c.put-2.ensures)
