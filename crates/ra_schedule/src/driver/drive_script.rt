@@ -155,14 +155,8 @@ pub fn opened(
     let Ok(world) = World::new(alloc, script.nodes(), 0) else {
         return Err(Memory);
     };
-    match Driver::open(alloc, script, policy, &world, records) {
-        Ok(driver) => Ok(DrivenCluster { world, driver }),
-        Err(Memory) => {
-            // A report owns little that is to be given back, and a world much.
-            let _report = world.into_report();
-            Err(Memory)
-        }
-    }
+    let driver = Driver::open(alloc, script, policy, &world, records)?;
+    Ok(DrivenCluster { world, driver })
 }
 
 /// Returns what a policy made of a script, if it came to its end. It takes no memory.
@@ -185,8 +179,6 @@ pub fn ended(
     ensures refused { IfErr result (λ fault. driven ≡ Err fault) }
 {
     if let Err(fault) = driven {
-        // A report owns little that is to be given back, and a world much.
-        let _report = cluster.world.into_report();
         return Err(fault);
     }
     let DrivenCluster { world, driver } = cluster;

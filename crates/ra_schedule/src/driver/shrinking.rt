@@ -121,10 +121,7 @@ fn try_without(
         left.as_slice(),
         steps.len() as u64,
     );
-    // It is taken apart before the exit, since a world owns much that is to be given back, and a report little.
-    let DrivenCluster { world, driver } = cluster;
-    let _report = world.into_report();
-    let Driver { steps, choices, .. } = driver;
+    let Driver { steps, choices, .. } = cluster.driver;
     list_if(is_shorter, Listed { steps, choices })
 }
 
