@@ -62,6 +62,7 @@ pub fn flush<W: Write>(writer: &mut W, out: &mut Output) -> bool
 pub fn flush_if<W: Write>(is_drained: bool, writer: &mut W, out: &mut Output) -> bool
     ensures failed { result ≡ out.new.failed }
     ensures puts { Puts (W.contents writer.old) (W.contents writer.new) out.old out.new [] }
+    ensures written { is_drained ≡ true → out.new.failed ≡ false → out.new.waiting.items ≡ [] }
 {
     if is_drained {
         flush(writer, out)
