@@ -12,18 +12,13 @@ pub fn refusal_after(alloc: Global, lines: &[u8], mark: &Mark) -> Option<MarkCau
         return None;
     };
     let (mut rest, mut is_whole) = (lines, true);
-    for _ in 0..u64::MAX {
-        let (line, Some(after)) = cut(rest, b'\n') else {
-            break;
-        };
+    while let (line, Some(after)) = cut(rest, b'\n') {
         if let Some(Line::Marked(made)) = &Line::parse(line) {
             is_whole = is_whole && try_mark(&mut table, made).is_ok();
         }
         rest = after;
     }
-    let refusal = try_mark(&mut table, mark);
-    drop(table);
-    match refusal {
+    match try_mark(&mut table, mark) {
         Ok(cause) if is_whole => cause,
         _ => None,
     }
