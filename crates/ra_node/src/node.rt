@@ -65,7 +65,7 @@ impl Drop for Node {
     }
 }
 
-/// Drops a slot, if there is one. All that a slot owns is freed here, and in no other function.
+/// Drops a slot, if there is one. The functions that give one up call this, so that how its parts are freed is proved once for them.
 fn drop_slot(_slot: Option<Slot>) {}
 
 impl Node {
