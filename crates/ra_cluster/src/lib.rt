@@ -13,10 +13,11 @@
 //! - At the end it closes the cluster, and [`settle`] shows the run. A service that runs for long makes its cluster by
 //!   [`Cluster::new_audited`] instead, and has an auditor of the crate `ra_audit` take what has happened from time to time.
 //!
-//! docs/EMBEDDING.md explains the shortest such program line by line, and also how to start the threads of the nodes
-//! yourself, and how to use a [`Site`] for each node and the [`Post`] by themselves. [`run_cluster`] does all of it for
-//! a script, and [`record_cluster`] returns the books, too; [`run_threads`] and [`settle_script`] are its two halves, for a
-//! caller that makes the cluster.
+//! docs/EMBEDDING.md explains the shortest such program line by line. It also says how to start the threads of the nodes
+//! yourself, and how to use a [`Site`] for each node and the [`Post`] by themselves.
+//!
+//! [`run_cluster`] does all of it for a script, and [`record_cluster`] returns the books, too. [`run_threads`] and
+//! [`settle_script`] are its two halves, for a caller that makes the cluster.
 #![tactic(auto)]
 
 mod cluster;

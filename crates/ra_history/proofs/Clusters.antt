@@ -14,7 +14,7 @@ use Rattle.ra_history.proofs.Merging.{number_at}
 abbrev pub IsMember : BookState → ℕ → ℕ → ℕ → Type 0
 IsMember b place count start = (b.me ≡ place + 1) × (b.nodes ≡ count) × (b.start ≡ start) × IsWhole b
 
--- so many of the books are
+-- each of the first `i` books is
 abbrev pub AreMembers : List BookState → ℕ → ℕ → Type 0
 AreMembers books start i = (k : ℕ) (d : BookState) → k < i → IsMember (get_or books k d) k (length books) start
 

@@ -90,7 +90,7 @@ copy_in_front p placed back f kind at has = (
 
 -- ---- From the last one on
 
--- the last so many of the events are done
+-- the last `turn` events are done
 abbrev pub AreDone : List PlacedEvent → ℕ → BTreeSet FrameKey → List Step → Type 0
 AreDone events turn set back =
     HasCome set (all_placed_at (drop (length events - turn) events)) × AreWithCopies (all_placed_at (drop (length events - turn) events)) (reverse back)

@@ -21,7 +21,7 @@ use Rattle.ra_history.proofs.Whole.{HasWholeHistory, whole_history}
 abbrev pub at_place : ℕ → BookEvent → Placed
 at_place k event = record { node = k + 1; event = event }
 
--- so many events of each book are in the list, and all of them come before each that is not
+-- the list has the first events of each book, as many as `taken` says, and all of them come before each that it has not
 pub record Merges (books : List BookState) (taken : List ℕ) (placed : List Placed) : Type 0 where
   pub long : length taken ≡ length books
   pub each : (k : ℕ) (b : BookState) → slice_get books k ≡ Some b → events_of (k + 1) placed ≡ take (slice_index taken k) b.events

@@ -14,7 +14,7 @@ IsNextOfBook books taken place event =
     (book : BookState) × (slice_get books place ≡ Some book)
     × (slice_get book.events (slice_index taken place) ≡ Some event)
 
--- what comes next of a book after so many events
+-- what comes next of a book after its first `taken` events
 abbrev pub next_of_book : BookState → ℕ → Next
 next_of_book book taken = record { taken = taken; clock = option_map (λ e. e.clock) (slice_get book.events taken) }
 

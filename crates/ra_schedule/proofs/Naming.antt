@@ -11,7 +11,7 @@ use Rattle.ra_schedule.specs.Script.{ScriptState}
 use Rattle.ra_schedule.specs.Schedule.{AreEnabled, AreChoices}
 use Rattle.ra_schedule.proofs.EnabledLists.{enabled_are_one}
 
--- the choices of this many clients and so many messages
+-- the choices of these clients and of this number of messages
 abbrev choices : List ℕ → ℕ → List Choice
 choices clients messages = map Client clients ++ map Message (range_with_len 0 messages)
 
@@ -39,7 +39,7 @@ at_message (c ∷ clients) messages place less =
     let next : length (c ∷ clients) + place ≡ suc (length clients + place) = omega arith in
     ap (slice_get (choices (c ∷ clients) messages)) next ∙ at_message clients messages place less
 
--- the number of a word among so many choices
+-- the number of a word among the choices
 number_of : (word : ℕ) (clients : List ℕ) (messages number : ℕ) → number ≡ word % (length clients + messages) → word % length (choices clients messages) ≡ number
 number_of word clients messages number is = ap (λ (k : ℕ). word % k) (how_many clients messages) ∙ sym is
 

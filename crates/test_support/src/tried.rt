@@ -1,7 +1,7 @@
 //! What becomes of calls if a growth may be refused.
 //!
 //! A test of growth makes each call, and makes it again if it answered that memory ran out and left all as it was. If it met no
-//! refusal, as in the gate, it passes. If it met one and found all as it should be, it fails with words of its own. By these
+//! refusal, as under `rt test`, it passes. If it met one and found all as it should be, it fails with words of its own. By these
 //! `tools/refuse-growth`, which has each allocation refused in turn, tells it from one that failed.
 
 /// What became of calls.

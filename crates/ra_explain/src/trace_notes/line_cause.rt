@@ -41,11 +41,15 @@ fn push_after(alloc: Global, note: &mut Note, line: &TextLine<'_>, cause: LineCa
     }
 }
 
-/// Returns what is said of the first wrong line of a trace or of a mark log, the one with the number `line`, counted from 1: which it
-/// is, the line itself, what is wrong with it, and what is in the way of a mark, which mark is due, whose REPLY a client still
-/// awaits, why a node refuses a step, or why a message is not under way. It is `other` in place of what is wrong if nothing more
-/// precise is found, or if there is no memory for what waits, is queued and holds before it. The text need go no further than
-/// that line. The cost is linear in the text up to there.
+/// Returns what is said of the first wrong line of a trace or of a mark log, the one with the number `line`, counted from 1. It
+/// says which line it is, quotes it, and says what is wrong with it, which is one of these:
+///
+/// - what is in the way of a mark, or which mark is due;
+/// - whose REPLY a client still awaits;
+/// - why a node refuses a step, or why a message is not under way.
+///
+/// It says `other` in place of what is wrong if nothing more precise is found, or if there is no memory for what waits, is queued
+/// and holds before that line. The text need go no further than the line. The cost is linear in the text up to there.
 ///
 /// # Errors
 ///
