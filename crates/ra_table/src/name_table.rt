@@ -40,7 +40,7 @@ impl Model for NameTable {
 }
 
 impl NameTable {
-    /// Makes the table of a name that has none yet, in which this entry waits.
+    /// Makes the table of a name that has none yet, in which this entry waits, and adds it after the other tables.
     ///
     /// # Errors
     ///

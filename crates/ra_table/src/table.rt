@@ -21,14 +21,14 @@ use std::marker::Model;
 ///
 /// Each name has a table of its own, so that a call looks at the entries on its entry's name alone. It looks for the name
 /// once, and a first request on a name twice. Of the grants a table keeps the highest number, with which a request is
-/// compared; only clauses and proofs see the grants themselves. A name is found by a fixed hash, unless it is
-/// the one of the last call or the one that first came after that: among names that someone picked so that they collide, a
-/// look-up is linear in their number.
+/// compared; only clauses and proofs see the grants themselves. A name is found by a fixed hash: among names that someone picked so
+/// that they collide, a look-up is linear in their number. A request, enter or leave does not hash the name of the last
+/// of these calls, or the name that first came after that one.
 pub struct Table {
     /// A table for each name on which an entry ever waited.
     name_tables: IndexMap<Name, NameTable>,
-    /// At which place among these the last one was that was asked of, or the number of tables if its name had none. No clause relies on
-    /// it.
+    /// At which place among these the table of the last request, enter or leave is, or how many there were if its name
+    /// had none. No clause relies on it.
     latest: usize,
 }
 
