@@ -107,8 +107,8 @@ impl Bag {
     /// way. It does not allocate.
     ///
     /// The message at the place `near` is looked at first, at the cost of `at`, and then in constant time the one sent
-    /// before that which `take_from` took last, and the one sent last. If they are others, the first equal one is found,
-    /// at the cost of `take`.
+    /// before that which `take_from` took last, and the one sent last. If these are others, it is looked for at the cost of
+    /// `take`. No clause says which of several equal messages is found in a slot.
     #[inline(always)]
     pub fn find(&mut self, message: &Message, near: u64) -> Option<Found>
         ensures same { self.new ≡ self.old }
@@ -284,7 +284,7 @@ fn slot_found(slots: &VecDeque<Option<Message>>, empty: u64, filled: &Filled, fo
     }
 }
 
-/// Returns the slot of the message at this place, or one past the end if there is no such place.
+/// Returns the slot of the message at this place, or a slot past the end if there is no such place.
 #[inline(always)]
 fn slot_at(slots: &VecDeque<Option<Message>>, empty: u64, filled: &Filled, place: u64) -> usize
     requires count { HasEmpty slots.now.items empty }
@@ -297,13 +297,13 @@ fn slot_at(slots: &VecDeque<Option<Message>>, empty: u64, filled: &Filled, place
     slot_among(slots, filled, place)
 }
 
-/// Returns the slot of the message at this place, or one past the end if there is no such place. Some slots may be empty.
+/// Returns the slot of the message at this place, or a slot past the end if there is no such place. Some slots may be empty.
 fn slot_among(slots: &VecDeque<Option<Message>>, filled: &Filled, place: u64) -> usize
     requires { KeepsShown filled.now slots.now.items }
     ensures { IsAt slots.now.items place result }
 {
-    // The length is what says that the slots have numbers below 2^63.
-    let _len = slots.len();
+    // For the proof: there are fewer than 2^63 slots.
+    let _ = slots.len();
     if filled.is_kept() {
         return filled.nth(place);
     }

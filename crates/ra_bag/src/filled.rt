@@ -11,13 +11,13 @@ use ra_stamp::{Memory, Message};
 use std::alloc::Global;
 use std::collections::VecDeque;
 
-/// If there are no more slots than this, to move messages when one is taken from between them costs less than to keep
-/// bits.
+/// If there are no more slots than this, moving messages when one is taken from between them costs less than keeping
+/// bits. So taking a message has the bits learned only among more slots, and closing up the slots keeps them only then.
 const MANY: usize = 1_024;
 
 /// Which slots of a bag have a message: a bit for each slot, so that the message at a place is found by counting bits,
-/// 64 at a time. The bits are learned by a call that may take memory, after a message was taken from between many
-/// others. A bag without them does the same in more time.
+/// 64 at a time. The bits are learned by a call that may take memory, after a message was taken from between more than
+/// `MANY` slots, or looked for among more than `MAX_LINEAR_SCAN`. A bag without them does the same in more time.
 #[derive(Drop)]
 pub struct Filled {
     /// The bits, 64 in a word, from the lowest on.
@@ -209,7 +209,7 @@ impl Filled {
         self.gone = 0;
     }
 
-    /// Returns the slot of the message at this place, or one past the end if there is no such place. The cost is linear
+    /// Returns the slot of the message at this place, or a slot past the end if there is no such place. The cost is linear
     /// in the words before it.
     pub fn nth(&self, place: u64) -> usize
         ensures { (slots : List (Option Message)) → length slots < 2 ^ 63 → IsShown self.now slots

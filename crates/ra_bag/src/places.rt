@@ -179,6 +179,7 @@ impl Places {
     fn add(&mut self, number: u64, message: &Message) -> Result<(), Memory>
         ensures { OnOk result (Learns ⟦<Message as PartialEq>⟧.eq self.old message.now number self.new) }
     {
+        // Few messages have a number yet, and a look-up before would hash each of the others twice.
         if let Some(first) = self.numbers.insert(*message, number)? {
             self.numbers.insert(*message, first)?;
             add_later(&mut self.later, number, message)?;

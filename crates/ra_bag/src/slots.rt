@@ -12,6 +12,10 @@ use std::collections::VecDeque;
 pub const MAX_LINEAR_SCAN: usize = 64;
 
 /// Makes room for this many more slots, unless the list already has it.
+///
+/// # Errors
+///
+/// `Memory`: that room cannot be made. The list is as before, with its room.
 pub fn make_room(slots: &mut VecDeque<Option<Message>>, more: usize) -> Result<(), Memory>
     ensures same { slots.new.items ≡ slots.old.items }
     ensures ok { OnOk result (deque_len slots.new + more ≤ deque_capacity slots.new) }
