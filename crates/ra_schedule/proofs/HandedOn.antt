@@ -1,5 +1,5 @@
 -- What a function says of a script that it hands to another one.
-use Rattle.std.proofs.Common.{◌≡◌, ℕ, ◌+◌, ◌^◌, ◌<◌, ◌≤◌, Bool, Result, Ok, Err, IfOk, OnOk, arith, refl, sym, ap, ◌∙◌, subst, inl, inr}
+use Rattle.std.proofs.Common.{◌≡◌, ℕ, ◌+◌, ◌^◌, ◌<◌, ◌≤◌, Bool, Result, Ok, Err, OnOk, arith, refl, sym, ap, ◌∙◌, subst, inl, inr}
 use Rattle.ra_schedule.specs.declared.choice.Policy.{Policy}
 use Rattle.ra_schedule.specs.declared.driver.drive_script.Summary.{Summary}
 use Rattle.ra_schedule.specs.declared.error.DriveError.{DriveError}
@@ -9,16 +9,11 @@ use Rattle.ra_schedule.specs.Drive.{Answers, IsInTime, Drives, IsSummary, IsWhol
 use Rattle.ra_schedule.specs.Survey.{HasEnded}
 
 -- the fault of a result, whatever else it could be
-pub err_as : {X Y : Type 0} {d e : DriveError} → ◌≡◌ {A = Result X DriveError} (Err d) (Err e) → ◌≡◌ {A = Result Y DriveError} (Err d) (Err e)
+err_as : {X Y : Type 0} {d e : DriveError} → ◌≡◌ {A = Result X DriveError} (Err d) (Err e) → ◌≡◌ {A = Result Y DriveError} (Err d) (Err e)
 err_as {X} {Y} {d} {e} h = let same : d ≡ e = cc in ap Err same
 
 pub no_ok : {X : Type 0} {x : X} {e : DriveError} → Ok x ≡ Err e → ⊥
 no_ok h = absurd cc
-
--- what was not refused was done
-pub not_refused : (driven : Result (Unit {0}) DriveError) → ((fault : DriveError) → driven ≡ Err fault → ⊥) → driven ≡ Ok tt
-not_refused (Ok done) not = refl
-not_refused (Err fault) not = absurd (not fault refl)
 
 -- it is refused for one fault
 pub one_refusal : {X : Type 0} (s : Result X DriveError) (d e : DriveError) → s ≡ Err d → s ≡ Err e → d ≡ e
@@ -39,10 +34,6 @@ no_limit is = absurd cc
 -- a refusal that is handed on says nothing of what is left
 pub no_work : {Y : Type 0} (P : Type 0) (fault : DriveError) (s : Result Y DriveError) → s ≡ Err fault → OnOk s P
 no_work {Y} P fault s is = subst (λ (r : Result Y DriveError). OnOk r P) (sym is) tt
-
--- a refusal that is handed on says nothing of what would have been returned
-pub no_value : {Y : Type 0} (P : Y → Type 0) (fault : DriveError) (s : Result Y DriveError) → s ≡ Err fault → IfOk s P
-no_value {Y} P fault s is = subst (λ (r : Result Y DriveError). IfOk r P) (sym is) tt
 
 -- it answers as it did
 err_answers : {X Y : Type 0} (script : ScriptState) (policy : Policy) (limit : ℕ) (fault : DriveError)

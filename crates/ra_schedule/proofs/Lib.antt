@@ -51,7 +51,6 @@ mod ShrunkRuns
 mod SinceAsks
 mod ScriptNames
 mod ClientLines
-mod ToldStates
 pub mod ScheduleLaws
 mod Ended
 mod Numbers

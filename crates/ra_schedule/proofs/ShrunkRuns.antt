@@ -1,6 +1,6 @@
 -- Steps that are left out, and runs that are made shorter.
-use Rattle.std.proofs.Common.{◌≡◌, ◌⊎◌, ℕ, zero, suc, ◌+◌, ◌<◌, ◌≤◌, Bool, true, false, Option, Some, None, Result, Ok, Err, IfOk, List, [], ◌∷◌, ◌++◌, length, take, drop, get_or, refl, sym, ap, ◌∙◌, subst, arith, inl, inr}
-use Rattle.std.specs.Prelude.{◌↔◌, if◌then◌else◌, IsTrue, OnOk, MatchOption}
+use Rattle.std.proofs.Common.{◌≡◌, ◌⊎◌, ℕ, zero, suc, ◌+◌, ◌<◌, ◌≤◌, Bool, true, false, Option, Some, None, List, [], ◌∷◌, ◌++◌, length, take, drop, get_or, refl, sym, ap, ◌∙◌, subst, arith, inl, inr}
+use Rattle.std.specs.Prelude.{◌↔◌, if◌then◌else◌, IsTrue, MatchOption}
 use Rattle.std.proofs.lemmas.Bool.{cases_eq, false≢true}
 use Rattle.std.proofs.lemmas.List as lists
 use Rattle.ra_stamp.specs.Sequence.{Listed as Listing}
@@ -23,7 +23,7 @@ use Rattle.ra_schedule.specs.Listing.{AreChoicesBy}
 use Rattle.ra_schedule.specs.Progress.{recorded}
 use Rattle.ra_schedule.specs.Driving.{IsReady, Records}
 use Rattle.ra_schedule.specs.Shrinking.{are_of_one_client, others, without_first, cut, IsFor, Redone, Replays, IsOldest, GoesOnOldest, ComesOf, IsInVain, IsLeast, IsLeastOf, IsStuckRun}
-use Rattle.ra_schedule.specs.Replaying.{AreChoicesFor, AreInVain, IsReplay, IsStuckList, IsShorter, IsShorterRunOf}
+use Rattle.ra_schedule.specs.Replaying.{AreInVain, IsReplay, IsStuckList, IsShorter, IsShorterRunOf}
 use Rattle.ra_schedule.proofs.ChoicesMade.{made_again}
 use Rattle.ra_schedule.proofs.Unrepeated.{IsNoRepeat, no_choice, of_each}
 use Rattle.ra_schedule.proofs.Replayed.{made_by_these}
@@ -157,12 +157,6 @@ opening_replay script policy world driver ready records = record {
   };
 }
 
-same_ok : {E : Type 0} {a b : Bool} → ◌≡◌ {A = Result Bool E} (Ok a) (Ok b) → a ≡ b
-same_ok e = cc
-
-no_ok : {E : Type 0} {e : E} {b : Bool} → ◌≡◌ {A = Result Bool E} (Err e) (Ok b) → ⊥
-no_ok h = absurd cc
-
 -- which of two numbers is less, or not
 at_least_or_less : (x y : ℕ) → (x ≤ y) ⊎ (y < x)
 at_least_or_less zero y = inl (omega arith)
@@ -173,13 +167,11 @@ at_least_or_less (suc x) (suc y) =
       | inr less ↦ inr (omega arith)
     ]
 
--- what was replayed is shorter and stuck, and kept, or in vain
-pub kept_or_in_vain : (script : ScriptState) (steps : List Step) (limit : ℕ) (world : WorldState) (driver : Driver) (is : Bool) (found : Option Listed)
+-- what was replayed is in vain if it is not shorter and stuck
+pub replayed_in_vain : (script : ScriptState) (steps : List Step) (limit : ℕ) (world : WorldState) (driver : Driver) (is : Bool)
     → IsReplay script world driver → ComesOf script steps limit world.moves
-    → IsTrue is ↔ ((length world.moves < limit) × IsStuckRun script world.moves)
-    → MatchOption found (is ≡ false) (λ list. (is ≡ true) × (list ≡ record { steps = driver.steps; choices = driver.choices }))
-    → MatchOption found (IsInVain script steps limit) (IsShorter script steps limit)
-kept_or_in_vain script steps limit world driver is None replay comes decides not_kept = record {
+    → IsTrue is ↔ ((length world.moves < limit) × IsStuckRun script world.moves) → is ≡ false → IsInVain script steps limit
+replayed_in_vain script steps limit world driver is replay comes decides not_kept = record {
   moves = world.moves;
   run = replay.driven.run;
   comes = comes;
@@ -188,40 +180,28 @@ kept_or_in_vain script steps limit world driver is None replay comes decides not
     | inr less ↦ inr (λ stuck. false≢true (sym not_kept ∙ decides.1 (less, stuck)))
   ];
 }
-kept_or_in_vain script steps limit world driver is (Some list) replay comes decides (kept, same) =
-    let steps_are : list.steps.items ≡ driver.steps.items = ap (λ (l : Listed). l.steps.items) same in
-    let choices_are : list.choices ≡ driver.choices = ap (λ (l : Listed). l.choices) same in
+
+-- what was replayed is kept if it is
+pub replayed_shorter : (script : ScriptState) (steps : List Step) (limit : ℕ) (world : WorldState) (driver : Driver) (is : Bool)
+    → IsReplay script world driver → ComesOf script steps limit world.moves
+    → IsTrue is ↔ ((length world.moves < limit) × IsStuckRun script world.moves) → IsTrue is
+    → IsShorter script steps limit (record { steps = driver.steps; choices = driver.choices })
+replayed_shorter script steps limit world driver is replay comes decides kept =
     let (less, stuck) = decides.0 kept in
-    let choices : AreChoicesFor script list.choices.items world.moves =
-    subst (λ (c : Listing Choice). AreChoicesFor script c.items world.moves) (sym choices_are) replay.choices in
     record {
       moves = world.moves;
       is = record {
-        steps = steps_are ∙ replay.driven.steps ∙ ap (λ (b : Bool). recorded b world.moves) replay.records;
+        steps = replay.driven.steps ∙ ap (λ (b : Bool). recorded b world.moves) replay.records;
         by = record {
-          one_each = choices.one_each;
-          each = λ before after move e. let (choice, at, means) = choices.each before after move e in (choice, at, at, means);
+          one_each = replay.choices.one_each;
+          each = λ before after move e. let (choice, at, means) = replay.choices.each before after move e in (choice, at, at, means);
         };
-        makes = made_by_these script list.choices world.moves replay.driven.run choices;
+        makes = made_by_these script driver.choices world.moves replay.driven.run replay.choices;
         stuck = stuck;
       };
       comes = comes;
       shorter = less;
     }
-
--- the same, if there was memory
-pub kept_if_replayed : {E F : Type 0} (script : ScriptState) (steps : List Step) (limit : ℕ) (world : WorldState) (driver : Driver)
-    (r : Result Bool E) (out : Result (Option Listed) F) → OnOk r (IsReplay script world driver) → OnOk r (ComesOf script steps limit world.moves)
-    → IfOk r (λ is. IsTrue is ↔ ((length world.moves < limit) × IsStuckRun script world.moves))
-    → IfOk out (λ found. MatchOption found (r ≡ Ok false) (λ list. (r ≡ Ok true) × (list ≡ record { steps = driver.steps; choices = driver.choices })))
-    → IfOk out (λ found. MatchOption found (IsInVain script steps limit) (IsShorter script steps limit))
-kept_if_replayed script steps limit world driver r (Err f) replay comes decides kept = tt
-kept_if_replayed script steps limit world driver (Ok is) (Ok None) replay comes decides kept =
-    kept_or_in_vain script steps limit world driver is None replay comes decides (same_ok kept)
-kept_if_replayed script steps limit world driver (Ok is) (Ok (Some list)) replay comes decides (kept, same) =
-    kept_or_in_vain script steps limit world driver is (Some list) replay comes decides (same_ok kept, same)
-kept_if_replayed script steps limit world driver (Err e) (Ok None) replay comes decides kept = absurd (no_ok kept)
-kept_if_replayed script steps limit world driver (Err e) (Ok (Some list)) replay comes decides (kept, same) = absurd (no_ok kept)
 
 -- a list to which a given run was shrunk so far
 pub record SoFar (script : ScriptState) (given : List Move) (list : Listed) : Type 0 where

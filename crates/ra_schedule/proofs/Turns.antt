@@ -338,8 +338,8 @@ are_done script world clients steps tracks are done k d within =
 -- what is recorded if no choice is left
 pub records_all : (script : ScriptState) (policy : Policy) (cluster : DrivenCluster) (limit : ℕ) (records : Bool)
     (driven : Driven) → IsThrough script policy limit records cluster
-    → driven.steps.items ≡ cluster.driver.steps.items → driven.choices.items ≡ cluster.driver.choices.items → driven.turns ≡ length cluster.world.moves
-    → IsWholeRun script policy limit cluster.world.moves driven.report driven.finished → IsTrue driven.stuck ↔ IsStuckRun script cluster.world.moves
+    → driven.steps.items ≡ cluster.driver.steps.items → driven.choices.items ≡ cluster.driver.choices.items → driven.summary.turns ≡ length cluster.world.moves
+    → IsWholeRun script policy limit cluster.world.moves driven.summary.report driven.summary.finished → IsTrue driven.stuck ↔ IsStuckRun script cluster.world.moves
     → Records script policy limit records driven
 records_all script policy cluster limit records driven through steps choices turns run stuck = record {
   moves = cluster.world.moves;

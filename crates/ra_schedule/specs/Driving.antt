@@ -118,8 +118,8 @@ IsStopped script policy limit fault = (fault ≡ Memory)
 -- what is recorded of a policy that has no choice left
 pub record Records (script : ScriptState) (policy : Policy) (limit : ℕ) (records : Bool) (driven : Driven) : Type 0 where
   pub moves : List Move
-  pub run : IsWholeRun script policy limit moves driven.report driven.finished
+  pub run : IsWholeRun script policy limit moves driven.summary.report driven.summary.finished
   pub steps : driven.steps.items ≡ recorded records moves
   pub choices : IsTrue records → AreChoicesBy script policy driven.choices.items moves
-  pub turns : driven.turns ≡ length moves
+  pub turns : driven.summary.turns ≡ length moves
   pub stuck : IsTrue driven.stuck ↔ IsStuckRun script moves

@@ -1,4 +1,4 @@
-ghost use Rattle.std.specs.Prelude.{◌≡◌, ◌↔◌, ℕ, Bool, Err, length, IsTrue, IfOk, IfErr};
+ghost use Rattle.std.specs.Prelude.{◌≡◌, ◌↔◌, ℕ, Bool, length, IsTrue, IfOk};
 ghost use Rattle.ra_schedule.specs.declared.choice.Policy.{Policy};
 ghost use Rattle.ra_schedule.specs.Progress.{Tracks, AreDone};
 ghost use Rattle.ra_schedule.specs.Drive.{Drives, IsWholeRun, IsRecording, IsSummary};
@@ -48,9 +48,7 @@ pub struct DrivenCluster {
 pub struct Driven {
     pub steps: Steps,
     pub choices: Choices,
-    pub turns: u64,
-    pub report: Report,
-    pub finished: bool,
+    pub summary: Summary,
     /// Whether the run is stuck.
     pub stuck: bool,
 }
@@ -79,8 +77,11 @@ pub fn drive(
     let Driven {
         steps,
         choices,
-        report,
-        finished,
+        summary: Summary {
+            report,
+            finished,
+            ..
+        },
         ..
     } = drive_through(alloc, script, policy, limit, true)?;
     Ok(Recording {
@@ -105,17 +106,8 @@ pub fn summarize(
 ) -> Result<Summary, DriveError>
     ensures { Drives script.now policy.now limit (IsSummary script.now policy.now limit) result }
 {
-    let Driven {
-        turns,
-        report,
-        finished,
-        ..
-    } = drive_through(alloc, script, policy, limit, false)?;
-    Ok(Summary {
-        turns,
-        report,
-        finished,
-    })
+    let Driven { summary, .. } = drive_through(alloc, script, policy, limit, false)?;
+    Ok(summary)
 }
 
 /// Does as [`drive`], and records the steps and choices, or none.
@@ -134,8 +126,8 @@ pub fn drive_through(
 {
     let mut cluster = opened(alloc, script, policy, records)?;
     let world = &mut cluster.world;
-    let driven = cluster.driver.finish(alloc, script, policy, world, limit);
-    ended(script, cluster, driven)
+    cluster.driver.finish(alloc, script, policy, world, limit)?;
+    Ok(ended(script, cluster))
 }
 
 /// Makes the cluster of a script, in which nothing has happened yet, and what drives it, which records the steps and choices, or
@@ -159,28 +151,14 @@ pub fn opened(
     Ok(DrivenCluster { world, driver })
 }
 
-/// Returns what a policy made of a script, if it came to its end. It takes no memory.
-///
-/// # Errors
-///
-/// Why it did not.
-pub fn ended(
-    script: &Script,
-    cluster: DrivenCluster,
-    driven: Result<(), DriveError>,
-) -> Result<Driven, DriveError>
-    requires { IfOk driven (λ _. Tracks script.now cluster.world cluster.driver.clients.items) }
+/// Returns what a policy made of a script when it came to its end. It takes no memory.
+pub fn ended(script: &Script, cluster: DrivenCluster) -> Driven
+    requires { Tracks script.now cluster.world cluster.driver.clients.items }
     ensures made { (policy : Policy) (limit : ℕ) (records : Bool)
-        → Drives script.now policy limit (λ _. IsThrough script.now policy limit records cluster) driven
-        → Drives script.now policy limit (Records script.now policy limit records) result }
-    ensures run { (policy : Policy) (limit : ℕ) (records : Bool)
-        → IfOk driven (λ _. IsThrough script.now policy limit records cluster)
-        → IfOk result (λ of. IsWholeRun script.now policy limit cluster.world.moves of.report of.finished) }
-    ensures refused { IfErr result (λ fault. driven ≡ Err fault) }
+        → IsThrough script.now policy limit records cluster → Records script.now policy limit records result }
+    ensures run { (policy : Policy) (limit : ℕ) (records : Bool) → IsThrough script.now policy limit records cluster
+        → IsWholeRun script.now policy limit cluster.world.moves result.summary.report result.summary.finished }
 {
-    if let Err(fault) = driven {
-        return Err(fault);
-    }
     let DrivenCluster { world, driver } = cluster;
     let Driver {
         clients,
@@ -192,14 +170,16 @@ pub fn ended(
     let turns = world.steps();
     let report = world.into_report();
     let finished = is_finished(script, &clients, &report);
-    Ok(Driven {
+    Driven {
         steps,
         choices,
-        turns,
-        report,
-        finished,
+        summary: Summary {
+            turns,
+            report,
+            finished,
+        },
         stuck,
-    })
+    }
 }
 
 /// Returns whether each client has done all that it has to do, and nothing waits, is queued or under way.

@@ -1,6 +1,5 @@
 //! The state at the end of what a policy makes of a script.
-ghost use Rattle.std.specs.Prelude.{◌≡◌, ◌⊎◌, Err, string_bytes, IfOk, IfErr};
-ghost use Rattle.ra_schedule.specs.declared.error.DriveError.{DriveError};
+ghost use Rattle.std.specs.Prelude.{◌≡◌, string_bytes, IfOk};
 ghost use Rattle.ra_schedule.specs.Drive.{Drives};
 ghost use Rattle.ra_schedule.specs.Progress.{Tracks};
 ghost use Rattle.ra_schedule.specs.Schedule.{steps_of};
@@ -10,6 +9,7 @@ use crate::driver::client_state::client_lines;
 use crate::driver::drive_script::{DrivenCluster, ended, opened};
 use crate::script::script_names::names_of;
 use crate::{DriveError, Policy, Script};
+use ra_stamp::Memory;
 use std::alloc::Global;
 
 /// The state at the end of what a policy made of a script.
@@ -38,44 +38,28 @@ pub fn show(
 {
     let mut cluster = opened(alloc, script, policy, true)?;
     let world = &mut cluster.world;
-    let driven = cluster.driver.finish(alloc, script, policy, world, limit);
-    let text = text_of(alloc, script, &cluster, driven);
-    let finished = match ended(script, cluster, driven) {
-        Ok(driven) => driven.finished,
-        // Then there is no text.
-        Err(_) => false,
-    };
-    let text = text?;
-    Ok(Shown { text, finished })
+    cluster.driver.finish(alloc, script, policy, world, limit)?;
+    let text = text_of(alloc, script, &cluster)?;
+    let driven = ended(script, cluster);
+    Ok(Shown {
+        text,
+        finished: driven.summary.finished,
+    })
 }
 
-/// Returns the lines of the state to which a driver has come that recorded its steps, if it came to the end of the run.
+/// Returns the lines of the state to which a driver has come that recorded its steps.
 ///
 /// # Errors
 ///
-/// The first that holds:
-///
-/// 1. Why it did not.
-/// 2. `Memory`: there is none for the lines.
-fn text_of(
-    alloc: Global,
-    script: &Script,
-    cluster: &DrivenCluster,
-    driven: Result<(), DriveError>,
-) -> Result<String, DriveError>
-    requires tracked { IfOk driven (λ _. Tracks script.now cluster.now.world cluster.now.driver.clients.items) }
-    requires steps { IfOk driven (λ _. cluster.now.driver.steps.items ≡ steps_of cluster.now.world.moves) }
-    ensures ok { IfOk result (λ text. ShowsState script.now cluster.now.world.moves (string_bytes text)) }
-    ensures err { IfErr result (λ fault. (driven ≡ Err fault) ⊎ (fault ≡ DriveError.Memory)) }
-    ensures refused { (fault : DriveError) → driven ≡ Err fault → result ≡ Err fault }
+/// `Memory`: there is none for the lines.
+fn text_of(alloc: Global, script: &Script, cluster: &DrivenCluster) -> Result<String, Memory>
+    requires tracked { Tracks script.now cluster.now.world cluster.now.driver.clients.items }
+    requires steps { cluster.now.driver.steps.items ≡ steps_of cluster.now.world.moves }
+    ensures { IfOk result (λ text. ShowsState script.now cluster.now.world.moves (string_bytes text)) }
 {
-    if let Err(fault) = driven {
-        return Err(fault);
-    }
     let DrivenCluster { world, driver } = cluster;
     let names = names_of(alloc, script)?;
     let steps = driver.steps.as_slice();
     let clients = client_lines(alloc, script, world, steps, &driver.clients)?;
-    let text = world.state_text(alloc, &names, clients.as_str())?;
-    Ok(text)
+    world.state_text(alloc, &names, clients.as_str())
 }

@@ -1,5 +1,5 @@
 //! A run that is stuck, made shorter step by step.
-ghost use Rattle.std.specs.Prelude.{◌≡◌, ◌<◌, ◌≤◌, List, length, Ok, true, false, IfOk, OnOk, MatchOption};
+ghost use Rattle.std.specs.Prelude.{◌≡◌, ◌<◌, ◌≤◌, List, length, IfOk, OnOk, MatchOption};
 ghost use Rattle.ra_world.specs.Traffic.{Move};
 ghost use Rattle.ra_schedule.specs.Drive.{Drives};
 ghost use Rattle.ra_schedule.specs.Shrinking.{IsShrunk, IsInVain, IsLeast, IsLeastOf, cut};
@@ -7,7 +7,7 @@ ghost use Rattle.ra_schedule.specs.Shrinking as spec;
 ghost use Rattle.ra_schedule.specs.Replaying.{IsStuckList, IsShorter, AreInVain, IsShorterRunOf};
 
 use crate::driver::Driver;
-use crate::driver::drive_script::{Driven, DrivenCluster, drive_through, opened};
+use crate::driver::drive_script::{Driven, DrivenCluster, Summary, drive_through, opened};
 use crate::driver::replaying::replay;
 use crate::{Choices, DriveError, Policy, Script};
 use ra_stamp::Memory;
@@ -81,21 +81,6 @@ fn cut_of(alloc: Global, steps: &[Step], place: usize) -> Result<Steps, Memory>
     Ok(left)
 }
 
-/// Returns a list if it is to be kept.
-///
-/// # Errors
-///
-/// `Memory`: memory ran out before that was known.
-fn list_if(keeps: Result<bool, Memory>, list: Listed) -> Result<Option<Listed>, Memory>
-    ensures { IfOk result (λ found. MatchOption found (keeps ≡ Ok false) (λ kept. (keeps ≡ Ok true) × (kept ≡ list))) }
-{
-    match keeps {
-        Ok(true) => Ok(Some(list)),
-        Ok(false) => Ok(None),
-        Err(fault) => Err(fault),
-    }
-}
-
 /// Replays steps without the one at a place, and returns the run if it is stuck and has fewer steps than there were.
 ///
 /// # Errors
@@ -112,17 +97,23 @@ fn try_without(
         (IsShorter script.now (cut steps.now place) (length steps.now))) }
 {
     let left = cut_of(alloc, steps, place)?;
-    let mut cluster = opened(alloc, script, &Policy::Oldest, true)?;
+    let DrivenCluster {
+        mut world,
+        mut driver,
+    } = opened(alloc, script, &Policy::Oldest, true)?;
     let is_shorter = replay(
         alloc,
         script,
-        &mut cluster.world,
-        &mut cluster.driver,
+        &mut world,
+        &mut driver,
         left.as_slice(),
         steps.len() as u64,
-    );
-    let Driver { steps, choices, .. } = cluster.driver;
-    list_if(is_shorter, Listed { steps, choices })
+    )?;
+    if !is_shorter {
+        return Ok(None);
+    }
+    let Driver { steps, choices, .. } = driver;
+    Ok(Some(Listed { steps, choices }))
 }
 
 /// Returns a shorter run that is stuck, the first one that is found if one step after the other is left out, from one place up to
@@ -213,9 +204,8 @@ pub fn shrink(
     let Driven {
         steps,
         choices,
-        finished,
+        summary: Summary { finished, .. },
         stuck,
-        ..
     } = drive_through(alloc, script, policy, limit, true)?;
     if !stuck {
         return Ok(Shrunk {

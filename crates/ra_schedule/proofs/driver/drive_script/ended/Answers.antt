@@ -1,49 +1,27 @@
-use Rattle.std.proofs.Common.{◌∙◌, ℕ, List, Result, IfOk, length, refl, sym, ap, subst}
+use Rattle.std.proofs.Common.{◌∙◌, ℕ, List, length, refl, sym, ap, subst}
 use Rattle.std.specs.Prelude.{◌↔◌, IsTrue}
 use Rattle.ra_world.specs.MainTheorem.{MainTheorem}
 use Rattle.ra_world.specs.World.{Reports}
 use Rattle.ra_schedule.specs.declared.driver.client_progress.Progress.{Progress}
-use Rattle.ra_schedule.specs.declared.error.DriveError.{DriveError}
-use Rattle.ra_schedule.specs.Drive.{Drives}
-use Rattle.ra_schedule.specs.Driving.{IsThrough, Records}
 use Rattle.ra_schedule.specs.Progress.{Tracks}
 use Rattle.ra_schedule.specs.Schedule.{steps_of, IsFinished}
 use Rattle.ra_schedule.proofs.Endings.{whole_run}
 use Rattle.ra_schedule.proofs.Turns.{all_done, are_done, records_all}
-use Rattle.ra_schedule.proofs.HandedOn.{not_refused, refusal_on, value_on}
 use Rattle.ra_schedule.proofs.ScheduleLaws.{endings_rest_on_nodes, endings_rest_on_runs}
 use Rattle.ra_schedule.proofs.driver.drive_script.ended.Goals as goal
-use Rattle.ra_schedule.proofs.driver.drive_script.ended.Goals.{In_default}
-
--- the progress of the clients is known
-tracked : (c : In_default) → Tracks c.args.script.now c.args.cluster.world c.args.cluster.driver.clients.items
-tracked c =
-    subst (λ (r : Result (Unit {0}) DriveError). IfOk r (λ _. Tracks c.args.script.now c.args.cluster.world c.args.cluster.driver.clients.items))
-    (not_refused c.args.driven c.in_default.not-Err) c.requires
 
 pub is_stuck-stuck-requires : goal.is_stuck-stuck-requires
 is_stuck-stuck-requires c =
-    subst (λ (list : List Progress). Tracks c.args.script.now c.args.cluster.world list) (sym c.deref.ensures.value) (tracked (goal.at.is_stuck-stuck-requires c).In_default)
+    subst (λ (list : List Progress). Tracks c.args.script.now c.args.cluster.world list) (sym c.deref.ensures.value) c.requires
 
 pub is_finished-finished-requires : goal.is_finished-finished-requires
-is_finished-finished-requires c =
-    ap length c.deref-2.ensures.value ∙ (tracked (goal.at.is_finished-finished-requires c).In_default).length_is
-
-pub returns-in-Err-clause-made : goal.returns-in-Err-clause-made
-returns-in-Err-clause-made c policy limit records drives =
-    let script = c.args.script.now in
-    refusal_on script policy limit (λ _. IsThrough script policy limit records c.args.cluster) (Records script policy limit records) c.in-Err.fault _ refl
-    (subst (λ (r : Result (Unit {0}) DriveError). Drives script policy limit (λ _. IsThrough script policy limit records c.args.cluster) r) c.in-Err.is drives)
-
-pub returns-in-Err-clause-refused : goal.returns-in-Err-clause-refused
-returns-in-Err-clause-refused c = c.in-Err.is
+is_finished-finished-requires c = ap length c.deref-2.ensures.value ∙ c.requires.length_is
 
 pub returns-clause-run : goal.returns-clause-run
-returns-clause-run c policy limit records done =
+returns-clause-run c policy limit records through =
     let script = c.args.script.now in
     let world = c.args.cluster.world in
-    let tracks = tracked (goal.at.returns-clause-run c).In_default in
-    let through = subst (λ (r : Result (Unit {0}) DriveError). IfOk r (λ _. IsThrough script policy limit records c.args.cluster)) (not_refused c.args.driven c.in_default.not-Err) done in
+    let tracks = c.requires in
     let told = c.into_report-report.ensures in
     let report = c.into_report-report.result in
     let clients = c.deref-2.result.now in
@@ -66,11 +44,6 @@ returns-clause-run c policy limit records done =
     (subst (λ (n : ℕ). MainTheorem n report) tracks.count told.main_theorem) finished
 
 pub returns-clause-made : goal.returns-clause-made
-returns-clause-made c policy limit records drives =
-    let script = c.args.script.now in
-    let d = subst (λ (r : Result (Unit {0}) DriveError). Drives script policy limit (λ _. IsThrough script policy limit records c.args.cluster) r)
-    (not_refused c.args.driven c.in_default.not-Err) drives in
-    value_on script policy limit (λ _. IsThrough script policy limit records c.args.cluster) (Records script policy limit records) _ _ d
-    (records_all script policy c.args.cluster limit records _ d.ok refl refl c.steps-turns.ensures.value
-    (returns-clause-run c policy limit records (subst (λ (r : Result (Unit {0}) DriveError). IfOk r (λ _. IsThrough script policy limit records c.args.cluster))
-    (sym (not_refused c.args.driven c.in_default.not-Err)) d.ok)) c.is_stuck-stuck.ensures)
+returns-clause-made c policy limit records through =
+    records_all c.args.script.now policy c.args.cluster limit records _ through refl refl c.steps-turns.ensures.value
+    (returns-clause-run c policy limit records through) c.is_stuck-stuck.ensures

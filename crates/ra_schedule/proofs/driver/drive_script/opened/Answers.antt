@@ -10,7 +10,7 @@ returns c = record {
   records_as = c.in_ok-driver.ensures.records;
 }
 
-pub open-driver-requires-clause-opened : goal.open-driver-requires-clause-opened
-open-driver-requires-clause-opened c =
+pub open-requires-clause-opened : goal.open-requires-clause-opened
+open-requires-clause-opened c =
     let opened : ℕ → WorldState = λ n. record { count = n; start = 0; moves = [] } in
     c.in-Ok.ensures.ok ∙ ap opened c.nodes.ensures.value

@@ -10,15 +10,15 @@ returns c =
     let script = c.args.script.now in
     let policy = c.args.policy.now in
     let limit = c.args.limit in
-    let told = c.in_ok-turns.ensures.ok in
-    value_on script policy limit (Records script policy limit false) (IsSummary script policy limit) _ _ c.in_ok-turns.ensures
+    let told = c.in_ok-summary.ensures.ok in
+    value_on script policy limit (Records script policy limit false) (IsSummary script policy limit) _ _ c.in_ok-summary.ensures
     record { moves = told.moves; run = told.run; turns = told.turns }
 
-pub returns-in_err-turns : goal.returns-in_err-turns
-returns-in_err-turns c =
+pub returns-in_err-summary : goal.returns-in_err-summary
+returns-in_err-summary c =
     let p = err_from_is_err_and c.from_residual.result c.from_residual.ensures.1 in
     let script = c.args.script.now in
     let policy = c.args.policy.now in
     let limit = c.args.limit in
     refusal_on script policy limit (Records script policy limit false) (IsSummary script policy limit) _ c.from_residual.result (p.1 ∙ ap Err p.2)
-    c.in_err-turns.ensures
+    c.in_err-summary.ensures

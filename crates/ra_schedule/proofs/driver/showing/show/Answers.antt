@@ -1,49 +1,26 @@
-use Rattle.std.proofs.Common.{◌≡◌, ◌∙◌, Result, Ok, Err, IfErr, true, sym, ap, subst, inr}
+use Rattle.std.proofs.Common.{◌∙◌, Err, true, ap}
 use Rattle.std.proofs.lemmas.Result.{err_from_is_err_and}
-use Rattle.ra_schedule.specs.declared.driver.drive_script.Driven.{Driven}
-use Rattle.ra_schedule.specs.declared.driver.drive_script.DrivenCluster.{DrivenCluster}
-use Rattle.ra_schedule.specs.declared.error.DriveError.{DriveError}
-use Rattle.ra_schedule.specs.Drive.{Drives}
 use Rattle.ra_schedule.specs.StateText.{IsShown}
-use Rattle.ra_schedule.proofs.Ended.{tracked, recorded_all, driven_through}
-use Rattle.ra_schedule.proofs.HandedOn.{no_ok, memory_ran_out}
-use Rattle.ra_schedule.proofs.ToldStates.{shown}
+use Rattle.ra_schedule.proofs.Ended.{came_to_end, recorded_all, was_stopped}
+use Rattle.ra_schedule.proofs.HandedOn.{memory_ran_out}
 use Rattle.ra_schedule.proofs.driver.showing.show.Goals as goal
-use Rattle.ra_schedule.proofs.driver.showing.show.Goals.{in-Ok, in-Err}
 
-pub finish-driven-requires-clause-opened : goal.finish-driven-requires-clause-opened
-finish-driven-requires-clause-opened c = c.in_ok-cluster.ensures.opened
+pub finish-requires-clause-opened : goal.finish-requires-clause-opened
+finish-requires-clause-opened c = c.in_ok-cluster.ensures.opened
 
-pub finish-driven-requires-clause-ready : goal.finish-driven-requires-clause-ready
-finish-driven-requires-clause-ready c = c.in_ok-cluster.ensures.ready
+pub finish-requires-clause-ready : goal.finish-requires-clause-ready
+finish-requires-clause-ready c = c.in_ok-cluster.ensures.ready
 
-pub text_of-text-requires-clause-tracked : goal.text_of-text-requires-clause-tracked
-text_of-text-requires-clause-tracked c =
-    tracked c.args.script.now c.args.policy.now c.args.limit (record { world = c.finish-driven.new.world; driver = c.finish-driven.new.self }) c.finish-driven.result c.finish-driven.ensures.ok
+pub text_of-requires-clause-tracked : goal.text_of-requires-clause-tracked
+text_of-requires-clause-tracked c = c.in_ok-finish.ensures.ok.0.tracks
 
-pub text_of-text-requires-clause-steps : goal.text_of-text-requires-clause-steps
-text_of-text-requires-clause-steps c =
-    recorded_all c.args.script.now c.args.policy.now c.args.limit _ (record { world = c.finish-driven.new.world; driver = c.finish-driven.new.self }) c.finish-driven.result
-    c.finish-driven.ensures.ok c.finish-driven.ensures.records c.in_ok-cluster.ensures.records_as
+pub text_of-requires-clause-steps : goal.text_of-requires-clause-steps
+text_of-requires-clause-steps c =
+    recorded_all c.args.script.now c.args.policy.now c.finish.new.world c.finish.new.self c.in_ok-finish.ensures.ok.0
+    (c.in_ok-finish.ensures.records ∙ c.in_ok-cluster.ensures.records_as)
 
-pub ended-requires : goal.ended-requires
-ended-requires c =
-    tracked c.args.script.now c.args.policy.now c.args.limit (record { world = c.finish-driven.new.world; driver = c.finish-driven.new.self }) c.finish-driven.result c.finish-driven.ensures.ok
-
-pub returns-in_err-text : goal.returns-in_err-text
-returns-in_err-text c =
-    let p = err_from_is_err_and c.from_residual-in_err-text.result c.from_residual-in_err-text.ensures.1 in
-    let script = c.args.script.now in
-    let policy = c.args.policy.now in
-    let limit = c.args.limit in
-    let began = c.in_ok-cluster.ensures in
-    let cluster : DrivenCluster = record { world = c.finish-driven.new.world; driver = c.finish-driven.new.self } in
-    let through = driven_through script began.fit policy limit true _ cluster c.finish-driven.result
-    c.finish-driven.ensures.ok c.finish-driven.ensures.records began.records_as c.finish-driven.ensures.err in
-    subst (Drives script policy limit (IsShown script policy limit)) (sym (p.1 ∙ ap Err p.2))
-    (shown script policy limit cluster (Err c.in_err-text.field-0.0) c.text_of-text.result c.finish-driven.result c.ended.result
-    tt (inr c.in_err-text.was) c.text_of-text.ensures.ok c.text_of-text.ensures.err
-    (c.ended.ensures.run policy limit true through.ok) through (c.ended.ensures.made policy limit true through))
+pub ended-driven-requires : goal.ended-driven-requires
+ended-driven-requires c = c.in_ok-finish.ensures.ok.0.tracks
 
 pub returns : goal.returns
 returns c =
@@ -51,19 +28,27 @@ returns c =
     let policy = c.args.policy.now in
     let limit = c.args.limit in
     let began = c.in_ok-cluster.ensures in
-    let cluster : DrivenCluster = record { world = c.finish-driven.new.world; driver = c.finish-driven.new.self } in
-    let through = driven_through script began.fit policy limit true _ cluster c.finish-driven.result
-    c.finish-driven.ensures.ok c.finish-driven.ensures.records began.records_as c.finish-driven.ensures.err in
-    shown script policy limit cluster (Ok (record { text = c.in_ok-text.text; finished = c.match-ended.finished }))
-    c.text_of-text.result c.finish-driven.result c.ended.result
-    (elim c.match-ended.branch [
-      | in-Ok w ↦ (c.in_ok-text.was, w.in-Ok.driven, w.in-Ok.is, w.finished-is)
-      | in-Err w ↦
-          let stopped = subst (λ (r : Result Driven DriveError). IfErr r (λ fault. c.finish-driven.result ≡ Err fault)) w.in-Err.is c.ended.ensures.refused in
-          absurd (no_ok (sym c.in_ok-text.was ∙ c.text_of-text.ensures.refused _ stopped))
-    ]) tt
-    c.text_of-text.ensures.ok c.text_of-text.ensures.err
-    (c.ended.ensures.run policy limit true through.ok) through (c.ended.ensures.made policy limit true through)
+    let (at_end, within) = c.in_ok-finish.ensures.ok in
+    came_to_end script began.fit policy limit (IsShown script policy limit) c.finish.new.world c.finish.new.self _ at_end within (record {
+      moves = c.finish.new.world.moves;
+      report = c.ended-driven.result.summary.report;
+      run = c.ended-driven.ensures.run policy limit true
+          (record { fit = began.fit; at_end = at_end; within = within; records_as = c.in_ok-finish.ensures.records ∙ began.records_as });
+      state = c.in_ok-text.ensures;
+    })
+
+pub returns-in_err-text : goal.returns-in_err-text
+returns-in_err-text c =
+    let p = err_from_is_err_and c.from_residual-in_err-text.result c.from_residual-in_err-text.ensures.1 in
+    memory_ran_out c.args.script.now c.args.policy.now c.args.limit (IsShown c.args.script.now c.args.policy.now c.args.limit) _ p.0 p.1 p.2
+
+pub returns-in_err-finish : goal.returns-in_err-finish
+returns-in_err-finish c =
+    let p = err_from_is_err_and c.from_residual-in_err-finish.result c.from_residual-in_err-finish.ensures.1 in
+    let script = c.args.script.now in
+    let policy = c.args.policy.now in
+    let limit = c.args.limit in
+    was_stopped script c.in_ok-cluster.ensures.fit policy limit (IsShown script policy limit) _ _ (p.1 ∙ ap Err p.2) c.in_err-finish.ensures.err
 
 pub returns-in_err-cluster : goal.returns-in_err-cluster
 returns-in_err-cluster c =
