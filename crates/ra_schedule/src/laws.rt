@@ -1,4 +1,6 @@
 //! What is true of every schedule. Each function does nothing, and its contract is the law.
+pub mod finishing;
+
 ghost use Rattle.std.specs.Prelude.{◌≡◌, [], List};
 ghost use Rattle.ra_stamp.specs.NodeId.{IsNodeNumber};
 ghost use Rattle.ra_world.specs.Traffic.{Move, repeated_by};

@@ -4,7 +4,6 @@
 mod choice;
 mod driver;
 mod error;
-mod finishing;
 mod laws;
 mod script;
 mod surveys;
@@ -18,7 +17,7 @@ pub use driver::output_kind::OutputKind;
 pub use driver::showing::{Shown, show};
 pub use driver::shrinking::{Shrunk, shrink};
 pub use error::{AddClientError, AddOpError, ChoicesError, DriveError, NewScriptError};
-pub use finishing::{
+pub use laws::finishing::{
     clients_in_order_never_deadlock, ordered_scripts_finish, policies_bring_scripts_to_rest,
     scripts_come_to_rest, seeds_finish_ordered_scripts,
 };

@@ -1,7 +1,7 @@
 use Rattle.ra_schedule.proofs.CarriedOn.{carried}
 use Rattle.ra_schedule.proofs.TurnBound.{moves_bound, turns_bound}
 use Rattle.ra_schedule.proofs.ScheduleLaws.{endings_rest_on_nodes, endings_rest_on_runs, schedules_rest_on_runs}
-use Rattle.ra_schedule.proofs.finishing.scripts_come_to_rest.Goals as goal
+use Rattle.ra_schedule.proofs.laws.finishing.scripts_come_to_rest.Goals as goal
 
 pub returns : goal.returns
 returns c =

@@ -1,6 +1,6 @@
 use Rattle.ra_schedule.proofs.GoingOn.{someone_can_go_on, someone_holds_it}
 use Rattle.ra_schedule.proofs.ScheduleLaws.{endings_rest_on_nodes, endings_rest_on_runs}
-use Rattle.ra_schedule.proofs.finishing.clients_in_order_never_deadlock.Goals as goal
+use Rattle.ra_schedule.proofs.laws.finishing.clients_in_order_never_deadlock.Goals as goal
 
 pub returns : goal.returns
 returns c =

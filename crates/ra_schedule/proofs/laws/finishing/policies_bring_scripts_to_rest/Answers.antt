@@ -1,7 +1,7 @@
 use Rattle.ra_schedule.proofs.Endings.{policy_finishes}
 use Rattle.ra_schedule.proofs.ThoroughPolicies.{follows_performs, turns_at_most, never_stops}
 use Rattle.ra_schedule.proofs.ScheduleLaws.{endings_rest_on_nodes, endings_rest_on_runs, schedules_rest_on_runs}
-use Rattle.ra_schedule.proofs.finishing.policies_bring_scripts_to_rest.Goals as goal
+use Rattle.ra_schedule.proofs.laws.finishing.policies_bring_scripts_to_rest.Goals as goal
 
 pub returns : goal.returns
 returns c =

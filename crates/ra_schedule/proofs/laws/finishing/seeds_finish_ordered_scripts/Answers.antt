@@ -1,7 +1,7 @@
 use Rattle.ra_schedule.proofs.Endings.{seed_finishes}
 use Rattle.ra_schedule.proofs.SurveyEnds.{seeds_finish}
 use Rattle.ra_schedule.proofs.ScheduleLaws.{endings_rest_on_runs, schedules_rest_on_runs}
-use Rattle.ra_schedule.proofs.finishing.seeds_finish_ordered_scripts.Goals as goal
+use Rattle.ra_schedule.proofs.laws.finishing.seeds_finish_ordered_scripts.Goals as goal
 
 pub returns : goal.returns
 returns c =
