@@ -24,7 +24,7 @@ use Rattle.ra_schedule.specs.Script.{ScriptClient, ScriptState, client_at, op_at
 use Rattle.ra_schedule.specs.Schedule.{steps_of, steps_in, steps_by, Enters, IsEnabled, IsAtPlace, StandsFor, Picks, Ends, Follows}
 use Rattle.ra_schedule.specs.Listing.{AreChoicesBy}
 use Rattle.ra_schedule.specs.Progress.{IsProgress, Tracks, OfEach, IsProgressAfter, AreCountable, AreDone, IsStuck, AreStuck, NoneEnters, recorded}
-use Rattle.ra_schedule.specs.PolicyState.{AreDraws, AreDrawsElsewhere, generator_at, generator_in, words_drawn, words_for}
+use Rattle.ra_schedule.specs.PolicyState.{IsRandomState, IsRandomStateElsewhere, generator_at, generator_in, words_drawn, words_for}
 use Rattle.ra_schedule.specs.Shrinking.{IsStuckRun}
 use Rattle.ra_schedule.specs.Drive.{IsWholeRun}
 use Rattle.ra_schedule.specs.Driving.{IsDriven, IsReady, IsAtEnd, IsMeaning, HasChosen, HasMade, IsThrough, Records}
@@ -65,10 +65,10 @@ module _ (script : ScriptState) (world : WorldState) (is : world ≡ record { co
   }
 
   pub ready_none : (policy : Policy) (driver : Driver) → IsNodeNumber script.nodes → IsRun world.count world.start world.moves
-      → Tracks script world driver.clients.items → driver.first ≡ 0 → generator_in driver.draws ≡ generator_at policy 0
-      → IfSome driver.draws (AreDraws script world.moves) → driver.steps.items ≡ [] → driver.choices.items ≡ []
+      → Tracks script world driver.clients.items → driver.first ≡ 0 → generator_in driver.random ≡ generator_at policy 0
+      → IfSome driver.random (IsRandomState script world.moves) → driver.steps.items ≡ [] → driver.choices.items ≡ []
       → IsReady script policy world driver
-  ready_none policy driver nodes run tracks first drawn draws steps choices =
+  ready_none policy driver nodes run tracks first drawn random steps choices =
       let run' : IsRun script.nodes 0 world.moves =
       subst (λ (s : ℕ). IsRun script.nodes s world.moves) tracks.start (subst (λ (n : ℕ). IsRun n world.start world.moves) tracks.count run) in
       record {
@@ -77,7 +77,7 @@ module _ (script : ScriptState) (world : WorldState) (is : world ≡ record { co
           run = run';
           tracks = tracks;
           stuck = λ k d less within. absurd (omega (arith, less, first));
-          draws = draws;
+          random = random;
           steps = nothing_recorded driver.records driver.steps.items world.moves steps none_moved;
         };
         follows = subst (Follows script policy) (sym none_moved) (follows_none script policy (subst (IsRun script.nodes 0) none_moved run'));
@@ -156,25 +156,25 @@ nobody_below script world clients first tracks stuck k below (step, enables) =
 
 -- ---- One more turn
 
--- a policy chose, by draws that know who is enabled, and looked for a client that is free
+-- a policy chose, by a random state that knows who is enabled, and looked for a client that is free
 module _ (script : ScriptState) (policy : Policy) (world : WorldState) (driver chosen : Driver) (ready : IsReady script policy world driver)
     (items : chosen.clients.items ≡ driver.clients.items) (steps : chosen.steps.items ≡ driver.steps.items)
     (choices : chosen.choices.items ≡ driver.choices.items) (records : chosen.records ≡ driver.records) where
   steps_kept : chosen.steps.items ≡ recorded chosen.records world.moves
   steps_kept = steps ∙ ready.driven.steps ∙ ap (λ (b : Bool). recorded b world.moves) (sym records)
 
-  pub chosen_by : AreStuck script driver.clients.items chosen.first → IfSome chosen.draws (AreDraws script world.moves) → (picked : Option Picked)
+  pub chosen_by : AreStuck script driver.clients.items chosen.first → IfSome chosen.random (IsRandomState script world.moves) → (picked : Option Picked)
       → IfSome picked (λ p. Picks script policy world.moves p.choice) → IfSome picked (λ p. IsMeaning script world.moves p.choice p.meaning)
-      → IfSome picked (λ p. generator_in chosen.draws ≡ generator_at policy (words_drawn policy world.moves + words_for policy p.choice))
+      → IfSome picked (λ p. generator_in chosen.random ≡ generator_at policy (words_drawn policy world.moves + words_for policy p.choice))
       → IfSome picked (HasChosen script policy world driver chosen)
-  chosen_by stuck draws None picks means drawn = tt
-  chosen_by stuck draws (Some picked) picks means drawn = record {
+  chosen_by stuck random None picks means drawn = tt
+  chosen_by stuck random (Some picked) picks means drawn = record {
     driven = record {
       nodes = ready.driven.nodes;
       run = ready.driven.run;
       tracks = subst (Tracks script world) (sym items) ready.driven.tracks;
       stuck = subst (λ (ps : List Progress). AreStuck script ps chosen.first) (sym items) stuck;
-      draws = draws;
+      random = random;
       steps = steps_kept;
     };
     picks = picks;
@@ -200,28 +200,28 @@ module _ (script : ScriptState) (world next : WorldState) (driver : Driver) (mov
       subst (λ (s : ℕ). IsRun script.nodes s next.moves) (ap (λ (w : WorldState). w.start) is ∙ driven.tracks.start)
       (subst (λ (n : ℕ). IsRun n next.start next.moves) (ap (λ (w : WorldState). w.count) is ∙ driven.tracks.count) run)
 
-  pub draws_before : LawsBelow → (choice : Choice) → StandsFor script world.moves choice move.step
-      → IfSome driver.draws (AreDrawsElsewhere move.step move.marks script next.moves)
-  draws_before laws choice means =
-      IfSome_then driver.draws driven.draws (λ draws are. record {
+  pub random_before : LawsBelow → (choice : Choice) → StandsFor script world.moves choice move.step
+      → IfSome driver.random (IsRandomStateElsewhere move.step move.marks script next.moves)
+  random_before laws choice means =
+      IfSome_then driver.random driven.random (λ random are. record {
         node_clients = are.node_clients;
         alike = are.flags.length_is;
-        flags = flags_elsewhere laws script world.moves next.moves move choice draws.enabled.flags.items driven.nodes
+        flags = flags_elsewhere laws script world.moves next.moves move choice random.enabled.flags.items driven.nodes
             (ap (λ (w : WorldState). w.moves) is) run_more means are.flags;
         count = are.count;
       })
 
   pub driven_more : (new : Driver) → Tracks script next new.clients.items → OfEach (IsProgressAfter move) driver.clients.items new.clients.items
       → new.first ≤ driver.first → NoneEnters new.first move.marks
-      → IfSome new.draws (AreDraws script next.moves)
+      → IfSome new.random (IsRandomState script next.moves)
       → new.steps.items ≡ recorded new.records (world.moves ++ move ∷ []) → IsDriven script next new
-  driven_more new tracks after less none draws steps = record {
+  driven_more new tracks after less none random steps = record {
     nodes = driven.nodes;
     run = run_more;
     tracks = tracks;
     stuck = still_stuck script driver.clients.items new.clients.items driver.first new.first move driven.stuck
         (tracks.length_is ∙ sym driven.tracks.length_is) after less none;
-    draws = draws;
+    random = random;
     steps = steps ∙ ap (recorded new.records) (sym (ap (λ (w : WorldState). w.moves) is));
   }
 
@@ -232,7 +232,7 @@ one_longer moves next move is = ap length is ∙ lists.length-append moves (move
 pub ready_more : (script : ScriptState) (policy : Policy) (world next : WorldState) (driver chosen new : Driver) (choice : Choice)
     → IsReady script policy world driver → chosen.records ≡ driver.records → chosen.choices.items ≡ driver.choices.items
     → Picks script policy world.moves choice
-    → generator_in chosen.draws ≡ generator_at policy (words_drawn policy world.moves + words_for policy choice)
+    → generator_in chosen.random ≡ generator_at policy (words_drawn policy world.moves + words_for policy choice)
     → HasMade script choice world chosen next new → IsReady script policy next new
 ready_more script policy world next driver chosen new choice ready records choices picks drawn made =
     let (move, means, moves) = made.made in

@@ -19,7 +19,7 @@ use Rattle.ra_schedule.specs.Listing.{AreChoicesBy}
 use Rattle.ra_schedule.specs.Shrinking.{IsStuckRun}
 use Rattle.ra_schedule.specs.Drive.{IsWholeRun}
 use Rattle.ra_schedule.specs.Progress.{Tracks, AreStuck, recorded}
-use Rattle.ra_schedule.specs.PolicyState.{AreDraws, generator_at, generator_in, words_drawn, words_for}
+use Rattle.ra_schedule.specs.PolicyState.{IsRandomState, generator_at, generator_in, words_drawn, words_for}
 
 -- the cluster has come this far with the script, by whatever choices; this is the progress of its clients, and what
 -- chance knows of them if it chooses
@@ -28,7 +28,7 @@ pub record IsDriven (script : ScriptState) (world : WorldState) (driver : Driver
   pub run : IsRun script.nodes 0 world.moves
   pub tracks : Tracks script world driver.clients.items
   pub stuck : AreStuck script driver.clients.items driver.first
-  pub draws : IfSome driver.draws (AreDraws script world.moves)
+  pub random : IfSome driver.random (IsRandomState script world.moves)
   pub steps : driver.steps.items ≡ recorded driver.records world.moves
 
 -- the choices of the policy are recorded, if the driver records
@@ -41,7 +41,7 @@ pub record IsReady (script : ScriptState) (policy : Policy) (world : WorldState)
   pub driven : IsDriven script world driver
   pub follows : Follows script policy world.moves
   pub choices : KeepsChoices script policy world.moves driver
-  pub drawn : generator_in driver.draws ≡ generator_at policy (words_drawn policy world.moves)
+  pub drawn : generator_in driver.random ≡ generator_at policy (words_drawn policy world.moves)
 
 -- the policy has no choice left
 pub record IsAtEnd (script : ScriptState) (policy : Policy) (world : WorldState) (driver : Driver) : Type 0 where
@@ -54,7 +54,7 @@ pub record IsAtEnd (script : ScriptState) (policy : Policy) (world : WorldState)
 -- the step of the choice was made, and the choice recorded
 pub record HasMade (script : ScriptState) (choice : Choice) (world : WorldState) (driver : Driver) (next : WorldState) (new : Driver) : Type 0 where
   pub driven : IsDriven script next new
-  pub drawn : generator_in new.draws ≡ generator_in driver.draws
+  pub drawn : generator_in new.random ≡ generator_in driver.random
   pub records : new.records ≡ driver.records
   pub choices : IsTrue driver.records → new.choices.items ≡ driver.choices.items ++ choice ∷ []
   pub made : (move : Move) × StandsFor script world.moves choice move.step × (next.moves ≡ world.moves ++ move ∷ [])
@@ -82,7 +82,7 @@ pub record HasChosen (script : ScriptState) (policy : Policy) (world : WorldStat
   pub driven : IsDriven script world chosen
   pub picks : Picks script policy world.moves picked.choice
   pub means : IsMeaning script world.moves picked.choice picked.meaning
-  pub drawn : generator_in chosen.draws ≡ generator_at policy (words_drawn policy world.moves + words_for policy picked.choice)
+  pub drawn : generator_in chosen.random ≡ generator_at policy (words_drawn policy world.moves + words_for policy picked.choice)
   pub choices : chosen.choices.items ≡ driver.choices.items
 
 -- after these moves the policy has a choice that can be made

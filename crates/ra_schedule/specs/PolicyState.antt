@@ -54,18 +54,18 @@ IsWithoutFault (Repeated place) = ⊥
 
 -- the generator with which chance chooses, if it does
 abbrev pub generator_in : Option RandomState → Option Lcg
-generator_in draws = option_map (λ d. d.generator) draws
+generator_in random = option_map (λ d. d.generator) random
 
 -- chance knows the clients of each node, and which are enabled after these moves
-pub record AreDraws (script : ScriptState) (moves : List Move) (draws : RandomState) : Type 0 where
-  pub node_clients : AreNodeClients script draws.node_clients.items
-  pub flags : AreFlags script moves draws.enabled.flags.items
-  pub count : draws.enabled.count ≡ length (numbers_from 1 draws.enabled.flags.items)
+pub record IsRandomState (script : ScriptState) (moves : List Move) (random : RandomState) : Type 0 where
+  pub node_clients : AreNodeClients script random.node_clients.items
+  pub flags : AreFlags script moves random.enabled.flags.items
+  pub count : random.enabled.count ≡ length (numbers_from 1 random.enabled.flags.items)
 
 -- the same, except that chance has not looked yet at the clients at the node of a step and at those that entered by its
 -- marks
-pub record AreDrawsElsewhere (step : Step) (marks : List Mark) (script : ScriptState) (moves : List Move) (draws : RandomState) : Type 0 where
-  pub node_clients : AreNodeClients script draws.node_clients.items
-  pub alike : length draws.enabled.flags.items ≡ length script.clients
-  pub flags : AreFlagsElsewhere step marks script moves draws.enabled.flags.items
-  pub count : draws.enabled.count ≡ length (numbers_from 1 draws.enabled.flags.items)
+pub record IsRandomStateElsewhere (step : Step) (marks : List Mark) (script : ScriptState) (moves : List Move) (random : RandomState) : Type 0 where
+  pub node_clients : AreNodeClients script random.node_clients.items
+  pub alike : length random.enabled.flags.items ≡ length script.clients
+  pub flags : AreFlagsElsewhere step marks script moves random.enabled.flags.items
+  pub count : random.enabled.count ≡ length (numbers_from 1 random.enabled.flags.items)

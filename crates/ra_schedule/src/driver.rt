@@ -32,7 +32,7 @@ pub struct Driver {
     /// How far each client is.
     pub clients: Vec<Progress>,
     /// What the random choice is made by, if there is one.
-    draws: Option<RandomState>,
+    random: Option<RandomState>,
     /// Each client before this place waits or has nothing left to do, so that most turns need not look at all clients.
     first: u32,
     /// Whether the steps and choices are recorded.
@@ -66,12 +66,12 @@ impl Driver {
             waiting: false,
         };
         let clients = vec![in alloc; idle; script.clients() as usize]?;
-        let draws = RandomState::of(alloc, policy, script, world, &clients)?;
+        let random = RandomState::of(alloc, policy, script, world, &clients)?;
         let steps = Steps::new(alloc);
         let choices = Choices::new(alloc);
         Ok(Driver {
             clients,
-            draws,
+            random,
             first: 0,
             records,
             steps,
@@ -123,7 +123,7 @@ impl Driver {
         pick(
             script,
             policy,
-            &mut self.draws,
+            &mut self.random,
             world,
             &self.clients,
             self.first,
@@ -171,7 +171,7 @@ impl Driver {
         let marks = outcome.marks.as_slice();
         note_move(&mut self.clients, step, marks);
         self.first = first_entered(marks, self.first);
-        note_step_in(&mut self.draws, script, world, &self.clients, step, marks);
+        note_step_in(&mut self.random, script, world, &self.clients, step, marks);
         Ok(())
     }
 }

@@ -7,7 +7,7 @@ ghost use Rattle.ra_schedule.specs.Script.{client_at, op_at};
 ghost use Rattle.ra_schedule.specs.Schedule.{Enables, IsEnabled, IsFirstEnabled, StandsFor, Picks, Ends};
 ghost use Rattle.ra_schedule.specs.Driving.{HasFault, IsMeaning};
 ghost use Rattle.ra_schedule.specs.Progress.{Tracks, IsProgress, AreStuck};
-ghost use Rattle.ra_schedule.specs.PolicyState.{AreDraws, generator_at, generator_in, words_drawn, words_for};
+ghost use Rattle.ra_schedule.specs.PolicyState.{IsRandomState, generator_at, generator_in, words_drawn, words_for};
 
 use crate::choice::random_choice::choose;
 use crate::choice::random_state::RandomState;
@@ -97,28 +97,34 @@ pub fn with_meaning(script: &Script, world: &World, clients: &[Progress], choice
 pub fn pick(
     script: &Script,
     policy: &Policy,
-    draws: &mut Option<RandomState>,
+    random: &mut Option<RandomState>,
     world: &World,
     clients: &[Progress],
     first: u32,
 ) -> Option<Picked>
     requires tracked { Tracks script.now world.now clients.now }
     requires stuck { AreStuck script.now clients.now first }
-    requires draws { IfSome draws.old (AreDraws script.now world.now.moves) }
-    requires drawn { generator_in draws.old ≡ generator_at policy.now (words_drawn policy.now world.now.moves) }
+    requires random { IfSome random.old (IsRandomState script.now world.now.moves) }
+    requires drawn { generator_in random.old ≡ generator_at policy.now (words_drawn policy.now world.now.moves) }
     ensures some { IfSome result (λ picked. Picks script.now policy.now world.now.moves picked.choice) }
     ensures meaning { IfSome result (λ picked. IsMeaning script.now world.now.moves picked.choice picked.meaning) }
     ensures none { IsNone result → Ends script.now policy.now world.now.moves }
-    ensures drawn { IfSome result (λ picked. generator_in draws.new
+    ensures drawn { IfSome result (λ picked. generator_in random.new
         ≡ generator_at policy.now (words_drawn policy.now world.now.moves + words_for policy.now picked.choice)) }
-    ensures draws { IfSome draws.new (AreDraws script.now world.now.moves) }
+    ensures random { IfSome random.new (IsRandomState script.now world.now.moves) }
 {
     if let Policy::Listed(choices) = policy {
         let choice = choices.at(world.steps())?;
         return Some(with_meaning(script, world, clients, choice));
     }
-    if let Some(draws) = draws {
-        let choice = choose(policy, &mut draws.generator, script, world, &draws.enabled)?;
+    if let Some(random) = random {
+        let choice = choose(
+            policy,
+            &mut random.generator,
+            script,
+            world,
+            &random.enabled,
+        )?;
         return Some(with_meaning(script, world, clients, choice));
     }
     if let Some(found) = first_enabled(script, world, clients, first) {

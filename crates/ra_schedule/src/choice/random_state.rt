@@ -1,6 +1,6 @@
 //! What the random choice keeps from turn to turn.
 ghost use Rattle.std.specs.Prelude.{◌≡◌, IfOk, IfSome};
-ghost use Rattle.ra_schedule.specs.PolicyState.{AreDraws, AreDrawsElsewhere, generator_at, generator_in};
+ghost use Rattle.ra_schedule.specs.PolicyState.{IsRandomState, IsRandomStateElsewhere, generator_at, generator_in};
 ghost use Rattle.ra_schedule.specs.Progress.{Tracks};
 
 use crate::choice::enabled::Enabled;
@@ -39,8 +39,8 @@ impl RandomState {
         clients: &[Progress],
     ) -> Result<Option<RandomState>, Memory>
         requires { Tracks script.now world.now clients.now }
-        ensures generator { IfOk result (λ draws. generator_in draws ≡ generator_at policy.now 0) }
-        ensures draws { IfOk result (λ draws. IfSome draws (AreDraws script.now world.now.moves)) }
+        ensures generator { IfOk result (λ random. generator_in random ≡ generator_at policy.now 0) }
+        ensures random { IfOk result (λ random. IfSome random (IsRandomState script.now world.now.moves)) }
     {
         let generator = match policy {
             Policy::Seeded(seed) | Policy::Faulty { seed, .. } => {
@@ -61,7 +61,7 @@ impl RandomState {
 /// Notes a step that was made with these marks, if the choice is random. Only at its node something has changed, so that only the
 /// clients there are looked at, and those that entered.
 pub fn note_step_in(
-    draws: &mut Option<RandomState>,
+    random: &mut Option<RandomState>,
     script: &Script,
     world: &World,
     clients: &[Progress],
@@ -69,14 +69,16 @@ pub fn note_step_in(
     marks: &[Mark],
 )
     requires tracked { Tracks script.now world.now clients.now }
-    requires draws { IfSome draws.old (AreDrawsElsewhere step.now marks.now script.now world.now.moves) }
-    ensures generator { generator_in draws.new ≡ generator_in draws.old }
-    ensures draws { IfSome draws.new (AreDraws script.now world.now.moves) }
+    requires random { IfSome random.old (IsRandomStateElsewhere step.now marks.now script.now world.now.moves) }
+    ensures generator { generator_in random.new ≡ generator_in random.old }
+    ensures random { IfSome random.new (IsRandomState script.now world.now.moves) }
 {
-    let Some(draws) = draws else {
+    let Some(random) = random else {
         return;
     };
-    let members = members_at(&draws.node_clients, step);
-    draws.enabled.look_at_all(script, world, clients, members);
-    draws.enabled.look_at_entered(script, world, clients, marks);
+    let members = members_at(&random.node_clients, step);
+    random.enabled.look_at_all(script, world, clients, members);
+    random
+        .enabled
+        .look_at_entered(script, world, clients, marks);
 }

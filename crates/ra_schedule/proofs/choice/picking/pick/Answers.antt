@@ -4,7 +4,7 @@ use Rattle.std.proofs.lemmas.Bool.{true≢false}
 use Rattle.ra_schedule.specs.declared.choice.Choice.{Choice}
 use Rattle.ra_schedule.specs.declared.choice.random_state.RandomState.{RandomState}
 use Rattle.ra_schedule.specs.Schedule.{Picks}
-use Rattle.ra_schedule.specs.PolicyState.{AreDraws, generator_at, generator_in, words_drawn, words_for}
+use Rattle.ra_schedule.specs.PolicyState.{IsRandomState, generator_at, generator_in, words_drawn, words_for}
 use Rattle.ra_schedule.specs.Driving.{IsMeaning}
 use Rattle.ra_schedule.proofs.Choosing.{nothing_left, newest_message, oldest_message, first_client, listed_choice, listed_ends}
 use Rattle.ra_schedule.proofs.Meanings.{some_number}
@@ -20,14 +20,14 @@ pub returns-in_err-choice-2 : goal.returns-in_err-choice-2
 returns-in_err-choice-2 c =
     let script = c.args.script.now in
     let moves = c.args.world.now.moves in
-    let draws : AreDraws script moves c.in-Some.draws = subst (λ (o : Option RandomState). IfSome o (AreDraws script moves)) c.in-Some.is c.requires.draws in
+    let random : IsRandomState script moves c.in-Some.random = subst (λ (o : Option RandomState). IfSome o (IsRandomState script moves)) c.in-Some.is c.requires.random in
     let is = c.from_residual-in_err-choice-2.ensures in
     rw is (record {
       some = tt;
       meaning = tt;
       none = λ e. c.in_err-choice-2.ensures.none refl;
       drawn = tt;
-      draws = record { node_clients = draws.node_clients; flags = draws.flags; count = draws.count };
+      random = record { node_clients = random.node_clients; flags = random.flags; count = random.count };
     })
 
 pub returns-in-Some : goal.returns-in-Some
@@ -36,28 +36,28 @@ returns-in-Some c =
     let policy = c.args.policy.now in
     let moves = c.args.world.now.moves in
     let picked = c.with_meaning-in-Some in
-    let draws : AreDraws script moves c.in-Some.draws = subst (λ (o : Option RandomState). IfSome o (AreDraws script moves)) c.in-Some.is c.requires.draws in
+    let random : IsRandomState script moves c.in-Some.random = subst (λ (o : Option RandomState). IfSome o (IsRandomState script moves)) c.in-Some.is c.requires.random in
     record {
       some = subst (Picks script policy moves) (sym picked.ensures.choice) c.in_ok-choice-2.ensures.some;
       meaning = subst (λ (x : Choice). IsMeaning script moves x picked.result.meaning) (sym picked.ensures.choice) picked.ensures.meaning;
       none = λ e. absurd (true≢false e);
       drawn = subst (λ (x : Choice). Some c.choose.new.generator ≡ generator_at policy (words_drawn policy moves + words_for policy x))
           (sym picked.ensures.choice) c.in_ok-choice-2.ensures.drawn;
-      draws = record { node_clients = draws.node_clients; flags = draws.flags; count = draws.count };
+      random = record { node_clients = random.node_clients; flags = random.flags; count = random.count };
     }
 
 pub returns-then-messages-eq0 : goal.returns-then-messages-eq0
 returns-then-messages-eq0 c =
     let none = c.in_default-first_enabled.ensures.none refl in
     let (left, leaves, is) = c.under_way-messages.ensures.value in
-    let has : None ≡ _ = sym (ap generator_in c.in_default-draws.is) ∙ c.requires.drawn in
+    let has : None ≡ _ = sym (ap generator_in c.in_default-random.is) ∙ c.requires.drawn in
     record {
       some = tt;
       meaning = tt;
       none = λ e. nothing_left schedules_rest_on_runs.one_list c.args.script.now c.args.policy.now c.args.world.now.moves _
           c.in_default.not-Listed has (none, (left, leaves, sym is ∙ c.if-messages-eq0.true));
       drawn = tt;
-      draws = c.requires.draws;
+      random = c.requires.random;
     }
 
 pub returns : goal.returns
@@ -67,7 +67,7 @@ returns c =
     let moves = c.args.world.now.moves in
     let none = c.in_default-first_enabled.ensures.none refl in
     let (left, leaves, is) = c.under_way-messages.ensures.value in
-    let has : None ≡ _ = sym (ap generator_in c.in_default-draws.is) ∙ c.requires.drawn in
+    let has : None ≡ _ = sym (ap generator_in c.in_default-random.is) ∙ c.requires.drawn in
     let picked = c.with_meaning-2 in
     let choice : Picks script policy moves c.match-policy-2.choice =
     elim c.match-policy-2.branch [
@@ -83,8 +83,8 @@ returns c =
       some = subst (Picks script policy moves) (sym picked.ensures.choice) choice;
       meaning = subst (λ (x : Choice). IsMeaning script moves x picked.result.meaning) (sym picked.ensures.choice) picked.ensures.meaning;
       none = λ e. absurd (true≢false e);
-      drawn = ap generator_in c.in_default-draws.is ∙ none_goes_on policy _ _ has;
-      draws = c.requires.draws;
+      drawn = ap generator_in c.in_default-random.is ∙ none_goes_on policy _ _ has;
+      random = c.requires.random;
     }
 
 pub returns-in_err-choice : goal.returns-in_err-choice
@@ -95,7 +95,7 @@ returns-in_err-choice c =
       meaning = tt;
       none = λ e. listed_ends c.args.script.now c.args.policy.now c.in-Listed.choices c.args.world.now.moves c.steps.result c.in-Listed.is c.steps.ensures.value c.in_err-choice.ensures;
       drawn = tt;
-      draws = c.requires.draws;
+      random = c.requires.random;
     })
 
 pub with_meaning-requires : goal.with_meaning-requires
@@ -113,16 +113,16 @@ returns-in-Listed c =
       meaning = subst (λ (x : Choice). IsMeaning script moves x picked.result.meaning) (sym picked.ensures.choice) picked.ensures.meaning;
       none = λ e. absurd (true≢false e);
       drawn = c.requires.drawn ∙ listed_goes_on policy c.in-Listed.choices _ _ c.in-Listed.is;
-      draws = c.requires.draws;
+      random = c.requires.random;
     }
 
 pub choose-requires-clause-flags : goal.choose-requires-clause-flags
 choose-requires-clause-flags c =
-    (subst (λ (o : Option RandomState). IfSome o (AreDraws c.args.script.now c.args.world.now.moves)) c.in-Some.is c.requires.draws).flags
+    (subst (λ (o : Option RandomState). IfSome o (IsRandomState c.args.script.now c.args.world.now.moves)) c.in-Some.is c.requires.random).flags
 
 pub choose-requires-clause-count : goal.choose-requires-clause-count
 choose-requires-clause-count c =
-    (subst (λ (o : Option RandomState). IfSome o (AreDraws c.args.script.now c.args.world.now.moves)) c.in-Some.is c.requires.draws).count
+    (subst (λ (o : Option RandomState). IfSome o (IsRandomState c.args.script.now c.args.world.now.moves)) c.in-Some.is c.requires.random).count
 
 pub with_meaning-requires-in-Some : goal.with_meaning-requires-in-Some
 with_meaning-requires-in-Some c = c.requires.tracked
@@ -133,13 +133,13 @@ first_enabled-requires c = record { tracked = c.requires.tracked; stuck = c.requ
 pub returns-in-Some-first_enabled : goal.returns-in-Some-first_enabled
 returns-in-Some-first_enabled c =
     let policy = c.args.policy.now in
-    let has : None ≡ _ = sym (ap generator_in c.in_default-draws.is) ∙ c.requires.drawn in
+    let has : None ≡ _ = sym (ap generator_in c.in_default-random.is) ∙ c.requires.drawn in
     record {
       some = first_client c.args.script.now policy c.args.world.now.moves _ c.in-Some-first_enabled.found.client c.in_default.not-Listed has c.in-Some-first_enabled.ensures.first;
       meaning = record { ok = c.in-Some-first_enabled.ensures.step; err = tt };
       none = λ e. absurd (true≢false e);
-      drawn = ap generator_in c.in_default-draws.is ∙ none_goes_on policy _ _ has;
-      draws = c.requires.draws;
+      drawn = ap generator_in c.in_default-random.is ∙ none_goes_on policy _ _ has;
+      random = c.requires.random;
     }
 
 pub overflow_sub-choice : goal.overflow_sub-choice

@@ -2,16 +2,16 @@ use Rattle.std.proofs.Common.{◌≡◌, ◌+◌, ◌<◌, [], Option, length, s
 use Rattle.std.specs.Option.{IfSome}
 use Rattle.ra_schedule.specs.declared.choice.random_state.RandomState.{RandomState}
 use Rattle.ra_schedule.specs.Enabled.{IsFlag, AreNodeClients}
-use Rattle.ra_schedule.specs.PolicyState.{AreDrawsElsewhere}
+use Rattle.ra_schedule.specs.PolicyState.{IsRandomStateElsewhere}
 use Rattle.ra_schedule.proofs.NodesOfClients.{has_node}
 use Rattle.ra_schedule.proofs.choice.random_state.note_step_in.Goals as goal
 use Rattle.ra_schedule.proofs.choice.random_state.note_step_in.Goals.{In-Some}
 
 -- what chance knew before
-known : (c : In-Some) → AreDrawsElsewhere c.args.step.now c.args.marks.now c.args.script.now c.args.world.now.moves c.in-Some.draws
+known : (c : In-Some) → IsRandomStateElsewhere c.args.step.now c.args.marks.now c.args.script.now c.args.world.now.moves c.in-Some.random
 known c =
-    subst (λ (o : Option RandomState). IfSome o (AreDrawsElsewhere c.args.step.now c.args.marks.now c.args.script.now c.args.world.now.moves)) c.in-Some.is
-    c.requires.draws
+    subst (λ (o : Option RandomState). IfSome o (IsRandomStateElsewhere c.args.step.now c.args.marks.now c.args.script.now c.args.world.now.moves)) c.in-Some.is
+    c.requires.random
 
 pub look_at_all-requires-clause-alike : goal.look_at_all-requires-clause-alike
 look_at_all-requires-clause-alike c = (known (goal.at.look_at_all-requires-clause-alike c).In-Some).alike
@@ -19,12 +19,12 @@ look_at_all-requires-clause-alike c = (known (goal.at.look_at_all-requires-claus
 pub look_at_all-requires-clause-count : goal.look_at_all-requires-clause-count
 look_at_all-requires-clause-count c = (known (goal.at.look_at_all-requires-clause-count c).In-Some).count
 
-pub returns-clause-draws : goal.returns-clause-draws
-returns-clause-draws c =
-    let before = known (goal.at.returns-clause-draws c).In-Some in
+pub returns-clause-random : goal.returns-clause-random
+returns-clause-random c =
+    let before = known (goal.at.returns-clause-random c).In-Some in
     let script = c.args.script.now in
     let moves = c.args.world.now.moves in
-    let old = c.in-Some.draws.enabled.flags.items in
+    let old = c.in-Some.random.enabled.flags.items in
     let middle = c.look_at_all.new.self.flags.items in
     let new = c.look_at_entered.new.self.flags.items in
     let members = c.members_at-members.result.now in

@@ -18,8 +18,8 @@ pub pick-requires-clause-stuck : goal.pick-requires-clause-stuck
 pick-requires-clause-stuck c =
     subst (λ (list : List Progress). AreStuck c.args.script.now list c.first_free-self.result) (c.deref.ensures.value ∙ sym c.deref-2.ensures.value) c.first_free-self.ensures
 
-pub pick-requires-clause-draws : goal.pick-requires-clause-draws
-pick-requires-clause-draws c = c.requires.driven.draws
+pub pick-requires-clause-random : goal.pick-requires-clause-random
+pick-requires-clause-random c = c.requires.driven.random
 
 pub pick-requires-clause-drawn : goal.pick-requires-clause-drawn
 pick-requires-clause-drawn c = c.requires.drawn
@@ -28,7 +28,7 @@ pub returns-clause-some : goal.returns-clause-some
 returns-clause-some c =
     chosen_by c.args.script.now c.args.policy.now c.args.world.now c.args.self.now _ c.requires refl refl refl refl
     (subst (λ (list : List Progress). AreStuck c.args.script.now list c.first_free-self.result) c.deref.ensures.value c.first_free-self.ensures)
-    c.pick.ensures.draws c.pick.result c.pick.ensures.some c.pick.ensures.meaning c.pick.ensures.drawn
+    c.pick.ensures.random c.pick.result c.pick.ensures.some c.pick.ensures.meaning c.pick.ensures.drawn
 
 pub returns-clause-none : goal.returns-clause-none
 returns-clause-none c none =

@@ -12,8 +12,8 @@ of-requires c =
 
 pub returns-clause-ready : goal.returns-clause-ready
 returns-clause-ready c =
-    let draws = c.in_ok-draws.ensures in
+    let random = c.in_ok-random.ensures in
     ready_none c.args.script.now c.args.world.now c.requires.opened c.args.policy.now _ c.clients.ensures.script.count c.requires.run
     (tracks_none c.args.script.now c.args.world.now c.requires.opened c.in_ok-clients.clients.items
     (c.in_ok-clients.ensures.items_if_clones_equal (λ y same. same) ∙ ap (λ (n : ℕ). replicate n opening_progress) c.clients.ensures.value))
-    refl draws.generator draws.draws c.new-steps.ensures c.new-choices.ensures
+    refl random.generator random.random c.new-steps.ensures c.new-choices.ensures

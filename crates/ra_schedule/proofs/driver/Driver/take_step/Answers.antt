@@ -9,11 +9,11 @@ use Rattle.ra_schedule.specs.declared.error.DriveError.{DriveError}
 use Rattle.ra_schedule.specs.declared.error.DriveError.TheVariants.{Memory}
 use Rattle.ra_schedule.specs.Schedule.{StandsFor}
 use Rattle.ra_schedule.specs.Driving.{HasFault}
-use Rattle.ra_schedule.specs.PolicyState.{AreDrawsElsewhere}
+use Rattle.ra_schedule.specs.PolicyState.{IsRandomStateElsewhere}
 use Rattle.ra_schedule.specs.Progress.{Tracks, AreCountable, OfEach, IsProgressAfter, NoneEnters}
 use Rattle.ra_schedule.proofs.HandedOn.{no_ok, one_refusal}
 use Rattle.ra_schedule.proofs.Meanings.{not_memory}
-use Rattle.ra_schedule.proofs.Turns.{tracks_on, draws_before, driven_more, countable, whole}
+use Rattle.ra_schedule.proofs.Turns.{tracks_on, random_before, driven_more, countable, whole}
 use Rattle.ra_schedule.proofs.ScheduleLaws.{schedules_rest_on_runs}
 use Rattle.ra_schedule.proofs.driver.Driver.take_step.Goals as goal
 
@@ -35,15 +35,15 @@ note_step_in-requires-clause-tracked c =
     (c.note_move.auto.list ∙ ap length c.deref_mut.ensures.value)
     (subst (λ (list : List Progress). OfEach (IsProgressAfter move) list c.note_move.new.list) c.deref_mut.ensures.value after))
 
-pub note_step_in-requires-clause-draws : goal.note_step_in-requires-clause-draws
-note_step_in-requires-clause-draws c =
+pub note_step_in-requires-clause-random : goal.note_step_in-requires-clause-random
+note_step_in-requires-clause-random c =
     let means = subst (λ (m : Result Step DriveError). IfOk m (StandsFor c.args.script.now c.args.world.now.moves c.args.picked.now.choice)) c.in-Ok.is
     c.requires.meaning.ok in
     let outcome = c.in-Ok-step_near.outcome in
     let move : Move = record { step = c.in-Ok.step; sends = outcome.sends.items; marks = outcome.marks.items } in
-    let kept = draws_before c.args.script.now c.args.world.now c.step_near.new.self c.args.self.now move c.requires.driven c.in-Ok-step_near.ensures.ok c.in-Ok-step_near.ensures.run
+    let kept = random_before c.args.script.now c.args.world.now c.step_near.new.self c.args.self.now move c.requires.driven c.in-Ok-step_near.ensures.ok c.in-Ok-step_near.ensures.run
     schedules_rest_on_runs c.args.picked.now.choice means in
-    subst (λ (ms : List Mark). IfSome c.args.self.now.draws (AreDrawsElsewhere c.in-Ok.step ms c.args.script.now c.step_near.new.self.moves)) (sym c.as_slice-marks.ensures) kept
+    subst (λ (ms : List Mark). IfSome c.args.self.now.random (IsRandomStateElsewhere c.in-Ok.step ms c.args.script.now c.step_near.new.self.moves)) (sym c.as_slice-marks.ensures) kept
 
 pub returns-clause-ok : goal.returns-clause-ok
 returns-clause-ok c =
@@ -65,7 +65,7 @@ returns-clause-ok c =
           (c.note_move.auto.list ∙ ap length c.deref_mut.ensures.value) after))
           (subst (λ (list : List Progress). OfEach (IsProgressAfter move) clients.items list) (sym back) after)
           c.first_entered-self.ensures.not_past (subst (NoneEnters c.first_entered-self.result) c.as_slice-marks.ensures c.first_entered-self.ensures.none)
-          c.note_step_in.ensures.draws
+          c.note_step_in.ensures.random
           (c.in_ok-keep.ensures.steps c.args.world.now.moves move refl c.requires.driven.steps);
       drawn = c.note_step_in.ensures.generator;
       records = refl;
