@@ -22,6 +22,12 @@ pub enum Choice {
     Repeated(u64),
 }
 
+/// The most digits of the number in the word of a choice.
+const MAX_DIGITS: usize = 9;
+
+/// One more than the greatest number of that many digits.
+const TOO_MUCH: u64 = 1_000_000_000;
+
 /// A list of choices.
 pub type Choices = Sequence<Choice>;
 

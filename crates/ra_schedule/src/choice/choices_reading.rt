@@ -4,11 +4,9 @@ ghost use Rattle.ra_schedule.specs.declared.choice.Choice.{Choice};
 ghost use Rattle.ra_schedule.specs.ChoicesText as spec;
 ghost use Rattle.ra_schedule.specs.ChoicesText.{Lists};
 
+use crate::choice::MAX_DIGITS;
 use crate::{Choice, Choices, ChoicesError};
 use std::alloc::Global;
-
-/// The most digits of a number.
-const MAX_DIGITS: usize = 9;
 
 /// Returns the number that 1 to 9 digits spell, or `None` if these are no such digits, or the first of two or more is `0`. It does not
 /// allocate. The numbers of a trace have any length, and each format is read by itself.

@@ -4,12 +4,10 @@ ghost use Rattle.ra_schedule.specs.declared.choice.Choice.{Choice};
 ghost use Rattle.ra_schedule.specs.ChoicesText as spec;
 ghost use Rattle.ra_schedule.specs.ChoicesText.{HasText, Lists};
 
+use crate::choice::TOO_MUCH;
 use crate::{Choice, Choices, ChoicesError};
 use ra_stamp::Memory;
 use std::alloc::Global;
-
-/// One more than the greatest number that a word may have.
-const TOO_MUCH: u64 = 1_000_000_000;
 
 /// Returns whether a word stands for a choice. It does not allocate.
 fn has_word(choice: &Choice) -> bool
