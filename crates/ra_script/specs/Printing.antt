@@ -18,10 +18,3 @@ pub record PrintsRun (format : OutputKind) (policy : Policy) (script : ScriptSta
   -- neither the reader nor the writer is the cause
   pub unread : IfErr result (λ why. why ≢ Read)
   pub early : IfErr result (λ why. why ≢ Write)
-
--- The same from the text of a script. A text that is no script is refused.
-pub record PrintsInput (format : OutputKind) (policy : Policy) (input : List ℕ) (result : Result Printed PerformError) : Type 0 where
-  pub ok : IfOk result (λ printed. IsPerformedAs format policy input (string_bytes printed.text) printed.finished)
-  pub err : IfErr result (RefusesAs format policy input)
-  pub unread : IfErr result (λ why. why ≢ Read)
-  pub early : IfErr result (λ why. why ≢ Write)

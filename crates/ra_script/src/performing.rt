@@ -5,7 +5,7 @@ ghost use Rattle.std.specs.Prelude.{◌≡◌, ◌⊎◌, ℕ, List, All, MatchO
 ghost use Rattle.ra_schedule.specs.declared.driver.output_kind.OutputKind.{OutputKind};
 ghost use Rattle.ra_schedule.specs.ChoicesText.{HasText, Lists};
 ghost use Rattle.ra_script.specs.Performed.{PerformsScript};
-ghost use Rattle.ra_script.specs.Printing.{PrintsInput, PrintsRun};
+ghost use Rattle.ra_script.specs.Printing.{PrintsRun};
 
 use crate::laws::{choices_have_words_unless_messages_are_repeated, read_scripts_come_to_rest};
 use crate::performing::printed::Printed;
@@ -54,6 +54,7 @@ fn lines_of(alloc: Global, policy: &Policy, script: &Script) -> Result<Printed, 
 fn trace_of(alloc: Global, policy: &Policy, script: &Script) -> Result<Printed, PerformError>
     ensures { PrintsRun OutputKind.Trace policy.now script.now result }
 {
+    // For the proof: the run whose trace is written is the one that was recorded, as both have these steps.
     runs_are_determined();
     let recording = drive(alloc, script, policy, MAX_TURNS)?;
     let text = trace_text(alloc, script.nodes(), 0, &recording.steps);
@@ -96,6 +97,7 @@ fn choices_line(alloc: Global, choices: &Choices) -> Result<String, ChoicesError
 fn choices_of(alloc: Global, policy: &Policy, script: &Script) -> Result<Printed, PerformError>
     ensures { PrintsRun OutputKind.Choices policy.now script.now result }
 {
+    // For the proof: choices lack a word only if the run repeats a message.
     choices_have_words_unless_messages_are_repeated();
     let recording = drive(alloc, script, policy, MAX_TURNS)?;
     let line = choices_line(alloc, &recording.choices);
@@ -139,6 +141,7 @@ fn line_or_none(alloc: Global, choices: &Option<Choices>) -> Result<String, Choi
 fn shrunk_of(alloc: Global, policy: &Policy, script: &Script) -> Result<Printed, PerformError>
     ensures { PrintsRun OutputKind.Shrunk policy.now script.now result }
 {
+    // For the proof: choices lack a word only if the run repeats a message.
     choices_have_words_unless_messages_are_repeated();
     let shrunk = shrink(alloc, script, policy, MAX_TURNS)?;
     let line = line_or_none(alloc, &shrunk.choices);
@@ -190,30 +193,17 @@ pub fn print_run(
     }
 }
 
-/// Reads the text of a script, drives a cluster through it by a policy, and returns what is written of the run in a format.
+/// Does as [`perform`], and writes what came of the script in a format:
 ///
-/// # Errors
-///
-/// The first that holds, except that `Memory` may come before any:
-///
-/// 1. `Script`: the text is no script.
-/// 2. Those of `print_run`.
-fn print_input(
-    alloc: Global,
-    text: &[u8],
-    format: OutputKind,
-    policy: &Policy,
-) -> Result<Printed, PerformError>
-    ensures { PrintsInput format policy.now text.now result }
-{
-    let script = read_script(alloc, text)?;
-    print_run(alloc, format, policy, &script)
-}
-
-/// Does as [`perform`], and writes what came of it in a format. This is the lines of the report, or the trace, as [`perform_trace`]
-/// does, or the policy's choices, in their words on one line. So `--policy listed --choices` with these words makes the same run
-/// again, whatever policy made it first. To write the choices costs about what `perform` does, plus time and memory linear in the
-/// number of turns.
+/// - `Lines`: the lines of the report, as [`perform`] does.
+/// - `Trace`: the trace, as [`perform_trace`] does, at its cost.
+/// - `Choices`: the policy's choices, in their words on one line. So `--policy listed --choices` with these words makes the same
+///   run again, whatever policy made it first. It costs about what `perform` does, plus time and memory linear in the number of turns.
+/// - `Shrunk`: if the run is stuck, the choices of a shorter run that is stuck too, as [`ra_schedule::shrink`] finds it, and otherwise
+///   the word `none`. For a run of n turns, at most n(n + 1) / 2 more runs are made, each of at most n turns. It takes memory linear
+///   in n.
+/// - `State`: the lines of the state at the end, at the cost of [`ra_schedule::show`]. It keeps the steps, in memory linear in the number
+///   of turns.
 ///
 /// # Errors
 ///
@@ -222,7 +212,7 @@ fn print_input(
 /// 1. `Read`: the reader failed, before its end and before it gave 65,537 bytes.
 /// 2. `Script`: the input is no script.
 /// 3. `Drive`: a choice is left after the last turn, or can't be made.
-/// 4. `Choice`: the choices are to be written, and a message is repeated, for which there is no word.
+/// 4. `Choice`: choices are to be written, and a message is repeated, for which there is no word.
 /// 5. `Memory`: memory ran out.
 /// 6. `Write`: the writer failed or took nothing, with bytes left to write. A prefix of the text was written.
 ///
@@ -237,11 +227,15 @@ pub fn perform_as<R: Read, W: Write>(
     ensures { PerformsScript format policy.now (R.remaining reader.old) (R.remaining reader.new)
         (W.contents writer.old) (W.contents writer.new) (writer.new ≡ writer.old) result }
 {
+    // For the proof: without repeats no script comes to the limit of turns, and a policy that chooses by itself is not refused.
     read_scripts_come_to_rest();
     let input = read_up_to(alloc, reader, MAX_SCRIPT + 1)?;
-    let made = print_input(alloc, &input, format, policy);
-    // Before any exit, so that it is not to be dropped at each.
+    let read = read_script(alloc, &input);
+    // Before any exit, as the script below, so that neither is to be dropped at each.
     drop(input);
+    let script = read?;
+    let made = print_run(alloc, format, policy, &script);
+    drop(script);
     let printed = made?;
     write_out(writer, printed.text.as_bytes())?;
     Ok(printed.finished)

@@ -16,8 +16,8 @@ use std::alloc::Global;
 
 /// Returns what is written in a format of the run of a script by the least seed of a range by which it comes to an end by chance, with
 /// faults or without, each in at most 16,777,216 turns. It is `None` if no seed brings the script to that end. The observer is told of each
-/// seed that is tried, the last of which made the run. The cost is that of the runs up to that one, and of
-/// [`perform_as`](crate::perform_as) for it.
+/// seed that is tried, the last of which made the run. The cost is that of the runs up to that one, and for it
+/// what [`perform_as`](crate::perform_as) says of the format.
 ///
 /// # Errors
 ///
