@@ -15,6 +15,7 @@ ghost use Rattle.ra_task.specs.Finishing.{IsFaithful, RunsFaithfully};
 use crate::cluster_output::ClusterOutput;
 use crate::command_line::command_rows::matches_of;
 use crate::command_line::input_kind::InputKind;
+use crate::command_line::option_rows::DEFAULT_POLICY;
 use crate::command_line::search::{Search, SurveyTask};
 use crate::lone_command::is_command_alone;
 use clap::error::ErrorKind;
@@ -86,8 +87,8 @@ fn text_in<'a>(argument: &'a str, option: &str) -> Option<&'a str>
     }
 }
 
-/// Returns the text that the arguments give an option, or `None`. The first argument is the program's name. It does not
-/// allocate.
+/// Returns the text that the arguments give an option, or `None` if they give it none. The first argument is the program's
+/// name. The contract says only what is found, not that it is found. It does not allocate.
 pub fn text_of<'a>(arguments: &'a [String], option: &str) -> Option<&'a str>
     ensures { IfSome result (λ text. GivesText (map string_bytes arguments.now) option.now text.now) }
 {
@@ -106,7 +107,8 @@ pub fn text_of<'a>(arguments: &'a [String], option: &str) -> Option<&'a str>
     None
 }
 
-/// Returns the number that the arguments give an option, or `None`. It does not allocate.
+/// Returns the number of 16 bits that the arguments give an option, or `None` if they give it no such number. The contract
+/// says only what is found, as that of `text_of`. It does not allocate.
 fn number_of(arguments: &[String], option: &str) -> Option<u16>
     ensures { IfSome result (Gives (map string_bytes arguments.now) option.now) }
 {
@@ -141,7 +143,8 @@ fn number_or_zero(arguments: &[String], option: &str) -> u16
     }
 }
 
-/// Returns the text that the arguments give an option, or its default. It does not allocate.
+/// Returns the text that the arguments give an option, or its default if they give it none. The contract says only what is
+/// found, as that of `text_of`. It does not allocate.
 pub fn text_or<'a>(arguments: &'a [String], option: &str, default: &'a str) -> &'a str
     ensures { (result.now ≡ default.now) ⊎ GivesText (map string_bytes arguments.now) option.now result.now }
 {
@@ -165,7 +168,7 @@ pub fn policy_name(arguments: &[String], sim: &ArgMatches) -> Option<PolicyName>
     let Some(faults) = Faults::new(lose, repeat) else {
         return None;
     };
-    let word = text_or(arguments, "--policy", "oldest");
+    let word = text_or(arguments, "--policy", DEFAULT_POLICY);
     match word {
         "newest" => Some(PolicyName::Newest),
         "seeded" => Some(PolicyName::Seeded(seed)),
@@ -252,36 +255,44 @@ fn ending_of(sim: &ArgMatches) -> Option<Ending> {
     }
 }
 
-/// Returns the faults of a policy of chance, or `None` if the policy draws nothing. It does not allocate.
-fn chance_of(policy: PolicyName) -> Option<Option<Faults>>
-    ensures { IfSome result (λ faults. IsFaithful policy → NoneIsLost faults × NoneIsRepeated faults) }
+/// Returns the faults of a policy of chance, if it has any. It does not allocate.
+///
+/// # Errors
+///
+/// `Usage`: the policy draws nothing.
+fn chance_of(policy: PolicyName) -> Result<Option<Faults>, CommandFault>
+    ensures { IfOk result (λ faults. IsFaithful policy → NoneIsLost faults × NoneIsRepeated faults) }
 {
     match policy {
-        PolicyName::Seeded(_) => Some(None),
-        PolicyName::Faulty { faults, .. } => Some(Some(faults)),
-        _ => None,
+        PolicyName::Seeded(_) => Ok(None),
+        PolicyName::Faulty { faults, .. } => Ok(Some(faults)),
+        _ => Err(CommandFault::Usage),
     }
 }
 
 /// Returns what is looked for among the runs of many seeds, if an end is given: the trace of such a run is printed, unless
-/// choices are asked for. Returns `None` if a format of one run is asked for, but no end is, or if a finished run is to be
-/// shrunk. It does not allocate.
-fn search_of(ending: Option<Ending>, format: OutputKind) -> Option<Option<Search>>
-    ensures choices { IfSome result (λ find. format ≢ OutputKind.Choices → IfSome find (λ search. search.format ≢ OutputKind.Choices)) }
-    ensures shrunk { IfSome result (λ find. format ≢ OutputKind.Shrunk → IfSome find (λ search. search.format ≢ OutputKind.Shrunk)) }
+/// choices are asked for. It does not allocate.
+///
+/// # Errors
+///
+/// `Usage`: the state is asked for, or another format of one run but no end, or a finished run is to be shrunk.
+fn search_of(ending: Option<Ending>, format: OutputKind) -> Result<Option<Search>, CommandFault>
+    ensures choices { IfOk result (λ find. format ≢ OutputKind.Choices → IfSome find (λ search. search.format ≢ OutputKind.Choices)) }
+    ensures shrunk { IfOk result (λ find. format ≢ OutputKind.Shrunk → IfSome find (λ search. search.format ≢ OutputKind.Shrunk)) }
 {
     match (ending, format) {
-        (_, OutputKind::State) => None,
-        (Some(Ending::Finished), OutputKind::Shrunk) => None,
-        (Some(ending), OutputKind::Choices | OutputKind::Shrunk) => {
-            Some(Some(Search { ending, format }))
+        (_, OutputKind::State) | (Some(Ending::Finished), OutputKind::Shrunk) => {
+            Err(CommandFault::Usage)
         }
-        (Some(ending), _) => Some(Some(Search {
+        (Some(ending), OutputKind::Choices | OutputKind::Shrunk) => {
+            Ok(Some(Search { ending, format }))
+        }
+        (Some(ending), _) => Ok(Some(Search {
             ending,
             format: OutputKind::Trace,
         })),
-        (None, OutputKind::Lines) => Some(None),
-        (None, _) => None,
+        (None, OutputKind::Lines) => Ok(None),
+        (None, _) => Err(CommandFault::Usage),
     }
 }
 
@@ -296,10 +307,10 @@ fn survey_task<'a>(
     ensures asked { IfSome result (λ task. (arguments : List (List ℕ)) → IsOfCommand arguments task) }
     ensures faithful { IfSome result (λ task. IsFaithful policy → RunsFaithfully task) }
 {
-    let Some(faults) = chance_of(policy) else {
+    let Ok(faults) = chance_of(policy) else {
         return None;
     };
-    let Some(find) = search_of(ending, format) else {
+    let Ok(find) = search_of(ending, format) else {
         return None;
     };
     let Some(seeds) = seeds_of(seeds) else {

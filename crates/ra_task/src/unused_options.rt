@@ -1,4 +1,5 @@
 //! Options of `sim` that are given but have no effect.
+use crate::command_line::option_rows::DEFAULT_POLICY;
 use crate::command_line::{text_of, text_or};
 use crate::notice::write_line;
 use std::io::Write;
@@ -43,7 +44,7 @@ pub fn is_given(arguments: &[String], option: &str) -> bool {
 /// Writes a line for each option of `sim` that is given but has no effect. It does not allocate, and ignores a failure
 /// of the writer.
 pub fn write_unused_options<N: Write>(arguments: &[String], notes: &mut N) {
-    let policy = text_or(arguments, "--policy", "oldest");
+    let policy = text_or(arguments, "--policy", DEFAULT_POLICY);
     for limited in LIMITED {
         if is_given(arguments, limited.option) && !limited.policies.contains(&policy) {
             write_line(notes, limited.text);

@@ -5,7 +5,10 @@ use clap::{Arg, ArgAction};
 use std::alloc::Global;
 
 /// The words for the policies.
-const POLICIES: &[&str] = &["oldest", "newest", "seeded", "faulty", "listed"];
+const POLICIES: &[&str] = &[DEFAULT_POLICY, "newest", "seeded", "faulty", "listed"];
+
+/// The word for the policy if none is given.
+pub const DEFAULT_POLICY: &str = "oldest";
 
 /// The words for the ends of runs.
 const ENDINGS: &[&str] = &["finished", "stuck"];
@@ -87,7 +90,7 @@ const SIM_OPTIONS: &[OptionRow] = &[
         name: "policy",
         help: "Choose each step by this policy",
         parser: ValueParser::Names(POLICIES),
-        defaults: &["oldest"],
+        defaults: &[DEFAULT_POLICY],
         ..TEXT
     },
     OptionRow {
