@@ -13,6 +13,7 @@ mod world;
 pub use error::{NewError, NodeRefusal, ReadFault, RunError, StepError, WriteFault};
 pub use io::limited_input::read_up_to;
 pub use io::whole_output::write_out;
+pub use laws::fitting::{steps_that_fit_together_are_runs, steps_that_fit_with_copies_are_runs};
 pub use laws::{
     asks_make_requests_or_are_queued, marks_of_runs_are_numbered, marks_of_runs_are_table_runs,
     messages_of_runs_are_different, messages_under_way_are_between_nodes,
@@ -30,6 +31,5 @@ pub use text::drawn_part::Part;
 pub use text::lines::{mark_line, push_field, push_mark_line, push_number, report_text};
 pub use text::note::Note;
 pub use text::report::Report;
-pub use world::fitting::{steps_that_fit_together_are_runs, steps_that_fit_with_copies_are_runs};
 pub use world::run_steps::run;
 pub use world::{MarklessWorld, World, WorldOf};

@@ -1,5 +1,4 @@
 pub mod at_node;
-pub mod fitting;
 pub mod kept_steps;
 pub mod node_places;
 pub mod run_steps;

@@ -1,6 +1,6 @@
 use Rattle.ra_world.proofs.FittingRuns.{fit_with_copies}
 use Rattle.ra_world.proofs.WorldLaws.{fitting_steps_are_runs}
-use Rattle.ra_world.proofs.world.fitting.steps_that_fit_together_are_runs.Goals as goal
+use Rattle.ra_world.proofs.laws.fitting.steps_that_fit_together_are_runs.Goals as goal
 
 pub returns : goal.returns
 returns c =
