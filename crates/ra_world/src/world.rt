@@ -135,7 +135,7 @@ impl<const KEEPS_MARKS: u8> WorldOf<KEEPS_MARKS> {
     pub fn step_near(&mut self, alloc: Global, step: &Step, near: u64) -> Result<Outcome, StepError>
         ensures { AnswersStep self.old step.now result self.new }
     {
-        // Before the step, the steps so far are a run.
+        // For the proof: before the step, the steps so far are a run.
         let _ = &self.start;
         match step {
             Step::Ask {
@@ -214,8 +214,8 @@ impl<const KEEPS_MARKS: u8> WorldOf<KEEPS_MARKS> {
         ensures run { IsRun self.now.count self.now.start self.now.moves }
         ensures count { IsNodeNumber self.now.count }
     {
-        // There are at most as many queued clients as steps, so their count fits.
-        let _steps = self.kept.log.len();
+        // For the proof: there are at most as many queued clients as steps, so their count fits.
+        let _ = self.kept.log.len();
         queued_at(&self.nodes)
     }
 
@@ -448,8 +448,8 @@ impl WorldOf<1> {
         ensures run { IsRun self.now.count self.now.start self.now.moves }
         ensures count { IsNodeNumber self.now.count }
     {
-        // There are at most as many queued clients as steps, so their count fits.
-        let _steps = self.kept.log.len();
+        // For the proof: there are at most as many queued clients as steps, so their count fits.
+        let _ = self.kept.log.len();
         let counts = self.kept.log.counts();
         Figures {
             sent: counts.sent,

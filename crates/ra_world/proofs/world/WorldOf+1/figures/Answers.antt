@@ -16,7 +16,7 @@ queued_at-requires c =
     let few : sum_by queued_count w.nodes.items ≤ length w.kept.log.moves =
     kept_runs_go_on.queued w.start w.nodes.items w.kept.under_way.items w.kept.log.moves c.self.invariant in
     let same : sum_by queued_count c.deref-2.result.now ≡ sum_by queued_count w.nodes.items = ap (sum_by queued_count) c.deref-2.ensures.value in
-    omega (arith, few, same, c.len-steps.ensures)
+    omega (arith, few, same, c.len.ensures)
 
 pub returns-clause-figures : goal.returns-clause-figures
 returns-clause-figures c marks are =
@@ -34,7 +34,7 @@ returns-clause-figures c marks are =
     subst (λ (s : WorldState). Reports s.count s.start s.moves (report_with figures marks)) c.self.view_is
     (reported w.start w.nodes.items w.kept.under_way.items w.kept.log.moves (report_with figures marks) c.self.invariant kept_runs_go_on.at_all
     kept c.counts-counts.ensures.sent c.counts-counts.ensures.requests
-    (c.from.ensures ∙ c.len.ensures) (c.from-2.ensures ∙ c.counts-counts.ensures.lost) (c.from-3.ensures ∙ c.counts-counts.ensures.repeated)
+    (c.from.ensures ∙ c.len-2.ensures) (c.from-2.ensures ∙ c.counts-counts.ensures.lost) (c.from-3.ensures ∙ c.counts-counts.ensures.repeated)
     (c.waiting_at.ensures ∙ ap (sum_by waiting_count) c.deref.ensures.value)
     (c.queued_at.ensures ∙ ap (sum_by queued_count) c.deref-2.ensures.value))
 

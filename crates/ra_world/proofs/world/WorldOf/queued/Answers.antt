@@ -14,7 +14,7 @@ queued_at-requires g c =
     let few : sum_by queued_count w.nodes.items ≤ length w.kept.log.moves =
     kept_runs_go_on.queued w.start w.nodes.items w.kept.under_way.items w.kept.log.moves c.self.invariant in
     let same : sum_by queued_count c.deref.result.now ≡ sum_by queued_count w.nodes.items = ap (sum_by queued_count) c.deref.ensures.value in
-    omega (arith, few, same, c.len-steps.ensures)
+    omega (arith, few, same, c.len.ensures)
 
 pub returns-clause-value : goal.returns-clause-value
 returns-clause-value g c =
