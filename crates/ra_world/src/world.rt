@@ -291,17 +291,8 @@ impl<const KEEPS_MARKS: u8> WorldOf<KEEPS_MARKS> {
         };
         // A REQUEST is sent to each other node.
         let sends = self.nodes.len() as u64;
-        let asked = &mut self.nodes[place];
-        ask_at(
-            asked,
-            &mut self.kept,
-            alloc,
-            sends,
-            step,
-            client,
-            name,
-            mode,
-        )
+        let node = &mut self.nodes[place];
+        ask_at(node, &mut self.kept, alloc, sends, step, client, name, mode)
     }
 
     /// Makes the step in which a client leaves a name at a node.
@@ -323,8 +314,8 @@ impl<const KEEPS_MARKS: u8> WorldOf<KEEPS_MARKS> {
         };
         // The deferred REPLYs and the next request are sent.
         let sends = 2 * self.nodes.len() as u64;
-        let left = &mut self.nodes[place];
-        leave_at(left, &mut self.kept, alloc, sends, step, client, name)
+        let node = &mut self.nodes[place];
+        leave_at(node, &mut self.kept, alloc, sends, step, client, name)
     }
 
     /// Makes the step in which a message under way reaches its node.

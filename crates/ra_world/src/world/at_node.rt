@@ -21,7 +21,7 @@ use std::alloc::Global;
 /// 1. `Node`: the node refuses (`Busy`, `Exhausted`).
 /// 2. `Memory`: there is no room for what the step makes, or for one more step.
 pub fn ask_at<const KEEPS_MARKS: u8>(
-    asked: &mut Node,
+    node: &mut Node,
     kept: &mut KeptSteps<KEEPS_MARKS>,
     alloc: Global,
     sends: u64,
@@ -30,17 +30,17 @@ pub fn ask_at<const KEEPS_MARKS: u8>(
     name: &Name,
     mode: Mode,
 ) -> Result<Outcome, StepError>
-    requires consistent { IsConsistentNode asked.old }
-    requires sends { asked.old.nodes ≤ sends }
-    ensures { TriesAt step.now (event.Ask client name.now mode) asked.old kept.old result asked.new kept.new }
+    requires consistent { IsConsistentNode node.old }
+    requires sends { node.old.nodes ≤ sends }
+    ensures { TriesAt step.now (event.Ask client name.now mode) node.old kept.old result node.new kept.new }
 {
     // The request may enter at once.
     let Ok(()) = kept.make_room(sends, 2) else {
         // That the node refuses comes before that memory ran out.
-        asked.may_ask(client, name)?;
+        node.may_ask(client, name)?;
         return Err(StepError::Memory);
     };
-    let outcome = asked.ask(alloc, client, *name, mode)?;
+    let outcome = node.ask(alloc, client, *name, mode)?;
     kept.keep(step, &outcome);
     Ok(outcome)
 }
@@ -54,7 +54,7 @@ pub fn ask_at<const KEEPS_MARKS: u8>(
 /// 1. `Node`: the node refuses (`NotHeld`).
 /// 2. `Memory`: there is no room for what the step makes, or for one more step.
 pub fn leave_at<const KEEPS_MARKS: u8>(
-    left: &mut Node,
+    node: &mut Node,
     kept: &mut KeptSteps<KEEPS_MARKS>,
     alloc: Global,
     sends: u64,
@@ -62,19 +62,19 @@ pub fn leave_at<const KEEPS_MARKS: u8>(
     client: u32,
     name: &Name,
 ) -> Result<Outcome, StepError>
-    requires consistent { IsConsistentNode left.old }
-    requires sends { 2 * left.old.nodes ≤ sends }
-    ensures { TriesAt step.now (event.Leave client name.now) left.old kept.old result left.new kept.new }
+    requires consistent { IsConsistentNode node.old }
+    requires sends { 2 * node.old.nodes ≤ sends }
+    ensures { TriesAt step.now (event.Leave client name.now) node.old kept.old result node.new kept.new }
 {
     // The marks are Left, Requested and Entered.
     let Ok(()) = kept.make_room(sends, 3) else {
         // That the node refuses comes before that memory ran out.
-        if !left.is_held_by(client, name) {
+        if !node.is_held_by(client, name) {
             return Err(StepError::Node(NodeRefusal::NotHeld));
         }
         return Err(StepError::Memory);
     };
-    let outcome = left.leave(alloc, client, *name)?;
+    let outcome = node.leave(alloc, client, *name)?;
     kept.keep(step, &outcome);
     Ok(outcome)
 }

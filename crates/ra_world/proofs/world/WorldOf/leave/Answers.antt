@@ -21,17 +21,17 @@ returns-in_default-clause-count g c =
     let w = c.self.inside in
     (kept_run w.start w.nodes.items w.kept.under_way.items w.kept.log.moves c.args.self.now c.self.invariant c.self.view_is).0
 
-pub index_mut-left-requires : goal.index_mut-left-requires
-index_mut-left-requires g c = subst (λ (n : ℕ). c.in-Some.place < n) c.deref.ensures.len c.in-Some.ensures.some.1
+pub index_mut-node-requires : goal.index_mut-node-requires
+index_mut-node-requires g c = subst (λ (n : ℕ). c.in-Some.place < n) c.deref.ensures.len c.in-Some.ensures.some.1
 
 pub leave_at-requires : goal.leave_at-requires
 leave_at-requires g c =
     let w = c.self.inside in
     let place = c.in-Some.place in
     let within = place_in w.nodes.items c.deref.result.now place c.deref.ensures.value c.in-Some.ensures.some.1 in
-    let known = known_at w.nodes.items place c.index_mut-left.result.now
+    let known = known_at w.nodes.items place c.index_mut-node.result.now
     (kept_runs_go_on.counts w.start w.nodes.items w.kept.under_way.items w.kept.log.moves place c.self.invariant within)
-    (kept_runs_go_on.consistent w.start w.nodes.items w.kept.under_way.items w.kept.log.moves place c.self.invariant within) within c.index_mut-left.ensures.value in
+    (kept_runs_go_on.consistent w.start w.nodes.items w.kept.under_way.items w.kept.log.moves place c.self.invariant within) within c.index_mut-node.ensures.value in
     (lit< tt, (known.0, omega (arith, known.1, c.deref.ensures.len, ap length c.deref.ensures.value, c.len.ensures)))
 
 pub invariant_of-self : goal.invariant_of-self
@@ -39,8 +39,8 @@ invariant_of-self g c =
     let w = c.self.inside in
     let place = c.in-Some.place in
     let within = place_in w.nodes.items c.deref.result.now place c.deref.ensures.value c.in-Some.ensures.some.1 in
-    (left kept_runs_go_on.event w.start w.nodes.items w.kept c.leave_at.new.kept place c.args.node c.args.self.now c.args.step.now c.index_mut-left.result.now c.leave_at.new.left c.leave_at.result
-    c.self.invariant c.in-Some.ensures.some.0 within c.index_mut-left.ensures.value c.self.view_is
+    (left kept_runs_go_on.event w.start w.nodes.items w.kept c.leave_at.new.kept place c.args.node c.args.self.now c.args.step.now c.index_mut-node.result.now c.leave_at.new.node c.leave_at.result
+    c.self.invariant c.in-Some.ensures.some.0 within c.index_mut-node.ensures.value c.self.view_is
     (λ n start moves. leave_goes_on laws_below n start moves) c.args.client c.args.name.now c.requires c.leave_at.ensures).1
 
 pub returns-clause-tried : goal.returns-clause-tried
@@ -48,12 +48,12 @@ returns-clause-tried g c =
     let w = c.self.inside in
     let place = c.in-Some.place in
     let within = place_in w.nodes.items c.deref.result.now place c.deref.ensures.value c.in-Some.ensures.some.1 in
-    (left kept_runs_go_on.event w.start w.nodes.items w.kept c.leave_at.new.kept place c.args.node c.args.self.now c.args.step.now c.index_mut-left.result.now c.leave_at.new.left c.leave_at.result
-    c.self.invariant c.in-Some.ensures.some.0 within c.index_mut-left.ensures.value c.self.view_is
+    (left kept_runs_go_on.event w.start w.nodes.items w.kept c.leave_at.new.kept place c.args.node c.args.self.now c.args.step.now c.index_mut-node.result.now c.leave_at.new.node c.leave_at.result
+    c.self.invariant c.in-Some.ensures.some.0 within c.index_mut-node.ensures.value c.self.view_is
     (λ n start moves. leave_goes_on laws_below n start moves) c.args.client c.args.name.now c.requires c.leave_at.ensures).0
 
 pub returns-clause-run : goal.returns-clause-run
 returns-clause-run g c = (invariant_of-self g c).run
 
 pub returns-clause-count : goal.returns-clause-count
-returns-clause-count g c = count_with c.self.inside.nodes.items c.in-Some.place c.leave_at.new.left c.self.invariant.count
+returns-clause-count g c = count_with c.self.inside.nodes.items c.in-Some.place c.leave_at.new.node c.self.invariant.count

@@ -12,7 +12,7 @@ use Rattle.ra_world.proofs.world.at_node.ask_at.Goals as goal
 
 pub returns-in_err-may_ask : goal.returns-in_err-may_ask
 returns-in_err-may_ask g c =
-    let old = c.args.asked.now in
+    let old = c.args.node.now in
     let kept = c.args.kept.now in
     at_err c.from_residual.result (λ e. e ≡ refusal_of_ask c.in_err-may_ask.field-0.0)
     (λ q. TriesAt c.args.step.now (AskedFor c.args.client c.args.name.now c.args.mode) old kept q old c.make_room.new.self) c.from_residual.ensures.1
@@ -29,7 +29,7 @@ returns-in_default g c = (refl, c.make_room.ensures.messages, c.make_room.ensure
 
 pub returns-in_err-outcome : goal.returns-in_err-outcome
 returns-in_err-outcome g c =
-    let old = c.args.asked.now in
+    let old = c.args.node.now in
     let kept = c.args.kept.now in
     at_err c.from_residual-in_err-outcome.result (λ e. e ≡ refusal_of_ask c.in_err-outcome.field-0.0)
     (λ q. TriesAt c.args.step.now (AskedFor c.args.client c.args.name.now c.args.mode) old kept q c.ask.new.self c.make_room.new.self) c.from_residual-in_err-outcome.ensures.1
@@ -45,7 +45,7 @@ returns-in_err-outcome g c =
 pub keep-requires : goal.keep-requires
 keep-requires g c =
     let outcome = c.in_ok-outcome.outcome in
-    let few = event_room c.args.asked.now c.ask.new.self (AskedFor c.args.client c.args.name.now c.args.mode) outcome.sends.items outcome.marks.items
+    let few = event_room c.args.node.now c.ask.new.self (AskedFor c.args.client c.args.name.now c.args.mode) outcome.sends.items outcome.marks.items
     c.requires.consistent c.in_ok-outcome.ensures.ok in (
       lit< tt,
       (

@@ -24,7 +24,7 @@ returns-in_default g c = (refl, c.make_room.ensures.messages, c.make_room.ensure
 
 pub returns-in_err-outcome : goal.returns-in_err-outcome
 returns-in_err-outcome g c =
-    let old = c.args.left.now in
+    let old = c.args.node.now in
     let kept = c.args.kept.now in
     at_err c.from_residual.result (λ e. e ≡ refusal_of_leave c.in_err-outcome.field-0.0)
     (λ q. TriesAt c.args.step.now (GivenBack c.args.client c.args.name.now) old kept q c.leave.new.self c.make_room.new.self) c.from_residual.ensures.1
@@ -40,7 +40,7 @@ returns-in_err-outcome g c =
 pub keep-requires : goal.keep-requires
 keep-requires g c =
     let outcome = c.in_ok-outcome.outcome in
-    let few = event_room c.args.left.now c.leave.new.self (GivenBack c.args.client c.args.name.now) outcome.sends.items outcome.marks.items
+    let few = event_room c.args.node.now c.leave.new.self (GivenBack c.args.client c.args.name.now) outcome.sends.items outcome.marks.items
     c.requires.consistent c.in_ok-outcome.ensures.ok in (
       lit< tt,
       (
