@@ -1,4 +1,5 @@
 //! A note to a person as it is made, part by part.
+use crate::text::draft::Draft;
 use itoa::{Buffer, Integer};
 use ra_stamp::{Memory, Mode, Name};
 use std::alloc::Global;
@@ -6,38 +7,34 @@ use std::alloc::Global;
 /// The most bytes or characters of an input that are quoted at once.
 const MAX_QUOTED: usize = 60;
 
-/// A note on one line, as it is made. If memory runs out for a part, the note remembers it and `finish` reports it. So the
-/// calls that add parts have no errors, which makes functions of many parts cheap to prove.
+/// A note on one line, as it is made. As in a [`Draft`], if memory runs out for a part, the note remembers it and `finish`
+/// reports it.
 #[derive(Drop)]
 pub struct Note {
-    text: String,
-    /// Whether memory ran out for some part.
-    refused: bool,
+    draft: Draft,
 }
 
 impl Note {
     /// Makes a note that is empty so far. It does not allocate.
     pub fn new(alloc: Global) -> Note {
         Note {
-            text: String::new(alloc),
-            refused: false,
+            draft: Draft::new(alloc),
         }
     }
 
     /// Remembers that memory ran out, if it did.
     pub fn refuse_if(&mut self, refused: bool) {
-        self.refused = self.refused || refused;
+        self.draft.refused = self.draft.refused || refused;
     }
 
     /// Returns whether the note is empty, and memory never ran out.
     pub fn is_empty(&self) -> bool {
-        !self.refused && self.text.is_empty()
+        !self.draft.refused && self.draft.text.is_empty()
     }
 
     /// Adds a text.
     pub fn push(&mut self, text: &str) {
-        let pushed = self.text.push_str(text);
-        self.refuse_if(pushed.is_err());
+        self.draft.push(text);
     }
 
     /// Adds a number in decimal digits.
@@ -68,7 +65,7 @@ impl Note {
     /// Adds a character, or `?` in place of a control character.
     fn letter(&mut self, letter: char) {
         let shown = if letter.is_control() { '?' } else { letter };
-        let pushed = self.text.push(shown);
+        let pushed = self.draft.text.push(shown);
         self.refuse_if(pushed.is_err());
     }
 
@@ -139,10 +136,8 @@ impl Note {
     ///
     /// `Memory`: memory ran out for some part.
     pub fn finish(self) -> Result<Option<String>, Memory> {
-        let Note { text, refused } = self;
-        if refused {
-            Err(Memory)
-        } else if text.is_empty() {
+        let text = self.draft.finish()?;
+        if text.is_empty() {
             Ok(None)
         } else {
             Ok(Some(text))
