@@ -57,5 +57,4 @@ mod Elsewhere
 pub mod Times
 pub mod FittingRuns
 mod Pieces
-mod Adding
 pub mod WorldLaws

@@ -1,10 +1,12 @@
 -- The printed lines of a report. A line is words with one space between two, and a line feed at its end. Numbers are
 -- decimal, without leading zeros.
-use Rattle.std.specs.Prelude.{◌≡◌, ◌≢◌, ℕ, List, [], ◌++◌, codes, decimal, flat_map}
+use Rattle.std.specs.Prelude.{ℕ, List, ◌++◌, codes, decimal, flat_map}
 use Rattle.ra_stamp.specs.Mark.{mark_word, entry_of_mark}
 use Rattle.ra_stamp.specs.Mode.{mode_word}
 use Rattle.ra_stamp.specs.declared.entry.Entry.{Entry}
 use Rattle.ra_stamp.specs.declared.entry.Mark.{Mark}
+use Rattle.ra_stamp.specs.declared.message.Message.{Message}
+use Rattle.ra_stamp.specs.declared.message.Message.TheVariants.{Request, Reply}
 use Rattle.ra_world.specs.declared.text.report.Report.{Report}
 
 -- a field that follows the first word of a line, with the space before it
@@ -16,6 +18,14 @@ abbrev pub entry_fields : Entry → List ℕ
 entry_fields entry =
     field (decimal entry.stamp.node) ++ field (decimal entry.client) ++ field entry.name ++ field (mode_word entry.mode)
     ++ field (decimal entry.stamp.seq)
+
+-- the fields of a message: kind, sender, receiver, name, for a REQUEST the mode, and number
+abbrev pub message_fields : Message → List ℕ
+message_fields (Request from to name mode seq) =
+    field (codes "request") ++ field (decimal from) ++ field (decimal to) ++ field name ++ field (mode_word mode)
+    ++ field (decimal seq)
+message_fields (Reply from to name seq) =
+    field (codes "reply") ++ field (decimal from) ++ field (decimal to) ++ field name ++ field (decimal seq)
 
 -- the line of a mark: its word, `request`, `enter` or `leave`, and then the fields of its request
 abbrev pub mark_line : Mark → List ℕ
@@ -39,12 +49,3 @@ total_lines report =
 -- the text of a report: a line for each mark, in order, and then those of the six totals
 abbrev pub report_text : Report → List ℕ
 report_text report = flat_map mark_line report.marks.items ++ total_lines report
-
--- a prefix of the text was added after what was there, but not all of it: this is what a call leaves that adds text and
--- finds no memory for the rest
-pub record AddsPrefix (old new text : List ℕ) : Type 0 where
-  pub prefix : List ℕ
-  pub rest : List ℕ
-  pub text_is : text ≡ prefix ++ rest
-  pub left : rest ≢ []
-  pub new_is : new ≡ old ++ prefix

@@ -6,8 +6,6 @@ use Rattle.std.specs.FinSet as set
 use Rattle.std.specs.FinMap as map
 use Rattle.ra_stamp.specs.declared.entry.Entry.{Entry}
 use Rattle.ra_stamp.specs.declared.message.Message.{Message}
-use Rattle.ra_stamp.specs.declared.message.Message.TheVariants.{Request, Reply}
-use Rattle.ra_stamp.specs.Message.{from_of, to_of, name_of}
 use Rattle.ra_automaton.specs.State.{State}
 use Rattle.ra_node.specs.declared.queued_client.Queued.{Queued}
 use Rattle.ra_node.specs.Resource.{Resource, Use, use_of}
@@ -18,7 +16,7 @@ use Rattle.ra_world.specs.Traffic.{Move, LeavesUnderWay}
 use Rattle.ra_world.specs.Run.{EndsWith, marks_of}
 use Rattle.ra_world.specs.AtNodes.{IsTableOf}
 use Rattle.ra_stamp.specs.Mode.{mode_word}
-use Rattle.ra_world.specs.Lines.{field, entry_fields, total_line}
+use Rattle.ra_world.specs.Lines.{field, entry_fields, message_fields, total_line}
 
 -- ---- A name at a node
 
@@ -89,16 +87,6 @@ abbrev pub node_lines : ℕ → List (List ℕ) → (ℕ → NodeState) → ℕ 
 node_lines n names nodes count = flat_map (λ i. lines_at n names i (nodes i)) (range_with_len 1 count)
 
 -- ---- Messages
-
--- a word, and then the sender, the receiver and the name of a message
-abbrev pub ends_fields : List ℕ → Message → List ℕ
-ends_fields word message = word ++ field (decimal (from_of message)) ++ field (decimal (to_of message)) ++ field (name_of message)
-
--- what a message is, from which node to which one, and about which name, with the mode of a REQUEST and the number
-abbrev pub message_fields : Message → List ℕ
-message_fields (Request from to name mode seq) =
-    ends_fields (codes " request") (Request from to name mode seq) ++ field (mode_word mode) ++ field (decimal seq)
-message_fields (Reply from to name seq) = ends_fields (codes " reply") (Reply from to name seq) ++ field (decimal seq)
 
 -- the line of a message under way at a place, counted from 0 in the order of sending
 abbrev pub message_line : ℕ → Message → List ℕ

@@ -28,7 +28,7 @@ pub use step::{Step, Steps};
 pub use text::cutting::cut;
 pub use text::draft::Draft;
 pub use text::drawn_part::Part;
-pub use text::lines::{mark_line, push_field, push_mark_line, push_number, report_text};
+pub use text::lines::{mark_line, report_text};
 pub use text::note::Note;
 pub use text::report::Report;
 pub use world::run_steps::run;

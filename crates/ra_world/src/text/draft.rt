@@ -1,10 +1,9 @@
 //! A text as it is made, part by part.
-ghost use Rattle.std.specs.Prelude.{◌≡◌, ◌++◌, ◌↔◌, ℕ, false, List, [], codes, string_bytes, IfOk, IsOk};
+ghost use Rattle.std.specs.Prelude.{◌≡◌, ◌++◌, ◌↔◌, ℕ, false, List, [], codes, decimal, string_bytes, IfOk, IsOk};
 ghost use Rattle.ra_world.specs.Lines as spec;
 
-use crate::text::lines::{push_entry_line, push_field, push_mark_line, push_number};
-use itoa::Integer;
-use ra_stamp::{Entry, Mark, Memory};
+use itoa::{Buffer, Integer};
+use ra_stamp::{Entry, Mark, Memory, Message, Name, NodeId};
 use std::alloc::Global;
 
 /// A text as it is made. If memory runs out for a part, the draft remembers it and `finish` reports it. So the calls that add
@@ -51,26 +50,65 @@ impl Draft {
     pub fn push_field(&mut self, field: &str)
         ensures { Adds self.old (spec.field field.now) self.new }
     {
-        if push_field(&mut self.text, field).is_err() {
-            self.refused = true;
-        }
+        self.push(" ");
+        self.push(field);
     }
 
     /// Adds a field that is a number, with the space before it.
     pub fn push_number<I: Integer>(&mut self, number: I)
         ensures { Adds self.old (spec.field (I.text number)) self.new }
     {
-        if push_number(&mut self.text, number).is_err() {
-            self.refused = true;
-        }
+        self.push_field(Buffer::new().format(number));
     }
 
     /// Adds a line of a word and the fields of an entry.
     pub fn push_entry_line(&mut self, word: &str, entry: &Entry)
         ensures { Adds self.old (word.now ++ spec.entry_fields entry.now ++ codes "\n") self.new }
     {
-        if push_entry_line(&mut self.text, word, entry).is_err() {
-            self.refused = true;
+        self.push(word);
+        self.push_number(entry.stamp.node.get());
+        self.push_number(entry.client);
+        self.push_field(entry.name.as_str());
+        self.push_field(entry.mode.word());
+        self.push_number(entry.stamp.seq);
+        self.end_line();
+    }
+
+    /// Adds a kind of message, and then the sender, the receiver and the name.
+    fn push_ends(&mut self, kind: &str, from: NodeId, to: NodeId, name: &Name)
+        ensures { Adds self.old (spec.field kind.now ++ spec.field (decimal from) ++ spec.field (decimal to) ++ spec.field name.now) self.new }
+    {
+        self.push_field(kind);
+        self.push_number(from.get());
+        self.push_number(to.get());
+        self.push_field(name.as_str());
+    }
+
+    /// Adds the fields of a message.
+    pub fn push_message(&mut self, message: &Message)
+        ensures { Adds self.old (spec.message_fields message.now) self.new }
+    {
+        match message {
+            Message::Request {
+                from,
+                to,
+                name,
+                mode,
+                seq,
+            } => {
+                self.push_ends("request", *from, *to, name);
+                self.push_field(mode.word());
+                self.push_number(*seq);
+            }
+            Message::Reply {
+                from,
+                to,
+                name,
+                seq,
+            } => {
+                self.push_ends("reply", *from, *to, name);
+                self.push_number(*seq);
+            }
         }
     }
 
@@ -78,9 +116,7 @@ impl Draft {
     pub fn push_mark_line(&mut self, mark: &Mark)
         ensures { Adds self.old (spec.mark_line mark.now) self.new }
     {
-        if push_mark_line(&mut self.text, mark).is_err() {
-            self.refused = true;
-        }
+        self.push_entry_line(mark.word(), mark.entry());
     }
 
     /// Returns the text.

@@ -1,69 +1,12 @@
-//! The lines of a report. Those calls that write parts of a line are public, since traces have the same fields and mark lines, and nothing
-//! is to be allocated for each line.
-ghost use Rattle.std.specs.Prelude.{◌≡◌, ◌++◌, codes, string_bytes, IfOk, OnOk, OnErr};
+//! The lines of a report.
+ghost use Rattle.std.specs.Prelude.{◌≡◌, string_bytes, IfOk};
 ghost use Rattle.ra_world.specs.Lines as spec;
 ghost use Rattle.ra_world.specs.Drafting.{Adds};
 
 use crate::Report;
 use crate::text::draft::Draft;
-use itoa::{Buffer, Integer};
-use ra_stamp::{Entry, Mark, Memory};
+use ra_stamp::{Mark, Memory};
 use std::alloc::Global;
-
-/// Adds a field that is text, with the space before it, in time linear in it.
-///
-/// # Errors
-///
-/// `Memory`: there is none for it. A prefix of it may have been added, but not all of it.
-pub fn push_field(text: &mut String, field: &str) -> Result<(), Memory>
-    ensures ok { OnOk result (string_bytes text.new ≡ string_bytes text.old ++ spec.field field.now) }
-    ensures err { OnErr result (spec.AddsPrefix (string_bytes text.old) (string_bytes text.new) (spec.field field.now)) }
-{
-    text.push_str(" ")?;
-    text.push_str(field)?;
-    Ok(())
-}
-
-/// Adds a field that is a number, with the space before it.
-///
-/// # Errors
-///
-/// `Memory`: there is none for it. A prefix of it may have been added, but not all of it.
-pub fn push_number<I: Integer>(text: &mut String, number: I) -> Result<(), Memory>
-    ensures ok { OnOk result (string_bytes text.new ≡ string_bytes text.old ++ spec.field (I.text number)) }
-    ensures err { OnErr result (spec.AddsPrefix (string_bytes text.old) (string_bytes text.new) (spec.field (I.text number))) }
-{
-    push_field(text, Buffer::new().format(number))
-}
-
-/// Adds a line of a word and the fields of an entry.
-pub fn push_entry_line(text: &mut String, word: &str, entry: &Entry) -> Result<(), Memory>
-    ensures ok { OnOk result (string_bytes text.new
-        ≡ string_bytes text.old ++ (word.now ++ spec.entry_fields entry.now ++ codes "\n")) }
-    ensures err { OnErr result (spec.AddsPrefix (string_bytes text.old) (string_bytes text.new)
-        (word.now ++ spec.entry_fields entry.now ++ codes "\n")) }
-{
-    text.push_str(word)?;
-    push_number(text, entry.stamp.node.get())?;
-    push_number(text, entry.client)?;
-    push_field(text, entry.name.as_str())?;
-    push_field(text, entry.mode.word())?;
-    push_number(text, entry.stamp.seq)?;
-    text.push_str("\n")?;
-    Ok(())
-}
-
-/// Adds the line of a mark, its line feed at the end, in time linear in it.
-///
-/// # Errors
-///
-/// `Memory`: there is none for it. A prefix of it may have been added, but not all of it.
-pub fn push_mark_line(text: &mut String, mark: &Mark) -> Result<(), Memory>
-    ensures ok { OnOk result (string_bytes text.new ≡ string_bytes text.old ++ spec.mark_line mark.now) }
-    ensures err { OnErr result (spec.AddsPrefix (string_bytes text.old) (string_bytes text.new) (spec.mark_line mark.now)) }
-{
-    push_entry_line(text, mark.word(), mark.entry())
-}
 
 /// Adds the line of a total.
 pub fn push_total_line(text: &mut Draft, word: &str, total: u128)
@@ -82,9 +25,9 @@ pub fn push_total_line(text: &mut Draft, word: &str, total: u128)
 pub fn mark_line(alloc: Global, mark: &Mark) -> Result<String, Memory>
     ensures { IfOk result (λ line. string_bytes line ≡ spec.mark_line mark.now) }
 {
-    let mut line = String::new(alloc);
-    push_mark_line(&mut line, mark)?;
-    Ok(line)
+    let mut line = Draft::new(alloc);
+    line.push_mark_line(mark);
+    line.finish()
 }
 
 /// Returns the lines of a report: one for each mark, in order, and then those of the six totals. The cost is linear in

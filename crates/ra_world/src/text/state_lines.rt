@@ -12,7 +12,7 @@ use crate::text::draft::Draft;
 use crate::text::lines::push_total_line;
 use ra_bag::Bag;
 use ra_node::Node;
-use ra_stamp::{Entry, Memory, Message, Name, NodeCount, NodeId};
+use ra_stamp::{Entry, Memory, Name, NodeCount, NodeId};
 use std::alloc::Global;
 
 /// Adds the first word of a line about a name at a node, and then the two.
@@ -111,33 +111,6 @@ fn push_nodes(text: &mut Draft, nodes: &[Node], names: &[Name])
     }
 }
 
-/// Adds a word, and then the sender, the receiver and the name of a message.
-fn push_ends(text: &mut Draft, word: &str, message: &Message)
-    ensures { Adds text.old (spec.ends_fields word.now message.now) text.new }
-{
-    text.push(word);
-    text.push_number(message.from().get());
-    text.push_number(message.to().get());
-    text.push_field(message.name().as_str());
-}
-
-/// Adds what a message is.
-fn push_message_fields(text: &mut Draft, message: &Message)
-    ensures { Adds text.old (spec.message_fields message.now) text.new }
-{
-    match *message {
-        Message::Request { mode, seq, .. } => {
-            push_ends(text, " request", message);
-            text.push_field(mode.word());
-            text.push_number(seq);
-        }
-        Message::Reply { seq, .. } => {
-            push_ends(text, " reply", message);
-            text.push_number(seq);
-        }
-    }
-}
-
 /// Adds the lines of the messages under way.
 fn push_messages(text: &mut Draft, under_way: &Bag)
     ensures { Adds text.old (spec.message_lines 0 under_way.now.items) text.new }
@@ -148,7 +121,7 @@ fn push_messages(text: &mut Draft, under_way: &Bag)
         };
         text.push("message");
         text.push_number(place);
-        push_message_fields(text, &message);
+        text.push_message(&message);
         text.end_line();
     }
 }

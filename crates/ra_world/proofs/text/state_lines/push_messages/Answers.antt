@@ -16,7 +16,7 @@ loop-place-preserved c =
     let place = c.loop-place.place in
     let at = at_place items place c.in-Some.message (sym c.in-Some.ensures) in
     adds_as (adds_both c.loop-place.invariant
-    (adds_both (adds_both (adds_both c.push.ensures c.push_number.ensures) c.push_message_fields.ensures) c.end_line.ensures))
+    (adds_both (adds_both (adds_both c.push.ensures c.push_number.ensures) c.push_message.ensures) c.end_line.ensures))
     (next_message [] (message_lines 0 (take place items)) _ items place c.in-Some.message refl at.0 at.1 refl)
 
 pub returns : goal.returns
