@@ -9,6 +9,7 @@ pub mod Checking
 pub mod Reading
 pub mod NextLine
 pub mod Along
+pub mod Refusals
 pub mod Writing
 pub mod Marks
 pub mod MarksReading

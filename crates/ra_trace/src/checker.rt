@@ -15,7 +15,7 @@ use crate::marked_table::{allows, try_mark};
 use crate::{Cause, TraceError};
 use ra_stamp::{Mark, Marks, equal_is_same};
 use ra_table::Table;
-use ra_world::{MarklessWorld, Step, StepError};
+use ra_world::{MarklessWorld, StepError};
 use std::alloc::Global;
 
 /// What a checker knows after the lines that it took: the version that the first one names, the world after their steps, the lock
@@ -146,6 +146,7 @@ impl Checker {
             → due_of self.now ≡ mark.now ∷ drop (self.now.come + 1) self.now.marks.items }
         ensures other { result ≡ false → (others : List Mark) → due_of self.now ≢ mark.now ∷ others }
     {
+        // For the proof: marks that compare equal are the same.
         equal_is_same();
         match self.marks.as_slice().get(self.come as usize) {
             Some(due) => *due == *mark,

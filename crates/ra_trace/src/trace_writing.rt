@@ -1,14 +1,13 @@
-ghost use Rattle.std.specs.Prelude.{◌≡◌, ◌≢◌, ◌↔◌, ◌⊎◌, ◌+◌, ◌<◌, ◌^◌, ◌++◌, ℕ, List, [], length, take, slice_index_or, map, flat_map, decimal, string_bytes, OnOk, IfOk, IfErr, IsErrOf, IsOkUnless, All};
+ghost use Rattle.std.specs.Prelude.{◌≡◌, ◌≢◌, ◌+◌, ◌<◌, ◌^◌, ◌++◌, ℕ, List, [], length, take, slice_index_or, map, flat_map, decimal, string_bytes, OnOk, IfOk, IfErr, IsErrOf, All};
 ghost use Rattle.std.specs.Io.KnownBytes.{Appends};
-ghost use Rattle.ra_stamp.specs.NodeId.{IsNodeNumber};
 ghost use Rattle.ra_world.specs.Traffic.{Move};
 ghost use Rattle.ra_world.specs.Run.{GoesOn, WorldRun};
-ghost use Rattle.ra_world.specs.Refused.{IsRefusedAt};
 ghost use Rattle.ra_world.specs.Drafting.{Adds, Says};
 ghost use Rattle.ra_world.specs.Lines.{field, mark_line};
 ghost use Rattle.ra_trace.specs.TraceText as spec;
 ghost use Rattle.ra_trace.specs.TraceText.{IsTrace};
 ghost use Rattle.ra_trace.specs.Ranges.{StepFits, MarkFits};
+ghost use Rattle.ra_trace.specs.Refusals.{TellsRefusals};
 ghost use Rattle.ra_trace.specs.Writing.{HasTraced, IsOpened, Traces, Written};
 
 use crate::WriteTraceError;
@@ -89,9 +88,11 @@ fn push_move(text: &mut Draft, step: &Step, marks: &Marks)
     ensures text { Adds text.old (spec.step_line step.now ++ flat_map mark_line marks.now.items) text.new }
     ensures fit { StepFits step.now × All MarkFits marks.now.items }
 {
+    // For the proof: the fields of a step are in their ranges.
     step_fits(step);
     push_step(text, step);
     for mark in marks.as_slice() {
+        // For the proof: so are those of a mark.
         mark_fits(mark);
         text.push_mark_line(mark);
     }
@@ -180,6 +181,7 @@ fn trace_run(
 ) -> Result<(), WriteTraceError>
     ensures { Says text.old [] → IsOpened nodes start world.old → Written nodes start steps.now.items text.new result }
 {
+    // For the proof: each mark of a run has a number.
     marks_of_runs_are_numbered();
     text.push("trace 2");
     text.push_number(nodes);
@@ -213,15 +215,7 @@ pub fn trace_text(
 ) -> Result<String, WriteTraceError>
     ensures ok { IfOk result (λ text. (moves : List Move)
         × (map (λ move. move.step) moves ≡ steps.now.items) × IsTrace nodes start moves (string_bytes text)) }
-    ensures bad_count { IsErrOf result (WriteTraceError.Run RunError.BadCount) ↔ (IsNodeNumber nodes → ⊥) }
-    ensures refused { (place : ℕ) (cause : StepError)
-        → IsErrOf result (WriteTraceError.Run (RunError.Refused place cause))
-        → IsNodeNumber nodes × IsRefusedAt nodes start steps.now.items place cause }
-    ensures never { ¬ IsErrOf result (WriteTraceError.Run RunError.Memory) }
-    // Memory may run out at each step and before the first, but a wrong number of nodes comes before.
-    ensures memory { IsErrOf result WriteTraceError.Memory → IsNodeNumber nodes }
-    ensures allowed { IsNodeNumber nodes → WorldRun nodes start steps.now.items
-        → IsOkUnless result WriteTraceError.Memory }
+    ensures refusals { TellsRefusals nodes start steps.now.items result }
     ensures early { IfErr result (λ fault. fault ≢ WriteTraceError.Write) }
 {
     let mut world = match MarklessWorld::new(alloc, nodes, start) {
@@ -266,18 +260,7 @@ pub fn write_trace<W: Write>(
     ensures ok { OnOk result ((moves : List Move) × (text : List ℕ)
         × (map (λ move. move.step) moves ≡ steps.now.items) × IsTrace nodes start moves text
         × Appends (W.contents writer.old) (W.contents writer.new) text) }
-
-    ensures bad_count { IsErrOf result (WriteTraceError.Run RunError.BadCount) ↔ (IsNodeNumber nodes → ⊥) }
-    ensures refused { (place : ℕ) (cause : StepError)
-        → IsErrOf result (WriteTraceError.Run (RunError.Refused place cause))
-        → IsNodeNumber nodes × IsRefusedAt nodes start steps.now.items place cause }
-    // If memory runs out in the run, the answer is `Memory`.
-    ensures never { ¬ IsErrOf result (WriteTraceError.Run RunError.Memory) }
-    // Memory may run out at each step and before the first, but a wrong number of nodes comes before.
-    ensures memory { IsErrOf result WriteTraceError.Memory → IsNodeNumber nodes }
-    ensures allowed { IsNodeNumber nodes → WorldRun nodes start steps.now.items
-        → IfErr result (λ fault. (fault ≡ WriteTraceError.Memory) ⊎ (fault ≡ WriteTraceError.Write)) }
-
+    ensures refusals { TellsRefusals nodes start steps.now.items result }
     ensures unwritten { IfErr result (λ fault. fault ≢ WriteTraceError.Write → writer.new ≡ writer.old) }
     // A fault of the writer comes only with something left to write.
     ensures prefix { IsErrOf result WriteTraceError.Write → (moves : List Move) × (prefix rest : List ℕ)

@@ -10,6 +10,7 @@ use ra_world::Step;
 fn client_fits(client: u32)
     ensures { IsClientNumber client }
 {
+    // For the proof: a client has 32 bits.
     let _ = client;
 }
 
@@ -17,6 +18,7 @@ fn client_fits(client: u32)
 fn seq_fits(seq: u64)
     ensures { seq < 2 ^ 64 }
 {
+    // For the proof: a number has 64 bits.
     let _ = seq;
 }
 
@@ -25,6 +27,7 @@ pub fn mark_fits(mark: &Mark)
     ensures { MarkFits mark.now }
 {
     let entry = mark.entry();
+    // For the proof: each field of an entry is in its range.
     let _ = entry.stamp.node.get();
     let _ = entry.name.bytes();
     client_fits(entry.client);
@@ -35,6 +38,7 @@ pub fn mark_fits(mark: &Mark)
 fn message_fits(message: &Message)
     ensures { MessageFits message.now }
 {
+    // For the proof: each field of a message is in its range.
     let _ = message.from().get();
     let _ = message.to().get();
     let _ = message.name().bytes();
@@ -53,11 +57,13 @@ pub fn step_fits(step: &Step)
             ..
         }
         | Step::Leave { node, client, name } => {
+            // For the proof: each field of an ask or a leave is in its range.
             let _ = node.get();
             let _ = name.bytes();
             client_fits(*client);
         }
         Step::Deliver(message) | Step::Lose(message) | Step::Repeat(message) => {
+            // For the proof: each field of a message is in its range.
             message_fits(message);
         }
     }

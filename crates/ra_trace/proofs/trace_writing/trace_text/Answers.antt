@@ -24,11 +24,7 @@ returns-in-Err-BadCount c =
     let tells = unopened c.args.nodes c.args.start c.args.steps.now.items (Err fault) fault refl (arm.ensures.bad_count.0 (ap Err arm.field-0-is)) in
     record {
       ok = tt;
-      bad_count = tells.bad_count;
-      refused = tells.refused;
-      never = tells.never;
-      memory = tells.memory;
-      allowed = tells.allowed;
+      refusals = tells.refusals;
       early = tells.early;
     }
 
@@ -39,11 +35,7 @@ returns-in-Err-Memory c =
     (λ bad. memory_is_no_count arm.field-0 arm.field-0-is (same_refusal _ _ (arm.ensures.bad_count.1 bad))) in
     record {
       ok = tt;
-      bad_count = tells.bad_count;
-      refused = tells.refused;
-      never = tells.never;
-      memory = tells.memory;
-      allowed = tells.allowed;
+      refusals = tells.refusals;
       early = tells.early;
     }
 
@@ -57,11 +49,7 @@ returns-in-Err c =
     (c.in-Err.ensures c.new-text.ensures.says opened) in
     record {
       ok = tt;
-      bad_count = tells.bad_count;
-      refused = tells.refused;
-      never = tells.never;
-      memory = tells.memory;
-      allowed = tells.allowed;
+      refusals = tells.refusals;
       early = tells.early;
     }
 
@@ -77,11 +65,7 @@ returns-in-Ok-finish c =
     let tells = all_made n start c.args.steps.now.items c.in-Ok-finish.text opened.number in
     record {
       ok = (moves, made, subst (IsTrace n start moves) (sym (c.in-Ok-finish.ensures.text bytes says)) trace);
-      bad_count = tells.bad_count;
-      refused = tells.refused;
-      never = tells.never;
-      memory = tells.memory;
-      allowed = tells.allowed;
+      refusals = tells.refusals;
       early = tells.early;
     }
 
@@ -91,10 +75,6 @@ returns-in-Err-finish c =
     let tells = stopped c.args.nodes c.args.start c.args.steps.now.items (Err Memory) Memory refl c.in-Ok.ensures.count tt in
     record {
       ok = tt;
-      bad_count = tells.bad_count;
-      refused = tells.refused;
-      never = tells.never;
-      memory = tells.memory;
-      allowed = tells.allowed;
+      refusals = tells.refusals;
       early = tells.early;
     }

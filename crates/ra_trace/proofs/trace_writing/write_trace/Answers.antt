@@ -1,10 +1,10 @@
-use Rattle.std.proofs.Common.{◌≡◌, ◌≢◌, Result, Ok, Err, refl, sym, ap, ◌∙◌, subst, inl}
+use Rattle.std.proofs.Common.{◌≡◌, ◌≢◌, Result, Ok, Err, refl, sym, ap, ◌∙◌, subst}
 use Rattle.std.specs.Io.KnownBytes.{Appends}
-use Rattle.std.proofs.lemmas.Result.{err_from_is_err_and, IfOk-from_err, MatchResult-from_err, IfErr-weaker, IfErr-at_err}
+use Rattle.std.proofs.lemmas.Result.{err_from_is_err_and, IfOk-from_err, MatchResult-from_err, IfErr-at_err}
 use Rattle.ra_trace.specs.declared.error.WriteTraceError.{WriteTraceError}
 use Rattle.ra_trace.specs.declared.error.WriteTraceError.TheVariants.{Write}
 use Rattle.ra_trace.specs.TraceText.{IsTrace}
-use Rattle.ra_trace.proofs.Refusing.{passes, all_made, tells_unwritten, memory_or_writer, of_writer}
+use Rattle.ra_trace.proofs.Refusing.{passes, all_made, tells_unwritten, of_writer}
 use Rattle.ra_trace.proofs.trace_writing.write_trace.Goals as goal
 
 -- ---- No trace is made
@@ -15,14 +15,10 @@ returns-in_err-text g c =
     let p = err_from_is_err_and result c.from_residual.ensures.1 in
     let e = c.in_err-text.ensures in
     let tells = passes c.args.nodes c.args.start c.args.steps.now.items result c.in_err-text.field-0.0 (p.1 ∙ ap Err p.2)
-    (record { bad_count = e.bad_count; refused = e.refused; never = e.never; memory = e.memory; allowed = e.allowed; early = e.early }) in
+    (record { refusals = e.refusals; early = e.early }) in
     record {
       ok = IfOk-from_err result _ c.from_residual.ensures.0;
-      bad_count = tells.bad_count;
-      refused = tells.refused;
-      never = tells.never;
-      memory = tells.memory;
-      allowed = λ number steps. IfErr-weaker result _ _ (λ fault same. inl same) (tells.allowed number steps);
+      refusals = tells.refusals;
       unwritten = MatchResult-from_err result _ _ c.from_residual.ensures.0 (λ fault other. refl);
       prefix = λ is. absurd (IfErr-at_err (λ fault. fault ≢ Write) is tells.early refl);
     }
@@ -37,14 +33,9 @@ returns g c =
     let (moves, made, trace) = c.in_ok-text.ensures.ok in
     let result : Result (Unit {0}) WriteTraceError = Err Write in
     let is : result ≡ Err Write = refl in
-    let tells = tells_unwritten n start steps result is trace.count in
     record {
       ok = tt;
-      bad_count = tells.0;
-      refused = tells.1;
-      never = tells.2;
-      memory = tells.3;
-      allowed = λ number steps. memory_or_writer n start c.args.steps.now.items result is;
+      refusals = tells_unwritten n start steps result is trace.count;
       unwritten = of_writer n start steps result is _;
       prefix = λ _.
           let (prefix, rest, whole, some, appends) = c.in-Err.ensures.err in
@@ -59,7 +50,6 @@ written_is_no_fault e = cc
 pub returns-in-Ok : goal.returns-in-Ok
 returns-in-Ok g c =
     let (moves, made, trace) = c.in_ok-text.ensures.ok in
-    let tells = all_made c.args.nodes c.args.start c.args.steps.now.items tt trace.count in
     record {
       ok = (
         moves,
@@ -68,11 +58,7 @@ returns-in-Ok g c =
         trace,
         subst (Appends (g.W.Write.contents c.args.writer.now) (g.W.Write.contents c.write_out.new.writer)) c.as_bytes.ensures.value c.in-Ok.ensures.ok,
       );
-      bad_count = tells.bad_count;
-      refused = tells.refused;
-      never = tells.never;
-      memory = tells.memory;
-      allowed = λ number steps. tt;
+      refusals = (all_made c.args.nodes c.args.start c.args.steps.now.items tt trace.count).refusals;
       unwritten = tt;
       prefix = λ is. absurd (written_is_no_fault is);
     }
