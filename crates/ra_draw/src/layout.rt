@@ -13,7 +13,7 @@ use ra_stamp::{Memory, NodeId};
 use sizes::{
     BAND_HEIGHT, BAND_ROWS, COLUMN_WIDTH, COPIES_WIDTH, FEW_NODES_GAP, LABEL_LETTERS, LANE_MARGIN,
     LEFT_MARGIN, LEGEND_WIDTH, MEAN_LETTER, MOST_WIDE, NARROW_GAP, NARROW_ROW, RIGHT_MARGIN,
-    ROWS_TOP, UNDER_WAY_ROWS, WIDE_LETTER, WIDE_ROW,
+    ROWS_TOP, UNDER_WAY_ROWS, WIDE_ROW,
 };
 use std::alloc::Global;
 
@@ -90,7 +90,9 @@ impl Layout {
     /// Lays it out: the lanes are from left to right, each after its bars.
     pub fn fill(&mut self, alloc: Global, spans: &[LockSpan]) -> Result<(), Memory> {
         for _node in 0..self.nodes {
-            self.lanes.push(NodeLane::new(alloc))?;
+            let Ok(()) = self.lanes.push(NodeLane::new(alloc)) else {
+                return Err(Memory);
+            };
         }
         for span in spans {
             let Ok(()) = self.add_bar(span) else {

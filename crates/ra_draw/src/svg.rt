@@ -78,17 +78,16 @@ fn put_head(svg: &mut SvgWriter, layout: &Layout, totals: &Totals, part: Part) {
     svg.write("</text>\n$", &[Text(LEGEND)]);
 }
 
-/// Draws what was followed of a text, the attributes of the picture first, or nothing if memory ran out.
+/// Draws a part of a text that was followed, the attributes of the picture first, or nothing if memory ran out.
 fn draw_timeline(
     alloc: Global,
     layers: &mut Layers,
     timeline: &Timeline,
-    followed: Result<(), Memory>,
     totals: &Totals,
     part: Part,
 ) {
     let mut layout = Layout::new(alloc, timeline);
-    if followed.is_ok() && layout.fill(alloc, &timeline.spans.all).is_ok() {
+    if layout.fill(alloc, &timeline.spans.all).is_ok() {
         put_head(&mut layers.shapes, &layout, totals, part);
         layers.draw(&layout, timeline);
     } else {
@@ -100,8 +99,11 @@ fn draw_timeline(
 // The page is a function of its own, since two values that own memory in one make it many times as expensive to prove.
 fn draw_part(alloc: Global, layers: &mut Layers, text: &[u8], part: Part, totals: &Totals) {
     let mut timeline = Timeline::new(alloc);
-    let followed = timeline.follow(alloc, text, part);
-    draw_timeline(alloc, layers, &timeline, followed, totals, part);
+    if timeline.follow(alloc, text, part).is_ok() {
+        draw_timeline(alloc, layers, &timeline, totals, part);
+    } else {
+        layers.shapes.is_out = true;
+    }
 }
 
 /// Adds the one element of the picture, which contains this.

@@ -6,6 +6,35 @@ use crate::svg::svg_writer::PatternValue::{Node, Number, Short, Text, Whole};
 use crate::svg::wording::MODE_TEXTS;
 use crate::timeline::{LockKey, Moment};
 
+/// How a phase is drawn.
+#[derive(Clone, Copy)]
+struct PhaseLook {
+    /// What the client does in it.
+    what: &'static str,
+    /// The class of its shape.
+    class: &'static str,
+    /// How far to the right in its column it begins.
+    inset: u64,
+}
+
+const QUEUED: PhaseLook = PhaseLook {
+    what: "is queued for",
+    class: "queued",
+    inset: 10,
+};
+
+const WAITING: PhaseLook = PhaseLook {
+    what: "waits for",
+    class: "waiting",
+    inset: 7,
+};
+
+const INSIDE: PhaseLook = PhaseLook {
+    what: "holds",
+    class: "inside",
+    inset: 3,
+};
+
 impl Layers {
     /// Begins the shape of a phase: what the client does, and the name.
     fn begin_phase(&mut self, key: &LockKey, what: &'static str) {
@@ -20,16 +49,13 @@ impl Layers {
         );
     }
 
-    /// Draws a phase that began, from one moment to another or to the end of the bar, if it has a row, and says what the client does. It has
-    /// this look, and begins so far to the right in its column. Beneath it is one as wide as the column that is not seen, so that a pointer
-    /// hits it easily.
+    /// Draws a phase that began, from one moment to another or to the end of the bar, if it has a row, and says what the client does. Beneath
+    /// its shape is one as wide as the column that is not seen, so that a pointer hits it easily.
     fn draw_phase(
         &mut self,
         layout: &Layout,
         bar: &LockBar,
-        what: &'static str,
-        look: &'static str,
-        inset: u64,
+        look: PhaseLook,
         first: Option<Moment>,
         last: Option<Moment>,
     ) {
@@ -40,7 +66,7 @@ impl Layers {
         if let Some(first) = first
             && first.row < end
         {
-            self.begin_phase(&bar.span.key, what);
+            self.begin_phase(&bar.span.key, look.what);
             self.shapes
                 .put(MODE_TEXTS[bar.span.mode as usize].as_bytes());
             self.shapes.write(", from line $", &[Number(first.line)]);
@@ -55,11 +81,11 @@ impl Layers {
                     Number(y),
                     Number(COLUMN_WIDTH),
                     Number(height),
-                    Number(x.saturating_add(inset)),
+                    Number(x.saturating_add(look.inset)),
                     Number(y),
-                    Number(COLUMN_WIDTH.saturating_sub(inset.saturating_mul(2))),
+                    Number(COLUMN_WIDTH.saturating_sub(look.inset.saturating_mul(2))),
                     Number(height),
-                    Text(look),
+                    Text(look.class),
                     Text(bar.span.mode.word()),
                 ],
             );
@@ -94,9 +120,9 @@ impl Layers {
     pub fn draw_lock_bar(&mut self, layout: &Layout, bar: &LockBar) {
         let span = &bar.span;
         let (asked, requested, entered) = (Some(span.asked), span.requested, span.entered);
-        self.draw_phase(layout, bar, "is queued for", "queued", 10, asked, requested);
-        self.draw_phase(layout, bar, "waits for", "waiting", 7, requested, entered);
-        self.draw_phase(layout, bar, "holds", "inside", 3, entered, span.left);
+        self.draw_phase(layout, bar, QUEUED, asked, requested);
+        self.draw_phase(layout, bar, WAITING, requested, entered);
+        self.draw_phase(layout, bar, INSIDE, entered, span.left);
         self.name_lock_bar(layout, bar);
     }
 }

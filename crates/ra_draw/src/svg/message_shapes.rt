@@ -2,24 +2,20 @@
 use crate::layout::sizes::UNDER_WAY_ROWS;
 use crate::layout::{Layout, Point};
 use crate::svg::layers::Layers;
-use crate::svg::svg_writer::PatternValue;
 use crate::svg::svg_writer::PatternValue::{Node, Number, Short, Text, Whole};
 use crate::svg::wording::{MODE_TEXTS, kind_of};
 use crate::timeline::{MessageEnd, MessagePath};
 use ra_stamp::{Message, Name};
 
 impl Layers {
-    /// Labels a message at a point: its kind, number, name and mode, and this pattern after them.
-    fn label_message(
+    /// Begins the label of a message with this name at a point: its kind, number, name and mode.
+    fn begin_label(
         &mut self,
         layout: &Layout,
         message: &Message,
         name: &Name,
-        x: u64,
-        y: u64,
+        at: Point,
         side: &'static str,
-        ending: &'static str,
-        values: &[PatternValue],
     ) {
         let kind = kind_of(message);
         let (space, mode) = match message {
@@ -29,8 +25,8 @@ impl Layers {
         self.labels.write(
             "<text x=\"$\" y=\"$\" class=\"label of-$ $\">$ $ $$$",
             &[
-                Number(x),
-                Number(y),
+                Number(at.x),
+                Number(at.y),
                 Text(kind),
                 Text(side),
                 Text(kind),
@@ -40,7 +36,6 @@ impl Layers {
                 Text(mode),
             ],
         );
-        self.labels.write(ending, values);
     }
 
     /// Labels a message beside the lane of the node to which it goes, on the side from which it does not come, if there is room on this
@@ -64,14 +59,17 @@ impl Layers {
             }
             MessageEnd::UnderWay { .. } => return,
         };
-        let y = head.y.saturating_add(3);
         let (x, side) = if from.x < head.x {
             (head.x.saturating_add(8), "to-right")
         } else {
             (head.x.saturating_sub(gutter.saturating_add(4)), "to-left")
         };
-        let (name, node) = (message.name(), [Node(message.to())]);
-        self.label_message(layout, message, &name, x, y, side, ending, &node);
+        let at = Point {
+            x,
+            y: head.y.saturating_add(3),
+        };
+        self.begin_label(layout, message, &message.name(), at, side);
+        self.labels.write(ending, &[Node(message.to())]);
     }
 
     /// Begins the shape of a message: which one it is, and when it came under way.
@@ -105,17 +103,19 @@ impl Layers {
     /// Draws the loop from which a copy comes, and labels it if there is room on this page.
     fn draw_copy(&mut self, layout: &Layout, path: &MessagePath, place: Point) {
         let message = &path.message;
-        let name = message.name();
         self.begin_message(path);
         self.shapes.write(
             "</title><path class=\"loop\" d=\"M$ $m5 -3.6a6.2 6.2 0 1 0 1 3.6l-3.4 -2.2m3.4 2.2l2.6 -3\"/></g>\n",
             &[Number(place.x), Number(place.y)],
         );
         if layout.is_wide() {
-            let (x, y) = (place.x.saturating_add(12), place.y.saturating_add(3));
+            let at = Point {
+                x: place.x.saturating_add(12),
+                y: place.y.saturating_add(3),
+            };
+            self.begin_label(layout, message, &message.name(), at, "to-right");
             let nodes = [Node(message.from()), Node(message.to())];
-            let ending = ", $ to $</text>\n";
-            self.label_message(layout, message, &name, x, y, "to-right", ending, &nodes);
+            self.labels.write(", $ to $</text>\n", &nodes);
         }
     }
 

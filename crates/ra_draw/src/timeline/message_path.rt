@@ -56,7 +56,9 @@ impl MessagePaths {
                 starts: Vec::new(alloc),
                 taken: 0,
             };
-            self.under_way.insert(*message, none)?;
+            let Ok(_) = self.under_way.insert(*message, none) else {
+                return Err(Memory);
+            };
         }
         if let Some(equals) = self.under_way.get_mut(message) {
             let Ok(()) = equals.starts.push((start, copied)) else {
