@@ -1,4 +1,6 @@
 //! What is true of books, for hosts. Each function does nothing, and its contract is the law.
+pub mod text_verdicts;
+
 ghost use Rattle.std.specs.Prelude.{◌≡◌, ℕ, List, map};
 ghost use Rattle.ra_history.specs.declared.book.event.BookKind.{BookKind};
 ghost use Rattle.ra_history.specs.declared.book.event.BookEvent.{BookEvent};

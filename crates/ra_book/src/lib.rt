@@ -9,7 +9,6 @@ mod book_writing;
 mod error;
 mod laws;
 mod next_line;
-mod settle_laws;
 mod text_settling;
 
 pub use answering::answer_book;
@@ -17,9 +16,11 @@ pub use answering::line_refusal::Refusal;
 pub use answering::timed_node::TimedNode;
 pub use book_writing::{WriteBookError, push_book};
 pub use error::BookFault;
+pub use laws::text_verdicts::{
+    each_text_of_books_has_one_verdict, texts_of_books_are_read_in_one_way,
+};
 pub use laws::{books_determine_nodes, lines_are_read_in_one_way};
 pub use next_line::event_line::{MAX_LINE, event_of};
 pub use next_line::first_line::FirstLine;
-pub use settle_laws::{each_text_of_books_has_one_verdict, texts_of_books_are_read_in_one_way};
 pub use text_settling::settle_error::{SettleTextError, TextCause};
 pub use text_settling::{SettledText, settle_text};

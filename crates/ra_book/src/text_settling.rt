@@ -13,7 +13,7 @@ ghost use Rattle.ra_book.specs.Gathering.{HasGathered, IsGathered, IsMadeOf, IsT
 ghost use Rattle.ra_book.specs.Verdicts.{HasFittingBooks, IsRunBy, IsSettledBy, IsSettledText, IsUnsettled, IsWrong};
 ghost use Rattle.ra_book.specs.declared.text_settling.settle_error.TextCause.{TextCause};
 
-use crate::settle_laws::each_text_of_books_has_one_verdict;
+use crate::laws::text_verdicts::each_text_of_books_has_one_verdict;
 use crate::text_settling::arranging::{Unarranged, arranged};
 use crate::text_settling::came_frames::Came;
 use crate::text_settling::gathering::Gathered;

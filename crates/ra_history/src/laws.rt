@@ -1,4 +1,6 @@
 //! What is true of histories, for the crates above. Each function does nothing, and its contract is the law.
+pub mod settling_with_copies;
+
 ghost use Rattle.std.specs.Prelude.{◌≡◌, ◌≤◌, ◌^◌, ◌++◌, ◌∷◌, [], ℕ, List, map};
 ghost use Rattle.ra_stamp.specs.declared.entry.Mark.{Mark};
 ghost use Rattle.ra_stamp.specs.declared.message.Message.{Message};

@@ -1,6 +1,6 @@
 use Rattle.ra_book.proofs.OneReading.{one_said, one_text}
 use Rattle.ra_book.proofs.OneBooks.{all_right, one_books, one_cause}
-use Rattle.ra_book.proofs.settle_laws.texts_of_books_are_read_in_one_way.Goals as goal
+use Rattle.ra_book.proofs.laws.text_verdicts.texts_of_books_are_read_in_one_way.Goals as goal
 
 pub returns-clause-lines : goal.returns-clause-lines
 returns-clause-lines c = one_text

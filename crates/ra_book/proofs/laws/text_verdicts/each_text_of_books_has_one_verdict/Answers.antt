@@ -1,5 +1,5 @@
 use Rattle.ra_book.proofs.OneVerdict.{fit_not_wrong, one_wrong}
-use Rattle.ra_book.proofs.settle_laws.each_text_of_books_has_one_verdict.Goals as goal
+use Rattle.ra_book.proofs.laws.text_verdicts.each_text_of_books_has_one_verdict.Goals as goal
 
 pub returns-clause-fit : goal.returns-clause-fit
 returns-clause-fit c = λ repeats text line cause.
