@@ -47,9 +47,7 @@ pub fn is_cluster(books: &[Book]) -> bool
 fn is_member(book: &Book, place: usize, count: usize, start: u64) -> bool
     ensures { IsTrue result ↔ ((book.now.me ≡ place + 1) × (book.now.nodes ≡ count) × (book.now.start ≡ start) × IsWhole book.now) }
 {
-    // Nodes are counted from 1.
-    let number = usize::from(book.me().get());
-    number - 1 == place
+    book.me().place() == place
         && usize::from(book.nodes()) == count
         && book.start() == start
         && book.is_whole()

@@ -1,5 +1,5 @@
 //! Books in the order of their nodes.
-ghost use Rattle.std.specs.Prelude.{◌≡◌, ◌≢◌, ◌<◌, All, length, slice_index_or, MatchOption, MatchResult};
+ghost use Rattle.std.specs.Prelude.{◌≡◌, ◌≢◌, ◌+◌, ◌<◌, All, length, slice_index_or, MatchOption, MatchResult};
 ghost use Rattle.ra_history.specs.Book.{BookState};
 ghost use Rattle.ra_book.specs.Gathering.{IsAllArranged, LacksSome};
 
@@ -15,13 +15,14 @@ pub enum Unarranged {
     Memory,
 }
 
-/// Returns where the book of the node of this number is, or `None` if it has none. It does not allocate.
-fn place_of(books: &[Book], node: usize) -> Option<usize>
-    ensures { MatchOption result (All (λ book. book.me ≢ node) books.now)
-        (λ place. (place < length books.now) × ((d : BookState) → (slice_index_or books.now place d).me ≡ node)) }
+/// Returns where the book is of the node at this place among the nodes, counted from 0, or `None` if it has none. It does not
+/// allocate.
+fn place_of(books: &[Book], node_place: usize) -> Option<usize>
+    ensures { MatchOption result (All (λ book. book.me ≢ node_place + 1) books.now)
+        (λ place. (place < length books.now) × ((d : BookState) → (slice_index_or books.now place d).me ≡ node_place + 1)) }
 {
     for place in 0..books.len() {
-        if usize::from(books[place].me().get()) == node {
+        if books[place].me().place() == node_place {
             return Some(place);
         }
     }
@@ -46,7 +47,7 @@ pub fn arranged(alloc: Global, books: &mut Vec<Book>, nodes: usize) -> Result<Ve
         return Err(Unarranged::Memory);
     }
     for before in 0..nodes {
-        let Some(place) = place_of(books, before + 1) else {
+        let Some(place) = place_of(books, before) else {
             return Err(Unarranged::Missing);
         };
         ordered.push_reserved(books.remove(place));
