@@ -1,8 +1,7 @@
 -- The parts of reading a text of books and of settling it. No public contract speaks of them.
-use Rattle.std.specs.Prelude.{◌≡◌, ◌≢◌, ◌⊎◌, ℕ, ◌+◌, ◌≤◌, Bool, false, List, [], ◌∷◌, ◌++◌, All, Contains, Result, Ok, Err, length, map}
-use Rattle.std.specs.List.{Any, range_with_len}
+use Rattle.std.specs.Prelude.{◌≡◌, ◌≢◌, ◌⊎◌, ℕ, ◌+◌, ◌≤◌, Bool, false, List, [], ◌∷◌, ◌++◌, All, Result, Ok, Err, length, map}
+use Rattle.std.specs.List.{range_with_len}
 use Rattle.std.specs.List.Sorted.{IsPermutation}
-use Rattle.ra_stamp.specs.Message.{from_of}
 use Rattle.ra_frame.specs.declared.frame.Frame.{Frame}
 use Rattle.ra_history.specs.declared.error.BookError.{BookError}
 use Rattle.ra_history.specs.declared.error.BookError.TheVariants as refused
@@ -116,36 +115,7 @@ pub record IsAllArranged (books : List BookState) (nodes : ℕ) (ordered : List 
 abbrev pub LacksSome : List BookState → ℕ → Type 0
 LacksSome books nodes = (nodes ≢ length books) ⊎ LacksNode books nodes
 
--- ---- Searches
-
--- a node, and the frames that its book sent, lost or not
-pub record Sender : Type 0 where
-  pub me : ℕ
-  pub frames : List Frame
-
-abbrev pub sender_of : BookState → Sender
-sender_of book = record { me = book.me; frames = map (λ sent. sent.frame) book.sent }
-
-abbrev pub senders_of : List BookState → List Sender
-senders_of books = map sender_of books
-
--- they are the nodes from 1 on
-abbrev pub AreNumbered : List Sender → Type 0
-AreNumbered senders = map (λ sender. sender.me) senders ≡ range_with_len 1 (length senders)
-
--- the frame's sender sent it
-abbrev pub IsSentBy : List Sender → Frame → Type 0
-IsSentBy senders frame = Any (λ sender. (sender.me ≡ from_of frame.message) × Contains sender.frames frame) senders
-
--- this is the first that its sender did not send
-pub record IsUnsentAmong (senders : List Sender) (came : List Came) (number : ℕ) : Type 0 where
-  pub before : List Came
-  pub this : Came
-  pub after : List Came
-  pub came_is : came ≡ before ++ this ∷ after
-  pub number_is : number ≡ this.line
-  pub unsent : IsSentBy senders this.frame → ⊥
-  pub sent : All (λ earlier. IsSentBy senders earlier.frame) before
+-- ---- Why books do not settle
 
 -- why books of a cluster do not settle, with what came to them in the order of the text
 abbrev pub IsUnfit : (repeats : Bool) → List BookState → List Came → SettleTextError → Type 0

@@ -51,20 +51,20 @@ fn settle_by(alloc: Global, books: &[Book], repeats: bool) -> Result<Settled, Se
     }
 }
 
-/// Settles the books of a cluster, with what came to them in the order of the text. It may flag their frames as lost.
+/// Settles the books of a cluster, with what came to them in the order of the text.
 ///
 /// # Errors
 ///
 /// `Invalid` with `NotSent` or `Twice`, at the first such line. `Memory`.
 fn settle_ordered(
     alloc: Global,
-    books: &mut [Book],
+    books: &[Book],
     came: &[Came],
     repeats: bool,
 ) -> Result<SettledText, SettleTextError>
-    requires cluster { IsCluster books.old }
-    requires each { All IsRead books.old }
-    ensures { MatchResult result (IsSettledBy repeats books.old) (IsUnfit repeats books.old came.now) }
+    requires cluster { IsCluster books.now }
+    requires each { All IsRead books.now }
+    ensures { MatchResult result (IsSettledBy repeats books.now) (IsUnfit repeats books.now came.now) }
 {
     match settle_by(alloc, books, repeats) {
         Ok(settled) => {
@@ -115,10 +115,7 @@ fn settle_books(
         → HasGathered text gathered next → MatchResult result (IsSettledText repeats text) (IsUnsettled repeats text) }
 {
     match arranged(alloc, books, nodes) {
-        Ok(ordered) => {
-            let mut ordered = ordered;
-            settle_ordered(alloc, ordered.as_mut_slice(), came, repeats)
-        }
+        Ok(ordered) => settle_ordered(alloc, ordered.as_slice(), came, repeats),
         Err(Unarranged::Missing) => Err(SettleTextError::Invalid {
             line: next,
             cause: TextCause::Books,

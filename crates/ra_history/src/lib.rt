@@ -26,5 +26,6 @@ pub use laws::{histories_are_determined, histories_go_on};
 pub use ra_node::NewError;
 pub use settle_books::copies::settle_with_copies;
 pub use settle_books::event_merge::step_of;
+pub use settle_books::receipts::was_sent;
 pub use settle_books::settled::Settled;
 pub use settle_books::{is_cluster, settle};

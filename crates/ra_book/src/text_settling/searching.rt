@@ -1,41 +1,19 @@
 //! The first line that does not fit the others.
-ghost use Rattle.std.specs.Prelude.{◌≡◌, ◌≢◌, ◌↔◌, ◌∷◌, ◌++◌, [], All, AllPairs, Contains, IsTrue, IfOk, MatchOption, OnOk};
-ghost use Rattle.ra_book.specs.Gathering.{AreNumbered, IsSentBy, IsUnsentAmong, sender_of, senders_of};
-ghost use Rattle.ra_book.specs.Verdicts.{IsFirstAgain, messages_of};
+ghost use Rattle.std.specs.Prelude.{◌≡◌, ◌≢◌, ◌∷◌, ◌++◌, [], All, AllPairs, IfOk, MatchOption, OnOk};
+ghost use Rattle.ra_history.specs.Settled.{IsCluster, WasSent};
+ghost use Rattle.ra_book.specs.Verdicts.{IsFirstAgain, IsFirstUnsent, messages_of};
 
 use crate::text_settling::came_frames::Came;
 use ra_bag::Bag;
-use ra_frame::Frame;
-use ra_history::{Book, MarkLostError};
+use ra_history::{Book, was_sent};
 use ra_stamp::{Memory, Message, Messages};
 use std::alloc::Global;
 
-/// Returns whether the frame is among those that its sender's book sent, by books of the nodes 1 to n, in order. The frame is
-/// flagged lost there, since a book finds a frame only to flag it. The cost is logarithmic in the number of these frames.
-fn was_sent(books: &mut [Book], frame: &Frame) -> bool
-    requires { AreNumbered (senders_of books.old) }
-    ensures sent { IsTrue result ↔ IsSentBy (senders_of books.old) frame.now }
-    ensures same { senders_of books.new ≡ senders_of books.old }
-{
-    let place = frame.message.from().place();
-    if place < books.len() {
-        match books[place].mark_lost(frame) {
-            Ok(()) => true,
-            // It came before.
-            Err(MarkLostError::AlreadyLost) => true,
-            Err(MarkLostError::NotSent) => false,
-        }
-    } else {
-        false
-    }
-}
-
-/// Returns the number of the first line by which a frame comes that was not sent, or `None`. It flags frames as lost. The cost
-/// of each frame is logarithmic.
-pub fn first_unsent(books: &mut [Book], came: &[Came]) -> Option<u64>
-    requires { AreNumbered (senders_of books.old) }
-    ensures { MatchOption result (All (λ one. IsSentBy (senders_of books.old) one.frame) came.now)
-        (IsUnsentAmong (senders_of books.old) came.now) }
+/// Returns the number of the first line by which a frame comes that was not sent, or that is flagged lost, or `None`. The cost of
+/// each frame is logarithmic.
+pub fn first_unsent(books: &[Book], came: &[Came]) -> Option<u64>
+    requires { IsCluster books.now }
+    ensures { MatchOption result (All (λ one. WasSent books.now one.frame) came.now) (IsFirstUnsent books.now came.now) }
 {
     for one in came {
         if !was_sent(books, &one.frame) {

@@ -52,14 +52,13 @@ pub fn were_sent(books: &[Book]) -> bool
     true
 }
 
-/// Returns whether the book of its sender has the frame, not flagged lost.
-fn was_sent(books: &[Book], frame: &Frame) -> bool
+/// Returns whether the books of a cluster have a frame as one that its sender sent: with this clock and message, and not flagged
+/// lost. It does not allocate. The cost is that of [`Book::mark_lost`].
+pub fn was_sent(books: &[Book], frame: &Frame) -> bool
     requires { IsCluster books.now }
     ensures { IsTrue result ↔ WasSent books.now frame.now }
 {
-    // Nodes are counted from 1.
-    let sender = usize::from(frame.message.from().get());
-    match books.get(sender - 1) {
+    match books.get(frame.message.from().place()) {
         Some(book) => book.has_kept(frame),
         None => false,
     }

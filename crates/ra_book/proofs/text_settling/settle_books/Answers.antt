@@ -14,14 +14,14 @@ settle_ordered-requires c =
     let books = c.args.books.now.items in
     let ordered = c.in-Ok.ordered.items in
     record {
-      cluster = subst IsCluster (sym c.as_mut_slice.ensures.value) (whole_of g books c.args.nodes c.args.came.now made lines ordered gathered c.in-Ok.ensures).cluster;
-      each = subst (All IsRead) (sym c.as_mut_slice.ensures.value) (read_of g books c.args.nodes c.args.came.now made lines ordered gathered c.in-Ok.ensures);
+      cluster = subst IsCluster (sym c.as_slice.ensures.value) (whole_of g books c.args.nodes c.args.came.now made lines ordered gathered c.in-Ok.ensures).cluster;
+      each = subst (All IsRead) (sym c.as_slice.ensures.value) (read_of g books c.args.nodes c.args.came.now made lines ordered gathered c.in-Ok.ensures);
     }
 
 pub returns-in-Ok : goal.returns-in-Ok
 returns-in-Ok c text g made h =
     result_of g c.args.books.now.items c.args.nodes c.args.came.now made text c.args.next h c.in-Ok.ordered.items c.in-Ok.ensures c.args.repeats c.settle_ordered.result
-    (subst (λ (bs : List BookState). MatchResult c.settle_ordered.result (IsSettledBy c.args.repeats bs) (IsUnfit c.args.repeats bs c.args.came.now)) c.as_mut_slice.ensures.value
+    (subst (λ (bs : List BookState). MatchResult c.settle_ordered.result (IsSettledBy c.args.repeats bs) (IsUnfit c.args.repeats bs c.args.came.now)) c.as_slice.ensures.value
     c.settle_ordered.ensures)
 
 pub returns-in-Err-Missing : goal.returns-in-Err-Missing
