@@ -1,8 +1,8 @@
 pub mod arranging;
 pub mod came_frames;
 pub mod gathering;
-pub mod happening;
 pub mod read_books;
+pub mod recording;
 pub mod searching;
 pub mod settle_error;
 

@@ -7,7 +7,7 @@ ghost use Rattle.ra_book.specs.Texts.{IsBeside};
 ghost use Rattle.ra_book.specs.Gathering.{TakesEvent, TakesFirst, TakesLine};
 
 use crate::text_settling::came_frames::{CameList, note};
-use crate::text_settling::happening::happen;
+use crate::text_settling::recording::record_event;
 use crate::{FirstLine, Refusal, TextCause, event_of};
 use ra_history::{Book, BookError};
 use std::alloc::Global;
@@ -111,7 +111,7 @@ impl Gathered {
             Err(Refusal::Line) => return Err(LineFault::Wrong(TextCause::Line)),
             Err(_) => return Err(LineFault::Wrong(TextCause::Refused)),
         };
-        match happen(alloc, &mut self.last, &kind) {
+        match record_event(alloc, &mut self.last, &kind) {
             Ok(()) => match note(&mut self.came, number, &kind) {
                 Ok(()) => Ok(()),
                 Err(_) => Err(LineFault::Memory),

@@ -1,5 +1,5 @@
 use Rattle.ra_book.proofs.Taken.{received}
-use Rattle.ra_book.proofs.text_settling.happening.receive.Goals as goal
+use Rattle.ra_book.proofs.text_settling.recording.receive.Goals as goal
 
 pub returns : goal.returns
 returns c =

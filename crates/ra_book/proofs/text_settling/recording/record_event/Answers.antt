@@ -1,4 +1,4 @@
-use Rattle.ra_book.proofs.text_settling.happening.happen.Goals as goal
+use Rattle.ra_book.proofs.text_settling.recording.record_event.Goals as goal
 
 pub returns-in-Err : goal.returns-in-Err
 returns-in-Err c apart can = apart (c.in-Err.ensures.allowed.1 (rw c.in-Asked.is at can))

@@ -17,6 +17,7 @@ fn receive(alloc: Global, book: &mut Book, frame: &Frame) -> Result<(), BookErro
     requires { Fits frame.now }
     ensures { Comes book.old (BookKind.Got frame.now) book.new result }
 {
+    // For the proof: the bytes of a frame are read as this frame.
     round_trip();
     let bytes = encoded(frame);
     if let Err(why) = book.receive(alloc, bytes.as_slice()) {
@@ -30,7 +31,7 @@ fn receive(alloc: Global, book: &mut Book, frame: &Frame) -> Result<(), BookErro
 /// # Errors
 ///
 /// Those of the book's call. The book is as before.
-pub fn happen(alloc: Global, book: &mut Book, kind: &BookKind) -> Result<(), BookError>
+pub fn record_event(alloc: Global, book: &mut Book, kind: &BookKind) -> Result<(), BookError>
     requires { CanCome kind.now }
     ensures { Comes book.old kind.now book.new result }
 {
