@@ -60,8 +60,8 @@ fn push_client(text: &mut Draft, word: &str, client: u32, name: &Name)
     // A client has 32 bits, and a name is one.
     ensures fits { IsClientNumber client × IsName name.now }
 {
-    // Each reader tells that it is a name.
-    let _name = name.bytes();
+    // For the proof: the bytes of a name are one.
+    let _ = name.bytes();
     text.push(word);
     text.push_number(client);
     text.push_field(name.as_str());

@@ -17,7 +17,7 @@ use crate::next_line::input_piece::{Piece, take_piece};
 use crate::next_line::kept_line::KeptLine;
 use std::io::{BufRead, Write};
 
-/// The line that is read, and what is known of the reader. Only this file changes that.
+/// The line that is read, and what is known of the reader. Only this file changes that, or lends it to be changed.
 #[derive(Drop)]
 pub struct Input {
     pub line: KeptLine,

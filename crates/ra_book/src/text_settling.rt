@@ -200,6 +200,7 @@ pub fn settle_text(
     ensures found { (line : ℕ) (cause : TextCause) → IsWrong repeats text.now line cause
         → IsErrOf result (SettleTextError.Invalid line cause) ⊎ IsErrOf result SettleTextError.Memory }
 {
+    // For the proof: no text both settles and is wrong, or is wrong in two ways.
     each_text_of_books_has_one_verdict();
     settle_lines(alloc, text, repeats)
 }

@@ -66,6 +66,7 @@ fn put_frames(frames: &mut Frames, sent: &mut Vec<Sent>, clock: u64, sends: &[Me
 {
     for message in sends {
         let message = *message;
+        // The frame is copied through a borrow, since the proof of a copy of the variable is not told of the type of its message.
         let frame = &Frame { clock, message };
         frames.push(*frame).unwrap();
         let frame = *frame;

@@ -87,7 +87,7 @@ fn run_with_copies(alloc: Global, books: &[Book]) -> Result<Settled, SettleError
     ensures { MatchResult result (SettlesWithCopies books.now) (λ e. e ≡ SettleError.Memory) }
 {
     let mut steps = steps_with_copies(alloc, books)?;
-    // None is lost, so that this adds nothing.
+    // For the proof: each book has a history. No frame is flagged lost, so that this adds nothing.
     push_losses(&mut steps, books)?;
     run_steps(alloc, books, steps)
 }
