@@ -1,11 +1,9 @@
 -- Lists, and their last item.
-use Rattle.std.proofs.Common.{◌≡◌, ℕ, ◌+◌, ◌<◌, ◌≤◌, Bool, Option, true, false, Result, Ok, Err, List, [], ◌∷◌, ◌++◌, length, get_or, refl, sym, subst, ◌∙◌, arith}
-use Rattle.std.specs.Prelude.{All, AllPairs, IfOk, IfSome, MatchBool, OnOk, is_err}
-use Rattle.std.specs.Result.{result_ok}
+use Rattle.std.proofs.Common.{◌≡◌, ℕ, ◌+◌, ◌<◌, ◌≤◌, Bool, true, false, Result, Ok, Err, List, [], ◌∷◌, ◌++◌, length, get_or, refl, subst, ◌∙◌, arith}
+use Rattle.std.specs.Prelude.{All, AllPairs, MatchBool, OnOk, is_err}
 use Rattle.std.specs.List.{Any}
 use Rattle.std.proofs.lemmas.List.{get_or_append_left, get_or_push, length_push}
 use Rattle.std.proofs.lemmas.List.Elements.{All-push}
-use Rattle.ra_history.specs.Book.{BookState, HasHistory, opening_book}
 
 module _ {X : Type 0} where
   -- what is true of all is true of those before the last, and of the last
@@ -45,15 +43,3 @@ room_for_one (Err failed) len capacity fine room = absurd cc
 pub room_for_all : {T E : Type 0} (r : Result T E) (len count capacity : ℕ) → is_err r ≡ false → OnOk r (len + count ≤ capacity) → count ≤ capacity
 room_for_all (Ok done) len count capacity fine room = omega (arith, room)
 room_for_all (Err failed) len count capacity fine room = absurd cc
-
--- a book that is made
-pub opened_book : {E : Type 0} (number node nodes start count : ℕ) (r : Result BookState E) (found : Option BookState) → found ≡ result_ok r
-    → number ≡ node → count ≡ nodes → IfOk r (λ book. book ≡ opening_book number count start) → IfOk r HasHistory
-    → IfSome found (λ book. (book ≡ opening_book node nodes start) × HasHistory book)
-opened_book number node nodes start count r found found_is is same ok history =
-    subst (λ (f : Option BookState). IfSome f (λ book. (book ≡ opening_book node nodes start) × HasHistory book)) (sym found_is) (by_result r ok history)
-  where
-    by_result : {E : Type 0} (r : Result BookState E) → IfOk r (λ book. book ≡ opening_book number count start) → IfOk r HasHistory
-        → IfSome (result_ok r) (λ book. (book ≡ opening_book node nodes start) × HasHistory book)
-    by_result (Ok book) ok history = (ok ∙ (λ i. opening_book (is i) (same i) start), history)
-    by_result (Err e) ok history = tt

@@ -1,5 +1,5 @@
 -- A book with one more event, from what is kept of it.
-use Rattle.std.proofs.Common.{◌≡◌, ℕ, ◌+◌, ◌<◌, ◌≤◌, false, List, [], ◌∷◌, ◌++◌, length, take, get_or, All, Result, Ok, Err, refl, sym, ap, ◌∙◌, subst, append_assoc, arith}
+use Rattle.std.proofs.Common.{◌≡◌, ℕ, ◌+◌, ◌<◌, ◌≤◌, false, List, [], ◌∷◌, ◌++◌, length, take, get_or, All, Result, Ok, Err, sym, ap, ◌∙◌, subst, append_assoc, arith}
 use Rattle.std.specs.Prelude.{IsOk, OnOk}
 use Rattle.std.proofs.lemmas.List.{map_more, map-append}
 use Rattle.ra_stamp.specs.declared.entry.Mark.{Mark}
@@ -26,11 +26,6 @@ pub same_kept : (book : BookState) (node node' : NodeState) (events : List BookE
 same_kept book node node' events sent keeps events_are sent_are node_is =
     subst (λ (n : NodeState). Keeps (record book { events = events; sent = sent }) n) (sym node_is)
     (subst (λ (b : BookState). Keeps b node) (λ i. record book { events = sym events_are i; sent = sym sent_are i }) keeps)
-
-pub same_history : (book : BookState) (node : NodeState) (events : List BookEvent) (sent : List Sent) → Keeps book node
-    → events ≡ book.events → sent ≡ book.sent → HasHistory (record book { events = events; sent = sent })
-same_history book node events sent keeps events_are sent_are =
-    history_of _ (record book { events = events; sent = sent }) node (same_kept book node node events sent keeps events_are sent_are refl) refl
 
 -- ---- One more event
 

@@ -25,7 +25,7 @@ use crate::book::taken::{Taken, latest_of};
 use crate::{BookError, BookEvent, BookKind, Events, MarkLostError, NewError, Posted, Sent, Stop};
 use ra_frame::{Frame, decode};
 use ra_node::Node;
-use ra_stamp::{Entry, Memory, Mode, Name, NodeId};
+use ra_stamp::{Entry, Member, Memory, Mode, Name, NodeId};
 use std::alloc::Global;
 use std::marker::Model;
 use std::mem;
@@ -82,8 +82,8 @@ impl Drop for Book {
 }
 
 impl Book {
-    ghost use Rattle.ra_stamp.specs.NodeId.{IsNodeNumber};
     ghost use Rattle.ra_stamp.specs.Message.{from_of, to_of};
+    ghost use Rattle.ra_automaton.specs.Members.{ChecksMember};
     ghost use Rattle.ra_automaton.specs.State.{IsForNode};
     ghost use Rattle.ra_automaton.specs.Steps.{greatest_number};
     ghost use Rattle.ra_frame.specs.Fits.{Fits};
@@ -108,12 +108,21 @@ impl Book {
     pub fn new(alloc: Global, me: NodeId, nodes: u16, start: u64) -> Result<Book, NewError>
         ensures ok { IfOk result (λ book. book ≡ opening_book me nodes start) }
         ensures history { IfOk result HasHistory }
-        ensures bad_count { IsErrOf result NewError.BadCount ↔ (IsNodeNumber nodes → ⊥) }
-        ensures bad_node { IsErrOf result NewError.BadNode ↔ (IsNodeNumber nodes × (nodes < me)) }
-        ensures no_memory { IsErrOf result NewError.Memory → ⊥ }
+        ensures member { ChecksMember me nodes result }
     {
-        let node = Node::new(alloc, me, nodes, start)?;
-        Ok(Book {
+        let member = Member::new(me, nodes)?;
+        Ok(Book::of(alloc, member, start))
+    }
+
+    /// Makes the book of a member, as `new` does. It does not allocate until the first event comes.
+    pub fn of(alloc: Global, member: Member, start: u64) -> Book
+        ensures value { result ≡ opening_book member.node member.nodes start }
+        ensures history { HasHistory result }
+    {
+        let me = member.node();
+        let nodes = member.nodes();
+        let node = Node::of(alloc, member, start);
+        Book {
             me,
             nodes,
             start,
@@ -123,7 +132,7 @@ impl Book {
             sent: Vec::new(alloc),
             departures: Vec::new(alloc),
             fault: None,
-        })
+        }
     }
 
     /// A client of the node asks for a name. The clock is one more than before, and the frames and marks are those of the

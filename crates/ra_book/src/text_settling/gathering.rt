@@ -1,8 +1,7 @@
 //! The books of a text, as they are gathered line by line.
-ghost use Rattle.std.specs.Prelude.{◌≡◌, ◌↔◌, ℕ, List, All, IfSome, IsTrue, MatchBool};
+ghost use Rattle.std.specs.Prelude.{◌↔◌, ℕ, List, All, IsTrue, MatchBool};
 ghost use Rattle.std.specs.List.{Any};
 ghost use Rattle.ra_book.specs.BookText.{IsFirst};
-ghost use Rattle.ra_history.specs.Book.{HasHistory, opening_book};
 ghost use Rattle.ra_book.specs.Texts.{IsBeside};
 ghost use Rattle.ra_book.specs.Gathering.{TakesEvent, TakesFirst, TakesLine};
 
@@ -30,20 +29,6 @@ pub enum LineFault {
     Wrong(TextCause),
     /// Memory ran out.
     Memory,
-}
-
-/// Makes the book that this first line begins, or returns `None` if memory runs out.
-pub fn opened(alloc: Global, first: &FirstLine) -> Option<Book>
-    ensures { IfSome result (λ book. (book ≡ opening_book first.now.member.node first.now.member.nodes first.now.start) × HasHistory book) }
-{
-    // It is one of the nodes, so that only memory can be lacking.
-    Book::new(
-        alloc,
-        first.member.node(),
-        first.member.nodes(),
-        first.start,
-    )
-    .ok()
 }
 
 /// Returns whether a book is of another node than this first line, of as many nodes and from the same start. It does not
@@ -88,9 +73,7 @@ impl Gathered {
         if self.earlier.reserve(1).is_err() {
             return Err(LineFault::Memory);
         }
-        let Some(book) = opened(alloc, first) else {
-            return Err(LineFault::Memory);
-        };
+        let book = Book::of(alloc, first.member, first.start);
         let earlier = replace(&mut self.last, book);
         self.earlier.push_reserved(earlier);
         Ok(())

@@ -7,8 +7,9 @@ ghost use Rattle.ra_book.specs.declared.text_settling.settle_error.TextCause.{Te
 ghost use Rattle.ra_book.specs.declared.text_settling.gathering.LineFault.{LineFault};
 
 use crate::text_settling::came_frames::CameList;
-use crate::text_settling::gathering::{Gathered, LineFault, opened};
+use crate::text_settling::gathering::{Gathered, LineFault};
 use crate::{FirstLine, SettleTextError, TextCause};
+use ra_history::Book;
 use ra_world::cut;
 use std::alloc::Global;
 
@@ -78,9 +79,7 @@ pub fn read_books(alloc: Global, text: &[u8]) -> Result<(Gathered, u64), SettleT
     let Some(first) = FirstLine::parse(line) else {
         return Err(NO_FIRST_LINE);
     };
-    let Some(last) = opened(alloc, &first) else {
-        return Err(SettleTextError::Memory);
-    };
+    let last = Book::of(alloc, first.member, first.start);
     let mut gathered = Gathered {
         earlier: Vec::new(alloc),
         last,

@@ -20,8 +20,8 @@ returns-in-Ok c =
     let first = c.in-Some-parse.first in
     let is : text ≡ line ++ 10 ∷ rest = rw c.in-Some.is at c.cut.ensures.cut in
     c.in-Ok.ensures text line (one_more text [] text line rest (nothing text) is c.cut.ensures.before)
-    (begun (record { earlier = c.new.result; last = c.in-Some-opened.last; came = c.new-2.result }) line first.member.node first.member.nodes first.start
-    c.in-Some-parse.ensures c.new.ensures.items c.in-Some-opened.ensures.0 c.new-2.ensures c.in-Some-opened.ensures.1)
+    (begun (record { earlier = c.new.result; last = c.of-last.result; came = c.new-2.result }) line first.member.node first.member.nodes first.start
+    c.in-Some-parse.ensures c.new.ensures.items c.of-last.ensures.value c.new-2.ensures c.of-last.ensures.history)
 
 pub returns-in-Err : goal.returns-in-Err
 returns-in-Err c =
@@ -31,5 +31,5 @@ returns-in-Err c =
     let first = c.in-Some-parse.first in
     let is : text ≡ line ++ 10 ∷ rest = rw c.in-Some.is at c.cut.ensures.cut in
     c.in-Err.ensures text line (one_more text [] text line rest (nothing text) is c.cut.ensures.before)
-    (begun (record { earlier = c.new.result; last = c.in-Some-opened.last; came = c.new-2.result }) line first.member.node first.member.nodes first.start
-    c.in-Some-parse.ensures c.new.ensures.items c.in-Some-opened.ensures.0 c.new-2.ensures c.in-Some-opened.ensures.1)
+    (begun (record { earlier = c.new.result; last = c.of-last.result; came = c.new-2.result }) line first.member.node first.member.nodes first.start
+    c.in-Some-parse.ensures c.new.ensures.items c.of-last.ensures.value c.new-2.ensures c.of-last.ensures.history)

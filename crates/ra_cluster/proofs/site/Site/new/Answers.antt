@@ -8,7 +8,7 @@ made x e is = cc
 
 pub returns-clause-member : goal.returns-clause-member
 returns-clause-member c = record {
-  bad_count = (λ is. absurd (made _ _ is), λ bad. absurd (made _ _ (c.in_ok-book.ensures.bad_count.1 bad)));
-  bad_node = (λ is. absurd (made _ _ is), λ bad. absurd (made _ _ (c.in_ok-book.ensures.bad_node.1 bad)));
+  bad_count = (λ is. absurd (made _ _ is), λ bad. absurd (made _ _ (c.in_ok-book.ensures.member.bad_count.1 bad)));
+  bad_node = (λ is. absurd (made _ _ is), λ bad. absurd (made _ _ (c.in_ok-book.ensures.member.bad_node.1 bad)));
   no_memory = λ is. made _ _ is;
 }

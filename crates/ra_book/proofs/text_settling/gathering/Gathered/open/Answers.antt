@@ -40,7 +40,7 @@ returns c line is = record {
   earlier_is =
       c.push_reserved.ensures.items ∙ ap (λ (bs : List BookState). bs ++ c.replace-earlier.result ∷ []) c.reserve.ensures.items
       ∙ ap (λ (b : BookState). c.args.self.now.earlier.items ++ b ∷ []) c.replace-earlier.ensures.value;
-  last_is = c.replace-earlier.ensures.after ∙ c.in-Some.ensures.0;
+  last_is = c.replace-earlier.ensures.after ∙ c.of-book.ensures.value;
   came_is = refl;
-  history = subst HasHistory (sym c.replace-earlier.ensures.after) c.in-Some.ensures.1;
+  history = subst HasHistory (sym c.replace-earlier.ensures.after) c.of-book.ensures.history;
 }
