@@ -21,13 +21,13 @@ pub nothing : (text : List ℕ) → Begins text [] text
 nothing text = record { text_is = refl; each = All-nil HasNoFeed }
 
 -- one more line
-pub one_more : (text : List ℕ) (lines : List (List ℕ)) (rest line behind : List ℕ) → Begins text lines rest → rest ≡ line ++ 10 ∷ behind → HasNoFeed line
-    → Begins text (lines ++ line ∷ []) behind
-one_more text lines rest line behind begins is free = record {
+pub one_more : (text : List ℕ) (lines : List (List ℕ)) (rest line after : List ℕ) → Begins text lines rest → rest ≡ line ++ 10 ∷ after → HasNoFeed line
+    → Begins text (lines ++ line ∷ []) after
+one_more text lines rest line after begins is free = record {
   text_is =
-      begins.text_is ∙ ap (λ (t : List ℕ). lines_text lines ++ t) (is ∙ sym (append_assoc line (10 ∷ []) behind))
-      ∙ sym (append_assoc (lines_text lines) (line ++ 10 ∷ []) behind)
-      ∙ ap (λ (t : List ℕ). t ++ behind) (flat_map_more (λ (l : List ℕ). l ++ 10 ∷ []) [] lines line);
+      begins.text_is ∙ ap (λ (t : List ℕ). lines_text lines ++ t) (is ∙ sym (append_assoc line (10 ∷ []) after))
+      ∙ sym (append_assoc (lines_text lines) (line ++ 10 ∷ []) after)
+      ∙ ap (λ (t : List ℕ). t ++ after) (flat_map_more (λ (l : List ℕ). l ++ 10 ∷ []) [] lines line);
   each = All-push HasNoFeed lines line begins.each free;
 }
 
@@ -41,11 +41,11 @@ pub record SoFar (text rest : List ℕ) (turn : ℕ) (g : Gathered) : Type 0 whe
 pub at_first : (text line rest : List ℕ) (g : Gathered) → Begins text (line ∷ []) rest → IsGathered (line ∷ []) g → SoFar text rest 0 g
 at_first text line rest g begins gathered = record { lines = line ∷ []; begins = begins; long = refl; gathered = gathered }
 
-pub line_more : (text rest line behind : List ℕ) (turn number : ℕ) (old new : Gathered) → SoFar text rest turn old → rest ≡ line ++ 10 ∷ behind → HasNoFeed line
-    → number ≡ turn + 2 → TakesLine old number line new (Ok tt) → SoFar text behind (turn + 1) new
-line_more text rest line behind turn number old new h is free number_is takes = record {
+pub line_more : (text rest line after : List ℕ) (turn number : ℕ) (old new : Gathered) → SoFar text rest turn old → rest ≡ line ++ 10 ∷ after → HasNoFeed line
+    → number ≡ turn + 2 → TakesLine old number line new (Ok tt) → SoFar text after (turn + 1) new
+line_more text rest line after turn number old new h is free number_is takes = record {
   lines = h.lines ++ line ∷ [];
-  begins = one_more text h.lines rest line behind h.begins is free;
+  begins = one_more text h.lines rest line after h.begins is free;
   long = omega (arith, length_push h.lines line, h.long);
   gathered =
       elim takes [
@@ -72,13 +72,13 @@ wrong_at text number cause.Refused at = at
 wrong_at text number cause.NotSent at = absurd at.wrong
 wrong_at text number cause.Twice at = absurd at.wrong
 
-pub line_wrong : (text rest line behind : List ℕ) (turn number : ℕ) (why : TextCause) (old new : Gathered) → SoFar text rest turn old → rest ≡ line ++ 10 ∷ behind
+pub line_wrong : (text rest line after : List ℕ) (turn number : ℕ) (why : TextCause) (old new : Gathered) → SoFar text rest turn old → rest ≡ line ++ 10 ∷ after
     → HasNoFeed line → number ≡ turn + 2 → TakesLine old number line new (Err (line_fault.Wrong why)) → IsWrong true text number why
-line_wrong text rest line behind turn number why old new h is free number_is wrong = wrong_at text number why (record {
+line_wrong text rest line after turn number why old new h is free number_is wrong = wrong_at text number why (record {
   before = h.lines;
   line = line;
-  rest = behind;
-  begins = one_more text h.lines rest line behind h.begins is free;
+  rest = after;
+  begins = one_more text h.lines rest line after h.begins is free;
   number_is = omega (arith, number_is, h.long);
   books = books_of old;
   right = h.gathered.right;

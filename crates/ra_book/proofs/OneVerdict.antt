@@ -16,7 +16,7 @@ use Rattle.ra_book.specs.declared.text_settling.settle_error.TextCause.TheVarian
 use Rattle.ra_book.specs.Texts.{AreRight, IsText, came_in}
 use Rattle.ra_book.specs.Verdicts.{FitBy, HasFittingBooks, IsFirstAgain, IsFirstUnsent, IsMissing, IsWrong, IsWrongAt, IsWrongLine, messages_of}
 use Rattle.ra_book.proofs.OneCame.{all_came_sent, none_again, not_before}
-use Rattle.ra_book.proofs.ListPieces.{all_right as all_behind}
+use Rattle.ra_book.proofs.ListPieces.{all_right as all_after}
 use Rattle.ra_book.proofs.OneReading.{either_first, begin_in, head_of, no_line, tail_of}
 
 -- what the proofs rest on
@@ -105,7 +105,7 @@ module _ (ordered : List BookState) (came : List Came) where
       sent_at : (all before more : List Came) (this : Came) → all ≡ before ++ this ∷ more → All (λ one. WasSent ordered one.frame) all → WasSent ordered this.frame
       sent_at all before more this is sent =
           All-head (λ (one : Came). WasSent ordered one.frame) this more
-          (all_behind (λ (one : Came). WasSent ordered one.frame) before (this ∷ more) (subst (All (λ (one : Came). WasSent ordered one.frame)) is sent))
+          (all_after (λ (one : Came). WasSent ordered one.frame) before (this ∷ more) (subst (All (λ (one : Came). WasSent ordered one.frame)) is sent))
 
   again_once : (number other : ℕ) → IsFirstAgain came number → IsFirstAgain came other → number ≡ other
   again_once number other g h =

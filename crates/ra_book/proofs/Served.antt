@@ -182,9 +182,9 @@ pub ended_after : (old mid new : Option (List ℕ)) (a b : Timed) (text : List �
     → HasEnded mid new failed → HasEnded old new failed
 ended_after old mid new a b text turns failed (lines, read, answers, many) = ended_more old mid new (lines_text lines ++ []) failed read.taken
 
-pub ended_behind : (old mid new : Option (List ℕ)) (first : FirstLine) (ok : List ℕ) (failed : Bool) → Opens old mid ok (Ok first) → HasEnded mid new failed
+pub ended_after_first : (old mid new : Option (List ℕ)) (first : FirstLine) (ok : List ℕ) (failed : Bool) → Opens old mid ok (Ok first) → HasEnded mid new failed
     → HasEnded old new failed
-ended_behind old mid new first ok failed (line, read, opened, said) = ended_more old mid new (lines_text (line ∷ []) ++ []) failed read.taken
+ended_after_first old mid new first ok failed (line, read, opened, said) = ended_more old mid new (lines_text (line ∷ []) ++ []) failed read.taken
 
 -- ---- What was written in the end
 

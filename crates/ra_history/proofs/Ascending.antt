@@ -34,8 +34,8 @@ at_one_clock : (clock : ℕ) (sends : List Message) (frames : List Frame) → As
 at_one_clock clock [] frames rest = rest
 at_one_clock clock (m ∷ ms) frames rest =
     let frame : Frame = record { clock = clock; message = m } in
-    let behind = at_one_clock clock ms frames rest in
-    (All-cons (λ (f : Frame). clock ≤ f.clock) frame (frames_at clock ms ++ frames) (omega arith) behind.0, ascend-cons frame (frames_at clock ms ++ frames) behind)
+    let after = at_one_clock clock ms frames rest in
+    (All-cons (λ (f : Frame). clock ≤ f.clock) frame (frames_at clock ms ++ frames) (omega arith) after.0, ascend-cons frame (frames_at clock ms ++ frames) after)
 
 all_ascend : (clock : ℕ) (postings : List Posting) → AreClocked clock (map (λ p. p.event) postings) → AscendFrom clock (frames_of postings)
 all_ascend clock [] clocked = (All-nil (λ (f : Frame). clock ≤ f.clock), λ i j d le within. absurd (omega (arith, within)))

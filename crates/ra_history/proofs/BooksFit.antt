@@ -39,8 +39,8 @@ place_in [] ys prefix z suffix e = inr (prefix, refl, e)
 place_in (x ∷ xs) ys [] z suffix e = let same : x ≡ z = cc in inl (xs, ap (λ y. y ∷ xs) same)
 place_in {X} (x ∷ xs) ys (f ∷ prefix) z suffix e =
     let same : x ≡ f = cc in
-    let behind : xs ++ ys ≡ prefix ++ z ∷ suffix = cc in
-    elim (place_in xs ys prefix z suffix behind) [
+    let after : xs ++ ys ≡ prefix ++ z ∷ suffix = cc in
+    elim (place_in xs ys prefix z suffix after) [
       | inl found ↦ inl (found.0, λ i. same i ∷ found.1 i)
       | inr found ↦ inr (found.0, λ i. sym same i ∷ found.1 i, found.2)
     ]
@@ -49,8 +49,8 @@ place_in {X} (x ∷ xs) ys (f ∷ prefix) z suffix e =
 record Cut {X Y : Type 0} (f : X → Y) (xs : List X) (prefix : List Y) (y : Y) : Type 0 where
   before : List X
   this : X
-  behind : List X
-  parts : xs ≡ before ++ this ∷ behind
+  after : List X
+  parts : xs ≡ before ++ this ∷ after
   before_is : map f before ≡ prefix
   this_is : f this ≡ y
 
@@ -59,7 +59,7 @@ cut_more f x xs z prefix y head found =
     record {
       before = x ∷ found.before;
       this = found.this;
-      behind = found.behind;
+      after = found.after;
       parts = ap (λ ys. x ∷ ys) found.parts;
       before_is = λ i. head i ∷ found.before_is i;
       this_is = found.this_is;
@@ -68,7 +68,7 @@ cut_more f x xs z prefix y head found =
 cut : {X Y : Type 0} (f : X → Y) (xs : List X) (prefix : List Y) (y : Y) (suffix : List Y) → map f xs ≡ prefix ++ y ∷ suffix → Cut f xs prefix y
 cut f [] [] y suffix e = absurd (cc)
 cut f [] (z ∷ prefix) y suffix e = absurd (cc)
-cut f (x ∷ xs) [] y suffix e = record { before = []; this = x; behind = xs; parts = refl; before_is = refl; this_is = cc }
+cut f (x ∷ xs) [] y suffix e = record { before = []; this = x; after = xs; parts = refl; before_is = refl; this_is = cc }
 cut f (x ∷ xs) (z ∷ prefix) y suffix e =
     let head : f x ≡ z = cc in
     let tail : map f xs ≡ prefix ++ y ∷ suffix = cc in
@@ -180,11 +180,11 @@ module _ (books : List BookState) (placed : List Placed) (cluster : IsCluster bo
                 let at = cut (λ p. step_at p.node p.event.kind) placed prefix step found.0 found.1 in
                 subst (λ (s : Step). All (WasSentBy n happens prefix) (taken_in s)) at.this_is
                 (subst (λ (ss : List Step). All (WasSentBy n happens ss) (taken_in (step_at at.this.node at.this.event.kind))) at.before_is
-                (sent_before books placed cluster histories order all_sent at.before at.this at.behind at.parts))
+                (sent_before books placed cluster histories order all_sent at.before at.this at.after at.parts))
             | inr found ↦
                 let at = cut (λ m. Lose m) ms found.0 step suffix found.2 in
                 let out : WentOut at.this = All-contains WentOut ms at.this went_out
-                (subst (λ (xs : List Message). Contains xs at.this) (sym at.parts) (Contains-append_right at.before (at.this ∷ at.behind) at.this (0, omega arith, refl)))
+                (subst (λ (xs : List Message). Contains xs at.this) (sym at.parts) (Contains-append_right at.before (at.this ∷ at.after) at.this (0, omega arith, refl)))
                 in
                 let prefix_is : steps_of placed ++ losses at.before ≡ prefix = ap (λ (ss : List Step). steps_of placed ++ ss) at.before_is ∙ sym found.1 in
                 subst (λ (s : Step). All (WasSentBy n happens prefix) (taken_in s)) at.this_is

@@ -34,29 +34,29 @@ counted is m tells [] sent different same among = omega arith
 counted is m tells (f ∷ fs) sent different same among =
     let at = All-head (Contains sent) f fs among in
     let before = take at.0 sent in
-    let behind = drop (at.0 + 1) sent in
+    let after = drop (at.0 + 1) sent in
     let messages : List Frame → List Message = map (λ f. f.message) in
-    let parts : sent ≡ before ++ f ∷ behind = split sent at.0 f at.1 (sym at.2) in
+    let parts : sent ≡ before ++ f ∷ after = split sent at.0 f at.1 (sym at.2) in
     let apart : All (λ g. f ≢ g) fs = pairs_first (λ a b. a ≢ b) f fs different in
-    let others : All (Contains (before ++ behind)) fs =
+    let others : All (Contains (before ++ after)) fs =
     λ k d low.
-    left_out before f behind (get_or fs k d) (apart k d low)
+    left_out before f after (get_or fs k d) (apart k d low)
     (subst (λ (gs : List Frame). Contains gs (get_or fs k d)) parts (All-tail (Contains sent) f fs among k d low))
     in
-    let fewer = counted is m tells fs (before ++ behind) (pairs_rest (λ a b. a ≢ b) f fs different) (All-tail (λ f. f.message ≡ m) f fs same) others in
+    let fewer = counted is m tells fs (before ++ after) (pairs_rest (λ a b. a ≢ b) f fs different) (All-tail (λ f. f.message ≡ m) f fs same) others in
     let one = there_once is m (f.message ∷ []) tells (0, omega arith, All-head (λ f. f.message ≡ m) f fs same) in
-    let whole = ap (times is) (ap messages parts ∙ map-append (λ f. f.message) before (f ∷ behind)) ∙ times_append is (messages before) (f.message ∷ messages behind) in
-    let from_it = times_append is (f.message ∷ []) (messages behind) in
-    let rest = ap (times is) (map-append (λ f. f.message) before behind) ∙ times_append is (messages before) (messages behind) in
+    let whole = ap (times is) (ap messages parts ∙ map-append (λ f. f.message) before (f ∷ after)) ∙ times_append is (messages before) (f.message ∷ messages after) in
+    let from_it = times_append is (f.message ∷ []) (messages after) in
+    let rest = ap (times is) (map-append (λ f. f.message) before after) ∙ times_append is (messages before) (messages after) in
     omega (arith, fewer, one, whole, from_it, rest)
   where
-    left_out : (before : List Frame) (f : Frame) (behind : List Frame) (g : Frame) → f ≢ g → Contains (before ++ f ∷ behind) g → Contains (before ++ behind) g
-    left_out before f behind g apart at =
-        elim (Contains-append_cases before (f ∷ behind) g at) [
-          | inl is ↦ Contains-append_left before behind g is
-          | inr from ↦ elim (first_or_later f behind g from) [
+    left_out : (before : List Frame) (f : Frame) (after : List Frame) (g : Frame) → f ≢ g → Contains (before ++ f ∷ after) g → Contains (before ++ after) g
+    left_out before f after g apart at =
+        elim (Contains-append_cases before (f ∷ after) g at) [
+          | inl is ↦ Contains-append_left before after g is
+          | inr from ↦ elim (first_or_later f after g from) [
             | inl same ↦ absurd (apart same)
-            | inr is ↦ Contains-append_right before behind g is
+            | inr is ↦ Contains-append_right before after g is
           ]
         ]
 
@@ -75,8 +75,8 @@ pub record Others (events : List Placed) (frame : Frame) (m : Message) (taken re
 pub record PlaceOf (placed : List Placed) (prefix : List Step) (step : Step) : Type 0 where
   pub before : List Placed
   pub this : Placed
-  pub behind : List Placed
-  pub parts : placed ≡ before ++ this ∷ behind
+  pub after : List Placed
+  pub parts : placed ≡ before ++ this ∷ after
   -- the message that the step takes or repeats is that of a frame that comes by the event
   pub touched : (m : Message) → Contains (taken_in step ++ repeated_in step) m → (frame : Frame) × Contains (frames_in this.event.kind) frame × (frame.message ≡ m)
   pub same_events : (i : ℕ) → flat_map (events_at i) prefix ≡ flat_map (events_at i) (steps_of before)
@@ -110,7 +110,7 @@ here p placed copies untaken silent =
     record {
       before = [];
       this = p;
-      behind = placed;
+      after = placed;
       parts = refl;
       touched = touched_at p.node p.event.kind;
       same_events = silent;
@@ -123,7 +123,7 @@ copy_here p placed frame kind =
     record {
       before = [];
       this = p;
-      behind = placed;
+      after = placed;
       parts = refl;
       touched = λ m at. (frame, subst (λ (k : BookKind). Contains (frames_in k) frame) (sym kind) (first frame []), one_only frame m at);
       same_events = λ i. refl;
@@ -137,19 +137,19 @@ came_later p events m fs came =
     All-weaker (λ f. ComesBy events f × (f.message ≡ m)) (λ f. ComesBy (p ∷ events) f × (f.message ≡ m))
     (λ f is. (Contains-append_right (frames_in p.event.kind) (frames_by events) f is.0, is.1)) fs came
 
-comes_in : (placed before : List Placed) (this : Placed) (behind : List Placed) (f : Frame) → placed ≡ before ++ this ∷ behind → ComesBy before f ⊎ Contains (frames_in this.event.kind) f → ComesBy placed f
-comes_in placed before this behind f parts at =
+comes_in : (placed before : List Placed) (this : Placed) (after : List Placed) (f : Frame) → placed ≡ before ++ this ∷ after → ComesBy before f ⊎ Contains (frames_in this.event.kind) f → ComesBy placed f
+comes_in placed before this after f parts at =
     subst (λ (ps : List Placed). ComesBy ps f) (sym parts) (in_parts before at)
   where
-    in_parts : (before : List Placed) → ComesBy before f ⊎ Contains (frames_in this.event.kind) f → ComesBy (before ++ this ∷ behind) f
+    in_parts : (before : List Placed) → ComesBy before f ⊎ Contains (frames_in this.event.kind) f → ComesBy (before ++ this ∷ after) f
     in_parts [] (inl none) = absurd (omega (arith, none.1))
-    in_parts [] (inr is) = Contains-append_left (frames_in this.event.kind) (frames_by behind) f is
+    in_parts [] (inr is) = Contains-append_left (frames_in this.event.kind) (frames_by after) f is
     in_parts (q ∷ before) (inl at) =
         elim (Contains-append_cases (frames_in q.event.kind) (frames_by before) f at) [
-          | inl is ↦ Contains-append_left (frames_in q.event.kind) (frames_by (before ++ this ∷ behind)) f is
-          | inr is ↦ Contains-append_right (frames_in q.event.kind) (frames_by (before ++ this ∷ behind)) f (in_parts before (inl is))
+          | inl is ↦ Contains-append_left (frames_in q.event.kind) (frames_by (before ++ this ∷ after)) f is
+          | inr is ↦ Contains-append_right (frames_in q.event.kind) (frames_by (before ++ this ∷ after)) f (in_parts before (inl is))
         ]
-    in_parts (q ∷ before) (inr is) = Contains-append_right (frames_in q.event.kind) (frames_by (before ++ this ∷ behind)) f (in_parts before (inr is))
+    in_parts (q ∷ before) (inr is) = Contains-append_right (frames_in q.event.kind) (frames_by (before ++ this ∷ after)) f (in_parts before (inr is))
 
 -- an event by which no frame comes that comes again: if a frame with the message comes by it, it is one of the others
 last_time : (is : Message → Bool) (m : Message) → TellsApart is m → (frame : Frame) (p : Placed) (placed before : List Placed) (taken repeated : ℕ)
@@ -190,19 +190,19 @@ last_time is m tells frame p placed before taken repeated among comes last other
     by_kind (Gave client name) same = let enough = others.enough in same_ones _ _ (omega (arith, enough))
     by_kind (Got g) same = one_more g same (is g.message) refl
 
-behind_one : (p : Placed) (placed : List Placed) (prefix : List Step) (step : Step) → All (λ f. ComesBy placed f → ⊥) (frames_in p.event.kind) → PlaceOf placed prefix step
+after_one : (p : Placed) (placed : List Placed) (prefix : List Step) (step : Step) → All (λ f. ComesBy placed f → ⊥) (frames_in p.event.kind) → PlaceOf placed prefix step
     → PlaceOf (p ∷ placed) (step_for p ∷ prefix) step
-behind_one p placed prefix step last found =
+after_one p placed prefix step last found =
     record {
       before = p ∷ found.before;
       this = found.this;
-      behind = found.behind;
+      after = found.after;
       parts = ap (λ (ps : List Placed). p ∷ ps) found.parts;
       touched = found.touched;
       same_events = λ i. ap (λ (es : List Event). events_at i (step_for p) ++ es) (found.same_events i);
       others = λ is m tells frame at.
           let in_placed : (f : Frame) → ComesBy found.before f ⊎ Contains (frames_in found.this.event.kind) f → ComesBy placed f =
-          λ f. comes_in placed found.before found.this found.behind f found.parts
+          λ f. comes_in placed found.before found.this found.after f found.parts
           in
           let t = times is (flat_map taken_in prefix) in
           let r = times is (flat_map repeated_in prefix) in
@@ -212,13 +212,13 @@ behind_one p placed prefix step last found =
     }
 
 -- an event with its copy
-behind_copy : (p : Placed) (placed : List Placed) (prefix : List Step) (step : Step) (g : Frame) → p.event.kind ≡ Got g → PlaceOf placed prefix step
+after_copy : (p : Placed) (placed : List Placed) (prefix : List Step) (step : Step) (g : Frame) → p.event.kind ≡ Got g → PlaceOf placed prefix step
     → PlaceOf (p ∷ placed) (Repeat g.message ∷ step_for p ∷ prefix) step
-behind_copy p placed prefix step g kind found =
+after_copy p placed prefix step g kind found =
     record {
       before = p ∷ found.before;
       this = found.this;
-      behind = found.behind;
+      after = found.after;
       parts = ap (λ (ps : List Placed). p ∷ ps) found.parts;
       touched = found.touched;
       same_events = λ i. ap (λ (es : List Event). events_at i (step_for p) ++ es) (found.same_events i);
@@ -251,7 +251,7 @@ place_of (p ∷ placed) all prefix step suffix (copies, rest, are, before, more)
         subst (PlaceOf (p ∷ placed) []) same (here p placed [] refl (λ i. refl))
     by_copies (inl (last, no_copy)) (f ∷ prefix) go e =
         let whole : step_for p ∷ rest ≡ f ∷ prefix ++ step ∷ suffix = sym (ap (λ (cs : List Step). cs ++ step_for p ∷ rest) no_copy) ∙ e in
-        subst (λ (x : Step). PlaceOf (p ∷ placed) (x ∷ prefix) step) (head_of whole) (behind_one p placed prefix step last (go prefix (tail_of whole)))
+        subst (λ (x : Step). PlaceOf (p ∷ placed) (x ∷ prefix) step) (head_of whole) (after_one p placed prefix step last (go prefix (tail_of whole)))
     by_copies (inr (g, kind, later, copy)) [] go e =
         let same : Repeat g.message ≡ step = head_of (sym (ap (λ (cs : List Step). cs ++ step_for p ∷ rest) copy) ∙ e) in
         subst (PlaceOf (p ∷ placed) []) same (copy_here p placed g kind)
@@ -263,7 +263,7 @@ place_of (p ∷ placed) all prefix step suffix (copies, rest, are, before, more)
         let whole : Repeat g.message ∷ step_for p ∷ rest ≡ f ∷ h ∷ prefix ++ step ∷ suffix = sym (ap (λ (cs : List Step). cs ++ step_for p ∷ rest) copy) ∙ e in
         subst (λ (x : Step). PlaceOf (p ∷ placed) (x ∷ h ∷ prefix) step) (head_of whole)
         (subst (λ (x : Step). PlaceOf (p ∷ placed) (Repeat g.message ∷ x ∷ prefix) step) (head_of (tail_of whole))
-        (behind_copy p placed prefix step g kind (go prefix (tail_of (tail_of whole)))))
+        (after_copy p placed prefix step g kind (go prefix (tail_of (tail_of whole)))))
 
 -- ---- What the copies leave as it is
 

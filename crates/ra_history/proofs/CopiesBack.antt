@@ -46,7 +46,7 @@ come_more old new p placed f kind has put =
       ],
       λ is. (more q).1 (elim (first_or_later k (keys placed) q is) [
         | inl here ↦ subst (λ (x : FrameKey). Contains (keys placed ++ k ∷ []) x) here (Contains-push (keys placed) k)
-        | inr behind ↦ Contains-append_left (keys placed) (k ∷ []) q behind
+        | inr after ↦ Contains-append_left (keys placed) (k ∷ []) q after
       ]),
     ))
 

@@ -48,12 +48,12 @@ module _ (books : List BookState) (placed : List Placed) (cluster : IsCluster bo
       let frame = touched.0 in
       let Early : Frame → Type 0 = λ f. (f.clock < at.this.event.clock) × WasSent books f in
       let comes : Early frame =
-      All-contains Early (frames_in at.this.event.kind) frame (come_before books placed cluster histories order all_sent at.before at.this at.behind at.parts) touched.1
+      All-contains Early (frames_in at.this.event.kind) frame (come_before books placed cluster histories order all_sent at.before at.this at.after at.parts) touched.1
       in
       let i = from_of m in
       let went_out : (f : Frame) → f.message ≡ m → Early f → (1 ≤ i) × (i ≤ n) × Contains (first_frames i at.before) f =
       λ f same early. subst (λ (x : Message). (1 ≤ from_of x) × (from_of x ≤ n) × Contains (first_frames (from_of x) at.before) f) same
-      (frame_before books placed cluster histories order all_sent at.before at.this at.behind at.parts f early.0 early.1)
+      (frame_before books placed cluster histories order all_sent at.before at.this at.after at.parts f early.0 early.1)
       in
       let sender = went_out frame touched.2 comes in (
         i,
@@ -67,7 +67,7 @@ module _ (books : List BookState) (placed : List Placed) (cluster : IsCluster bo
             in
             let among = All-cons (Contains (first_frames i at.before)) frame others.frames sender.2
             (All-weaker (λ f. ComesBy at.before f × (f.message ≡ m)) (Contains (first_frames i at.before))
-            (λ f is. (went_out f is.1 (came_before books placed cluster histories order all_sent at.before at.this at.behind at.parts f is.0)).2) others.frames others.came)
+            (λ f is. (went_out f is.1 (came_before books placed cluster histories order all_sent at.before at.this at.after at.parts f is.0)).2) others.frames others.came)
             in
             let many = counted is m tells (frame ∷ others.frames) (first_frames i at.before) different same among in
             let sends = sent_in (happened_by (happens i) i prefix) in

@@ -246,14 +246,14 @@ module _ (books : List BookState) (placed : List Placed) (cluster : IsCluster bo
       let b = get_or books k d in
       let before = all_received (take k books) in
       let here = received_among b.events in
-      let behind = all_received (drop (k + 1) books) in
-      let split : map (λ f. f.message) (all_received books) ≡ map (λ f. f.message) before ++ (map (λ f. f.message) here ++ map (λ f. f.message) behind) =
+      let after = all_received (drop (k + 1) books) in
+      let split : map (λ f. f.message) (all_received books) ≡ map (λ f. f.message) before ++ (map (λ f. f.message) here ++ map (λ f. f.message) after) =
       ap (map (λ f. f.message)) (all_received_split books k b low (get_or_default books k d b low))
-      ∙ map-append (λ f. f.message) before (here ++ behind)
-      ∙ ap (λ (ms : List Message). map (λ f. f.message) before ++ ms) (map-append (λ f. f.message) here behind)
+      ∙ map-append (λ f. f.message) before (here ++ after)
+      ∙ ap (λ (ms : List Message). map (λ f. f.message) before ++ ms) (map-append (λ f. f.message) here after)
       in
-      pairs_left (λ a c. a ≢ c) (map (λ f. f.message) here) (map (λ f. f.message) behind)
-      (pairs_right (λ a c. a ≢ c) (map (λ f. f.message) before) (map (λ f. f.message) here ++ map (λ f. f.message) behind) (subst AreDifferent split different))
+      pairs_left (λ a c. a ≢ c) (map (λ f. f.message) here) (map (λ f. f.message) after)
+      (pairs_right (λ a c. a ≢ c) (map (λ f. f.message) before) (map (λ f. f.message) here ++ map (λ f. f.message) after) (subst AreDifferent split different))
 
   pub delivered_apart : AreDifferent (map (λ f. f.message) (all_received books)) → AreDifferent (delivered placed)
   delivered_apart different i j d below within same =

@@ -5,7 +5,7 @@ use Rattle.std.proofs.lemmas.Bool.{cases_lt}
 use Rattle.std.proofs.lemmas.List.{get_or_default}
 use Rattle.ra_frame.specs.declared.frame.Frame.{Frame}
 use Rattle.ra_history.specs.declared.book.sent.Sent.{Sent}
-use Rattle.ra_history.specs.Keeping.{Ascends, StandsFirst}
+use Rattle.ra_history.specs.Keeping.{Ascends, IsFirstAt}
 
 -- what is sought: this frame, or this frame that is not flagged lost
 abbrev pub IsOf : Frame → Sent → Type 0
@@ -42,8 +42,8 @@ module _ (P : Sent → Type 0) (clock : ℕ) (at_clock : (s : Sent) → P s → 
         ]
 
     -- if its clock is passed, it is not there
-    behind : Ascends sent → clock < s.frame.clock → (k : ℕ) (d : Sent) → k < length sent → P (get_or sent k d) → ⊥
-    behind up past k d low is =
+    none_later : Ascends sent → clock < s.frame.clock → (k : ℕ) (d : Sent) → k < length sent → P (get_or sent k d) → ⊥
+    none_later up past k d low is =
         elim (cases_lt k place) [
           | inl under ↦ before k d under is
           | inr over ↦
@@ -64,15 +64,15 @@ module _ (sent : List Sent) (frame : Frame) (place : ℕ) where
     pub none_more : (s.frame ≡ frame → ⊥) → NoneBefore (IsOf frame) sent (place + 1)
     none_more not = more (IsOf frame) frame.clock (clock_of_it frame) sent place s within at before not
 
-    pub stands : s.frame ≡ frame → StandsFirst sent frame place
-    stands is = record {
+    pub first_here : s.frame ≡ frame → IsFirstAt sent frame place
+    first_here is = record {
       within = within;
       is = λ d. ap (λ (x : Sent). x.frame) (get_or_default sent place d s within ∙ sym at) ∙ is;
       first = before;
     }
 
-    pub none_behind : Ascends sent → frame.clock < s.frame.clock → All (λ s. s.frame ≢ frame) sent
-    none_behind up past = behind (IsOf frame) frame.clock (clock_of_it frame) sent place s within at before up past
+    pub none_after : Ascends sent → frame.clock < s.frame.clock → All (λ s. s.frame ≢ frame) sent
+    none_after up past = none_later (IsOf frame) frame.clock (clock_of_it frame) sent place s within at before up past
 
 -- ---- The frame, if it is not flagged lost
 
@@ -84,13 +84,13 @@ module _ (sent : List Sent) (frame : Frame) (place : ℕ) where
   none_kept end before is = before is.0 (record { frame = frame; lost = false }) (omega (arith, is.1, end)) is.2
 
   module _ (s : Sent) (within : place < length sent) (at : s ≡ get_or sent place s) where
-    pub stands_kept : IsKeptOf frame s → Contains sent (record { frame = frame; lost = false })
-    stands_kept is = (place, within, get_or_default sent place (record { frame = frame; lost = false }) s within ∙ sym at ∙ is)
+    pub kept_here : IsKeptOf frame s → Contains sent (record { frame = frame; lost = false })
+    kept_here is = (place, within, get_or_default sent place (record { frame = frame; lost = false }) s within ∙ sym at ∙ is)
 
     module _ (before : NoneBefore (IsKeptOf frame) sent place) where
       pub none_kept_more : (IsKeptOf frame s → ⊥) → NoneBefore (IsKeptOf frame) sent (place + 1)
       none_kept_more not = more (IsKeptOf frame) frame.clock (clock_of_kept frame) sent place s within at before not
 
-      pub none_kept_behind : Ascends sent → frame.clock < s.frame.clock → Contains sent (record { frame = frame; lost = false }) → ⊥
-      none_kept_behind up past is =
-          behind (IsKeptOf frame) frame.clock (clock_of_kept frame) sent place s within at before up past is.0 (record { frame = frame; lost = false }) is.1 is.2
+      pub none_kept_after : Ascends sent → frame.clock < s.frame.clock → Contains sent (record { frame = frame; lost = false }) → ⊥
+      none_kept_after up past is =
+          none_later (IsKeptOf frame) frame.clock (clock_of_kept frame) sent place s within at before up past is.0 (record { frame = frame; lost = false }) is.1 is.2

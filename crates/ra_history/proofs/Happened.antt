@@ -82,7 +82,7 @@ sent_earlier clock [] rest f late less is =
 sent_earlier clock (p ∷ prefix) rest f late less is =
     elim (Contains-append_cases (frames_at p.event.clock p.sends) (frames_of (prefix ++ rest)) f is) [
       | inl here ↦ Contains-append_left (frames_at p.event.clock p.sends) (frames_of prefix) f here
-      | inr behind ↦ Contains-append_right (frames_at p.event.clock p.sends) (frames_of prefix) f (sent_earlier clock prefix rest f late less behind)
+      | inr after ↦ Contains-append_right (frames_at p.event.clock p.sends) (frames_of prefix) f (sent_earlier clock prefix rest f late less after)
     ]
 
 -- the same, of the events of a book

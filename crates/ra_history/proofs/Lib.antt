@@ -3,7 +3,7 @@ mod Histories
 mod Kept
 mod Running
 mod Adding
-mod Hearing
+mod Accepting
 mod EventChecked
 mod Losing
 mod Ascending

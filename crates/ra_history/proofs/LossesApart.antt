@@ -37,7 +37,7 @@ module _ (s : Sent) (sent : List Sent) (m : Message) where
       by_flag true e is =
           elim (first_or_later (message_in s) (lost_among sent) m is) [
             | inl same ↦ inl (e, same)
-            | inr behind ↦ inr behind
+            | inr after ↦ inr after
           ]
       by_flag false e is = inr is
 
@@ -46,7 +46,7 @@ lost_is_sent [] m is = absurd (omega (arith, is.1))
 lost_is_sent (s ∷ sent) m is =
     elim (lost_here s sent m is) [
       | inl here ↦ (0, omega arith, here.1)
-      | inr behind ↦ later (message_in s) (map message_in sent) m (lost_is_sent sent m behind)
+      | inr after ↦ later (message_in s) (map message_in sent) m (lost_is_sent sent m after)
     ]
 
 -- a message of a frame that was kept is not one of a frame that was lost
@@ -62,11 +62,11 @@ kept_or_lost (s ∷ sent) f different kept lost =
     by_cases : (s ≡ record { frame = f; lost = false }) ⊎ Contains sent (record { frame = f; lost = false }) → ((s.lost ≡ true) × (message_in s ≡ f.message)) ⊎ Contains (lost_among sent) f.message
         → (Contains sent (record { frame = f; lost = false }) → Contains (lost_among sent) f.message → ⊥) → ⊥
     by_cases (inl same) (inl here) rest = false≢true (sym (ap (λ (x : Sent). x.lost) same) ∙ here.0)
-    by_cases (inl same) (inr behind) rest =
-        All-contains (λ m. message_in s ≢ m) (map message_in sent) f.message apart (lost_is_sent sent f.message behind) (ap message_in same)
+    by_cases (inl same) (inr after) rest =
+        All-contains (λ m. message_in s ≢ m) (map message_in sent) f.message apart (lost_is_sent sent f.message after) (ap message_in same)
     by_cases (inr kept) (inl here) rest =
         All-contains (λ m. message_in s ≢ m) (map message_in sent) f.message apart (in_map message_in sent (record { frame = f; lost = false }) kept) here.1
-    by_cases (inr kept) (inr behind) rest = rest kept behind
+    by_cases (inr kept) (inr after) rest = rest kept after
 
 -- ---- Of several books
 

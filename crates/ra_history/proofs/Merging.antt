@@ -89,10 +89,10 @@ module _ (books : List BookState) (taken : List ℕ) (placed : List Placed) (tur
   rises : (e : BookEvent) → IsNextOfBook books new k e → turn.event.clock < e.clock
   rises e is =
       let same : is.0 ≡ book = same_Some is.0 book (sym is.1 ∙ at) in
-      let behind : slice_get book.events (suc n) ≡ Some e =
+      let after : slice_get book.events (suc n) ≡ Some e =
       subst (λ (m : ℕ). slice_get book.events m ≡ Some e) (now_taken ∙ add-one n) (ap (λ (b : BookState). slice_get b.events (slice_index new k)) (sym same) ∙ is.2)
       in
-      clocks_rise 0 book.events n turn.event e history.leads.clocked here behind
+      clocks_rise 0 book.events n turn.event e history.leads.clocked here after
 
   before_next : (j : ℕ) (e : BookEvent) → IsNextOfBook books new j e → IsBefore this (at_place j e)
   before_next j e is =

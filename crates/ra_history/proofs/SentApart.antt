@@ -35,8 +35,8 @@ across (x ∷ xs) ys different zero d low = all_right (λ y. x ≢ y) xs ys (pai
 across (x ∷ xs) ys different (suc k) d low = across xs ys (pairs_rest (λ a b. a ≢ b) x (xs ++ ys) different) k d (omega (arith, low))
 
 -- the second part may be exchanged for different ones out of it
-fewer_behind : {X : Type 0} (xs ys zs : List X) → AreDifferent (xs ++ ys) → AreDifferent zs → ((z : X) → Contains zs z → Contains ys z) → AreDifferent (xs ++ zs)
-fewer_behind xs ys zs different fewer among =
+fewer_after : {X : Type 0} (xs ys zs : List X) → AreDifferent (xs ++ ys) → AreDifferent zs → ((z : X) → Contains zs z → Contains ys z) → AreDifferent (xs ++ zs)
+fewer_after xs ys zs different fewer among =
     pairs_joined (λ a b. a ≢ b) xs zs (pairs_left (λ a b. a ≢ b) xs ys different) fewer
     (λ k d low j e within.
     All-contains (λ y. get_or xs k d ≢ y) ys (get_or zs j e) (across xs ys different k d low) (among (get_or zs j e) (Contains-get_or zs j e within)))
@@ -58,10 +58,10 @@ out_at i (m ∷ moves) different =
           (rest.0, λ x is. Contains-append_right m.sends (sent_by moves) x (rest.1 x is))
       | inr one ↦
           subst (λ (es : List Event). AreOut (m.sends ++ sent_by moves) (map (happening m) es ++ happened_at i moves)) (sym one.1) (
-            fewer_behind m.sends (sent_by moves) (sent_in (happened_at i moves)) different rest.0 rest.1,
+            fewer_after m.sends (sent_by moves) (sent_in (happened_at i moves)) different rest.0 rest.1,
             λ x is. elim (Contains-append_cases m.sends (sent_in (happened_at i moves)) x is) [
               | inl here ↦ Contains-append_left m.sends (sent_by moves) x here
-              | inr behind ↦ Contains-append_right m.sends (sent_by moves) x (rest.1 x behind)
+              | inr after ↦ Contains-append_right m.sends (sent_by moves) x (rest.1 x after)
             ],
           )
     ]

@@ -86,12 +86,12 @@ module _ (books : List BookState) (taken : List ℕ) (count : ℕ) (event : Book
         before.1,
         λ place f low is. elim (cases_lt place count) [
           | inl less ↦ before.2 place f less is
-          | inr not ↦ behind f place (omega arith) (leb-true turn.event.clock event.clock e) is
+          | inr not ↦ after f place (omega arith) (leb-true turn.event.clock event.clock e) is
         ],
       )
         where
-          behind : (f : BookEvent) (place : ℕ) → place ≡ count → turn.event.clock ≤ event.clock → IsNextOfBook books taken place f → IsNotAfter turn place f
-          behind f place same no_more is =
+          after : (f : BookEvent) (place : ℕ) → place ≡ count → turn.event.clock ≤ event.clock → IsNextOfBook books taken place f → IsNotAfter turn place f
+          after f place same no_more is =
               let one : event.clock ≡ f.clock = ap (λ (x : BookEvent). x.clock) (one_next books taken count event f next (moved books taken place count f same is)) in
               elim (cases_lt turn.event.clock event.clock) [
                 | inl less ↦ inl (omega (arith, less, one))

@@ -49,10 +49,10 @@ kept_or_not [] f = inr (λ is. omega (arith, is.1))
 kept_or_not (s ∷ sent) f = by_cases (kept_here s f) (kept_or_not sent f)
   where
     by_cases : OrNot (s ≡ kept f) → OrNot (Contains sent (kept f)) → OrNot (Contains (s ∷ sent) (kept f))
-    by_cases (inl here) behind = inl (subst (λ (x : Sent). Contains (s ∷ sent) x) here (first s sent))
-    by_cases (inr not_here) (inl behind) = inl (later s sent (kept f) behind)
-    by_cases (inr not_here) (inr not_behind) =
-        inr (λ is. elim (first_or_later s sent (kept f) is) [ inl here ↦ not_here here | inr behind ↦ not_behind behind ])
+    by_cases (inl here) after = inl (subst (λ (x : Sent). Contains (s ∷ sent) x) here (first s sent))
+    by_cases (inr not_here) (inl after) = inl (later s sent (kept f) after)
+    by_cases (inr not_here) (inr not_after) =
+        inr (λ is. elim (first_or_later s sent (kept f) is) [ inl here ↦ not_here here | inr after ↦ not_after after ])
 
 -- the book sent the frame and kept it
 abbrev By : Frame → BookState → Type 0

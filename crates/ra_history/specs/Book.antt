@@ -102,7 +102,7 @@ pub record Runs (book : BookState) (P : NodeState → Type 0) : Type 0 where
   pub holds : P node
 
 -- the book has no fault, and the bytes are the text of a frame of which this holds
-pub record Hears (book : BookState) (bytes : List ℕ) (P : Frame → Type 0) : Type 0 where
+pub record ReadsFrame (book : BookState) (bytes : List ℕ) (P : Frame → Type 0) : Type 0 where
   pub no_fault : book.fault ≡ None
   pub frame : Frame
   pub text : IsFrameText bytes frame

@@ -32,7 +32,7 @@ use Rattle.ra_history.specs.declared.book.event_effect.Posted.{Posted}
 use Rattle.ra_history.specs.declared.book.sent.Sent.{Sent}
 use Rattle.ra_history.specs.History.{node_event, clock_after, frames_at}
 use Rattle.ra_history.specs.Departures.{IsReserved}
-use Rattle.ra_history.specs.Book.{BookState, opening_book, LeadsTo, HasHistory, HasClock, next_clock, with_event, as_sent, Runs, Hears, IsFirst, Loses}
+use Rattle.ra_history.specs.Book.{BookState, opening_book, LeadsTo, HasHistory, HasClock, next_clock, with_event, as_sent, Runs, ReadsFrame, IsFirst, Loses}
 
 -- ---- What is kept
 
@@ -137,13 +137,13 @@ pub record AnswersLeave {T : Type 0} (book : BookState) (client : ℕ) (name : L
 pub record AnswersReceive {T : Type 0} (book : BookState) (bytes : List ℕ) (answer : Result T BookError) : Type 0 where
   pub failed : IsErrOf answer Failed ↔ IsSome book.fault
   pub frame : (fault : FrameError) → IsErrOf answer (error.Frame fault) ↔ ((book.fault ≡ None) × (first_fault bytes ≡ Some fault))
-  pub wrong_node : IsErrOf answer WrongNode ↔ Hears book bytes (λ f. to_of f.message ≢ book.me)
+  pub wrong_node : IsErrOf answer WrongNode ↔ ReadsFrame book bytes (λ f. to_of f.message ≢ book.me)
   pub stranger : IsErrOf answer Stranger
-      ↔ Hears book bytes (λ f. (to_of f.message ≡ book.me) × ((from_of f.message ≡ book.me) ⊎ (book.nodes < from_of f.message)))
+      ↔ ReadsFrame book bytes (λ f. (to_of f.message ≡ book.me) × ((from_of f.message ≡ book.me) ⊎ (book.nodes < from_of f.message)))
   pub clock_full : IsErrOf answer ClockFull
-      ↔ Hears book bytes (λ f. IsForNode book.me book.nodes f.message × (HasClock book (Got f) → ⊥))
+      ↔ ReadsFrame book bytes (λ f. IsForNode book.me book.nodes f.message × (HasClock book (Got f) → ⊥))
   pub allowed : IsOkUnless answer Memory
-      ↔ Hears book bytes (λ f. IsForNode book.me book.nodes f.message × HasClock book (Got f))
+      ↔ ReadsFrame book bytes (λ f. IsForNode book.me book.nodes f.message × HasClock book (Got f))
 
 -- the bytes are the text of this frame, which is for this one of this many nodes, and fits
 pub record IsFrameFor (me nodes : ℕ) (bytes : List ℕ) (frame : Frame) : Type 0 where
@@ -151,24 +151,24 @@ pub record IsFrameFor (me nodes : ℕ) (bytes : List ℕ) (frame : Frame) : Type
   pub for_it : IsForNode me nodes frame.message
   pub fits : Fits frame
 
--- why bytes are not heard
-abbrev pub NotHeard : ℕ → ℕ → ℕ → List ℕ → BookError → Type 0
-NotHeard me nodes clock bytes (error.Frame fault) = first_fault bytes ≡ Some fault
-NotHeard me nodes clock bytes WrongNode = (f : Frame) × IsFrameText bytes f × (to_of f.message ≢ me)
-NotHeard me nodes clock bytes Stranger =
+-- why bytes are not accepted
+abbrev pub NotAccepted : ℕ → ℕ → ℕ → List ℕ → BookError → Type 0
+NotAccepted me nodes clock bytes (error.Frame fault) = first_fault bytes ≡ Some fault
+NotAccepted me nodes clock bytes WrongNode = (f : Frame) × IsFrameText bytes f × (to_of f.message ≢ me)
+NotAccepted me nodes clock bytes Stranger =
     (f : Frame) × IsFrameText bytes f × (to_of f.message ≡ me) × ((from_of f.message ≡ me) ⊎ (nodes < from_of f.message))
-NotHeard me nodes clock bytes ClockFull = (f : Frame) × IsFrameFor me nodes bytes f × (2 ^ 62 < clock_after clock (Got f))
-NotHeard me nodes clock bytes Failed = ⊥
-NotHeard me nodes clock bytes Busy = ⊥
-NotHeard me nodes clock bytes Exhausted = ⊥
-NotHeard me nodes clock bytes NotHeld = ⊥
-NotHeard me nodes clock bytes Memory = ⊥
+NotAccepted me nodes clock bytes ClockFull = (f : Frame) × IsFrameFor me nodes bytes f × (2 ^ 62 < clock_after clock (Got f))
+NotAccepted me nodes clock bytes Failed = ⊥
+NotAccepted me nodes clock bytes Busy = ⊥
+NotAccepted me nodes clock bytes Exhausted = ⊥
+NotAccepted me nodes clock bytes NotHeld = ⊥
+NotAccepted me nodes clock bytes Memory = ⊥
 
--- bytes are heard at this one of this many nodes, after this clock, as a frame for it with the clock after it; or they
--- are not heard
-pub record IsHeard (me nodes clock : ℕ) (bytes : List ℕ) (answer : Result (Frame × ℕ) BookError) : Type 0 where
-  pub heard : IfOk answer (λ h. IsFrameFor me nodes bytes h.0 × (h.1 ≡ clock_after clock (Got h.0)) × (h.1 ≤ 2 ^ 62))
-  pub refused : IfErr answer (NotHeard me nodes clock bytes)
+-- bytes are accepted at this one of this many nodes, after this clock, as a frame for it with the clock after it; or they
+-- are not accepted
+pub record IsAccepted (me nodes clock : ℕ) (bytes : List ℕ) (answer : Result (Frame × ℕ) BookError) : Type 0 where
+  pub accepted : IfOk answer (λ h. IsFrameFor me nodes bytes h.0 × (h.1 ≡ clock_after clock (Got h.0)) × (h.1 ≤ 2 ^ 62))
+  pub refused : IfErr answer (NotAccepted me nodes clock bytes)
   pub one_text : (a b : Frame) → IsFrameText bytes a → IsFrameText bytes b → a ≡ b
   pub no_fault : (f : Frame) (fault : FrameError) → IsFrameText bytes f → first_fault bytes ≡ Some fault → ⊥
 
@@ -179,7 +179,7 @@ abbrev pub Ascends : List Sent → Type 0
 Ascends sent = IsNonDecreasingBy (λ s. s.frame.clock) sent
 
 -- the first of the sent frames that is equal to this one is at this place, counted from 0
-pub record StandsFirst (sent : List Sent) (frame : Frame) (place : ℕ) : Type 0 where
+pub record IsFirstAt (sent : List Sent) (frame : Frame) (place : ℕ) : Type 0 where
   pub within : place < length sent
   pub is : (d : Sent) → (slice_index_or sent place d).frame ≡ frame
   pub first : (k : ℕ) (d : Sent) → k < place → (slice_index_or sent k d).frame ≢ frame

@@ -93,7 +93,7 @@ impl Book {
     ghost use Rattle.ra_node.specs.Turns.{MayAsk};
     ghost use Rattle.ra_node.specs.Node.{NodeState};
     ghost use Rattle.ra_history.specs.History.{clock_of};
-    ghost use Rattle.ra_history.specs.Book.{opening_book, whole_events, with_all_taken, IsWhole, LeadsTo, HasHistory, HasClock, Adds, Runs, Hears, IsFirst, Loses};
+    ghost use Rattle.ra_history.specs.Book.{opening_book, whole_events, with_all_taken, IsWhole, LeadsTo, HasHistory, HasClock, Adds, Runs, ReadsFrame, IsFirst, Loses};
     ghost use Rattle.ra_history.specs.Keeping.{ComesNext, HasNextClock, IsChecked, RefusesAsk, AnswersLeave, AnswersReceive};
 
     /// Makes the book of node `me` of `nodes`, in which nothing has happened yet. The highest number of each resource begins
@@ -259,16 +259,16 @@ impl Book {
         ensures frame { (fault : FrameError) → IsErrOf result (BookError.Frame fault)
             ↔ ((self.old.fault ≡ None) × (first_fault bytes.now ≡ Some fault)) }
         ensures wrong_node { IsErrOf result BookError.WrongNode
-            ↔ Hears self.old bytes.now (λ frame. to_of frame.message ≢ self.old.me) }
+            ↔ ReadsFrame self.old bytes.now (λ frame. to_of frame.message ≢ self.old.me) }
         ensures stranger { IsErrOf result BookError.Stranger
-            ↔ Hears self.old bytes.now (λ frame. (to_of frame.message ≡ self.old.me)
+            ↔ ReadsFrame self.old bytes.now (λ frame. (to_of frame.message ≡ self.old.me)
             × ((from_of frame.message ≡ self.old.me) ⊎ (self.old.nodes < from_of frame.message))) }
         ensures clock_full { IsErrOf result BookError.ClockFull
-            ↔ Hears self.old bytes.now (λ frame. IsForNode self.old.me self.old.nodes frame.message
+            ↔ ReadsFrame self.old bytes.now (λ frame. IsForNode self.old.me self.old.nodes frame.message
             × (HasClock self.old (BookKind.Got frame) → ⊥)) }
         // Memory is the one other error.
         ensures allowed { IsOkUnless result BookError.Memory
-            ↔ Hears self.old bytes.now (λ frame. IsForNode self.old.me self.old.nodes frame.message
+            ↔ ReadsFrame self.old bytes.now (λ frame. IsForNode self.old.me self.old.nodes frame.message
             × HasClock self.old (BookKind.Got frame)) }
         ensures err { OnErr result (self.new ≡ self.old) }
     {
@@ -503,7 +503,7 @@ impl Book {
     /// Those of `receive`, except for `Memory`.
     fn check_receive(&self, bytes: &[u8]) -> Result<(Frame, u64), BookError>
         ensures checked { IsChecked self.now
-            (λ heard. IsFrameText bytes.now heard.0 × ComesNext self.now heard.1 (BookKind.Got heard.0)) result }
+            (λ came. IsFrameText bytes.now came.0 × ComesNext self.now came.1 (BookKind.Got came.0)) result }
         ensures answers { AnswersReceive self.now bytes.now result }
     {
         if self.fault.is_some() {
@@ -514,8 +514,8 @@ impl Book {
             Err(fault) => return Err(BookError::Frame(fault)),
         };
         // The event's frame is copied through a borrow, since the proof of a copy of the variable is not told of the type of its message.
-        let heard = &frame;
-        let clock = check_event(&self.node, self.clock(), &BookKind::Got(*heard))?;
+        let came = &frame;
+        let clock = check_event(&self.node, self.clock(), &BookKind::Got(*came))?;
         Ok((frame, clock))
     }
 }

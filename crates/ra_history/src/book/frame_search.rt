@@ -1,7 +1,7 @@
 //! Frames that are sought among those that a node sent, which ascend by clock.
 ghost use Rattle.std.specs.Prelude.{◌≡◌, ◌≢◌, ◌<◌, ◌↔◌, ℕ, ltb, false, All, Contains, slice_index_or, IsTrue, MatchOption};
 ghost use Rattle.ra_history.specs.declared.book.sent.Sent.{Sent};
-ghost use Rattle.ra_history.specs.Keeping.{Ascends, StandsFirst};
+ghost use Rattle.ra_history.specs.Keeping.{Ascends, IsFirstAt};
 
 use crate::Sent;
 use ra_frame::Frame;
@@ -11,7 +11,7 @@ use ra_stamp::{Message, NodeId};
 /// sent frames, and linear in how many of them have its clock, which are those of one event.
 pub fn place_of(sent: &[Sent], frame: &Frame) -> Option<usize>
     requires { Ascends sent.now }
-    ensures { MatchOption result (All (λ s. s.frame ≢ frame.now) sent.now) (StandsFirst sent.now frame.now) }
+    ensures { MatchOption result (All (λ s. s.frame ≢ frame.now) sent.now) (IsFirstAt sent.now frame.now) }
 {
     for place in place_before(sent, frame.clock, 0)..sent.len() {
         let other = &sent[place];

@@ -6,7 +6,7 @@ use Rattle.ra_book.specs.Book.{IsOwed}
 use Rattle.ra_book.specs.Output.{Puts}
 use Rattle.ra_book.proofs.Faults.{fault_is}
 use Rattle.ra_book.proofs.Put.{both, at_first}
-use Rattle.ra_book.proofs.Served.{ended_behind, served, unopened, unwritten, left_unwritten, all_written}
+use Rattle.ra_book.proofs.Served.{ended_after_first, served, unopened, unwritten, left_unwritten, all_written}
 use Rattle.ra_book.proofs.answering.answer_from.Goals as goal
 use Rattle.ra_book.proofs.answering.answer_from.Goals.{in-Ok, in-Err}
 
@@ -53,7 +53,7 @@ pub returns-else-flush-clause-reader : goal.returns-else-flush-clause-reader
 returns-else-flush-clause-reader g c =
     let o = c.take_first.ensures.opens in
     elim c.match-take_first.branch [
-      | in-Ok w ↦ rw (w.reader-is, w.input-is, w.taken-is) (λ is. ended_behind _ _ _ _ _ _ (rw w.in-Ok.is at o.1) (w.take_events-taken.ensures.reader is))
+      | in-Ok w ↦ rw (w.reader-is, w.input-is, w.taken-is) (λ is. ended_after_first _ _ _ _ _ _ (rw w.in-Ok.is at o.1) (w.take_events-taken.ensures.reader is))
       | in-Err w ↦ rw (w.reader-is, w.input-is, w.taken-is) (λ is. c.take_first.ensures.reader (w.in-Err.is ∙ ap Err (fault_is _ _ _ _ refl refl is)))
     ]
 

@@ -7,7 +7,7 @@ use Rattle.ra_history.proofs.Kept.{history_of}
 use Rattle.ra_history.specs.declared.error.BookError.TheVariants.{Memory}
 use Rattle.ra_history.specs.declared.book.event_effect.Posted.{Posted}
 use Rattle.ra_history.proofs.Running.{not_ok, on_err}
-use Rattle.ra_history.proofs.Hearing.{receive_passed, receive_added}
+use Rattle.ra_history.proofs.Accepting.{receive_passed, receive_added}
 use Rattle.ra_history.proofs.Adding as adding
 use Rattle.ra_history.proofs.Departing.{reserved_grown, reserved_still, room_for_event, room_after}
 use Rattle.ra_history.proofs.KeptLaws.{kept_histories_go_on}

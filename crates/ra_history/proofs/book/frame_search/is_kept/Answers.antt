@@ -1,6 +1,6 @@
 use Rattle.std.proofs.Common.{refl, sym, ◌∙◌, arith}
 use Rattle.std.proofs.lemmas.Bool.{false≢true}
-use Rattle.ra_history.proofs.FrameSearch.{none_kept_below, none_kept_more, stands_kept, none_kept_behind, none_kept}
+use Rattle.ra_history.proofs.FrameSearch.{none_kept_below, none_kept_more, kept_here, none_kept_after, none_kept}
 use Rattle.ra_history.proofs.Truth.{yes, no}
 use Rattle.ra_history.proofs.book.frame_search.is_kept.Goals as goal
 
@@ -14,17 +14,17 @@ loop-place-preserved c =
 
 pub returns-then-is_kept_of : goal.returns-then-is_kept_of
 returns-then-is_kept_of c =
-    yes (stands_kept c.args.sent.now c.args.frame.now c.place_before.result c.in-Some.likely.now c.in-Some.ensures.lookup.3.0 c.in-Some.ensures.lookup.1
+    yes (kept_here c.args.sent.now c.args.frame.now c.place_before.result c.in-Some.likely.now c.in-Some.ensures.lookup.3.0 c.in-Some.ensures.lookup.1
     (c.is_kept_of.ensures.0 c.if-is_kept_of.true))
 
 pub returns-then-is_kept_of-2 : goal.returns-then-is_kept_of-2
 returns-then-is_kept_of-2 c =
-    yes (stands_kept c.args.sent.now c.args.frame.now c.loop-place.place c.index-sent-place.result c.loop-place-test.true c.index-sent-place.is
+    yes (kept_here c.args.sent.now c.args.frame.now c.loop-place.place c.index-sent-place.result c.loop-place-test.true c.index-sent-place.is
     (c.is_kept_of-in-loop-place.ensures.0 c.if-is_kept_of-2.true))
 
 pub returns-then-frame-other : goal.returns-then-frame-other
 returns-then-frame-other c =
-    no (none_kept_behind c.args.sent.now c.args.frame.now c.loop-place.place c.index-sent-place.result c.loop-place-test.true c.index-sent-place.is c.loop-place.invariant c.requires
+    no (none_kept_after c.args.sent.now c.args.frame.now c.loop-place.place c.index-sent-place.result c.loop-place-test.true c.index-sent-place.is c.loop-place.invariant c.requires
     (omega arith))
 
 pub returns : goal.returns

@@ -1,6 +1,6 @@
 use Rattle.std.proofs.Common.{refl, sym, ◌∙◌, arith}
 use Rattle.std.proofs.lemmas.Bool.{false≢true}
-use Rattle.ra_history.proofs.FrameSearch.{none_below, none_more, stands, none_behind, none_at_all}
+use Rattle.ra_history.proofs.FrameSearch.{none_below, none_more, first_here, none_after, none_at_all}
 use Rattle.ra_history.proofs.book.frame_search.place_of.Goals as goal
 
 pub loop-place-init : goal.loop-place-init
@@ -13,12 +13,12 @@ loop-place-preserved c =
 
 pub returns-then-is_of : goal.returns-then-is_of
 returns-then-is_of c =
-    stands c.args.sent.now c.args.frame.now c.loop-place.place c.index-sent-place.result c.loop-place-test.true c.index-sent-place.is c.loop-place.invariant
+    first_here c.args.sent.now c.args.frame.now c.loop-place.place c.index-sent-place.result c.loop-place-test.true c.index-sent-place.is c.loop-place.invariant
     (c.is_of.ensures.0 c.if-is_of.true)
 
 pub returns-then-frame-other : goal.returns-then-frame-other
 returns-then-frame-other c =
-    none_behind c.args.sent.now c.args.frame.now c.loop-place.place c.index-sent-place.result c.loop-place-test.true c.index-sent-place.is c.loop-place.invariant c.requires
+    none_after c.args.sent.now c.args.frame.now c.loop-place.place c.index-sent-place.result c.loop-place-test.true c.index-sent-place.is c.loop-place.invariant c.requires
     (omega arith)
 
 pub returns : goal.returns
