@@ -21,8 +21,7 @@ fn are_in_order(sites: &[Site]) -> bool
     ensures { IsTrue result ↔ (sites.now ≡ range_with_len 1 (length sites.now)) }
 {
     for place in 0..sites.len() {
-        // Nodes are counted from 1.
-        if usize::from(sites[place].node().get()) != place + 1 {
+        if sites[place].node().place() != place {
             return false;
         }
     }

@@ -3,14 +3,14 @@ use Rattle.std.proofs.lemmas.Bool.{false≢true}
 use Rattle.ra_cluster.proofs.SiteNumbers.{number_of, numbers_of_first}
 use Rattle.ra_cluster.proofs.cluster.all_sites.are_in_order.Goals as goal
 
-pub returns-then-from-place : goal.returns-then-from-place
-returns-then-from-place c = (
+pub returns-then-place : goal.returns-then-place
+returns-then-place c = (
   λ is. absurd (false≢true is),
   λ are.
       let place = c.loop-place.place in
       let number = number_of c.args.sites.now are place c.index-sites-place.result c.loop-place-test.true in
-      let found = c.from.ensures ∙ c.get.ensures.value ∙ c.node.ensures ∙ c.index-sites-place.is in
-      absurd (c.if-from-place.true (found ∙ number)),
+      let found = c.node.ensures ∙ c.index-sites-place.is ∙ number in
+      absurd (c.if-place.true (omega (arith, c.place.ensures.value, found))),
 )
 
 pub returns : goal.returns
