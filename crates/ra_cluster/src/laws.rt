@@ -31,6 +31,8 @@ pub fn clients_of_settled_books_never_deadlock()
         → (book : BookState) (node : NodeState) (client : ℕ) (name : List ℕ)
         → Contains books book → LeadsTo book node → WaitsForName node client name → SomeoneCanGoOn books name }
 {
+    // For the proof: the events of a node determine the node after them.
     histories_are_determined();
+    // For the proof: in any run, clients that take names in ascending order never deadlock.
     clients_in_order_never_deadlock();
 }

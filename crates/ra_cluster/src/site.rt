@@ -322,8 +322,8 @@ impl Site {
             sending: _,
         } = self;
         let book = desk.into_inner().book;
-        // Each reader tells that the book has a history.
-        let _me = book.me();
+        // For the proof: a book has a history.
+        let _ = book.me();
         book
     }
 
