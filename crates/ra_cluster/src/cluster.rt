@@ -262,10 +262,7 @@ impl<G: Gate + Drop> Cluster<G> {
         let Some((site, sites)) = self.site_among_all(node) else {
             return Err(CallError::NoNode);
         };
-        match site.lock(rt, alloc, client, name, mode, &self.post, sites, &self.gate) {
-            Ok(grant) => Ok(grant),
-            Err(refused) => Err(CallError::Site(refused)),
-        }
+        Ok(site.lock(rt, alloc, client, name, mode, &self.post, sites, &self.gate)?)
     }
 
     /// Gives back the name that a client of a node holds, as [`Site::unlock`] does.
@@ -289,10 +286,7 @@ impl<G: Gate + Drop> Cluster<G> {
         let Some((site, sites)) = self.site_among_all(node) else {
             return Err(CallError::NoNode);
         };
-        match site.unlock(rt, alloc, client, name, &self.post, sites, &self.gate) {
-            Ok(()) => Ok(()),
-            Err(refused) => Err(CallError::Site(refused)),
-        }
+        Ok(site.unlock(rt, alloc, client, name, &self.post, sites, &self.gate)?)
     }
 
     /// Locks a name as [`Cluster::lock`] does, calls the closure while the client holds it, and then unlocks it,
@@ -321,11 +315,8 @@ impl<G: Gate + Drop> Cluster<G> {
         let Some((site, sites)) = self.site_among_all(node) else {
             return Err(CallError::NoNode);
         };
-        let grant = match site.lock(rt, alloc, client, name, mode, &self.post, sites, &self.gate) {
-            Ok(grant) => grant,
-            Err(refused) => return Err(CallError::Site(refused)),
-        };
-        // The closure has a copy of its own.
+        let grant = site.lock(rt, alloc, client, name, mode, &self.post, sites, &self.gate)?;
+        // A copy by name, since the prover takes a grant that is given to a call as moved.
         let given = grant;
         let value = does(given);
         let unlocked = site.unlock(rt, alloc, client, name, &self.post, sites, &self.gate);
