@@ -129,10 +129,20 @@ impl Post {
         ensures fit { IfSome result (λ left. All Fits left.1.now) }
     {
         let senders = self.senders.read(rt);
-        match senders.as_ref() {
-            Some(senders) => send_each(rt, alloc, senders, frames),
-            None => frames.split_first(),
+        let Some(senders) = senders.as_ref() else {
+            return frames.split_first();
+        };
+        for place in 0..frames.len() {
+            let frame = &frames[place];
+            let is_sent = match encode(alloc, frame) {
+                Ok(bytes) => send_to(rt, senders, frame.message.to(), bytes),
+                Err(Memory) => false,
+            };
+            if !is_sent {
+                return Some((frame, &frames[place + 1..]));
+            }
         }
+        None
     }
 
     /// Closes the post: no frame is sent from now on, and each inbox is closed once it is empty. It may wait for other calls
@@ -140,31 +150,6 @@ impl Post {
     pub fn close<R: Wait>(&self, rt: &R) {
         *self.senders.write(rt) = None;
     }
-}
-
-/// Sends frames one after the other, up to the first that is refused. Returns that one and those after it, or `None` if all
-/// were sent.
-fn send_each<'a, R: Wait>(
-    rt: &R,
-    alloc: Global,
-    senders: &[FrameSender],
-    frames: &'a [Frame],
-) -> Option<(&'a Frame, &'a [Frame])>
-    requires { All Fits frames.now }
-    ensures fewer { IfSome result (λ left. length left.1.now < length frames.now) }
-    ensures fit { IfSome result (λ left. All Fits left.1.now) }
-{
-    for place in 0..frames.len() {
-        let frame = &frames[place];
-        let is_sent = match encode(alloc, frame) {
-            Ok(bytes) => send_to(rt, senders, frame.message.to(), bytes),
-            Err(Memory) => false,
-        };
-        if !is_sent {
-            return Some((frame, &frames[place + 1..]));
-        }
-    }
-    None
 }
 
 /// Sends the bytes of a frame to the inbox of a node. Returns whether it took them.

@@ -1,7 +1,7 @@
-use Rattle.std.proofs.Common.{ℕ, ◌≡◌, ◌<◌, List, length, Option, Some, None, subst, arith}
+use Rattle.std.proofs.Common.{◌≡◌, ◌+◌, ◌-◌, ◌<◌, List, length, drop, Option, Some, None, subst, arith}
 use Rattle.std.specs.Prelude.{All, IfSome, MatchOption}
 use Rattle.std.specs.List.{IsFirstAndRest}
-use Rattle.std.proofs.lemmas.List.Elements.{All-tail}
+use Rattle.std.proofs.lemmas.List.Elements.{All-tail, All-take, All-drop}
 use Rattle.ra_frame.specs.declared.frame.Frame.{Frame}
 use Rattle.ra_frame.specs.Fits.{Fits}
 use Rattle.ra_cluster.proofs.post.Post.send_up_to.Goals as goal
@@ -17,10 +17,20 @@ module _ {P : Type 0} (first : P → Frame) (rest : P → List Frame) (frames : 
   fit None all is = tt
   fit (Some p) all is = All-tail Fits (first p) (rest p) (subst (λ (fs : List Frame). All Fits fs) is.0 all)
 
-pub returns : goal.returns
-returns g c =
+-- ---- The post is closed
+
+pub returns-in_default : goal.returns-in_default
+returns-in_default g c =
     let frames = c.args.frames.now in
     record {
       fewer = fewer (λ p. p.0.now) (λ p. p.1.now) frames c.split_first.result c.split_first.ensures.cases;
       fit = fit (λ p. p.0.now) (λ p. p.1.now) frames c.split_first.result c.requires c.split_first.ensures.cases;
     }
+
+-- ---- A frame is refused
+
+pub returns-then-not-is_sent-clause-fit : goal.returns-then-not-is_sent-clause-fit
+returns-then-not-is_sent-clause-fit g c =
+    let frames = c.args.frames.now in
+    let next = c.loop-place.place + 1 in
+    All-take Fits (length frames - next) (drop next frames) (All-drop Fits next frames c.requires)
