@@ -63,7 +63,6 @@ pub struct Held<T> {
 /// these threads. At the end [`Cluster::close`] returns the books, which [`settle`](crate::settle) takes as they are. A cluster
 /// that is made to be audited is not settled: the rounds of an audit (crate `ra_audit`) take what has happened while it runs, and
 /// what is left at the end. Then [`Cluster::close_audited`] returns its books.
-#[derive(Drop)]
 pub struct Cluster<G> {
     start: u64,
     sites: Vec<Site>,
@@ -74,6 +73,21 @@ pub struct Cluster<G> {
     room: Mutex<BookRoom>,
     gate: G,
     audited: bool,
+}
+
+// What a cluster owns is freed here, so that no other crate proves how each of its parts is dropped.
+impl<G: Drop> Drop for Cluster<G> {
+    fn drop(self) {
+        let Cluster {
+            start: _,
+            sites: _,
+            post: _,
+            inboxes: _,
+            room: _,
+            gate: _,
+            audited: _,
+        } = self;
+    }
 }
 
 impl<G> Model for Cluster<G> {
