@@ -1,13 +1,12 @@
 //! The program `ra`.
 #![tactic(auto)]
 
-mod note_places;
 mod serving_with_notes;
 mod user_notes;
 
 use crate::serving_with_notes::{refuse_arguments_with_note, serve_with_notes};
 use ra_cli::CommandFault;
-use ra_notes::{EndReader, RecordingReader, SeenWriter};
+use ra_notes::{EndReader, RecordingReader, RecordingWriter};
 use std::io::{BufReader, IsTerminal};
 use std::process::ExitCode;
 use std::{env, io};
@@ -27,7 +26,7 @@ fn arguments(rt: &HostRuntime) -> Result<Vec<String>, CommandFault> {
 
 fn main(rt: HostRuntime) -> ExitCode {
     let alloc = rt.alloc();
-    let mut writer = SeenWriter::new(io::writer(&rt));
+    let mut writer = RecordingWriter::new(io::writer(&rt));
     let mut notes = rt.stderr();
     let arguments = match arguments(&rt) {
         Ok(arguments) => arguments,

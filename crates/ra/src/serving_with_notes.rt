@@ -3,11 +3,10 @@ ghost use Rattle.std.specs.Prelude.{◌≡◌, map, string_bytes};
 ghost use Rattle.ra_cli.specs.Refusals.{command_word, refused_line};
 ghost use Rattle.ra_cli.specs.Statuses.{Serves, Writes};
 
-use crate::note_places::NoteSource;
-use crate::user_notes::write_notes;
+use crate::user_notes::{NoteSource, write_notes};
 use ra_cli::{CommandFault, do_command, refuse_arguments};
 use ra_notes::{
-    RecordingReader, SeedProgress, SeenWriter, write_arguments_note, write_output_note,
+    RecordingReader, RecordingWriter, SeedProgress, write_arguments_note, write_output_note,
 };
 use ra_task::{command_of, write_waiting_note};
 use std::alloc::Global;
@@ -18,7 +17,7 @@ use std::thread::Threads;
 /// Does as [`refuse_arguments`], and then writes a line for a person to `notes`. It writes another if `writer` failed,
 /// unless that is a pipe that is no longer read. A failure of `notes` changes nothing else.
 pub fn refuse_arguments_with_note<W: Write, N: Write>(
-    writer: &mut SeenWriter<W>,
+    writer: &mut RecordingWriter<W>,
     fault: CommandFault,
     notes: &mut N,
 ) -> u8
@@ -51,7 +50,7 @@ pub fn serve_with_notes<T: Threads + Wait + Sync, R: BufRead, W: Write, N: Write
     arguments: &[String],
     at_terminal: bool,
     reader: &mut RecordingReader<R>,
-    writer: &mut SeenWriter<W>,
+    writer: &mut RecordingWriter<W>,
     notes: &mut N,
 ) -> u8
     // What is promised of the status, the reader and the writer is the same, whatever becomes of the note.
@@ -69,8 +68,8 @@ pub fn serve_with_notes<T: Threads + Wait + Sync, R: BufRead, W: Write, N: Write
         arguments,
         asked: &asked,
         last_seed: progress.last(),
-        seen: reader.seen().bytes(),
-        drawn: &text,
+        seen: reader.recorded().bytes(),
+        text: &text,
     };
     write_notes(alloc, &source, &outcome, notes);
     write_output_note(writer.fault(), notes);

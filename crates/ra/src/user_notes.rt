@@ -1,15 +1,29 @@
 //! The note that tells the user what came of a command: one line, which begins with `ra: `.
-use crate::note_places::{NoteSource, place_of};
 use ra_cli::{AnswerError, CommandOutcome, CommandRefusal, Remark, RunScriptError, UNFINISHED};
 use ra_notes::{
-    BOOKS_TOO_LONG, NO_BOOK, NO_INPUT, NO_SEED_DONE, NO_WORD, SEEDS_LEFT, UNEXPLAINED, cause_text,
-    cluster_text, mark_cause_text, of_check, of_choices, of_command, of_drawing, of_end,
-    of_performance, range_note, text_cause_text, write_hints, write_shrunk_notes,
+    BOOKS_TOO_LONG, FrameCause, NO_BOOK, NO_INPUT, NO_SEED_DONE, NO_WORD, SEEDS_LEFT, Unanswered,
+    cluster_notice, frame_notice, log_notice, of_check, of_choices, of_command, of_drawing, of_end,
+    perform_notice, range_note, script_notice, trace_notice, unfinished_notice, unsettled_notice,
+    write_hints, write_shrunk_notes,
 };
 use ra_stamp::NodeId;
 use ra_task::{Command, NO_MEMORY, Notice};
 use std::alloc::Global;
 use std::io::Write;
+
+/// What a note is made of, besides what came of the command.
+#[derive(Clone, Copy)]
+pub struct NoteSource<'a> {
+    /// The arguments of the command line, of which notes quote options.
+    pub arguments: &'a [String],
+    pub asked: &'a Command<'a>,
+    /// What was read, or `None` if there was no memory for it.
+    pub seen: Option<&'a [u8]>,
+    /// The text that was to be drawn or settled, or no text.
+    pub text: &'a [u8],
+    /// Of many seeds, the last one that was tried.
+    pub last_seed: Option<u64>,
+}
 
 /// Writes the note on what came of a command, and another on a run that was shrunk. If nothing was refused, it adds a
 /// line for each option that has no effect, and one for the seed that was found. It ignores a failure of the writer.
@@ -23,7 +37,7 @@ pub fn write_notes<N: Write>(
         Some(Remark::Unfinished) if source.asked.shrinks() => {
             write_shrunk_notes(alloc, source.asked, source.seen, source.last_seed, notes);
         }
-        Some(remark) => notice_of(alloc, source, remark).write(notes),
+        Some(remark) => notice_of(alloc, source, *remark).write(notes),
         None => {}
     }
     if outcome.ran_to_end() {
@@ -41,33 +55,22 @@ pub fn write_notes<N: Write>(
 }
 
 /// Returns what there is to say about a remark: what is known about its place in the input, and otherwise its cause.
-fn notice_of(alloc: Global, source: &NoteSource<'_>, remark: &Remark) -> Notice {
-    if let Some(text) = place_of(alloc, source, remark) {
-        return Notice::Note(text);
-    }
+fn notice_of(alloc: Global, source: &NoteSource<'_>, remark: Remark) -> Notice {
+    let (seen, text) = (source.seen, source.text);
     match remark {
-        Remark::Refused(refusal) => refusal_of(alloc, source, *refusal),
-        Remark::Unfinished => Notice::Text(UNEXPLAINED),
+        Remark::Refused(refusal) => refusal_of(alloc, source, refusal),
+        Remark::Unfinished => unfinished_notice(alloc, source.asked, seen, source.last_seed),
         Remark::SomeUnfinished => Notice::Text(SEEDS_LEFT),
         Remark::NoneFinished => Notice::Text(NO_SEED_DONE),
-        Remark::Ends { sent } => of_end(alloc, source.seen, *sent),
-        Remark::NoTrace { line, cause, .. } => Notice::Line {
-            line: *line,
-            text: cause_text(*cause),
-        },
-        Remark::NoLog { line, cause } => Notice::Line {
-            line: *line,
-            text: mark_cause_text(*cause),
-        },
+        Remark::Ends { sent } => of_end(alloc, seen, sent),
+        Remark::NoTrace { line, cause, due } => trace_notice(alloc, seen, text, line, cause, due),
+        Remark::NoLog { line, cause } => log_notice(alloc, seen, text, line, cause),
         Remark::NoBook => Notice::Line {
             line: 1,
             text: NO_BOOK,
         },
         Remark::Unread => Notice::Text(NO_INPUT),
-        Remark::Unsettled { line, cause, .. } => Notice::Line {
-            line: *line,
-            text: text_cause_text(*cause),
-        },
+        Remark::Unsettled { line, cause } => unsettled_notice(alloc, text, line, cause),
         Remark::TooManyBooks => Notice::Text(BOOKS_TOO_LONG),
     }
 }
@@ -76,15 +79,17 @@ fn notice_of(alloc: Global, source: &NoteSource<'_>, remark: &Remark) -> Notice 
 fn refusal_of(alloc: Global, source: &NoteSource<'_>, refusal: CommandRefusal) -> Notice {
     match refusal {
         CommandRefusal::Command(why) => of_command(alloc, source.arguments, why),
-        CommandRefusal::Answer(why) => of_answer(alloc, source.asked, why),
+        CommandRefusal::Answer(why) => of_answer(alloc, source, why),
         CommandRefusal::Choices(why) => of_choices(alloc, source.asked.choices(), why),
-        CommandRefusal::Perform(why) => of_performance(why),
+        CommandRefusal::Perform(why) => {
+            perform_notice(alloc, source.asked.choices(), source.seen, why)
+        }
         CommandRefusal::Check(why) => of_check(why),
         CommandRefusal::Draw(why) => of_drawing(alloc, source.asked, why),
         CommandRefusal::Cluster(why) => match why {
             RunScriptError::Read => Notice::Text(NO_INPUT),
-            RunScriptError::Script(_) => Notice::Text(UNEXPLAINED),
-            RunScriptError::Cluster(fault) => Notice::Text(cluster_text(fault)),
+            RunScriptError::Script(_) => script_notice(alloc, source.seen),
+            RunScriptError::Cluster(fault) => cluster_notice(alloc, source.seen, fault),
             RunScriptError::Choice => Notice::Text(NO_WORD),
             RunScriptError::Memory => Notice::Text(NO_MEMORY),
         },
@@ -92,19 +97,19 @@ fn refusal_of(alloc: Global, source: &NoteSource<'_>, refusal: CommandRefusal) -
 }
 
 /// Returns what there is to say about a frame that is not answered.
-fn of_answer(alloc: Global, asked: &Command<'_>, why: AnswerError) -> Notice {
-    let (node, nodes) = asked.answering_node();
-    match why {
-        AnswerError::BadCount => range_note(alloc, "--nodes", nodes, NodeId::MAX),
-        AnswerError::BadNode => range_note(alloc, "--node", node, nodes),
-        AnswerError::Read => Notice::Text(NO_INPUT),
-        AnswerError::Memory => Notice::Text(NO_MEMORY),
-        AnswerError::Write => Notice::Nothing,
-        AnswerError::Line
-        | AnswerError::Hex
-        | AnswerError::Frame(_)
-        | AnswerError::WrongNode
-        | AnswerError::Stranger
-        | AnswerError::ClockFull => Notice::Text(UNEXPLAINED),
-    }
+fn of_answer(alloc: Global, source: &NoteSource<'_>, why: AnswerError) -> Notice {
+    let (node, nodes) = source.asked.answering_node();
+    let cause = match why {
+        AnswerError::BadCount => return range_note(alloc, "--nodes", nodes, NodeId::MAX),
+        AnswerError::BadNode => return range_note(alloc, "--node", node, nodes),
+        AnswerError::Read => return Notice::Text(NO_INPUT),
+        AnswerError::Memory => return Notice::Text(NO_MEMORY),
+        AnswerError::Write => return Notice::Nothing,
+        AnswerError::Line | AnswerError::Hex => FrameCause::Digits,
+        AnswerError::Frame(fault) => FrameCause::Frame(fault),
+        AnswerError::WrongNode => FrameCause::Node(Unanswered::WrongNode),
+        AnswerError::Stranger => FrameCause::Node(Unanswered::Stranger),
+        AnswerError::ClockFull => FrameCause::Node(Unanswered::ClockFull),
+    };
+    frame_notice(alloc, source.arguments, source.seen, cause)
 }

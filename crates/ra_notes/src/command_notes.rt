@@ -3,7 +3,7 @@ use crate::note_texts::{
     NO_INPUT, NO_OUTPUT, NO_SPACE, NO_TEXT, NO_WORD, TOO_LONG, TOO_MANY_BYTES, TOO_MANY_TURNS,
     UNEXPLAINED,
 };
-use crate::seen_writer::OutputFault;
+use crate::recording_writer::OutputFault;
 use ra_draw::DrawError;
 use ra_explain::{end_note, push_number_in, push_numbered};
 use ra_schedule::{ChoicesError, DriveError};

@@ -1,36 +1,99 @@
-//! The place in what was read that a note is about, and which client waits for which.
+//! What there is to say of the place in what was read that a note is about, and otherwise of the cause alone.
+use crate::command_notes::of_performance;
+use crate::note_texts::{UNEXPLAINED, cause_text, cluster_text, mark_cause_text, text_cause_text};
 use crate::run_notes::unfinished::unfinished_note;
 use crate::script_notes::choosing::choices_note;
-use ra_explain::{LineCause, Unanswered, unanswered_note};
+use crate::script_notes::order_note::order_note;
+use crate::settle_notes::unsettled_note;
+use ra_book::TextCause;
+use ra_cluster::ClusterError;
+use ra_explain::{LineCause, Unanswered, digits_note, frame_note, line_note, unanswered_note};
+use ra_frame::FrameError;
 use ra_schedule::{Policy, chance};
 use ra_script::{PerformError, explain_script};
 use ra_stamp::{Mark, Memory};
-use ra_task::{Command, Task, policy_of, text_of};
-use ra_trace::{Cause, check_buffered_with_due};
+use ra_task::{Command, Notice, Task, policy_of, text_of};
+use ra_trace::{Cause, MarkCause, check_buffered_with_due};
 use std::alloc::Global;
 
 /// What is said of a place, or nothing, if there is nothing to say or no memory for it: then the cause alone is named.
 pub type PlaceNote = Result<Option<String>, Memory>;
 
-/// Returns what is said of a script that is not performed.
-pub fn perform_place(alloc: Global, choices: &str, script: &[u8], why: PerformError) -> PlaceNote {
-    match why {
-        PerformError::Script(_) => explain_script(alloc, script),
-        PerformError::Drive(_) => choices_note(alloc, script, choices),
-        _ => Ok(None),
+/// Returns what is said of a place, or this if nothing is.
+fn placed(place: PlaceNote, otherwise: Notice) -> Notice {
+    match place {
+        Ok(Some(text)) => Notice::Note(text),
+        Ok(None) | Err(Memory) => otherwise,
     }
 }
 
-/// Returns what is said of a frame that a node does not answer.
-pub fn unanswered_place(
+/// Returns what there is to say about a text that is no script: where it is wrong.
+pub fn script_notice(alloc: Global, script: Option<&[u8]>) -> Notice {
+    let place = match script {
+        Some(script) => explain_script(alloc, script),
+        None => Ok(None),
+    };
+    placed(place, Notice::Text(UNEXPLAINED))
+}
+
+/// Returns what there is to say about a script that is not performed: where it is wrong, or which choice is, and otherwise why.
+pub fn perform_notice(
+    alloc: Global,
+    choices: &str,
+    script: Option<&[u8]>,
+    why: PerformError,
+) -> Notice {
+    match (script, why) {
+        (_, PerformError::Script(_)) => script_notice(alloc, script),
+        (Some(script), PerformError::Drive(_)) => placed(
+            choices_note(alloc, script, choices),
+            of_performance(why),
+        ),
+        _ => of_performance(why),
+    }
+}
+
+/// Returns what there is to say about a script that threads may not run, or did not bring to its end: which lock is out of order or
+/// is never given back, and otherwise why.
+pub fn cluster_notice(alloc: Global, script: Option<&[u8]>, why: ClusterError) -> Notice {
+    let place = match (script, why) {
+        (Some(script), ClusterError::OutOfOrder | ClusterError::Unreleased) => {
+            order_note(alloc, script)
+        }
+        _ => Ok(None),
+    };
+    placed(place, Notice::Text(cluster_text(why)))
+}
+
+/// Why a frame is not answered.
+#[derive(Clone, Copy)]
+pub enum FrameCause {
+    /// The input is no line of hexadecimal digits.
+    Digits,
+    /// The bytes are no frame.
+    Frame(FrameError),
+    /// The node does not take it.
+    Node(Unanswered),
+}
+
+/// Returns what there is to say about a frame that a node does not answer.
+pub fn frame_notice(
     alloc: Global,
     arguments: &[String],
-    input: &[u8],
-    why: Unanswered,
-) -> PlaceNote {
-    let node = text_of(arguments, "--node").unwrap_or("");
-    let nodes = text_of(arguments, "--nodes").unwrap_or("");
-    unanswered_note(alloc, input, node, nodes, why)
+    input: Option<&[u8]>,
+    why: FrameCause,
+) -> Notice {
+    let place = match (input, why) {
+        (Some(input), FrameCause::Digits) => digits_note(alloc, input),
+        (Some(input), FrameCause::Frame(fault)) => frame_note(alloc, input, fault),
+        (Some(input), FrameCause::Node(why)) => {
+            let node = text_of(arguments, "--node").unwrap_or("");
+            let nodes = text_of(arguments, "--nodes").unwrap_or("");
+            unanswered_note(alloc, input, node, nodes, why)
+        }
+        (None, _) => Ok(None),
+    };
+    placed(place, Notice::Text(UNEXPLAINED))
 }
 
 /// Returns the policy by which a run was made, of many seeds by the last one that was tried, or `None` if none was.
@@ -52,37 +115,85 @@ pub fn policy_by(alloc: Global, asked: &Command<'_>, last_seed: Option<u64>) -> 
     }
 }
 
-/// Returns what is said of a run that ended with something left to do.
-pub fn unfinished_place(
+/// Returns what there is to say about a run that ended with something left to do.
+pub fn unfinished_notice(
     alloc: Global,
     asked: &Command<'_>,
-    script: &[u8],
+    script: Option<&[u8]>,
     last_seed: Option<u64>,
-) -> PlaceNote {
-    match policy_by(alloc, asked, last_seed) {
-        Some(policy) => unfinished_note(alloc, script, &policy),
-        None => Ok(None),
-    }
+) -> Notice {
+    let place = match (script, &policy_by(alloc, asked, last_seed)) {
+        (Some(script), Some(policy)) => unfinished_note(alloc, script, policy),
+        _ => Ok(None),
+    };
+    placed(place, Notice::Text(UNEXPLAINED))
 }
 
 /// Returns why a line of a trace is wrong, with the mark that is due there. A text that was to be drawn is checked once
-/// more for that. If memory runs out for it, the mark is not known.
-pub fn cause_in(alloc: Global, drawn: &[u8], cause: Cause, due: Option<Mark>) -> LineCause {
+/// more for that. If memory runs out for it, the mark is not known. Without such a text, `due` is that mark.
+fn cause_in(alloc: Global, text: &[u8], cause: Cause, due: Option<Mark>) -> LineCause {
     if !matches!(cause, Cause::Marks) {
         return LineCause::Trace(cause);
     }
-    if drawn.is_empty() {
+    if text.is_empty() {
         return LineCause::Due(due);
     }
-    let (mut rest, mut due) = (drawn, None);
+    let (mut rest, mut due) = (text, None);
     match check_buffered_with_due(alloc, &mut rest, &mut due) {
         Ok(_) => LineCause::Due(due),
         Err(_) => LineCause::Trace(cause),
     }
 }
 
-/// Returns the text that was checked or was to be drawn, or `None` if there is no memory for it. One that was to be
-/// drawn is `drawn`.
-pub fn text_in<'a>(seen: Option<&'a [u8]>, drawn: &'a [u8]) -> Option<&'a [u8]> {
-    if drawn.is_empty() { seen } else { Some(drawn) }
+/// Returns what there is to say about a wrong line of the text that was checked or was to be drawn. One that was to be drawn is
+/// `text`. The cause alone is `said`.
+fn line_notice(
+    alloc: Global,
+    seen: Option<&[u8]>,
+    text: &[u8],
+    line: u64,
+    why: LineCause,
+    said: &'static str,
+) -> Notice {
+    let place = match seen {
+        _ if !text.is_empty() => line_note(alloc, text, line, why, said),
+        Some(seen) => line_note(alloc, seen, line, why, said),
+        None => Ok(None),
+    };
+    placed(place, Notice::Line { line, text: said })
+}
+
+/// Returns what there is to say about a text that is not a trace, by its first wrong line. One that was to be drawn is `text`. If the line
+/// is wrong for its marks, `due` is the mark that is due there, if one is; of a text that was to be drawn it is looked for.
+pub fn trace_notice(
+    alloc: Global,
+    seen: Option<&[u8]>,
+    text: &[u8],
+    line: u64,
+    cause: Cause,
+    due: Option<Mark>,
+) -> Notice {
+    let why = cause_in(alloc, text, cause, due);
+    line_notice(alloc, seen, text, line, why, cause_text(cause))
+}
+
+/// Returns what there is to say about a text that is not a mark log, by its first wrong line. One that was to be drawn is `text`.
+pub fn log_notice(
+    alloc: Global,
+    seen: Option<&[u8]>,
+    text: &[u8],
+    line: u64,
+    cause: MarkCause,
+) -> Notice {
+    let why = LineCause::Marks(cause);
+    line_notice(alloc, seen, text, line, why, mark_cause_text(cause))
+}
+
+/// Returns what there is to say about a text of books that does not settle, by its wrong line.
+pub fn unsettled_notice(alloc: Global, books: &[u8], line: u64, cause: TextCause) -> Notice {
+    let text = text_cause_text(cause);
+    placed(
+        unsettled_note(alloc, books, line, cause),
+        Notice::Line { line, text },
+    )
 }

@@ -9,7 +9,7 @@ use std::io::{BufRead, Read};
 
 /// What was read.
 #[derive(Drop)]
-pub struct Seen {
+pub struct RecordedInput {
     /// The first bytes that were read, and what the reader showed after them.
     bytes: Vec<u8>,
     /// The most bytes that are remembered.
@@ -20,7 +20,7 @@ pub struct Seen {
     is_whole: bool,
 }
 
-impl Seen {
+impl RecordedInput {
     /// The most bytes that are remembered of what is checked: as many as a text may have, and a line as far as it is
     /// read.
     pub const MAX_TEXT: usize = MAX_TEXT as usize + MAX_LINE;
@@ -71,7 +71,7 @@ impl Seen {
 #[derive(Drop)]
 pub struct RecordingReader<R> {
     inner: R,
-    seen: Seen,
+    recorded: RecordedInput,
 }
 
 impl<R> RecordingReader<R> {
@@ -81,12 +81,12 @@ impl<R> RecordingReader<R> {
         ensures { result.inner ≡ inner }
     {
         let most = match arguments.get(1) {
-            Some(command) if command.as_str() == "check" => Seen::MAX_TEXT,
-            _ => Seen::MAX_BYTES,
+            Some(command) if command.as_str() == "check" => RecordedInput::MAX_TEXT,
+            _ => RecordedInput::MAX_BYTES,
         };
         RecordingReader {
             inner,
-            seen: Seen {
+            recorded: RecordedInput {
                 bytes: Vec::new(alloc),
                 most,
                 taken: 0,
@@ -96,8 +96,8 @@ impl<R> RecordingReader<R> {
     }
 
     /// Returns what was read.
-    pub fn seen(&self) -> &Seen {
-        &self.seen
+    pub fn recorded(&self) -> &RecordedInput {
+        &self.recorded
     }
 }
 
@@ -106,8 +106,8 @@ impl<R: Read> Read for RecordingReader<R> {
 
     fn read(&mut self, buf: &mut [u8]) -> io::Result<usize> {
         let count = self.inner.read(buf)?;
-        self.seen.show(&buf[..count]);
-        self.seen.take(count);
+        self.recorded.show(&buf[..count]);
+        self.recorded.take(count);
         Ok(count)
     }
 }
@@ -118,9 +118,9 @@ impl<R: BufRead> BufRead for RecordingReader<R> {
     #[inline(always)]
     fn fill_buf(&mut self) -> io::Result<&[u8]> {
         // Until all that was shown is read, a reader with a buffer shows the same, as for most lines.
-        if self.seen.ahead() == 0 {
+        if self.recorded.ahead() == 0 {
             let shown = self.inner.fill_buf()?;
-            self.seen.show(shown);
+            self.recorded.show(shown);
             if shown.is_empty() {
                 return Ok(b"");
             }
@@ -130,7 +130,7 @@ impl<R: BufRead> BufRead for RecordingReader<R> {
     }
 
     fn consume(&mut self, amount: usize) {
-        self.seen.take(amount);
+        self.recorded.take(amount);
         self.inner.consume(amount);
     }
 }

@@ -7,9 +7,9 @@ use ra_stamp::{Mark, Mode, Name};
 use ra_world::cut;
 use std::alloc::Global;
 
-/// A client of a node with a name, and how far it is.
+/// How far a client of a node is with a name.
 #[derive(Clone, Copy)]
-pub struct Standing {
+pub struct ClientState {
     pub client: u32,
     pub name: Name,
     /// The mode in which it last asked.
@@ -20,9 +20,9 @@ pub struct Standing {
     pub since: u64,
 }
 
-impl Standing {
+impl ClientState {
     /// Notes the event of a line that the node took, and its marks.
-    fn take(&mut self, line: u64, kind: &BookKind, marks: &[Mark]) {
+    fn note_line(&mut self, line: u64, kind: &BookKind, marks: &[Mark]) {
         if let BookKind::Asked { client, name, mode } = kind
             && self.client == *client
             && self.name == *name
@@ -52,7 +52,7 @@ impl Standing {
 fn first_refusal(
     alloc: Global,
     node: &mut TimedNode,
-    standing: &mut Option<Standing>,
+    state: &mut Option<ClientState>,
     opening: &Opening<'_>,
     number: u64,
 ) -> Option<Refusal> {
@@ -67,8 +67,8 @@ fn first_refusal(
         };
         match node.take(alloc, &kind) {
             Ok(outcome) => {
-                if let Some(client) = standing {
-                    client.take(place, &kind, outcome.marks.as_slice());
+                if let Some(state) = state {
+                    state.note_line(place, &kind, outcome.marks.as_slice());
                 }
             }
             Err(cause) => return Some(Refusal::Event(cause)),
@@ -85,12 +85,12 @@ pub fn refused_event(
     opening: &Opening<'_>,
     line: &[u8],
     number: u64,
-) -> Option<(Refusal, Option<Standing>)> {
+) -> Option<(Refusal, Option<ClientState>)> {
     let mut node = TimedNode::new(alloc, opening.member, opening.start);
-    let mut standing = match &event_of(line) {
+    let mut state = match &event_of(line) {
         // Before the first line of the book, the client has not asked.
         Ok(BookKind::Asked { client, name, .. } | BookKind::Gave { client, name }) => {
-            Some(Standing {
+            Some(ClientState {
                 client: *client,
                 name: *name,
                 mode: Mode::Exclusive,
@@ -100,10 +100,8 @@ pub fn refused_event(
         }
         _ => None,
     };
-    let refusal = first_refusal(alloc, &mut node, &mut standing, opening, number);
-    drop(node);
-    match refusal {
+    match first_refusal(alloc, &mut node, &mut state, opening, number) {
         None | Some(Refusal::Event(BookError::Memory)) => None,
-        Some(why) => Some((why, standing)),
+        Some(why) => Some((why, state)),
     }
 }

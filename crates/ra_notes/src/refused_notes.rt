@@ -1,5 +1,5 @@
 //! What is said of the line that the node of a book does not take.
-use crate::refused_event::Standing;
+use crate::refused_event::ClientState;
 use ra_book::Refusal;
 use ra_explain::{
     Stage, push_digits_fault, push_exhausted, push_frame_fault, push_numbered, push_stage,
@@ -14,24 +14,24 @@ const RECEIVE: &[u8] = b"receive ";
 
 /// Adds why a client may not do what it does at the line: how far it is, and what is expected before it asks again or leaves, or that no
 /// number is left.
-fn push_client(note: &mut Note, why: BookError, standing: &Standing) {
+fn push_client(note: &mut Note, why: BookError, state: &ClientState) {
     let asks = match why {
         BookError::Busy => true,
         BookError::NotHeld => false,
         _ => {
-            push_exhausted(note, &standing.name);
+            push_exhausted(note, &state.name);
             return;
         }
     };
-    let stage = standing.stage;
+    let stage = state.stage;
     push_stage(
         note,
-        standing.client,
-        &standing.name,
+        state.client,
+        &state.name,
         None,
         stage,
-        standing.mode,
-        standing.since,
+        state.mode,
+        state.since,
     );
     note.push(match stage {
         Some(Stage::Holds) if asks => " and may not ask for it again: expected its release first",
@@ -49,7 +49,7 @@ pub fn push_refused(
     frame: &Option<Frame>,
     member: Member,
     why: Refusal,
-    standing: &Option<Standing>,
+    state: &Option<ClientState>,
 ) {
     let digits = line.get(RECEIVE.len()..).unwrap_or(b"");
     let cause = match why {
@@ -62,8 +62,8 @@ pub fn push_refused(
         note.push(
             "the clock of this event would be above the greatest, 4611686018427387904 (2^62)",
         );
-    } else if let Some(standing) = standing {
-        push_client(note, cause, standing);
+    } else if let Some(state) = state {
+        push_client(note, cause, state);
     } else if let Some(frame) = frame {
         if let BookError::WrongNode = cause {
             push_numbered(note, "the frame is for node ", frame.message.to().get());

@@ -65,10 +65,10 @@ fn push_event(
     }
     if let TextCause::Refused = cause
         && let Some(opening) = &openings.last
-        && let Some((why, standing)) = refused_event(alloc, opening, line, number)
+        && let Some((why, state)) = refused_event(alloc, opening, line, number)
     {
         note.push(": ");
-        push_refused(note, line, &frame, opening.member, why, &standing);
+        push_refused(note, line, &frame, opening.member, why, &state);
         return true;
     }
     false

@@ -1,13 +1,13 @@
 //! Which names a script leaves locked.
 use crate::script_notes::script_text::script_in;
-use ra_explain::push_name_and_mode;
+use ra_explain::{MAX_CLIENTS, push_name_and_mode};
 use ra_schedule::{Op, Script, is_unreleased};
 use ra_stamp::Memory;
 use ra_world::Note;
 use std::alloc::Global;
 
-/// The most clients that a note names, and the most names of each.
-const MOST: u64 = 4;
+/// The most names that are told of each client.
+const MAX_NAMES: u64 = 4;
 
 /// Adds the names that a client holds at its end, after this many other clients that hold names. Returns how many
 /// clients hold names so far.
@@ -15,8 +15,8 @@ fn push_kept(note: &mut Note, script: &Script, client: u32, clients: u64) -> u64
     let mut names = 0;
     for place in 0..script.ops_of(client).unwrap_or(0) {
         if is_unreleased(script, client, place) {
-            if clients < MOST
-                && names < MOST
+            if clients < MAX_CLIENTS
+                && names < MAX_NAMES
                 && let Some(Op::Lock(name, mode)) = &script.op(client, place)
             {
                 let joint = if names > 0 {
@@ -35,8 +35,8 @@ fn push_kept(note: &mut Note, script: &Script, client: u32, clients: u64) -> u64
             names = u64::saturating_add(names, 1);
         }
     }
-    if clients < MOST {
-        note.push_more(" and ", names, MOST);
+    if clients < MAX_CLIENTS {
+        note.push_more(" and ", names, MAX_NAMES);
     }
     clients.saturating_add(names.min(1))
 }
@@ -55,7 +55,7 @@ pub fn script_end_note(alloc: Global, script: &[u8]) -> Result<Option<String>, M
         for place in 0..script.clients() {
             clients = push_kept(&mut note, &script, place + 1, clients);
         }
-        note.push_more("; and ", clients, MOST);
+        note.push_more("; and ", clients, MAX_CLIENTS);
     }
     note.finish()
 }

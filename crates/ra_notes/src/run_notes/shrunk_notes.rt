@@ -1,12 +1,16 @@
-//! What is said of a run that was shrunk.
+//! The notes on a run that was shrunk: by how much, and what is left to do in the shorter run, whose choices were printed.
+use crate::input_places::policy_by;
+use crate::note_texts::UNEXPLAINED;
 use crate::run_notes::unfinished::push_run;
 use crate::script_notes::script_text::{run_of, script_in};
 use ra_explain::push_number_in;
 use ra_schedule::{DriveError, Policy, Script, Shrunk, shrink};
 use ra_script::MAX_TURNS;
 use ra_stamp::Memory;
+use ra_task::{Command, write_line};
 use ra_world::Note;
 use std::alloc::Global;
+use std::io::Write;
 
 /// What comes between two lines of a note.
 const NEXT_LINE: &str = "\nra: ";
@@ -30,11 +34,7 @@ fn push_shorter(alloc: Global, note: &mut Note, script: &Script, policy: &Policy
 /// # Errors
 ///
 /// `Memory`: memory ran out.
-pub fn shrunk_note(
-    alloc: Global,
-    script: &[u8],
-    policy: &Policy,
-) -> Result<Option<String>, Memory> {
+fn shrunk_note(alloc: Global, script: &[u8], policy: &Policy) -> Result<Option<String>, Memory> {
     let mut note = Note::new(alloc);
     if let Some(script) = script_in(alloc, &mut note, script) {
         match shrink(alloc, &script, policy, MAX_TURNS) {
@@ -53,4 +53,25 @@ pub fn shrunk_note(
         }
     }
     note.finish()
+}
+
+/// Writes by how much a run was shrunk that is not finished, and what is left to do in the shorter one. If it was not stuck, it writes
+/// what is left to do in the run itself. With many seeds, `last_seed` made the run. If memory runs out, or the script or the run is
+/// not known, it writes that. It ignores a failure of the writer.
+pub fn write_shrunk_notes<N: Write>(
+    alloc: Global,
+    asked: &Command<'_>,
+    script: Option<&[u8]>,
+    last_seed: Option<u64>,
+    notes: &mut N,
+) {
+    let told = match (script, &policy_by(alloc, asked, last_seed)) {
+        (Some(script), Some(policy)) => shrunk_note(alloc, script, policy),
+        _ => Err(Memory),
+    };
+    match told {
+        Ok(Some(text)) => write_line(notes, text.as_str()),
+        Ok(None) => {}
+        Err(Memory) => write_line(notes, UNEXPLAINED),
+    }
 }

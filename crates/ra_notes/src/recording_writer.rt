@@ -1,4 +1,4 @@
-//! A writer that remembers how it failed, so that it can be said.
+//! A writer that records how it failed, so that it can be said.
 ghost use Rattle.std.specs.Prelude.{◌≡◌};
 
 use std::io;
@@ -15,19 +15,19 @@ pub enum OutputFault {
     Other,
 }
 
-/// A writer that remembers how it failed last. What it takes is what the writer in it takes.
+/// A writer that records how it failed last. What it takes is what the writer in it takes.
 #[derive(Drop)]
-pub struct SeenWriter<W> {
+pub struct RecordingWriter<W> {
     inner: W,
     fault: Option<OutputFault>,
 }
 
-impl<W> SeenWriter<W> {
+impl<W> RecordingWriter<W> {
     /// Makes one of a writer. Neither it nor what is written later allocates.
-    pub fn new(inner: W) -> SeenWriter<W>
+    pub fn new(inner: W) -> RecordingWriter<W>
         ensures { result.inner ≡ inner }
     {
-        SeenWriter { inner, fault: None }
+        RecordingWriter { inner, fault: None }
     }
 
     /// Returns how the writer failed last, or `None` if it did not.
@@ -35,8 +35,8 @@ impl<W> SeenWriter<W> {
         self.fault
     }
 
-    /// Remembers how the writer failed, if it did.
-    fn remember<T>(&mut self, written: &io::Result<T>)
+    /// Records how the writer failed, if it did.
+    fn record<T>(&mut self, written: &io::Result<T>)
         ensures { self.new.inner ≡ self.old.inner }
     {
         if let Err(error) = written {
@@ -49,12 +49,12 @@ impl<W> SeenWriter<W> {
     }
 }
 
-impl<W: Write> Write for SeenWriter<W> {
+impl<W: Write> Write for RecordingWriter<W> {
     ghost contents = { λ writer. W.contents writer.inner };
 
     fn write(&mut self, buf: &[u8]) -> io::Result<usize> {
         let written = self.inner.write(buf);
-        self.remember(&written);
+        self.record(&written);
         if let Ok(0) = &written
             && !buf.is_empty()
         {
@@ -65,13 +65,13 @@ impl<W: Write> Write for SeenWriter<W> {
 
     fn flush(&mut self) -> io::Result<()> {
         let flushed = self.inner.flush();
-        self.remember(&flushed);
+        self.record(&flushed);
         flushed
     }
 
     fn write_all(&mut self, buf: &[u8]) -> io::Result<()> {
         let written = self.inner.write_all(buf);
-        self.remember(&written);
+        self.record(&written);
         written
     }
 }
