@@ -184,9 +184,10 @@ impl Script {
     }
 
     /// Does nothing. Its contract is what holds of every script, for proofs that use no other call of it.
-    pub fn is_within_its_limits(&self)
+    pub fn limits_hold(&self)
         ensures { IsScript self.now }
     {
+        // For the proof: a script meets its invariant.
         let _ = &self.nodes;
     }
 

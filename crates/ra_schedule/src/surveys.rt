@@ -79,7 +79,8 @@ pub fn survey<O: Observer>(
     ensures err { OnErr result (TellsSomeSeeds script.now faults limit seeds.first seeds.last
         (O.told observer.old) (O.told observer.new)) }
 {
-    script.is_within_its_limits();
+    // For the proof: the script is within its limits.
+    script.limits_hold();
     let SeedRange { first, last } = seeds;
     let mut survey = no_survey();
     if last < first {

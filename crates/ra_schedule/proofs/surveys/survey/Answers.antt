@@ -60,13 +60,13 @@ returns-in_ok-outcome-clause-told g c =
 pub returns-then-last-first-clause-waiting_ends : goal.returns-then-last-first-clause-waiting_ends
 returns-then-last-first-clause-waiting_ends g c =
     let script = c.args.script.now in
-    seeds_finish endings_rest_on_runs schedules_rest_on_runs script c.is_within_its_limits.ensures c.args.faults c.args.limit
+    seeds_finish endings_rest_on_runs schedules_rest_on_runs script c.limits_hold.ensures c.args.faults c.args.limit
     c.args.seeds.first c.args.seeds.last c.no_survey-survey.result
     (no_seeds script c.args.faults c.args.limit c.args.seeds.first c.args.seeds.last c.no_survey-survey.result c.if-last-first.true (c.no_survey-survey.ensures c.args.seeds.first))
 
 pub returns-in_ok-outcome-clause-waiting_ends : goal.returns-in_ok-outcome-clause-waiting_ends
 returns-in_ok-outcome-clause-waiting_ends g c =
-    seeds_finish endings_rest_on_runs schedules_rest_on_runs c.args.script.now c.is_within_its_limits.ensures c.args.faults c.args.limit
+    seeds_finish endings_rest_on_runs schedules_rest_on_runs c.args.script.now c.limits_hold.ensures c.args.faults c.args.limit
     c.args.seeds.first c.args.seeds.last c.with_outcome-survey.result (returns-in_ok-outcome-clause-ok g c)
 
 pub returns-else-last-first-clause-ok : goal.returns-else-last-first-clause-ok
