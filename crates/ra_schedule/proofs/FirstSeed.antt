@@ -25,9 +25,6 @@ pub none_past : (script : ScriptState) (faults : Option FaultRates) (limit : ℕ
     → NoneBefore script faults limit ending first (last + 1)
 none_past script faults limit ending first last past other from below = absurd (omega (arith, past, from, below))
 
-pub no_seeds : (first last : ℕ) → last < first → first + (last + 1 - first) ≡ first
-no_seeds first last past = omega (arith, past)
-
 -- so many seeds were tried up to this one
 pub tried_to : (first seed count : ℕ) → first + count ≡ seed → first + (seed + 1 - first) ≡ seed + 1
 tried_to first seed count so = omega (arith, so)

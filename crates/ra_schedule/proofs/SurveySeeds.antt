@@ -1,5 +1,5 @@
 -- One more seed after those that were tried.
-use Rattle.std.proofs.Common.{◌≡◌, ◌⊎◌, ℕ, zero, suc, ◌+◌, ◌<◌, ◌≤◌, Option, Some, List, [], ◌∷◌, ◌++◌, length, slice_get, refl, sym, subst, arith, inl, inr}
+use Rattle.std.proofs.Common.{◌≡◌, ◌⊎◌, ℕ, zero, suc, ◌+◌, ◌-◌, Option, Some, List, [], ◌∷◌, ◌++◌, length, slice_get, refl, sym, subst, arith, inl, inr}
 use Rattle.std.proofs.lemmas.List.{length-append}
 use Rattle.ra_schedule.specs.declared.surveys.seed_outcomes.SeedOutcome.{SeedOutcome}
 use Rattle.ra_schedule.specs.declared.surveys.seed_outcomes.Survey.{Survey}
@@ -56,22 +56,12 @@ one_more_seed script faults limit first seed survey new outcome so is t = record
   tallies = t;
 }
 
--- if the last one is tried, they are all
-pub all_seeds : (script : ScriptState) (faults : Option FaultRates) (limit first last : ℕ) (survey : Survey) → first ≤ last → SoFar script faults limit first (last + 1) survey
-    → IsSurvey script faults limit first last survey
-all_seeds script faults limit first last survey some so = record {
+-- if the last one is tried, or there are none, they are all
+pub all_seeds : (script : ScriptState) (faults : Option FaultRates) (limit first last seed : ℕ) (survey : Survey) → first + (last + 1 - first) ≡ seed
+    → SoFar script faults limit first seed survey → IsSurvey script faults limit first last survey
+all_seeds script faults limit first last seed survey is so = record {
   outcomes = so.outcomes;
   each = so.each;
-  all = omega (arith, so.seeds);
+  all = omega (arith, so.seeds, is);
   tallies = so.tallies;
-}
-
--- if the last one is below the first there are none
-pub no_seeds : (script : ScriptState) (faults : Option FaultRates) (limit first last : ℕ) (survey : Survey) → last < first → Tallies first [] survey
-    → IsSurvey script faults limit first last survey
-no_seeds script faults limit first last survey none t = record {
-  outcomes = [];
-  each = λ place outcome e. absurd cc;
-  all = omega arith;
-  tallies = t;
 }

@@ -83,9 +83,6 @@ pub fn survey<O: Observer>(
     script.limits_hold();
     let SeedRange { first, last } = seeds;
     let mut survey = no_survey();
-    if last < first {
-        return Ok(survey);
-    }
     for seed in first..=last {
         let outcome = outcome_of(alloc, script, &faults, seed, limit)?;
         observer.ended(seed, outcome);

@@ -52,9 +52,6 @@ pub fn first_seed<O: Observer>(
         (O.told observer.old) (O.told observer.new)) }
 {
     let SeedRange { first, last } = seeds;
-    if last < first {
-        return Ok(None);
-    }
     for seed in first..=last {
         let outcome = outcome_of(alloc, script, &faults, seed, limit)?;
         observer.ended(seed, outcome);

@@ -1,8 +1,11 @@
+use Rattle.std.proofs.Common.{◌≡◌, ◌<◌}
 use Rattle.ra_schedule.specs.Finding.{NoneBefore}
 use Rattle.ra_schedule.proofs.ToldSeeds.{ToldSoFar}
 use Rattle.ra_schedule.proofs.surveys.first_seed.first_seed.Given as goal
 
--- the script does not come to that end by the seeds so far, and the observer was told of them
+-- the script does not come to that end by the seeds so far, and the observer was told of them; only if there are no seeds
+-- is one past the last
 abbrev pub invariant-loop-seed : goal.invariant-loop-seed
 invariant-loop-seed g l = NoneBefore l.script l.faults l.limit l.ending l.first l.seed
     × ToldSoFar l.script l.faults l.limit l.first l.seed (g.O.Observer.told l.initial.observer) (g.O.Observer.told l.observer)
+    × (l.last < l.seed → l.seed ≡ l.first)
