@@ -10,8 +10,8 @@ use Rattle.std.proofs.KnownBytes.{Consumes-nil, Consumes-trans}
 use Rattle.ra_book.specs.declared.next_line.kept_line.KeptLine.{KeptLine}
 use Rattle.ra_book.specs.declared.next_line.input_piece.Piece.{Piece}
 use Rattle.ra_book.specs.declared.next_line.input_piece.Piece.TheVariants.{Part, Over, End}
-use Rattle.ra_book.specs.declared.next_line.input_piece.ReadFailed.{ReadFailed}
 use Rattle.ra_book.specs.declared.next_line.input_piece.TakenBytes.{TakenBytes}
+use Rattle.ra_world.specs.declared.error.ReadFault.{ReadFault}
 use Rattle.ra_book.specs.Input.{HasNoFeed, IsKeptLine, IsPiece, Keeps, TakesShown, TakesPiece, TakesLine, TakesOpen, TakesMost}
 
 -- more bytes than there is room for
@@ -105,15 +105,15 @@ is_part old new line line' taken goes_on some h =
     (h.1, subst (Consumes old new) piece.0 h.2, piece.1, omega (arith, some, h.3, ap length piece.0), h.5)
 
 -- nothing, and then a piece
-none_first : (old mid new : Option (List ℕ)) (line kept line' : KeptLine) (r : Result Piece ReadFailed) → Consumes old mid [] → Keeps line kept []
+none_first : (old mid new : Option (List ℕ)) (line kept line' : KeptLine) (r : Result Piece ReadFault) → Consumes old mid [] → Keeps line kept []
     → TakesPiece mid new kept line' r → TakesPiece old new line line' r
 none_first old mid new line kept line' (Ok Part) none keeps (part, took, free, some, more) =
     (part, Consumes-trans old mid new [] part none took, free, some, after line kept line' part keeps more)
 none_first old mid new line kept line' (Ok Over) none keeps p = (p.0, Consumes-trans old mid new [] (p.0 ++ 10 ∷ []) none p.1, p.2, after line kept line' p.0 keeps p.3)
 none_first old mid new line kept line' (Ok End) none keeps p = (Consumes-trans old mid new [] [] none p.0, p.1, after line kept line' [] keeps p.2)
-none_first old mid new line kept line' (Err failed) none keeps p = Consumes-trans old mid new [] [] none p
+none_first old mid new line kept line' (Err fault) none keeps p = (p.0, Consumes-trans old mid new [] [] none p.1)
 
-pub is_more : (old mid new : Option (List ℕ)) (line kept line' : KeptLine) (taken : TakenBytes) (r : Result Piece ReadFailed) → taken.is_over ≡ false → taken.count ≡ 0
+pub is_more : (old mid new : Option (List ℕ)) (line kept line' : KeptLine) (taken : TakenBytes) (r : Result Piece ReadFault) → taken.is_over ≡ false → taken.count ≡ 0
     → TakesShown old mid line kept (Ok taken) → TakesPiece mid new kept line' r → TakesPiece old new line line' r
 is_more old mid new line kept line' taken r goes_on zero h p =
     let piece : IsPiece h.0 false h.1 = subst (λ (b : Bool). IsPiece h.0 b h.1) goes_on h.4 in

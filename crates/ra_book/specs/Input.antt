@@ -4,8 +4,9 @@ use Rattle.std.specs.Io.KnownBytes.{Consumes, IsAtEnd}
 use Rattle.ra_book.specs.declared.next_line.kept_line.KeptLine.{KeptLine}
 use Rattle.ra_book.specs.declared.next_line.input_piece.Piece.{Piece}
 use Rattle.ra_book.specs.declared.next_line.input_piece.Piece.TheVariants.{Part, Over, End}
-use Rattle.ra_book.specs.declared.next_line.input_piece.ReadFailed.{ReadFailed}
 use Rattle.ra_book.specs.declared.next_line.input_piece.TakenBytes.{TakenBytes}
+use Rattle.ra_world.specs.declared.error.ReadFault.{ReadFault}
+use Rattle.ra_world.specs.declared.error.ReadFault.TheVariants.{Read}
 
 -- no line feed is among these bytes
 abbrev pub HasNoFeed : List ℕ → Type 0
@@ -34,19 +35,19 @@ pub record KeepsShown (shown : List ℕ) (old new : KeptLine) (taken : TakenByte
   pub keeps : Keeps old new part
 
 -- so much was taken of what was shown
-abbrev pub TakesShown : Option (List ℕ) → Option (List ℕ) → KeptLine → KeptLine → Result TakenBytes ReadFailed → Type 0
+abbrev pub TakesShown : Option (List ℕ) → Option (List ℕ) → KeptLine → KeptLine → Result TakenBytes ReadFault → Type 0
 TakesShown old new line line' (Ok taken) =
     (bytes : List ℕ) × (part : List ℕ) × Consumes old new bytes × (length bytes ≡ taken.count) × IsPiece bytes taken.is_over part
     × Keeps line line' part
-TakesShown old new line line' (Err failed) = Consumes old new [] × (line' ≡ line)
+TakesShown old new line line' (Err fault) = (fault ≡ Read) × Consumes old new [] × (line' ≡ line)
 
 -- these bytes of a line were taken
-abbrev pub TakesPiece : Option (List ℕ) → Option (List ℕ) → KeptLine → KeptLine → Result Piece ReadFailed → Type 0
+abbrev pub TakesPiece : Option (List ℕ) → Option (List ℕ) → KeptLine → KeptLine → Result Piece ReadFault → Type 0
 TakesPiece old new line line' (Ok Part) =
     (part : List ℕ) × Consumes old new part × HasNoFeed part × (1 ≤ length part) × Keeps line line' part
 TakesPiece old new line line' (Ok Over) = (part : List ℕ) × Consumes old new (part ++ 10 ∷ []) × HasNoFeed part × Keeps line line' part
 TakesPiece old new line line' (Ok End) = Consumes old new [] × IsAtEnd new × Keeps line line' []
-TakesPiece old new line line' (Err failed) = Consumes old new []
+TakesPiece old new line line' (Err fault) = (fault ≡ Read) × Consumes old new []
 
 -- the next line was taken with its line feed, and this is kept of it; or bytes without one
 abbrev pub TakesLine : Option (List ℕ) → Option (List ℕ) → KeptLine → Type 0

@@ -12,6 +12,7 @@ mod world;
 
 pub use error::{NewError, NodeRefusal, ReadFault, RunError, StepError, WriteFault};
 pub use io::limited_input::read_up_to;
+pub use io::one_byte::next_byte;
 pub use io::whole_output::write_out;
 pub use laws::fitting::{steps_that_fit_together_are_runs, steps_that_fit_with_copies_are_runs};
 pub use laws::{

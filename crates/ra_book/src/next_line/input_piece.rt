@@ -1,10 +1,8 @@
 //! Some bytes of the input.
-ghost use Rattle.std.specs.Prelude.{◌∷◌, [], IfOk, IfSome, IsNone, OnErr};
-ghost use Rattle.std.specs.Io.KnownBytes.{Consumes, IsAtEnd};
 ghost use Rattle.ra_book.specs.Input.{KeepsShown, TakesShown, TakesPiece};
 
 use crate::next_line::kept_line::KeptLine;
-use ra_world::cut;
+use ra_world::{ReadFault, cut, next_byte};
 use std::io::{BufRead, Read};
 
 /// What was taken.
@@ -17,10 +15,6 @@ pub enum Piece {
     /// Nothing: the input is at its end.
     End,
 }
-
-/// That the reader failed.
-#[derive(Clone, Copy)]
-pub struct ReadFailed;
 
 /// What is taken of the bytes that a reader shows.
 #[derive(Clone, Copy)]
@@ -53,37 +47,18 @@ fn keep_shown(shown: &[u8], line: &mut KeptLine) -> TakenBytes
     }
 }
 
-/// Reads the next byte, or `None` at the end. It does not allocate.
-///
-/// # Errors
-///
-/// `ReadFailed`: the reader failed. It is not tried again.
-fn next_byte<R: Read>(reader: &mut R) -> Result<Option<u8>, ReadFailed>
-    ensures some { IfOk result (λ came. IfSome came (λ byte. Consumes (R.remaining reader.old) (R.remaining reader.new) (byte ∷ []))) }
-    ensures none { IfOk result (λ came. IsNone came
-        → Consumes (R.remaining reader.old) (R.remaining reader.new) [] × IsAtEnd (R.remaining reader.new)) }
-    ensures untaken { OnErr result (Consumes (R.remaining reader.old) (R.remaining reader.new) []) }
-{
-    let mut byte = [0; 1];
-    match reader.read(&mut byte) {
-        Ok(0) => Ok(None),
-        Ok(_) => Ok(Some(byte[0])),
-        Err(_) => Err(ReadFailed),
-    }
-}
-
 /// Takes one byte from a reader that shows none. By the contract of `BufRead`, a reader that shows nothing need not be at its
 /// end; one that gives nothing is.
 ///
 /// # Errors
 ///
-/// `ReadFailed`: the reader failed. It is not tried again.
-fn take_byte<R: Read>(reader: &mut R, line: &mut KeptLine) -> Result<Piece, ReadFailed>
+/// `Read`: the reader failed. It is not tried again.
+fn take_byte<R: Read>(reader: &mut R, line: &mut KeptLine) -> Result<Piece, ReadFault>
     ensures { TakesPiece (R.remaining reader.old) (R.remaining reader.new) line.old line.new result }
 {
     let came = match next_byte(reader) {
         Ok(came) => came,
-        Err(why) => return Err(why),
+        Err(fault) => return Err(fault),
     };
     let Some(byte) = came else {
         return Ok(Piece::End);
@@ -99,13 +74,13 @@ fn take_byte<R: Read>(reader: &mut R, line: &mut KeptLine) -> Result<Piece, Read
 ///
 /// # Errors
 ///
-/// `ReadFailed`: the reader failed. It is not tried again.
-fn take_shown<B: BufRead>(reader: &mut B, line: &mut KeptLine) -> Result<TakenBytes, ReadFailed>
+/// `Read`: the reader failed. It is not tried again.
+fn take_shown<B: BufRead>(reader: &mut B, line: &mut KeptLine) -> Result<TakenBytes, ReadFault>
     ensures { TakesShown (B.remaining reader.old) (B.remaining reader.new) line.old line.new result }
 {
     let shown = match reader.fill_buf() {
         Ok(shown) => shown,
-        Err(_) => return Err(ReadFailed),
+        Err(_) => return Err(ReadFault::Read),
     };
     let taken = keep_shown(shown, line);
     reader.consume(taken.count);
@@ -117,17 +92,17 @@ fn take_shown<B: BufRead>(reader: &mut B, line: &mut KeptLine) -> Result<TakenBy
 ///
 /// # Errors
 ///
-/// `ReadFailed`: the reader failed. It is not tried again.
+/// `Read`: the reader failed. It is not tried again.
 pub fn take_piece<B: BufRead>(
     reader: &mut B,
     line: &mut KeptLine,
     is_drained: &mut bool,
-) -> Result<Piece, ReadFailed>
+) -> Result<Piece, ReadFault>
     ensures { TakesPiece (B.remaining reader.old) (B.remaining reader.new) line.old line.new result }
 {
     let taken = match take_shown(reader, line) {
         Ok(taken) => taken,
-        Err(why) => return Err(why),
+        Err(fault) => return Err(fault),
     };
     *is_drained = taken.is_all;
     if taken.is_over {

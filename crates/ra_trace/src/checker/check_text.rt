@@ -10,11 +10,11 @@ ghost use Rattle.ra_trace.specs.NextLine.{EndsText};
 ghost use Rattle.ra_trace.specs.Reading.{Answers};
 
 use crate::checker::{Checker, Judgement};
-use crate::line_source::byte_lines::next_byte;
 use crate::line_source::{ByBytes, FromBuffer, LineRoom, LineSource};
 use crate::text_limits::MAX_TEXT;
 use crate::{Cause, TraceError, Verdict};
 use ra_stamp::Mark;
+use ra_world::next_byte;
 use std::alloc::Global;
 use std::io::{BufRead, Read};
 
@@ -42,7 +42,7 @@ fn ending<R: Read>(
             line: number,
             cause: Cause::Line,
         }),
-        Err(fault) => Err(fault),
+        Err(_) => Err(TraceError::Read), // It can only be `Read`, as no memory is taken.
     }
 }
 

@@ -1,7 +1,6 @@
 //! The next line of a trace, of which each byte is read by itself, or those that a buffer did not show.
-ghost use Rattle.std.specs.Prelude.{◌≡◌, ◌≢◌, ℕ, ◌≤◌, ◌∷◌, [], List, Option, All, length, IfOk, IfErr, IfSome, IsNone, OnErr};
-ghost use Rattle.std.specs.Io.KnownBytes.{Consumes, IsAtEnd};
-ghost use Rattle.ra_trace.specs.declared.error.TraceError.{TraceError};
+ghost use Rattle.std.specs.Prelude.{◌≢◌, ℕ, ◌≤◌, List, Option, All, length};
+ghost use Rattle.std.specs.Io.KnownBytes.{Consumes};
 ghost use Rattle.ra_trace.specs.NextLine.{ReadsLine, ReadsSome};
 
 use crate::TraceError;
@@ -9,6 +8,7 @@ use crate::line::forms::read_line_of;
 use crate::line_source::LineRoom;
 use crate::text_limits::MAX_LINE;
 use arrayvec::ArrayVec;
+use ra_world::next_byte;
 use std::io::Read;
 
 /// The bytes of a line, as far as they were read.
@@ -23,26 +23,6 @@ pub enum LineEnd {
     Length,
     /// The input is at its end, and no line feed came.
     Input,
-}
-
-/// Reads the next byte, or `None` at the end. It does not allocate.
-///
-/// # Errors
-///
-/// `Read`: the reader failed. It is not tried again.
-pub fn next_byte<R: Read>(reader: &mut R) -> Result<Option<u8>, TraceError>
-    ensures some { IfOk result (λ came. IfSome came (λ byte. Consumes (R.remaining reader.old) (R.remaining reader.new) (byte ∷ []))) }
-    ensures none { IfOk result (λ came. IsNone came
-        → Consumes (R.remaining reader.old) (R.remaining reader.new) [] × IsAtEnd (R.remaining reader.new)) }
-    ensures err { IfErr result (λ fault. fault ≡ TraceError.Read) }
-    ensures untaken { OnErr result (Consumes (R.remaining reader.old) (R.remaining reader.new) []) }
-{
-    let mut byte = [0; 1];
-    match reader.read(&mut byte) {
-        Ok(0) => Ok(None),
-        Ok(_) => Ok(Some(byte[0])),
-        Err(_) => Err(TraceError::Read),
-    }
 }
 
 /// Reads the bytes of a line that follow those that came, to its line feed, and until there are 128 of them. None of those that came
@@ -65,7 +45,7 @@ fn read_rest<R: Read>(
     for _turn in bytes.len()..MAX_LINE {
         let came = match next_byte(reader) {
             Ok(came) => came,
-            Err(fault) => return Err(fault),
+            Err(_) => return Err(TraceError::Read), // It can only be `Read`, as no memory is taken.
         };
         let Some(byte) = came else {
             return Ok(LineEnd::Input);

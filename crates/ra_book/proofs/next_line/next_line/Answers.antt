@@ -24,7 +24,7 @@ pub returns-then-flush_if-clause-puts : goal.returns-then-flush_if-clause-puts
 returns-then-flush_if-clause-puts g c = both _ _ _ _ _ _ _ _ c.loop-turn.invariant.puts c.flush_if.ensures.puts
 
 pub returns-in-Err-clause-read : goal.returns-in-Err-clause-read
-returns-in-Err-clause-read g c = open_more _ _ _ _ _ c.loop-turn.invariant.some (rw c.in-Err.is at c.take_piece.ensures)
+returns-in-Err-clause-read g c = open_more _ _ _ _ _ c.loop-turn.invariant.some (rw c.in-Err.is at c.take_piece.ensures).1
 
 pub returns-in-Err-clause-puts : goal.returns-in-Err-clause-puts
 returns-in-Err-clause-puts g c = both _ _ _ _ _ _ _ _ c.loop-turn.invariant.puts c.flush_if.ensures.puts

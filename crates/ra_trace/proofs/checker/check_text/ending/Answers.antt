@@ -6,7 +6,6 @@ use Rattle.ra_trace.proofs.checker.check_text.ending.Goals as goal
 
 pub returns-in-Err : goal.returns-in-Err
 returns-in-Err g c =
-    rw c.in-Err.ensures.err
     (read_fails c.args.left (g.R.Read.remaining c.args.reader.now) (g.R.Read.remaining c.next_byte.new.reader) Read refl c.in-Err.ensures.untaken)
 
 pub returns-in-Ok-None : goal.returns-in-Ok-None

@@ -1,6 +1,7 @@
-use Rattle.std.proofs.Common.{◌∷◌, [], ℕ, IfSome, ap, subst}
+use Rattle.std.proofs.Common.{◌∷◌, [], ℕ, IfSome, ap, refl, subst}
 use Rattle.std.specs.Option.{is_some}
 use Rattle.std.specs.Io.KnownBytes.{Consumes}
+use Rattle.ra_trace.specs.declared.error.TraceError.TheVariants.{Read}
 use borrow.Author.Count.{falls}
 use Rattle.ra_trace.proofs.Shown.{input_ends, reader_fails, passes_left, small, just_left, is_short, pushed_within, pushed_count, open_so_far, joined, ends_at_feed, no_feed_more, all_turns}
 use Rattle.ra_trace.proofs.line_source.byte_lines.read_rest.Goals as goal
@@ -19,9 +20,8 @@ loop-turn-init g c = record {
 pub returns-in-Err : goal.returns-in-Err
 returns-in-Err g c old earlier =
     let so_far = c.loop-turn.invariant in
-    let e = c.in-Err.ensures in
     (reader_fails c.args.left old (g.R.Read.remaining c.loop-turn.reader) (g.R.Read.remaining c.next_byte.new.reader)
-    c.loop-turn.bytes.items c.in-Err.fault e.err (so_far.taken old earlier) e.untaken (open_so_far _ _ so_far.count c.loop-turn-test.true so_far.none) so_far.at_most)
+    c.loop-turn.bytes.items Read refl (so_far.taken old earlier) c.in-Err.ensures.untaken (open_so_far _ _ so_far.count c.loop-turn-test.true so_far.none) so_far.at_most)
 
 pub returns-in_default : goal.returns-in_default
 returns-in_default g c old earlier =
