@@ -159,9 +159,7 @@ fn check_by<R: Read, S: LineSource<R>>(
         requests: 0,
         grants: 0,
     };
-    let verdict = verdict_after::<R, S>(reader, &mut log, limit as usize);
-    drop(log);
-    verdict
+    verdict_after::<R, S>(reader, &mut log, limit as usize)
 }
 
 /// Checks a log of marks: lines such as `request 1 7 r X 3`, `enter 1 7 r X 3` and `leave 1 7 r X 3`, each with node, client,

@@ -18,6 +18,12 @@ use ra_world::next_byte;
 use std::alloc::Global;
 use std::io::{BufRead, Read};
 
+/// The verdict of a text that does not begin with the first line of a trace.
+const NOT_OPENED: Verdict = Verdict::Invalid {
+    line: 1,
+    cause: Cause::Line,
+};
+
 /// Returns the verdict after a right last line, for which it reads one byte. A line after it would have this number, and the text may
 /// still have `left` bytes.
 ///
@@ -149,41 +155,6 @@ fn verdict_after<R: Read, S: LineSource<R>>(
     }
 }
 
-/// Checks a text as `check_within` does, and takes the bytes from the reader in the way of `S`. If a line is wrong for its marks,
-/// `due` becomes the mark that was due there.
-///
-/// # Errors
-///
-/// Those of `check_within`.
-fn check_by<R: Read, S: LineSource<R>>(
-    alloc: Global,
-    reader: &mut R,
-    limit: u64,
-    due: &mut Option<Mark>,
-) -> Result<Verdict, TraceError>
-    requires { limit ≤ 16777216 }
-    ensures checks { ChecksTrace limit (R.remaining reader.old) (R.remaining reader.new) result }
-    ensures due { TellsDue (R.remaining reader.old) result due.new }
-{
-    let limit = limit as usize;
-    let mut taken = 0;
-    let opened = match take_first::<R, S>(alloc, reader, &mut taken, limit) {
-        Ok(opened) => opened,
-        Err(fault) => return Err(fault),
-    };
-    match opened {
-        Some(mut checker) => {
-            let verdict = verdict_after::<R, S>(alloc, reader, taken, &mut checker, limit, due);
-            drop(checker);
-            verdict
-        }
-        None => Ok(Verdict::Invalid {
-            line: 1,
-            cause: Cause::Line,
-        }),
-    }
-}
-
 /// Checks the text of a trace of either version. Returns that it is the trace of a run, with the counts of requests and
 /// messages, or which line is the first wrong one, and why. In version 1, a line with a node above 16, with a mode other than
 /// `S` and `X`, or of a repeat is wrong.
@@ -210,7 +181,20 @@ pub fn check_within<R: Read>(
     requires { limit ≤ 16777216 }
     ensures { ChecksTrace limit (R.remaining reader.old) (R.remaining reader.new) result }
 {
-    check_by::<R, ByBytes>(alloc, reader, limit, &mut None)
+    let limit = limit as usize;
+    let mut taken = 0;
+    match take_first::<R, ByBytes>(alloc, reader, &mut taken, limit) {
+        Ok(Some(mut checker)) => verdict_after::<R, ByBytes>(
+            alloc,
+            reader,
+            taken,
+            &mut checker,
+            limit,
+            &mut None,
+        ),
+        Ok(None) => Ok(NOT_OPENED),
+        Err(fault) => Err(fault),
+    }
 }
 
 /// Checks the text of a trace of at most 16,777,216 bytes, as `check_within` does.
@@ -252,5 +236,18 @@ pub fn check_buffered_with_due<B: BufRead>(
     ensures checks { ChecksTrace 16777216 (B.remaining reader.old) (B.remaining reader.new) result }
     ensures due { TellsDue (B.remaining reader.old) result due.new }
 {
-    check_by::<B, FromBuffer>(alloc, reader, MAX_TEXT, due)
+    let limit = MAX_TEXT as usize;
+    let mut taken = 0;
+    match take_first::<B, FromBuffer>(alloc, reader, &mut taken, limit) {
+        Ok(Some(mut checker)) => verdict_after::<B, FromBuffer>(
+            alloc,
+            reader,
+            taken,
+            &mut checker,
+            limit,
+            due,
+        ),
+        Ok(None) => Ok(NOT_OPENED),
+        Err(fault) => Err(fault),
+    }
 }

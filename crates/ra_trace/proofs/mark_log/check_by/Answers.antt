@@ -13,5 +13,5 @@ returns-in_default g c =
 
 pub returns : goal.returns
 returns g c =
-    checked c.args.limit (g.R.Read.remaining c.args.reader.now) (g.R.Read.remaining c.verdict_after-verdict.new.reader)
-    (one_verdict mark_logs_rest_on_tables) c.verdict_after-verdict.result c.verdict_after-verdict.ensures
+    checked c.args.limit (g.R.Read.remaining c.args.reader.now) (g.R.Read.remaining c.verdict_after.new.reader)
+    (one_verdict mark_logs_rest_on_tables) c.verdict_after.result c.verdict_after.ensures

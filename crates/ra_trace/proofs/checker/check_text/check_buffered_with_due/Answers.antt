@@ -1,0 +1,51 @@
+use Rattle.std.proofs.Common.{◌≡◌, ℕ, List, Option, Some, None, Result, Ok, Err}
+use Rattle.ra_stamp.specs.declared.entry.Mark.{Mark}
+use Rattle.ra_trace.specs.declared.checker.verdict.Cause.TheVariants.{Line, Marks}
+use Rattle.ra_trace.specs.declared.checker.verdict.Verdict.{Verdict}
+use Rattle.ra_trace.specs.declared.checker.verdict.Verdict.TheVariants.{Invalid}
+use Rattle.ra_trace.specs.declared.error.TraceError.{TraceError}
+use Rattle.ra_trace.specs.Due.{TellsDue}
+use Rattle.ra_trace.proofs.Inputs.{checked}
+use Rattle.ra_trace.proofs.TraceLaws.{traces_rest_on_runs}
+use Rattle.ra_trace.proofs.Verdicts.{one_verdict}
+use Rattle.ra_trace.proofs.checker.check_text.check_buffered_with_due.Goals as goal
+
+pub returns-in-Err-clause-checks : goal.returns-in-Err-clause-checks
+returns-in-Err-clause-checks g c =
+    checked 16777216 (g.B.Read.remaining c.args.reader.now) (g.B.Read.remaining c.take_first.new.reader) traces_rest_on_runs (one_verdict traces_rest_on_runs)
+    (Err c.in-Err.fault) c.in-Err.ensures.opened
+
+pub returns-in-Ok-Some-clause-checks : goal.returns-in-Ok-Some-clause-checks
+returns-in-Ok-Some-clause-checks g c =
+    let old = g.B.Read.remaining c.args.reader.now in
+    checked 16777216 old (g.B.Read.remaining c.verdict_after.new.reader) traces_rest_on_runs (one_verdict traces_rest_on_runs)
+    c.verdict_after.result (c.verdict_after.ensures.answers old (rw c.in-Ok-Some.field-0-is at c.in-Ok-Some.ensures.opened))
+
+pub returns-in-Ok-None-clause-checks : goal.returns-in-Ok-None-clause-checks
+returns-in-Ok-None-clause-checks g c =
+    checked 16777216 (g.B.Read.remaining c.args.reader.now) (g.B.Read.remaining c.take_first.new.reader) traces_rest_on_runs (one_verdict traces_rest_on_runs)
+    (Ok (Invalid 1 Line)) (rw c.in-Ok-None.field-0-is at c.in-Ok-None.ensures.opened)
+
+-- a mark is due only if a line is wrong for its marks
+none_due : (old : Option (List ℕ)) (result : Result Verdict TraceError) (mark : Option Mark) → ((line : ℕ) → result ≡ Ok (Invalid line Marks) → ⊥)
+    → TellsDue old result mark
+none_due None result mark not = tt
+none_due (Some input) result mark not = λ line is. absurd (not line is)
+
+no_verdict : (fault : TraceError) (line : ℕ) → ◌≡◌ {A = Result Verdict TraceError} (Err fault) (Ok (Invalid line Marks)) → ⊥
+no_verdict fault line e = cc
+
+other_cause : (line : ℕ) → ◌≡◌ {A = Result Verdict TraceError} (Ok (Invalid 1 Line)) (Ok (Invalid line Marks)) → ⊥
+other_cause line e = cc
+
+pub returns-in-Err-clause-due : goal.returns-in-Err-clause-due
+returns-in-Err-clause-due g c =
+    none_due (g.B.Read.remaining c.args.reader.now) (Err c.in-Err.fault) _ (λ line is. no_verdict c.in-Err.fault line is)
+
+pub returns-in-Ok-None-clause-due : goal.returns-in-Ok-None-clause-due
+returns-in-Ok-None-clause-due g c =
+    none_due (g.B.Read.remaining c.args.reader.now) (Ok (Invalid 1 Line)) _ (λ line is. other_cause line is)
+
+pub returns-in-Ok-Some-clause-due : goal.returns-in-Ok-Some-clause-due
+returns-in-Ok-Some-clause-due g c =
+    c.verdict_after.ensures.due (g.B.Read.remaining c.args.reader.now) (rw c.in-Ok-Some.field-0-is at c.in-Ok-Some.ensures.opened)
