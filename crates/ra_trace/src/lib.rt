@@ -20,7 +20,7 @@ pub use laws::{
     traces_tell_their_runs,
 };
 pub use line::Line;
-pub use line::fields::{client_of, cut, mode_of, name_of, node_of, seq_of, start_of};
+pub use line::fields::{client_of, mode_of, name_of, node_of, seq_of, split_once, start_of};
 pub use line::forms::{Change, Fate, Field, LineKind, rest_after};
 pub use line::version::Version;
 pub use mark_log::marks_verdict::{MarkCause, MarksVerdict};

@@ -4,13 +4,13 @@ ghost use Rattle.ra_book.specs.Fields as spec;
 
 use ra_history::BookKind;
 use ra_stamp::{Mode, Name, NodeId};
-use ra_trace::{client_of, cut, mode_of, name_of, node_of, start_of};
+use ra_trace::{client_of, mode_of, name_of, node_of, split_once, start_of};
 
 /// Reads a name and a mode. It does not allocate.
 fn name_and_mode_of(text: &[u8]) -> Option<(Name, Mode)>
     ensures { result ≡ spec.name_and_mode_of text.now }
 {
-    let Some((name, mode)) = cut(b' ', text) else {
+    let Some((name, mode)) = split_once(text, b' ') else {
         return None;
     };
     let Some(name) = name_of(name) else {
@@ -26,7 +26,7 @@ fn name_and_mode_of(text: &[u8]) -> Option<(Name, Mode)>
 pub fn ask_of(text: &[u8]) -> Option<BookKind>
     ensures { result ≡ spec.ask_of text.now }
 {
-    let Some((client, rest)) = cut(b' ', text) else {
+    let Some((client, rest)) = split_once(text, b' ') else {
         return None;
     };
     let Some(client) = client_of(client) else {
@@ -42,7 +42,7 @@ pub fn ask_of(text: &[u8]) -> Option<BookKind>
 pub fn release_of(text: &[u8]) -> Option<BookKind>
     ensures { result ≡ spec.release_of text.now }
 {
-    let Some((client, name)) = cut(b' ', text) else {
+    let Some((client, name)) = split_once(text, b' ') else {
         return None;
     };
     let Some(client) = client_of(client) else {
@@ -58,7 +58,7 @@ pub fn release_of(text: &[u8]) -> Option<BookKind>
 fn nodes_and_start_of(text: &[u8]) -> Option<(NodeId, u64)>
     ensures { result ≡ spec.nodes_and_start_of text.now }
 {
-    let Some((nodes, start)) = cut(b' ', text) else {
+    let Some((nodes, start)) = split_once(text, b' ') else {
         return None;
     };
     let Some(nodes) = node_of(nodes) else {
@@ -74,7 +74,7 @@ fn nodes_and_start_of(text: &[u8]) -> Option<(NodeId, u64)>
 pub fn first_of(text: &[u8]) -> Option<(NodeId, (NodeId, u64))>
     ensures { result ≡ spec.first_of text.now }
 {
-    let Some((node, rest)) = cut(b' ', text) else {
+    let Some((node, rest)) = split_once(text, b' ') else {
         return None;
     };
     let Some(node) = node_of(node) else {

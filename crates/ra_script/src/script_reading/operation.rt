@@ -5,7 +5,7 @@ ghost use Rattle.ra_script.specs.Operation as spec;
 ghost use Rattle.ra_script.specs.Operation.{spelling, name_in};
 
 use ra_schedule::Op;
-use ra_trace::{cut, mode_of, name_of};
+use ra_trace::{mode_of, name_of, split_once};
 
 /// Returns the operation that a string spells, or `None` if it spells none: a word, one space and a name. The word of a mode,
 /// `X`, `S`, `IS`, `IX` or `SIX`, locks the name in that mode, and `U` unlocks it. It does not allocate.
@@ -21,7 +21,7 @@ pub fn operation(string: &str) -> Option<Op>
 fn operation_of(text: &[u8]) -> Option<Op>
     ensures { result ≡ spec.op_of text.now }
 {
-    let Some((word, name)) = cut(b' ', text) else {
+    let Some((word, name)) = split_once(text, b' ') else {
         return None;
     };
     let Some(name) = name_of(name) else {

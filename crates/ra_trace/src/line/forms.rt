@@ -3,7 +3,7 @@ ghost use Rattle.std.specs.Prelude.{◌≡◌, ◌++◌, ℕ, List, Some, None, 
 ghost use Rattle.ra_trace.specs.Forms as spec;
 
 use crate::line::Line;
-use crate::line::fields::{cut, mode_of, name_of, number_before, seq_of, start_of};
+use crate::line::fields::{mode_of, name_of, number_before, seq_of, split_once, start_of};
 use crate::line::version::Version;
 use ra_stamp::{Entry, Mark, Message, Mode, Name, NodeId, Stamp};
 use ra_world::Step;
@@ -54,13 +54,13 @@ fn client_before(text: &[u8]) -> Option<(u32, &[u8])>
 fn name_mode_and_seq_of(text: &[u8]) -> Option<(Name, (Mode, u64))>
     ensures { result ≡ spec.fields spec.name_of (spec.fields spec.mode_of spec.seq_of) text.now }
 {
-    let Some((name, rest)) = cut(b' ', text) else {
+    let Some((name, rest)) = split_once(text, b' ') else {
         return None;
     };
     let Some(name) = name_of(name) else {
         return None;
     };
-    let Some((mode, seq)) = cut(b' ', rest) else {
+    let Some((mode, seq)) = split_once(rest, b' ') else {
         return None;
     };
     let Some(mode) = mode_of(mode) else {
@@ -102,7 +102,7 @@ fn ask_of(text: &[u8]) -> Option<Line>
     let Some((client, rest)) = client_before(rest) else {
         return None;
     };
-    let Some((name, mode)) = cut(b' ', rest) else {
+    let Some((name, mode)) = split_once(rest, b' ') else {
         return None;
     };
     let Some(name) = name_of(name) else {
@@ -324,7 +324,7 @@ fn read_reply(fate: Fate, text: &[u8], line: &mut Option<Line>)
         return;
     };
     let (to, rest) = second;
-    let Some((name, seq)) = cut(b' ', rest) else {
+    let Some((name, seq)) = split_once(rest, b' ') else {
         return;
     };
     let Some(name) = name_of(name) else {

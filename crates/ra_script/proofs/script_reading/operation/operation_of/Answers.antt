@@ -26,8 +26,8 @@ no_name : (text : List ℕ) (parts : List ℕ × List ℕ) → forms.cut 32 text
 no_name text parts is none = rw (sym (same_cut text) ∙ is, sym (same_name parts.1) ∙ none)
 
 pub returns-in_default : goal.returns-in_default
-returns-in_default c = no_parts c.args.text.now (rw c.in_default.is at c.cut.ensures)
+returns-in_default c = no_parts c.args.text.now (rw c.in_default.is at c.split_once.ensures)
 
 pub returns-in_default-name_of : goal.returns-in_default-name_of
 returns-in_default-name_of c =
-    no_name c.args.text.now (c.in-Some.word.now, c.in-Some.name.now) (rw c.in-Some.is at c.cut.ensures) (sym c.name_of.ensures ∙ c.in_default-name_of.is)
+    no_name c.args.text.now (c.in-Some.word.now, c.in-Some.name.now) (rw c.in-Some.is at c.split_once.ensures) (sym c.name_of.ensures ∙ c.in_default-name_of.is)

@@ -29,36 +29,36 @@ returns-in_default-client_before c =
     (sym (first_then node_of (fields client_of (fields name_of mode_of)) c.args.text.now c.in-Some.prefix.1.now c.in-Some.prefix.0 None (rw c.in-Some.is at c.node_before.ensures)
     (no_first client_of (fields name_of mode_of) c.in-Some.prefix.1.now c.in_default-client_before.ensures)))
 
-pub returns-in_default-cut : goal.returns-in_default-cut
-returns-in_default-cut c =
+pub returns-in_default-split_once : goal.returns-in_default-split_once
+returns-in_default-split_once c =
     let rest = c.in-Some-client_before.rest.now in
     then_rest c.args.text.now c.in-Some.prefix.1.now rest c.in-Some.prefix.0 c.in-Some-client_before.client None (rw c.in-Some.is at c.node_before.ensures) (rw c.in-Some-client_before.is at c.client_before.ensures)
-    (no_first name_of mode_of rest (uncut name_of rest c.in_default-cut.ensures))
+    (no_first name_of mode_of rest (uncut name_of rest c.in_default-split_once.ensures))
 
 pub returns-in_default-name_of : goal.returns-in_default-name_of
 returns-in_default-name_of c =
     let rest = c.in-Some-client_before.rest.now in
-    let parts = c.in-Some-cut in
+    let parts = c.in-Some-split_once in
     then_rest c.args.text.now c.in-Some.prefix.1.now rest c.in-Some.prefix.0 c.in-Some-client_before.client None (rw c.in-Some.is at c.node_before.ensures) (rw c.in-Some-client_before.is at c.client_before.ensures)
-    (no_first name_of mode_of rest (cut_as name_of rest parts.name.now parts.mode.now None (rw parts.is at c.cut.ensures) (sym c.name_of.ensures ∙ c.in_default-name_of.is)))
+    (no_first name_of mode_of rest (cut_as name_of rest parts.name.now parts.mode.now None (rw parts.is at c.split_once.ensures) (sym c.name_of.ensures ∙ c.in_default-name_of.is)))
 
 pub returns-in_default-mode_of : goal.returns-in_default-mode_of
 returns-in_default-mode_of c =
     let rest = c.in-Some-client_before.rest.now in
-    let parts = c.in-Some-cut in
+    let parts = c.in-Some-split_once in
     let name = c.in-Some-name_of.name in
     then_rest c.args.text.now c.in-Some.prefix.1.now rest c.in-Some.prefix.0 c.in-Some-client_before.client None (rw c.in-Some.is at c.node_before.ensures) (rw c.in-Some-client_before.is at c.client_before.ensures)
     (first_then name_of mode_of rest parts.mode.now name None
-    (cut_as name_of rest parts.name.now parts.mode.now (Some name) (rw parts.is at c.cut.ensures) (sym c.name_of.ensures ∙ c.in-Some-name_of.is))
+    (cut_as name_of rest parts.name.now parts.mode.now (Some name) (rw parts.is at c.split_once.ensures) (sym c.name_of.ensures ∙ c.in-Some-name_of.is))
     (sym c.mode_of.ensures ∙ c.in_default-mode_of.is))
 
 pub returns : goal.returns
 returns c =
     let rest = c.in-Some-client_before.rest.now in
-    let parts = c.in-Some-cut in
+    let parts = c.in-Some-split_once in
     let name = c.in-Some-name_of.name in
     let mode = c.in-Some-mode_of.mode in
     then_rest c.args.text.now c.in-Some.prefix.1.now rest c.in-Some.prefix.0 c.in-Some-client_before.client (Some (name, mode)) (rw c.in-Some.is at c.node_before.ensures) (rw c.in-Some-client_before.is at c.client_before.ensures)
     (first_then name_of mode_of rest parts.mode.now name (Some mode)
-    (cut_as name_of rest parts.name.now parts.mode.now (Some name) (rw parts.is at c.cut.ensures) (sym c.name_of.ensures ∙ c.in-Some-name_of.is))
+    (cut_as name_of rest parts.name.now parts.mode.now (Some name) (rw parts.is at c.split_once.ensures) (sym c.name_of.ensures ∙ c.in-Some-name_of.is))
     (sym c.mode_of.ensures ∙ c.in-Some-mode_of.is))

@@ -28,41 +28,41 @@ returns-in_default-node_before c =
     (sym (first_then node_of (fields node_of (fields name_of seq_of)) c.args.text.now c.in-Some.prefix.1.now c.in-Some.prefix.0 None (rw c.in-Some.is at c.node_before.ensures)
     (no_first node_of (fields name_of seq_of) c.in-Some.prefix.1.now c.in_default-node_before.ensures)))
 
-pub returns-in_default-cut : goal.returns-in_default-cut
-returns-in_default-cut c =
+pub returns-in_default-split_once : goal.returns-in_default-split_once
+returns-in_default-split_once c =
     let second = c.in-Some-node_before.second in
     let rest = second.1.now in
     then_rest c.args.fate c.args.text.now c.in-Some.prefix.1.now rest c.in-Some.prefix.0 second.0 None (rw c.in-Some.is at c.node_before.ensures) (rw c.in-Some-node_before.is at c.node_before-2.ensures)
-    (no_first name_of seq_of rest (uncut name_of rest c.in_default-cut.ensures))
+    (no_first name_of seq_of rest (uncut name_of rest c.in_default-split_once.ensures))
 
 pub returns-in_default-name_of : goal.returns-in_default-name_of
 returns-in_default-name_of c =
     let second = c.in-Some-node_before.second in
     let rest = second.1.now in
-    let parts = c.in-Some-cut in
+    let parts = c.in-Some-split_once in
     then_rest c.args.fate c.args.text.now c.in-Some.prefix.1.now rest c.in-Some.prefix.0 second.0 None (rw c.in-Some.is at c.node_before.ensures) (rw c.in-Some-node_before.is at c.node_before-2.ensures)
-    (no_first name_of seq_of rest (cut_as name_of rest parts.name.now parts.seq.now None (rw parts.is at c.cut.ensures) (sym c.name_of.ensures ∙ c.in_default-name_of.is)))
+    (no_first name_of seq_of rest (cut_as name_of rest parts.name.now parts.seq.now None (rw parts.is at c.split_once.ensures) (sym c.name_of.ensures ∙ c.in_default-name_of.is)))
 
 pub returns-in_default-seq_of : goal.returns-in_default-seq_of
 returns-in_default-seq_of c =
     let second = c.in-Some-node_before.second in
     let rest = second.1.now in
-    let parts = c.in-Some-cut in
+    let parts = c.in-Some-split_once in
     let name = c.in-Some-name_of.name in
     then_rest c.args.fate c.args.text.now c.in-Some.prefix.1.now rest c.in-Some.prefix.0 second.0 None (rw c.in-Some.is at c.node_before.ensures) (rw c.in-Some-node_before.is at c.node_before-2.ensures)
     (first_then name_of seq_of rest parts.seq.now name None
-    (cut_as name_of rest parts.name.now parts.seq.now (Some name) (rw parts.is at c.cut.ensures) (sym c.name_of.ensures ∙ c.in-Some-name_of.is))
+    (cut_as name_of rest parts.name.now parts.seq.now (Some name) (rw parts.is at c.split_once.ensures) (sym c.name_of.ensures ∙ c.in-Some-name_of.is))
     (sym c.seq_of.ensures ∙ c.in_default-seq_of.is))
 
 pub returns : goal.returns
 returns c =
     let second = c.in-Some-node_before.second in
     let rest = second.1.now in
-    let parts = c.in-Some-cut in
+    let parts = c.in-Some-split_once in
     let name = c.in-Some-name_of.name in
     let seq = c.in-Some-seq_of.seq in
     ap Some c.line_of.ensures
     ∙ then_rest c.args.fate c.args.text.now c.in-Some.prefix.1.now rest c.in-Some.prefix.0 second.0 (Some (name, seq)) (rw c.in-Some.is at c.node_before.ensures) (rw c.in-Some-node_before.is at c.node_before-2.ensures)
     (first_then name_of seq_of rest parts.seq.now name (Some seq)
-    (cut_as name_of rest parts.name.now parts.seq.now (Some name) (rw parts.is at c.cut.ensures) (sym c.name_of.ensures ∙ c.in-Some-name_of.is))
+    (cut_as name_of rest parts.name.now parts.seq.now (Some name) (rw parts.is at c.split_once.ensures) (sym c.name_of.ensures ∙ c.in-Some-name_of.is))
     (sym c.seq_of.ensures ∙ c.in-Some-seq_of.is))

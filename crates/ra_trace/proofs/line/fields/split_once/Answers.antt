@@ -1,7 +1,7 @@
 use Rattle.std.proofs.Common.{◌≡◌, Some, take, drop, suc, arith}
 use Rattle.ra_trace.proofs.Cuts.{cut-at, cut-none, to_end}
 use Rattle.ra_trace.specs.Forms.{cut}
-use Rattle.ra_trace.proofs.line.fields.cut.Goals as goal
+use Rattle.ra_trace.proofs.line.fields.split_once.Goals as goal
 
 pub returns-then-other-byte : goal.returns-then-other-byte
 returns-then-other-byte c =

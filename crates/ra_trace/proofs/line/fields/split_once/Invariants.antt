@@ -1,5 +1,5 @@
 use Rattle.std.proofs.Common.{◌≢◌, ℕ, ◌<◌, get_or}
-use Rattle.ra_trace.proofs.line.fields.cut.Given as goal
+use Rattle.ra_trace.proofs.line.fields.split_once.Given as goal
 
 -- no byte so far is this one
 abbrev pub invariant-loop-end : goal.invariant-loop-end
