@@ -14,5 +14,5 @@ returns g c =
     let names = both _ _ _ _ _ _ _ _ (both _ _ _ _ _ _ _ _ node c.put_number-2.ensures) name in
     let fields = both _ _ _ _ _ _ _ _ (both _ _ _ _ _ _ _ _ names mode) c.put_number-3.ensures in
     let same : word ++ entry_fields entry ++ codes "\n" ≡ mark_line c.args.mark.now =
-        mark_text c.args.mark.now word entry c.entry-entry.ensures (c.as_bytes.ensures.value ∙ c.word.ensures) in
+    mark_text c.args.mark.now word entry c.entry-entry.ensures (c.as_bytes.ensures.value ∙ c.word.ensures) in
     renamed _ _ _ _ _ _ same (both _ _ _ _ _ _ _ _ (both _ _ _ _ _ _ _ _ c.put.ensures fields) c.put-2.ensures)
