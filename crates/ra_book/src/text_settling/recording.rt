@@ -1,30 +1,10 @@
 //! An event of a text at the book of its node.
-ghost use Rattle.ra_history.specs.declared.book.event.BookKind.{BookKind};
-ghost use Rattle.ra_frame.specs.Fits.{Fits};
 ghost use Rattle.ra_book.specs.Timed.{CanCome};
 ghost use Rattle.ra_book.specs.Gathering.{Comes};
 
-use ra_frame::{Frame, encoded, round_trip};
+use ra_frame::{encoded, round_trip};
 use ra_history::{Book, BookError, BookKind};
 use std::alloc::Global;
-
-/// A frame comes.
-///
-/// # Errors
-///
-/// Those of [`Book::receive`].
-fn receive(alloc: Global, book: &mut Book, frame: &Frame) -> Result<(), BookError>
-    requires { Fits frame.now }
-    ensures { Comes book.old (BookKind.Got frame.now) book.new result }
-{
-    // For the proof: the bytes of a frame are read as this frame.
-    round_trip();
-    let bytes = encoded(frame);
-    if let Err(why) = book.receive(alloc, bytes.as_slice()) {
-        return Err(why);
-    }
-    Ok(())
-}
 
 /// Makes an event happen at the node of a book, and keeps it there. The cost is that of the book's call.
 ///
@@ -48,6 +28,14 @@ pub fn record_event(alloc: Global, book: &mut Book, kind: &BookKind) -> Result<(
             }
             Ok(())
         }
-        BookKind::Got(frame) => receive(alloc, book, frame),
+        BookKind::Got(frame) => {
+            // For the proof: the bytes of a frame are read as this frame.
+            round_trip();
+            let bytes = encoded(frame);
+            if let Err(why) = book.receive(alloc, bytes.as_slice()) {
+                return Err(why);
+            }
+            Ok(())
+        }
     }
 }
