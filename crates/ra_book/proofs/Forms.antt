@@ -1,5 +1,5 @@
 -- What is read of a line is what it says.
-use Rattle.std.proofs.Common.{◌≡◌, ◌<◌, ◌≤◌, ◌^◌, ◌%◌, ◌/◌, ◌==◌, ◌↔◌, ℕ, true, false, inl, inr, List, ◌∷◌, ◌++◌, length, Option, Some, None, Result, Ok, Err, option_map, refl, sym, ap, subst, ◌∙◌, codes, append_assoc, arith, eq-eqb}
+use Rattle.std.proofs.Common.{◌≡◌, ◌<◌, ◌≤◌, ◌^◌, ◌%◌, ◌/◌, ◌==◌, ◌↔◌, ℕ, true, inl, inr, List, ◌∷◌, ◌++◌, length, Option, Some, None, Err, option_map, refl, sym, ap, subst, ◌∙◌, codes, append_assoc, arith, eq-eqb}
 use Rattle.std.specs.Prelude.{IsErrOf}
 use Rattle.std.specs.Fmt.{decimal}
 use Rattle.std.proofs.lemmas.Bool.{cases_Bool}
