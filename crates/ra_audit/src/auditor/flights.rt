@@ -146,9 +146,8 @@ impl Flights {
 fn slot_of(nodes: u16, message: &Message) -> usize
     ensures { result ≡ slot_of nodes message.now }
 {
-    // Nodes are counted from 1.
-    let from = usize::from(message.from().get()) - 1;
-    let to = usize::from(message.to().get()) - 1;
+    let from = message.from().place();
+    let to = message.to().place();
     2 * (from * usize::from(nodes) + to) + kind_of(message)
 }
 

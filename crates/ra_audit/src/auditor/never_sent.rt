@@ -81,14 +81,10 @@ fn may_come(nodes: &[NodeProgress], kind: &BookKind, came: u64, known: u64) -> b
     ensures frames { result ≡ false → (frame : Frame) × (kind.now ≡ BookKind.Got frame) }
 {
     match kind {
-        BookKind::Got(frame) => {
-            // Nodes are counted from 1.
-            let sender = usize::from(frame.message.from().get());
-            match nodes.get(sender - 1) {
-                Some(progress) => may_come_from(progress, frame.clock, came, known),
-                None => true,
-            }
-        }
+        BookKind::Got(frame) => match nodes.get(frame.message.from().place()) {
+            Some(progress) => may_come_from(progress, frame.clock, came, known),
+            None => true,
+        },
         BookKind::Asked { .. } | BookKind::Gave { .. } => true,
     }
 }

@@ -176,9 +176,7 @@ pub fn is_reached(nodes: &[NodeProgress], frame: &Frame) -> bool
     requires { (count : ℕ) × (map (λ p. p.node) nodes.now ≡ range_with_len 1 count) }
     ensures { IsTrue result ↔ IsReached nodes.now frame.now }
 {
-    // Nodes are counted from 1.
-    let sender = usize::from(frame.message.from().get());
-    match nodes.get(sender - 1) {
+    match nodes.get(frame.message.from().place()) {
         Some(progress) => frame.clock <= progress.clock(),
         None => true,
     }
