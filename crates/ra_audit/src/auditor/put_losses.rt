@@ -181,8 +181,8 @@ fn put_loss(
     let step = Step::Lose(frame.message);
     match world.step(alloc, &step) {
         Ok(_outcome) => {
-            // No more messages were lost than steps were made, of which there are at most 2^64-1.
-            let _steps = world.steps();
+            // For the proof: no more messages were lost than steps were made, of which there are at most 2^64-1.
+            let _ = world.steps();
             flights.take(&frame.message);
             Ok(())
         }

@@ -75,7 +75,7 @@ pub returns-in-Ok-clause-lost : goal.returns-in-Ok-clause-lost
 returns-in-Ok-clause-lost c = lost_one_more c.args.world.now c.args.frame.now.message _ _ c.step.new.self c.in-Ok.ensures.ok
 
 pub returns-in-Ok-clause-few : goal.returns-in-Ok-clause-few
-returns-in-Ok-clause-few c = omega (arith, few_lost c.step.new.self.moves, c.steps-steps.ensures.value, c.steps-steps.type_inv)
+returns-in-Ok-clause-few c = omega (arith, few_lost c.step.new.self.moves, c.steps.ensures.value, c.steps.type_inv)
 
 -- ---- A loss that the world refuses
 
