@@ -4,7 +4,7 @@ use Rattle.std.specs.Prelude.{slice_get}
 use Rattle.std.proofs.lemmas.Bool.{cases_lt}
 use Rattle.std.proofs.lemmas.Option.{same_Some, slice_get_read, slice_get_within}
 use Rattle.ra_history.specs.Book.{BookState}
-use Rattle.ra_audit.specs.Audit.{ProgressState, IsAllIn, IsAllInAt, AreAllIn, IsBehind}
+use Rattle.ra_audit.specs.Audit.{ProgressState, IsAllIn, IsAllInAt, AreAllIn, IsFirstNotAllIn}
 
 -- one place more
 pub all_in_more : (nodes : List ProgressState) (books : List BookState) (place : ℕ) (x : ProgressState) (y : BookState) → place < length nodes → place < length books
@@ -28,16 +28,16 @@ all_in nodes books place past count so_far = record {
 }
 
 -- a place at which not all is in the run, as it is at all places before it
-pub is_behind : (nodes : List ProgressState) (books : List BookState) (place : ℕ) (x : ProgressState) (y : BookState) (node : ℕ) → place < length nodes → place < length books
+pub first_not_all_in : (nodes : List ProgressState) (books : List BookState) (place : ℕ) (x : ProgressState) (y : BookState) (node : ℕ) → place < length nodes → place < length books
     → x ≡ get_or nodes place x → y ≡ get_or books place y → node ≡ x.node → (IsAllIn x y → ⊥)
-    → ((i : ℕ) → i < place → IsAllInAt nodes books i) → IsBehind nodes books node
-is_behind nodes books place x y node low low' at at' number behind so_far = record {
+    → ((i : ℕ) → i < place → IsAllInAt nodes books i) → IsFirstNotAllIn nodes books node
+first_not_all_in nodes books place x y node low low' at at' number not_all so_far = record {
   place = place;
   p = x;
   book = y;
   at = slice_get_read nodes (length nodes) place x refl low at;
   book_at = slice_get_read books (length books) place y refl low' at';
   number = number;
-  behind = behind;
+  not_all = not_all;
   before = so_far;
 }

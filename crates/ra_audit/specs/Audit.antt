@@ -467,12 +467,12 @@ pub record AreAllIn (nodes : List ProgressState) (books : List BookState) : Type
 
 -- At some place are the node with this number and a book of which not all is in the run. All of the history of each book before
 -- it is.
-pub record IsBehind (nodes : List ProgressState) (books : List BookState) (node : ℕ) : Type 0 where
+pub record IsFirstNotAllIn (nodes : List ProgressState) (books : List BookState) (node : ℕ) : Type 0 where
   pub place : ℕ
   pub p : ProgressState
   pub book : BookState
   pub at : slice_get nodes place ≡ Some p
   pub book_at : slice_get books place ≡ Some book
   pub number : node ≡ p.node
-  pub behind : IsAllIn p book → ⊥
+  pub not_all : IsAllIn p book → ⊥
   pub before : (earlier : ℕ) → earlier < place → IsAllInAt nodes books earlier

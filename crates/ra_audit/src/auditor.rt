@@ -18,7 +18,7 @@ ghost use Rattle.ra_world.specs.World.{AreWaiting, AreQueued};
 ghost use Rattle.ra_audit.specs.declared.audit_error.AuditFault as audit_fault;
 ghost use Rattle.ra_stamp.specs.declared.message.Message.{Message};
 ghost use Rattle.ra_frame.specs.declared.frame.Frame.{Frame};
-ghost use Rattle.ra_audit.specs.Audit.{Takes, AreAllIn, IsBehind, TakesHanded, NoneWaits, IsNeverSent, IsAhead, MayBePut, IsUnsent, IsLeastLeft, clocks_taken, fresh_progress};
+ghost use Rattle.ra_audit.specs.Audit.{Takes, AreAllIn, IsFirstNotAllIn, TakesHanded, NoneWaits, IsNeverSent, IsAhead, MayBePut, IsUnsent, IsLeastLeft, clocks_taken, fresh_progress};
 
 use crate::auditor::closing::check_all;
 use crate::auditor::flights::Flights;
@@ -287,7 +287,7 @@ impl Auditor {
     pub fn check_books(&self, books: &[Book]) -> Result<(), BehindError>
         ensures ok { OnOk result (AreAllIn self.now.nodes books.now) }
         ensures other_count { IsErrOf result BehindError.OtherCount ↔ (length books.now ≢ length self.now.nodes) }
-        ensures behind { (node : ℕ) → IsErrOf result (BehindError.Behind node) → IsBehind self.now.nodes books.now node }
+        ensures behind { (node : ℕ) → IsErrOf result (BehindError.Behind node) → IsFirstNotAllIn self.now.nodes books.now node }
     {
         check_all(&self.nodes, books)
     }
