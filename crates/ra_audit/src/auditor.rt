@@ -26,7 +26,7 @@ use crate::auditor::never_sent::{clocks_of, first_unsent};
 use crate::auditor::node_progress::NodeProgress;
 use crate::auditor::noted_losses::Losses;
 use crate::auditor::put_losses::put_events_and_losses;
-use crate::auditor::unsettled::{first_unsettled, waiting_at};
+use crate::auditor::unsettled::{least_waiting, waiting_at};
 use crate::{AuditError, AuditFault, BehindError, MarkObserver};
 use ra_cluster::{Book, BookEvent, Site, TakeError};
 use ra_frame::Frame;
@@ -259,7 +259,7 @@ impl Auditor {
         ensures least { IfSome result (IsLeastLeft self.now.nodes) }
         ensures audited { IsAudited self.now.world self.now.nodes }
     {
-        first_unsettled(&self.nodes)
+        least_waiting(&self.nodes)
     }
 
     /// Returns a frame that was noted as lost and whose loss is not in the run, or `None` if all losses are in it. Call it once the

@@ -1,7 +1,6 @@
 //! Events that were taken and are not in the run.
-ghost use Rattle.std.specs.Prelude.{◌≡◌, ◌≤◌, ◌∷◌, ◌++◌, [], ℕ, List, length, map, sum_by, IfSome, MatchOption};
-ghost use Rattle.std.specs.List.{range_with_len};
-ghost use Rattle.ra_audit.specs.Audit.{ProgressState, NoneIsReady, NoneWaits, IsNeverSent, IsLeastLeft, AreNextAt, taken_of};
+ghost use Rattle.std.specs.Prelude.{◌≡◌, ◌≤◌, ◌∷◌, ◌++◌, [], List, length, sum_by};
+ghost use Rattle.ra_audit.specs.Audit.{ProgressState, AreNextAt, taken_of};
 ghost use Rattle.ra_audit.specs.AuditKeeping.{AreTaken, IsLeastOf, IsLeastWaiting};
 
 use crate::AuditFault;
@@ -19,19 +18,8 @@ pub fn waiting_at(nodes: &[NodeProgress]) -> u128
     waiting
 }
 
-/// Returns the event with the least clock of those that were taken and are not in the run, or `None` if all are in it. If
-/// no event can be put, it is a frame that was never sent.
-pub fn first_unsettled(nodes: &[NodeProgress]) -> Option<AuditFault>
-    requires numbers { (count : ℕ) × (map (λ p. p.node) nodes.now ≡ range_with_len 1 count) }
-    requires none_ready { NoneIsReady nodes.now }
-    ensures left { MatchOption result (NoneWaits nodes.now) (IsNeverSent nodes.now) }
-    ensures least { IfSome result (IsLeastLeft nodes.now) }
-{
-    least_waiting(nodes)
-}
-
 /// Returns the event with the least clock of those that wait first at their nodes, or `None` if none waits.
-fn least_waiting(nodes: &[NodeProgress]) -> Option<AuditFault>
+pub fn least_waiting(nodes: &[NodeProgress]) -> Option<AuditFault>
     ensures least { IsLeastOf nodes.now result }
     ensures taken { AreTaken nodes.now }
 {
