@@ -44,7 +44,6 @@ use std::sync::Wait;
 /// Contracts see the run so far, and of each node the events that were taken from it: first those that are in the run,
 /// then those that are not yet. They also see the frames that were noted as lost: those whose loss is still to be put into the
 /// run, and those whose loss is in it.
-#[derive(Drop)]
 pub struct Auditor {
     world: MarklessWorld,
     /// Of how many nodes the run is, and the start beyond which the numbers of requests begin.
@@ -56,6 +55,21 @@ pub struct Auditor {
     flights: Flights,
     losses: Losses,
     fault: Option<AuditFault>,
+}
+
+// What an auditor owns is freed here, so that no other crate proves how each of its parts is dropped.
+impl Drop for Auditor {
+    fn drop(self) {
+        let Auditor {
+            world: _,
+            count: _,
+            start: _,
+            nodes: _,
+            flights: _,
+            losses: _,
+            fault: _,
+        } = self;
+    }
 }
 
 impl Model for Auditor {
