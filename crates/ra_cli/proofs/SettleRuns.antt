@@ -26,6 +26,13 @@ of_reader why (inr (inr (inl is))) = cc
 of_reader why (inr (inr (inr (inl is)))) = absurd cc
 of_reader why (inr (inr (inr (inr is)))) = absurd cc
 
+-- a text that was not read to its end is not too long
+pub read_no_limit : fault.Read ≡ fault.Limit → ⊥
+read_no_limit is = cc
+
+pub memory_no_limit : fault.Memory ≡ fault.Limit → ⊥
+memory_no_limit is = cc
+
 -- what `refuse` says of a refusal of the input
 module _ (why : TraceError) (before after : Option (List ℕ)) (Unwritten : Type 0) (status : ℕ)
     (printed : PrintsRefusal (Check why) before after Unwritten status) where

@@ -5,7 +5,7 @@ use ra_book::MAX_LINE;
 use ra_world::cut;
 
 /// Returns the input's one line without its line feed, or `None` if the input is no line. It does not allocate.
-pub fn line_of(input: &[u8]) -> Option<&[u8]>
+pub fn only_line_of(input: &[u8]) -> Option<&[u8]>
     ensures none { IfNone result ((line : List ℕ) → IsLine input.now line → ⊥) }
     ensures some { IfSome result (λ line. IsLine input.now line.now) }
 {

@@ -242,8 +242,8 @@ fn judge_marks<R: BufRead, W: Write>(
     }
 }
 
-/// Draws a part of the reader's input, or writes the line that says why it is not of this kind. Then the whole input is
-/// in `text`.
+/// Draws a part of the reader's input, or writes the line that says why it is not of this kind. In both cases the whole
+/// input is left in `text`.
 fn draw_part<R: Read, W: Write>(
     alloc: Global,
     kind: InputKind,
@@ -286,8 +286,8 @@ fn run_by_threads<T: Threads + Wait + Sync, R: Read, W: Write>(
     }
 }
 
-/// Does what arguments ask for, and returns what came of it. The observer is told of each seed. A text that was to be
-/// drawn and is not of its kind, or of books to settle, is left in `text`.
+/// Does what arguments ask for, and returns what came of it. The observer is told of each seed. A text that is to be
+/// drawn or settled is left in `text`, unless that is refused.
 pub fn do_command<T: Threads + Wait + Sync, R: BufRead, W: Write, O: Observer>(
     rt: &T,
     alloc: Global,
@@ -300,6 +300,7 @@ pub fn do_command<T: Threads + Wait + Sync, R: BufRead, W: Write, O: Observer>(
     ensures { (arguments : List (List ℕ)) → Asks arguments asked.now → Serves arguments (R.remaining reader.old) (R.remaining reader.new)
         (W.contents writer.old) (W.contents writer.new) (reader.new ≡ reader.old) result.status }
 {
+    // For the proof: an orderly script is finished if no message is lost or repeated.
     orderly_scripts_are_finished();
     match *asked {
         Command::Node => be_a_node(alloc, reader, writer),

@@ -8,12 +8,12 @@ ghost use Rattle.ra_cli.specs.AnswerCall.{ComesTo, IsOfInput, of_receive};
 ghost use Rattle.ra_automaton.specs.State.{IsForNode};
 
 use crate::AnswerError;
-use crate::input_line::line_of;
+use crate::input_line::only_line_of;
 use hex::FromHexError;
 use ra_automaton::{Automaton, Reaction, ReceiveError};
 use ra_book::MAX_LINE;
 use ra_frame::{Frame, MAX_FRAME, decode, encoded};
-use ra_stamp::{Member, MemberError, Memory, Message, Messages, NodeId};
+use ra_stamp::{Member, Memory, Message, Messages, NodeCount};
 use ra_world::{read_up_to, write_out};
 use std::alloc::Global;
 use std::io::{Read, Write};
@@ -32,18 +32,13 @@ fn member_of(node: u16, nodes: u16) -> Result<Member, AnswerError>
     ensures early { IfErr result (λ fault.
         (fault ≡ AnswerError.BadCount) ⊎ (fault ≡ AnswerError.BadNode)) }
 {
-    let Some(node) = NodeId::new(node) else {
-        // It is a member of no cluster, and the count comes first.
-        return Err(match NodeId::new(nodes) {
-            Some(_) => AnswerError::BadNode,
-            None => AnswerError::BadCount,
-        });
+    let Some(count) = NodeCount::new(nodes) else {
+        return Err(AnswerError::BadCount);
     };
-    match Member::new(node, nodes) {
-        Ok(me) => Ok(me),
-        Err(MemberError::BadCount) => Err(AnswerError::BadCount),
-        Err(MemberError::BadNode) => Err(AnswerError::BadNode),
+    if node == 0 || node > nodes {
+        return Err(AnswerError::BadNode);
     }
+    Ok(Member::at(node - 1, count))
 }
 
 /// Returns the bytes that hexadecimal digits stand for.
@@ -78,7 +73,7 @@ fn frame_in(alloc: Global, input: &[u8]) -> Result<Frame, AnswerError>
     ensures { MatchResult result (λ frame. Carries input.now frame × Fits frame)
         (λ fault. ((node nodes : ℕ) → IsMember node nodes → Refuses node nodes input.now fault) × IsOfInput fault) }
 {
-    let Some(digits) = line_of(input) else {
+    let Some(digits) = only_line_of(input) else {
         return Err(AnswerError::Line);
     };
     let bytes = bytes_of(alloc, digits)?;

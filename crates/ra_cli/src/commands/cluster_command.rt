@@ -96,6 +96,7 @@ fn recorded_text(
         → IsRun nodes 0 moves
         → SaysRun printed nodes recorded.now.books.items moves recorded.now.settled.report (string_bytes text)) }
 {
+    // For the proof: the run whose trace is written is the one that was settled, as both have these steps.
     runs_are_determined();
     match printed {
         ClusterOutput::Lines => report_text(alloc, &recorded.settled.report),
@@ -121,9 +122,7 @@ fn text_of_run<T: Threads + Wait + Sync>(
     ensures read { IfErr result (λ why. why ≢ RunScriptError.Read) }
 {
     let recorded = record_cluster(rt, alloc, script, &OpenGate)?;
-    let text = recorded_text(alloc, printed, script.nodes(), &recorded);
-    drop(recorded);
-    text.or(Err(RunScriptError::Memory))
+    recorded_text(alloc, printed, script.nodes(), &recorded).or(Err(RunScriptError::Memory))
 }
 
 /// Reads the text of a script, runs it by threads, and returns what is printed of the one run into which the books of the nodes

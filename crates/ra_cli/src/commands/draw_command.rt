@@ -91,8 +91,8 @@ fn draw_log<R: Read, W: Write>(
     }
 }
 
-/// Draws a part of the reader's input, or says why it is not of this kind, for which nothing is written. If it says so, the whole
-/// input is in `text`.
+/// Draws a part of the reader's input, or says why it is not of this kind, for which nothing is written. In both cases the
+/// whole input is left in `text`.
 ///
 /// # Errors
 ///

@@ -8,7 +8,7 @@ use ra_trace::{MarkCause, MarksVerdict};
 use std::alloc::Global;
 
 /// Returns the word of a cause. It does not allocate.
-fn word_of(cause: MarkCause) -> &'static str
+fn mark_cause_word(cause: MarkCause) -> &'static str
     ensures { result.now ≡ spec.mark_cause_word cause }
 {
     match cause {
@@ -35,6 +35,6 @@ pub fn marks_verdict_text(alloc: Global, verdict: &MarksVerdict) -> Result<Strin
         MarksVerdict::Valid { requests, grants } => {
             valid_text(alloc, u128::from(requests), "grants", u128::from(grants))
         }
-        MarksVerdict::Invalid { line, cause } => invalid_text(alloc, line, word_of(cause)),
+        MarksVerdict::Invalid { line, cause } => invalid_text(alloc, line, mark_cause_word(cause)),
     }
 }

@@ -22,7 +22,7 @@ use std::io::{Read, Write};
 const MAX_TEXT: usize = 1 << 30;
 
 /// Returns the word for why a text does not settle. It does not allocate.
-fn word_of(cause: TextCause) -> &'static str
+fn text_cause_word(cause: TextCause) -> &'static str
     ensures { result.now ≡ spec.text_cause_word cause }
 {
     match cause {
@@ -80,7 +80,7 @@ fn contradict<W: Write>(alloc: Global, refused: SettleTextError, writer: &mut W)
     let SettleTextError::Invalid { line, cause } = refused else {
         return refuse_memory(writer);
     };
-    match invalid_text(alloc, line, word_of(cause)) {
+    match invalid_text(alloc, line, text_cause_word(cause)) {
         Ok(text) => print_text(
             writer,
             text.as_bytes(),

@@ -9,7 +9,7 @@ use ra_world::Draft;
 use std::alloc::Global;
 
 /// Returns the word of a cause. It does not allocate.
-fn word_of(cause: Cause) -> &'static str
+fn cause_word(cause: Cause) -> &'static str
     ensures { result.now ≡ spec.cause_word cause }
 {
     match cause {
@@ -68,6 +68,6 @@ pub fn verdict_text(alloc: Global, verdict: &Verdict) -> Result<String, Memory>
 {
     match *verdict {
         Verdict::Valid { requests, messages } => valid_text(alloc, requests, "messages", messages),
-        Verdict::Invalid { line, cause } => invalid_text(alloc, line, word_of(cause)),
+        Verdict::Invalid { line, cause } => invalid_text(alloc, line, cause_word(cause)),
     }
 }

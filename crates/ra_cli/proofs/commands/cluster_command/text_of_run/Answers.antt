@@ -41,7 +41,7 @@ returns-clause-ok g c =
     let nodes = c.nodes.result in
     let nodes_is : nodes ≡ script.nodes = c.nodes.ensures.value in
     let printed : String Global → Type 0 = λ text. SaysScript c.args.printed script (string_bytes text) in
-    rw c.or.ensures (made c.recorded_text-text.result printed (IfOk-weaker c.recorded_text-text.result
+    rw c.or.ensures (made c.recorded_text.result printed (IfOk-weaker c.recorded_text.result
     (λ (text : String Global). (moves : List Move) → map (λ move. move.step) moves ≡ recorded.settled.steps.items → IsRun nodes 0 moves
     → SaysRun c.args.printed nodes recorded.books.items moves recorded.settled.report (string_bytes text))
     printed
@@ -52,10 +52,10 @@ returns-clause-ok g c =
       says = subst (λ (n : ℕ). SaysRun c.args.printed n recorded.books.items outcome.moves recorded.settled.report (string_bytes text)) nodes_is
           (tells outcome.moves outcome.moves_are (subst (λ (n : ℕ). IsRun n 0 outcome.moves) (sym nodes_is) outcome.run));
     })
-    c.recorded_text-text.ensures))
+    c.recorded_text.ensures))
 
 pub returns-clause-err : goal.returns-clause-err
-returns-clause-err g c = rw c.or.ensures (lacking c.recorded_text-text.result _ (λ input is. tt))
+returns-clause-err g c = rw c.or.ensures (lacking c.recorded_text.result _ (λ input is. tt))
 
 pub returns-clause-read : goal.returns-clause-read
-returns-clause-read g c = rw c.or.ensures (lacking c.recorded_text-text.result _ (λ is. absurd cc))
+returns-clause-read g c = rw c.or.ensures (lacking c.recorded_text.result _ (λ is. absurd cc))

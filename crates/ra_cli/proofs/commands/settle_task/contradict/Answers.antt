@@ -7,7 +7,7 @@ returns-in-Ok g c asked input unsettled =
     let before = g.W.Write.contents c.args.writer.now in
     let after = g.W.Write.contents c.print_text.new.writer in
     contradicted asked input c.as_bytes.result.now before after c.print_text.result.status
-    (c.in-Invalid.line, c.in-Invalid.cause, rw c.in-Invalid.is at unsettled, c.as_bytes.ensures.value ∙ rw c.word_of.ensures at c.in-Ok.ensures) c.print_text.ensures
+    (c.in-Invalid.line, c.in-Invalid.cause, rw c.in-Invalid.is at unsettled, c.as_bytes.ensures.value ∙ rw c.text_cause_word.ensures at c.in-Ok.ensures) c.print_text.ensures
 
 pub returns-in-Err : goal.returns-in-Err
 returns-in-Err g c asked input unsettled = c.refuse_memory-in-Err.ensures asked input

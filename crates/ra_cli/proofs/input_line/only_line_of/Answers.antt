@@ -2,7 +2,7 @@ use Rattle.std.proofs.Common.{◌≡◌, ℕ, List, [], ◌∷◌, ◌++◌, len
 use Rattle.std.proofs.lemmas.Bool.{eqb-false, eqb-true}
 use Rattle.std.proofs.lemmas.List.{nil_from_length}
 use Rattle.ra_cli.proofs.Inputs.{line_before, no_short_line}
-use Rattle.ra_cli.proofs.input_line.line_of.Goals as goal
+use Rattle.ra_cli.proofs.input_line.only_line_of.Goals as goal
 
 pub returns-then-line-gt-MAX_LINE-clause-none : goal.returns-then-line-gt-MAX_LINE-clause-none
 returns-then-line-gt-MAX_LINE-clause-none c =
