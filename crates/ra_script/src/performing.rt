@@ -199,9 +199,8 @@ pub fn print_run(
 /// - `Trace`: the trace, as [`perform_trace`] does, at its cost.
 /// - `Choices`: the policy's choices, in their words on one line. So `--policy listed --choices` with these words makes the same
 ///   run again, whatever policy made it first. It costs about what `perform` does, plus time and memory linear in the number of turns.
-/// - `Shrunk`: if the run is stuck, the choices of a shorter run that is stuck too, as [`ra_schedule::shrink`] finds it, and otherwise
-///   the word `none`. For a run of n turns, at most n(n + 1) / 2 more runs are made, each of at most n turns. It takes memory linear
-///   in n.
+/// - `Shrunk`: if the run is stuck, the choices to which [`ra_schedule::shrink`] shrinks it, on one line, and otherwise the word `none`.
+///   For a run of n turns, at most n(n + 1) / 2 more runs are made, each of at most n turns. It takes memory linear in n.
 /// - `State`: the lines of the state at the end, at the cost of [`ra_schedule::show`]. It keeps the steps, in memory linear in the number
 ///   of turns.
 ///

@@ -1,6 +1,5 @@
 use Rattle.std.proofs.Common.{◌≡◌, [], Err, string_bytes, sym, ap, ◌∙◌, refl}
 use Rattle.std.proofs.lemmas.Result.{err_from_is_err_and}
-use Rattle.ra_script.specs.declared.error.PerformError.TheVariants.{Read}
 use Rattle.ra_script.specs.Faults.{of_read, of_script}
 use Rattle.ra_script.proofs.Inputs.{performs_input, read_cause, read_early, read_failed, read_refuses, refuses_input, script_early, script_read, script_refuses}
 use Rattle.ra_script.proofs.Performs.{unmade, broken_off, made}
