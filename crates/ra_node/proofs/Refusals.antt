@@ -1,6 +1,6 @@
 -- What the refusals of a node tell.
 use Rattle.std.proofs.Common.{◌≡◌, ◌↔◌, ℕ, ◌<◌, List, Result, Ok, Err, refl, sym, ap, ◌∙◌, subst, arith, inl, inr}
-use Rattle.std.specs.Prelude.{MatchResult, IsOk, IsErrOf, IsOkUnless}
+use Rattle.std.specs.Prelude.{MatchResult, IsErrOf, IsOkUnless}
 use Rattle.std.proofs.lemmas.Bool.{true≢false}
 use Rattle.ra_stamp.specs.declared.entry.Entry.{Entry}
 use Rattle.ra_stamp.specs.declared.entry.Mark.{Mark}
@@ -18,15 +18,9 @@ use Rattle.ra_node.specs.Resource.{Resource, unmet, IsBusy, Holds}
 use Rattle.ra_node.specs.Turns.{MayAsk, AskTurn, LeaveTurn}
 use Rattle.ra_node.specs.Node.{NodeState, resource_at}
 use Rattle.ra_node.specs.Events.{AskEvent}
+use Rattle.ra_node.specs.Calls.{AnswersMayAsk}
 
 -- ---- A client asks
-
--- what the answer to the question whether a client may ask tells
-pub record MayAskTells (result : Result (Unit {0}) AskError) (r : Resource) (client : ℕ) : Type 0 where
-  pub allowed : IsOk result ↔ MayAsk r client
-  pub busy : IsErrOf result asking.Busy ↔ IsBusy r client
-  pub exhausted : IsErrOf result asking.Exhausted ↔ ((IsBusy r client → ⊥) × (r.state.highest ≡ greatest_number))
-  pub no_memory : IsErrOf result asking.Memory → ⊥
 
 -- what the end of an ask tells
 pub record AskTells {X : Type 0} (result : Result X AskError) (r : Resource) (client : ℕ) : Type 0 where
@@ -98,13 +92,13 @@ event_tells (Err fault) old now new is name client mode Same ended =
     subst (λ (n : NodeState). AskTells {X = Outcome} (Err fault) (resource_at n name) client) is (refusal_tells (resource_at old name) client fault ended.0)
 
 -- why a client may not ask
-pub ask_refusal : (fault : AskError) (r : Resource) (client : ℕ) → MayAskTells (Err fault) r client → IsAskRefusal r client fault
+pub ask_refusal : (fault : AskError) (r : Resource) (client : ℕ) → AnswersMayAsk r client (Err fault) → IsAskRefusal r client fault
 ask_refusal asking.Busy r client tells = tells.busy.0 refl
 ask_refusal asking.Exhausted r client tells = tells.exhausted.0 refl
 ask_refusal asking.Memory r client tells = absurd (tells.no_memory refl)
 
 module _ (r : Resource) (client : ℕ) where
-  pub busy_tells : IsBusy r client → MayAskTells (Err asking.Busy) r client
+  pub busy_tells : IsBusy r client → AnswersMayAsk r client (Err asking.Busy)
   busy_tells busy =
       record {
         allowed = (λ e. absurd (true≢false (sym e)), λ may. absurd (may.not_busy busy));
@@ -114,7 +108,7 @@ module _ (r : Resource) (client : ℕ) where
       }
 
   -- no number is left
-  pub exhausted_tells : (IsBusy r client → ⊥) → r.state.highest ≡ greatest_number → MayAskTells (Err asking.Exhausted) r client
+  pub exhausted_tells : (IsBusy r client → ⊥) → r.state.highest ≡ greatest_number → AnswersMayAsk r client (Err asking.Exhausted)
   exhausted_tells free highest =
       record {
         allowed = (λ e. absurd (true≢false (sym e)), λ may. absurd (none_left r client may highest));
@@ -124,7 +118,7 @@ module _ (r : Resource) (client : ℕ) where
       }
 
   -- one is left
-  pub allowed_tells : MayAsk r client → MayAskTells (Ok tt) r client
+  pub allowed_tells : MayAsk r client → AnswersMayAsk r client (Ok tt)
   allowed_tells may =
       record {
         allowed = (λ _. may, λ _. refl);
@@ -141,10 +135,10 @@ nobody_is_busy r me nodes name start client is busy =
     absurd (omega (arith, here.1))
 
 module _ (r : Resource) (me nodes : ℕ) (name : List ℕ) (start client : ℕ) (is : r ≡ unmet me nodes name start) where
-  pub unmet_is_exhausted : start ≡ greatest_number → MayAskTells (Err asking.Exhausted) r client
+  pub unmet_is_exhausted : start ≡ greatest_number → AnswersMayAsk r client (Err asking.Exhausted)
   unmet_is_exhausted at = exhausted_tells r client (nobody_is_busy r me nodes name start client is) (ap (λ (x : Resource). x.state.highest) is ∙ at)
 
-  pub unmet_is_free : start < greatest_number → MayAskTells (Ok tt) r client
+  pub unmet_is_free : start < greatest_number → AnswersMayAsk r client (Ok tt)
   unmet_is_free below =
       let highest : r.state.highest ≡ start = ap (λ (x : Resource). x.state.highest) is in
       allowed_tells r client (record { not_busy = nobody_is_busy r me nodes name start client is; number_left = omega (arith, highest, below) })

@@ -5,6 +5,7 @@ pub mod Faults
 pub mod HandedOver
 pub mod Node
 pub mod Events
+pub mod Calls
 pub mod Carried
 pub mod Memory
 pub mod View

@@ -79,7 +79,8 @@ impl Node {
     ghost use Rattle.ra_node.specs.Resource.{IsBusy, Holds, holder_of, waiter_of, IsConsistentResource};
     ghost use Rattle.ra_node.specs.Turns.{MayAsk};
     ghost use Rattle.ra_node.specs.Node.{opening_node, resource_at, with_resource, waiting_count, queued_count, IsConsistentNode};
-    ghost use Rattle.ra_node.specs.Events.{AskEvent, LeaveEvent, ReceiveEvent};
+    ghost use Rattle.ra_node.specs.Events.{AskEvent, ReceiveEvent};
+    ghost use Rattle.ra_node.specs.Calls.{AnswersMayAsk, AnswersLeave};
     ghost use Rattle.ra_node.specs.Faults.{IsAskRefusal};
     ghost use Rattle.ra_node.specs.Memory.{BringsNothing};
 
@@ -175,15 +176,8 @@ impl Node {
     /// 1. `NotHeld`: the client does not hold the name here.
     /// 2. `Memory`: nothing has changed, and the call can be made again.
     pub fn leave(&mut self, alloc: Global, client: u32, name: Name) -> Result<Outcome, LeaveError>
-        ensures ok { IfOk result (λ outcome.
-            LeaveEvent self.old client name outcome.sends.items outcome.marks.items self.new) }
+        ensures left { AnswersLeave self.old client name result self.new }
         ensures consistent { IsConsistentNode self.new }
-        ensures not_held { IsErrOf result LeaveError.NotHeld
-            ↔ ((entry : Entry) → Holds (resource_at self.old name) client entry → ⊥) }
-        // Memory is the only other error.
-        ensures allowed { IsOkUnless result LeaveError.Memory
-            ↔ ((entry : Entry) × Holds (resource_at self.old name) client entry) }
-        ensures err { OnErr result (self.new ≡ self.old) }
     {
         self.leave_into(alloc, client, name, nothing(alloc))
     }
@@ -202,16 +196,9 @@ impl Node {
         empty: Outcome,
     ) -> Result<Outcome, LeaveError>
         requires { IsNothing empty }
-        ensures ok { IfOk result (λ outcome.
-            LeaveEvent self.old client name outcome.sends.items outcome.marks.items self.new) }
+        ensures left { AnswersLeave self.old client name result self.new }
         ensures consistent { IsConsistentNode self.new }
-        ensures not_held { IsErrOf result LeaveError.NotHeld
-            ↔ ((entry : Entry) → Holds (resource_at self.old name) client entry → ⊥) }
-        // Memory is the only other error.
-        ensures allowed { IsOkUnless result LeaveError.Memory
-            ↔ ((entry : Entry) × Holds (resource_at self.old name) client entry) }
         ensures room { HasRoomToLeave self.old.nodes empty → IsErrOf result LeaveError.Memory → ⊥ }
-        ensures err { OnErr result (self.new ≡ self.old) }
     {
         // The totals have room, since there are fewer than 2^64 names.
         prove!(self.slots.len() < usize::MAX);
@@ -310,12 +297,7 @@ impl Node {
     /// 1. `Busy`: the client waits, is queued or holds on that name here.
     /// 2. `Exhausted`: the highest number of the name is 2^64-1.
     pub fn may_ask(&self, client: u32, name: &Name) -> Result<(), AskError>
-        ensures allowed { IsOk result ↔ MayAsk (resource_at self.now name.now) client }
-        ensures busy { IsErrOf result AskError.Busy ↔ IsBusy (resource_at self.now name.now) client }
-        ensures exhausted { IsErrOf result AskError.Exhausted
-            ↔ ((IsBusy (resource_at self.now name.now) client → ⊥)
-            × ((resource_at self.now name.now).state.highest ≡ greatest_number)) }
-        ensures no_memory { IsErrOf result AskError.Memory → ⊥ }
+        ensures told { AnswersMayAsk (resource_at self.now name.now) client result }
         ensures consistent { IsConsistentNode self.now }
     {
         match self.slot_of(name) {

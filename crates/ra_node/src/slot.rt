@@ -42,7 +42,8 @@ impl Slot {
     ghost use Rattle.ra_automaton.specs.State.{IsAddressed, IsConsistent, IsInside};
     ghost use Rattle.ra_automaton.specs.Steps.{greatest_number, LetsEnter};
     ghost use Rattle.ra_node.specs.Resource.{unmet, holder_of, waiter_of, Holds, IsBusy, waiting_at, ClientFits, clients_of};
-    ghost use Rattle.ra_node.specs.Turns.{MayAsk, AskTurn, AsksAtOnce, QueuesUp, LeaveTurn, ReceiveTurn, next_entry};
+    ghost use Rattle.ra_node.specs.Calls.{AnswersMayAsk};
+    ghost use Rattle.ra_node.specs.Turns.{AskTurn, AsksAtOnce, QueuesUp, LeaveTurn, ReceiveTurn, next_entry};
     ghost use Rattle.ra_node.specs.Faults.{IsAskRefusal, IsLeaveRefusal};
     ghost use Rattle.ra_node.specs.HandedOver.{IsHandedOver};
     ghost use Rattle.ra_node.specs.Memory.{BringsNothingTo};
@@ -140,11 +141,7 @@ impl Slot {
     /// 1. `Busy`: the client waits, is queued or holds here.
     /// 2. `Exhausted`: no number is left.
     pub fn may_ask(&self, client: u32) -> Result<(), AskError>
-        ensures allowed { IsOk result ↔ MayAsk self.now client }
-        ensures busy { IsErrOf result AskError.Busy ↔ IsBusy self.now client }
-        ensures exhausted { IsErrOf result AskError.Exhausted
-            ↔ ((IsBusy self.now client → ⊥) × (self.now.state.highest ≡ greatest_number)) }
-        ensures no_memory { IsErrOf result AskError.Memory → ⊥ }
+        ensures { AnswersMayAsk self.now client result }
     {
         if self.is_busy(client) {
             return Err(AskError::Busy);

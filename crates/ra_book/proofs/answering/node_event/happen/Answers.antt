@@ -8,7 +8,7 @@ pub returns-in-Err-Exhausted : goal.returns-in-Err-Exhausted
 returns-in-Err-Exhausted c = record { cause = let full = c.ask.ensures.exhausted.0 (c.in-Err-Exhausted.is ∙ ap Err c.in-Err-Exhausted.field-0-is) in rw c.in-Asked.is (inl (inr (refl, full.0, full.1))); node_is = c.in-Err-Exhausted.ensures.err }
 
 pub returns-in-Err-NotHeld : goal.returns-in-Err-NotHeld
-returns-in-Err-NotHeld c = record { cause = rw c.in-Gave.is (inl (refl, c.leave.ensures.not_held.0 (c.in-Err-NotHeld.is ∙ ap Err c.in-Err-NotHeld.field-0-is))); node_is = c.in-Err-NotHeld.ensures.err }
+returns-in-Err-NotHeld c = record { cause = rw c.in-Gave.is (inl (refl, c.leave.ensures.left.not_held.0 (c.in-Err-NotHeld.is ∙ ap Err c.in-Err-NotHeld.field-0-is))); node_is = c.in-Err-NotHeld.ensures.left.err }
 
 pub returns-in-Err-WrongNode : goal.returns-in-Err-WrongNode
 returns-in-Err-WrongNode c = record { cause = rw c.in-Got.is (inl (inl (refl, c.receive.ensures.address.wrong_node.0 (c.in-Err-WrongNode.is ∙ ap Err c.in-Err-WrongNode.field-0-is)))); node_is = c.in-Err-WrongNode.ensures.err }

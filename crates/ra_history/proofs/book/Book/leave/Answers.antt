@@ -39,7 +39,7 @@ unreachable-requires-in_default-leave_into c =
     let made = taken_out c.self.inside.nodes c.self.inside.departures.items c.pop.new.self.items c.in-Some.departure c.in-Some.ensures.items c.self.invariant.reserved.each in
     let nodes = (kept_histories_go_on.node (book_of c.self.inside) node keeps).1 in
     let room = subst (λ k. HasRoomToLeave k c.in-Some.departure.outcome) (sym nodes) made.room in
-    is_not_refused c.leave_into.result c.in_default-leave_into.field-0 c.in_default-leave_into.is (c.leave_into.ensures.allowed.1 allowed.1.0) (c.leave_into.ensures.room room)
+    is_not_refused c.leave_into.result c.in_default-leave_into.field-0 c.in_default-leave_into.is (c.leave_into.ensures.left.allowed.1 allowed.1.0) (c.leave_into.ensures.room room)
 
 -- ---- What was made for it
 
@@ -57,7 +57,7 @@ keep-requires c =
     (vec_capacity sent) c.in-Some.ensures.items
     (taken_out nodes departures c.pop.new.self.items c.in-Some.departure c.in-Some.ensures.items c.self.invariant.reserved.each) c.self.invariant.reserved.room
     (kept_histories_go_on.few (book_of c.self.inside) c.self.inside.node c.leave_into.new.self (Gave c.args.client c.args.name) outcome.sends.items
-    outcome.marks.items c.self.invariant.keeps c.in-Ok.ensures.ok)
+    outcome.marks.items c.self.invariant.keeps c.in-Ok.ensures.left.ok)
 
 -- ---- It is refused
 
@@ -88,7 +88,7 @@ invariant_of-self c =
     let new = c.leave_into.new.self in
     let keeps = c.self.invariant.keeps in
     let outcome = c.in-Ok.outcome in
-    let happened = c.in-Ok.ensures.ok in
+    let happened = c.in-Ok.ensures.left.ok in
     let few = kept_histories_go_on.few book old new kind outcome.sends.items outcome.marks.items keeps happened in
     let count = leave_counts old new c.args.client c.args.name outcome.sends.items outcome.marks.items happened in
     record {
@@ -107,7 +107,7 @@ returns c =
     let events = c.keep.new.events.items in
     let sent = c.keep.new.sent.items in
     let posted = c.keep.result in
-    let happens = c.keep.ensures.kept node c.leave_into.new.self c.in-Ok.ensures.ok in
+    let happens = c.keep.ensures.kept node c.leave_into.new.self c.in-Ok.ensures.left.ok in
     let made = leave_added now c.args.client c.args.name c.in_ok-clock.clock c.in_ok-clock.ensures.answers (Ok posted) tt in
     record {
       ok = adding.added now (book_of c.self.inside) node c.leave_into.new.self c.in_ok-clock.clock kind events sent c.self.invariant.keeps c.self.view_is next

@@ -11,20 +11,20 @@ use Rattle.ra_node.proofs.Refusals.{LeaveTells, left_tells}
 use Rattle.ra_node.proofs.Totals.{part, through, one_at_most, few_wait, few_queue}
 use Rattle.ra_node.proofs.node.Node.leave_into.Goals as goal
 
-pub returns-in_default-clause-not_held : goal.returns-in_default-clause-not_held
-returns-in_default-clause-not_held c =
-    let n = c.self.inside in
-    let none = missing n.member.node n.member.nodes n.start n.slots.entries c.args.self.now c.self.view_is c.args.name c.in_default.ensures.value in
-    (λ _. nobody_holds _ n.member.node n.member.nodes c.args.name n.start none.0 c.args.client, λ _. refl)
-
 not_memory : NotHeld ≡ Memory → ⊥
 not_memory e = cc
 
-pub returns-in_default-clause-allowed : goal.returns-in_default-clause-allowed
-returns-in_default-clause-allowed c =
+pub returns-in_default-clause-left : goal.returns-in_default-clause-left
+returns-in_default-clause-left c =
     let n = c.self.inside in
     let none = missing n.member.node n.member.nodes n.start n.slots.entries c.args.self.now c.self.view_is c.args.name c.in_default.ensures.value in
-    (λ e. absurd (not_memory e), λ held. absurd (nobody_holds _ n.member.node n.member.nodes c.args.name n.start none.0 c.args.client held.0 held.1))
+    let nobody = nobody_holds _ n.member.node n.member.nodes c.args.name n.start none.0 c.args.client in
+    record {
+      ok = tt;
+      not_held = (λ _. nobody, λ _. refl);
+      allowed = (λ e. absurd (not_memory e), λ held. absurd (nobody held.0 held.1));
+      err = same_view n.member.node n.member.nodes n.start n.slots.entries c.get_mut.follows.lender-at-none.entries c.args.self.now (ap (λ (m : HashMap (List ℕ) Resource _). m.entries) c.get_mut.follows.holds-at-none) c.self.view_is;
+    }
 
 pub leave-outcome-requires-clause-once : goal.leave-outcome-requires-clause-once
 leave-outcome-requires-clause-once c =
@@ -56,11 +56,6 @@ invariant_of-self c =
 pub returns-in_default-clause-consistent : goal.returns-in_default-clause-consistent
 returns-in_default-clause-consistent c = (invariant_of-self c).consistent
 
-pub returns-in_default-clause-err : goal.returns-in_default-clause-err
-returns-in_default-clause-err c =
-    let n = c.self.inside in
-    same_view n.member.node n.member.nodes n.start n.slots.entries c.get_mut.follows.lender-at-none.entries c.args.self.now (ap (λ (m : HashMap (List ℕ) Resource _). m.entries) c.get_mut.follows.holds-at-none) c.self.view_is
-
 pub invariant_of-self-2 : goal.invariant_of-self-2
 invariant_of-self-2 c =
     let n = c.self.inside in
@@ -76,18 +71,6 @@ invariant_of-self-2 c =
       counted = omega (arith, kept.counted, moves (λ r. length r.queue / 2 ^ 64), c.queued-2.ensures, c.queued-2.type_inv);
     }
 
-pub returns-clause-ok : goal.returns-clause-ok
-returns-clause-ok c =
-    let n = c.self.inside in
-    let new = c.leave-outcome.new.self in
-    (left_at n.member.node n.member.nodes n.start n.slots (c.get_mut.follows.lender new) c.args.self.now c.self.view_is c.self.invariant.consistent c.in-Some.slot.now new c.leave-outcome.result _ c.args.client c.args.name c.leave-outcome.ensures.left c.in-Some.ensures.value (c.get_mut.follows.holds new)).ok
-
-pub returns-clause-err : goal.returns-clause-err
-returns-clause-err c =
-    let n = c.self.inside in
-    let new = c.leave-outcome.new.self in
-    (left_at n.member.node n.member.nodes n.start n.slots (c.get_mut.follows.lender new) c.args.self.now c.self.view_is c.self.invariant.consistent c.in-Some.slot.now new c.leave-outcome.result _ c.args.client c.args.name c.leave-outcome.ensures.left c.in-Some.ensures.value (c.get_mut.follows.holds new)).err
-
 pub returns-clause-consistent : goal.returns-clause-consistent
 returns-clause-consistent c = (invariant_of-self-2 c).consistent
 
@@ -97,11 +80,13 @@ tells c =
     let here = found n.member.node n.member.nodes n.start n.slots.entries c.args.self.now c.self.view_is c.args.name c.in-Some.slot.now c.in-Some.ensures.value in
     subst (λ (r : Resource). LeaveTells c.leave-outcome.result r c.args.client) here (left_tells c.leave-outcome.result c.in-Some.slot.now c.args.client c.leave-outcome.new.self _ c.leave-outcome.ensures.left)
 
-pub returns-clause-not_held : goal.returns-clause-not_held
-returns-clause-not_held c = (tells c).not_held
-
-pub returns-clause-allowed : goal.returns-clause-allowed
-returns-clause-allowed c = (tells c).allowed
+pub returns-clause-left : goal.returns-clause-left
+returns-clause-left c =
+    let n = c.self.inside in
+    let new = c.leave-outcome.new.self in
+    let after = left_at n.member.node n.member.nodes n.start n.slots (c.get_mut.follows.lender new) c.args.self.now c.self.view_is c.self.invariant.consistent c.in-Some.slot.now new c.leave-outcome.result _ c.args.client c.args.name c.leave-outcome.ensures.left c.in-Some.ensures.value (c.get_mut.follows.holds new) in
+    let told = tells c in
+    record { ok = after.ok; not_held = told.not_held; allowed = told.allowed; err = after.err }
 
 pub returns-clause-room : goal.returns-clause-room
 returns-clause-room c room =

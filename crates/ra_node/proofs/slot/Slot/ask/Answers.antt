@@ -16,9 +16,8 @@ pub returns-in_err-may_ask : goal.returns-in_err-may_ask
 returns-in_err-may_ask c =
     let old = c.args.self.now in
     let fault = c.in_err-may_ask.field-0.0 in
-    let told = c.in_err-may_ask.ensures in
     let is : c.from_residual.result ≡ Err fault = search rules in
-    let refused = ask_refusal fault old c.args.client (record { allowed = told.allowed; busy = told.busy; exhausted = told.exhausted; no_memory = told.no_memory }) in
+    let refused = ask_refusal fault old c.args.client c.in_err-may_ask.ensures in
     subst (λ (result : Result Outcome AskError).
     MatchResult result (λ o. AskTurn old c.args.client c.args.mode o.sends.items o.marks.items old × IsConsistent old.state) (λ f. IsAskRefusal old c.args.client f × (old ≡ old)))
     (sym is) (refused, refl)

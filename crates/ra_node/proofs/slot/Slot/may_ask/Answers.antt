@@ -6,21 +6,17 @@ use Rattle.ra_node.proofs.Refusals.{busy_tells, exhausted_tells, allowed_tells}
 use Rattle.ra_node.proofs.slot.Slot.may_ask.Goals as goal
 
 pub returns-then-is_busy : goal.returns-then-is_busy
-returns-then-is_busy c =
-    let tells = busy_tells c.args.self.now c.args.client (c.is_busy.ensures.0 c.if-is_busy.true) in
-    record { allowed = tells.allowed; busy = tells.busy; exhausted = tells.exhausted; no_memory = tells.no_memory }
+returns-then-is_busy c = busy_tells c.args.self.now c.args.client (c.is_busy.ensures.0 c.if-is_busy.true)
 
 pub returns-then-highest : goal.returns-then-highest
 returns-then-highest c =
     let highest = sym (ap (λ (r : Resource). r.state.highest) c.self.view_is) ∙ (sym c.highest.ensures.value ∙ c.if-highest.true) in
-    let tells = exhausted_tells c.args.self.now c.args.client (λ busy. false≢true (sym c.if-is_busy.false ∙ c.is_busy.ensures.1 busy)) highest in
-    record { allowed = tells.allowed; busy = tells.busy; exhausted = tells.exhausted; no_memory = tells.no_memory }
+    exhausted_tells c.args.self.now c.args.client (λ busy. false≢true (sym c.if-is_busy.false ∙ c.is_busy.ensures.1 busy)) highest
 
 pub returns : goal.returns
 returns c =
     let below : c.self.inside.automaton.highest < greatest_number = search rules in
-    let tells = allowed_tells c.args.self.now c.args.client (record {
+    allowed_tells c.args.self.now c.args.client (record {
       not_busy = λ busy. false≢true (sym c.if-is_busy.false ∙ c.is_busy.ensures.1 busy);
       number_left = subst (λ (r : Resource). r.state.highest < greatest_number) c.self.view_is below;
-    }) in
-    record { allowed = tells.allowed; busy = tells.busy; exhausted = tells.exhausted; no_memory = tells.no_memory }
+    })

@@ -31,7 +31,7 @@ returns-in-Some-clause-value g c =
     (accepted_at w.start w.nodes.items w.kept.log.moves step c.in-Some.place ask.node c.index.result.now
     (λ (n : NodeState). MayAsk (resource_at n ask.name) ask.client) c.is_ok.result
     law c.in-Some.ensures.some.0 within c.index.ensures
-    (subst (λ (b : Bool). IsTrue b ↔ MayAsk (resource_at c.index.result.now ask.name) ask.client) (sym c.is_ok.ensures.value) c.may_ask.ensures.allowed)))
+    (subst (λ (b : Bool). IsTrue b ↔ MayAsk (resource_at c.index.result.now ask.name) ask.client) (sym c.is_ok.ensures.value) c.may_ask.ensures.told.allowed)))
 
 pub returns-in-None-clause-value : goal.returns-in-None-clause-value
 returns-in-None-clause-value g c =

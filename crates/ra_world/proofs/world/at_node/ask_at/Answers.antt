@@ -21,11 +21,11 @@ returns-in_err-may_ask g c =
       c.make_room.ensures.messages,
       c.make_room.ensures.moves,
       ask_refused old kept.log.moves c.args.client c.args.name.now c.args.mode c.in_err-may_ask.field-0.0 e is
-          (λ is. c.in_err-may_ask.ensures.busy.0 (ap Err is)) (λ is. c.in_err-may_ask.ensures.exhausted.0 (ap Err is)) (λ is. absurd (c.in_err-may_ask.ensures.no_memory (ap Err is))),
+          (λ is. c.in_err-may_ask.ensures.told.busy.0 (ap Err is)) (λ is. c.in_err-may_ask.ensures.told.exhausted.0 (ap Err is)) (λ is. absurd (c.in_err-may_ask.ensures.told.no_memory (ap Err is))),
     ))
 
 pub returns-in_default : goal.returns-in_default
-returns-in_default g c = (refl, c.make_room.ensures.messages, c.make_room.ensures.moves, c.in_ok-may_ask.ensures.allowed.0 refl)
+returns-in_default g c = (refl, c.make_room.ensures.messages, c.make_room.ensures.moves, c.in_ok-may_ask.ensures.told.allowed.0 refl)
 
 pub returns-in_err-outcome : goal.returns-in_err-outcome
 returns-in_err-outcome g c =

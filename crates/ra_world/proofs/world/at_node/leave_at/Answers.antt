@@ -29,11 +29,11 @@ returns-in_err-outcome g c =
     at_err c.from_residual.result (λ e. e ≡ refusal_of_leave c.in_err-outcome.field-0.0)
     (λ q. TriesAt c.args.step.now (GivenBack c.args.client c.args.name.now) old kept q c.leave.new.self c.make_room.new.self) c.from_residual.ensures.1
     (λ e is. (
-      c.in_err-outcome.ensures.err,
+      c.in_err-outcome.ensures.left.err,
       c.make_room.ensures.messages,
       c.make_room.ensures.moves,
       leave_refused old kept.log.moves c.args.client c.args.name.now c.in_err-outcome.field-0.0 e is
-          (λ is. c.in_err-outcome.ensures.not_held.0 (ap Err is)) (λ is. c.in_err-outcome.ensures.allowed.0 is),
+          (λ is. c.in_err-outcome.ensures.left.not_held.0 (ap Err is)) (λ is. c.in_err-outcome.ensures.left.allowed.0 is),
     ))
 
 -- a leave sends two messages to each other node at most, and makes three marks at most
@@ -41,7 +41,7 @@ pub keep-requires : goal.keep-requires
 keep-requires g c =
     let outcome = c.in_ok-outcome.outcome in
     let few = event_room c.args.node.now c.leave.new.self (GivenBack c.args.client c.args.name.now) outcome.sends.items outcome.marks.items
-    c.requires.consistent c.in_ok-outcome.ensures.ok in (
+    c.requires.consistent c.in_ok-outcome.ensures.left.ok in (
       lit< tt,
       (
         sends_fit_still _ _ _ (sends_fit_still _ _ _ few.0 c.requires.sends) c.in-Ok.ensures.bag_room,
@@ -53,7 +53,7 @@ pub returns : goal.returns
 returns g c =
     let outcome = c.in_ok-outcome.outcome in
     let move : Move = record { step = c.args.step.now; sends = outcome.sends.items; marks = outcome.marks.items } in (
-      c.in_ok-outcome.ensures.ok,
+      c.in_ok-outcome.ensures.left.ok,
       (
         c.args.kept.now.under_way.items,
         refl,
