@@ -192,8 +192,12 @@ impl Bag {
         Ok(true)
     }
 
-    /// Puts messages under way as `put_all` does.
-    fn put(&mut self, messages: &[Message]) -> Result<(), Memory>
+    /// Puts messages under way as `put_all` does. A caller that has no list of them need not make one.
+    ///
+    /// # Errors
+    ///
+    /// `Memory`: the bag is as before, with its spare.
+    pub fn put(&mut self, messages: &[Message]) -> Result<(), Memory>
         ensures ok { OnOk result (self.new.items ≡ self.old.items ++ messages.now) }
         ensures err { OnErr result (self.new ≡ self.old) }
         ensures succeeds { length messages.now ≤ self.old.spare → IsOk result }
@@ -215,7 +219,7 @@ impl Bag {
     /// The cost is constant if it is the oldest of all. Otherwise it is amortized constant on average if the bag knows
     /// in which slot each message is, even if several are equal or no such message is under way. If the bag does not
     /// know, the cost is linear in the number of messages. After a message was looked for among more than 64, the next
-    /// `reserve`, `put_all` or `again` learns in which slot each is.
+    /// `reserve`, `put_all`, `put` or `again` learns in which slot each is.
     pub fn take(&mut self, message: &Message) -> Option<Message>
         ensures taken { IfSome result (λ taken. (taken ≡ message.now)
             × TakesFirst self.old.items message.now self.new.items) }

@@ -1,6 +1,6 @@
 -- What is said of a step that is tried, from what a world keeps.
-use Rattle.std.proofs.Common.{eq-eqb, ◌≡◌, ◌⊎◌, ◌↔◌, ℕ, ◌+◌, ◌<◌, ◌≤◌, Bool, List, Contains, ◌++◌, ◌∷◌, [], length, set, get_or, Option, Some, None, Result, Ok, Err, refl, sym, ap, ◌∙◌, subst, inl, inr, arith}
-use Rattle.std.specs.Prelude.{IsErrAnd, IfSome, IfOk, IsNone, IsOk, IsTrue, ◌==◌, if◌then◌else◌}
+use Rattle.std.proofs.Common.{eq-eqb, ◌≡◌, ◌⊎◌, ◌↔◌, ℕ, ◌+◌, ◌<◌, ◌≤◌, List, Contains, ◌++◌, ◌∷◌, [], length, set, get_or, Option, Some, None, Result, Ok, Err, refl, sym, ap, ◌∙◌, subst, inl, inr, arith}
+use Rattle.std.specs.Prelude.{IsErrAnd, IfSome, IsNone, IsOk, OnOk, ◌==◌, if◌then◌else◌}
 use Rattle.std.proofs.lemmas.List.{set-get_or, get_or_default}
 use Rattle.ra_stamp.specs.declared.message.Message.{Message}
 use Rattle.ra_stamp.specs.declared.memory.Memory.{Memory as MemoryRefused}
@@ -78,15 +78,13 @@ pub first_is_taken : (r : Option Message) (old new : List Message) (message : Me
 first_is_taken None old new message there taken none = absurd (none refl there)
 first_is_taken (Some m) old new message there taken none = taken.1
 
--- a message that is there is copied, if there is room for it
-pub copied_on : (r : Result Bool MemoryRefused) (before left new : List Message) (message : Message)
-    → IfOk r (λ again. IsTrue again ↔ Contains before message) → IfOk r (λ again. IsTrue again → new ≡ before ++ message ∷ [])
-    → IsOk r → before ≡ left → Contains left message → new ≡ left ++ message ∷ []
-copied_on (Ok again) before left new message told copied ok same there =
-    copied (told.1 (subst (λ (ms : List Message). Contains ms message) (sym same) there)) ∙ ap (λ (ms : List Message). ms ++ message ∷ []) same
-copied_on (Err e) before left new message told copied ok same there = absurd (not_ok ok)
+-- a message is put after the others, if there is room for it
+pub put_on : (r : Result (Unit {0}) MemoryRefused) (before left new : List Message) (message : Message)
+    → OnOk r (new ≡ before ++ message ∷ []) → IsOk r → before ≡ left → new ≡ left ++ message ∷ []
+put_on (Ok u) before left new message put ok same = put ∙ ap (λ (ms : List Message). ms ++ message ∷ []) same
+put_on (Err e) before left new message put ok same = absurd (not_ok ok)
   where
-    not_ok : IsOk {T = Bool} (Err e) → ⊥
+    not_ok : IsOk {T = Unit {0}} (Err e) → ⊥
     not_ok is = cc
 
 -- ---- At a node

@@ -380,8 +380,8 @@ impl<const KEEPS_MARKS: u8> WorldOf<KEEPS_MARKS> {
             return Err(StepError::NotUnderWay);
         };
         self.kept.make_room(1, 0)?;
-        // The message is under way, and there is room for the copy.
-        self.kept.under_way.again(message).unwrap();
+        // There is room for the copy.
+        self.kept.under_way.put(&[*message]).unwrap();
         Ok(self.kept.keep_nothing(alloc, step))
     }
 }

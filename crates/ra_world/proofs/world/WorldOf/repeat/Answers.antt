@@ -5,7 +5,7 @@ use Rattle.ra_world.specs.declared.step.Step.TheVariants.{Repeat}
 use Rattle.ra_world.specs.declared.error.StepError.TheVariants.{NotUnderWay}
 use Rattle.ra_world.specs.Traffic.{Move}
 use Rattle.ra_world.specs.Keeping.{Keeps}
-use Rattle.ra_world.proofs.StepTries.{shown, with_cause, short, copied_on}
+use Rattle.ra_world.proofs.StepTries.{shown, with_cause, short, put_on}
 use Rattle.ra_world.proofs.AtPlace.{kept_as, quiet_move, moved_quietly}
 use Rattle.ra_world.proofs.WorldLaws.{kept_runs_go_on, repeat_allowed}
 use Rattle.ra_world.proofs.world.WorldOf.repeat.Goals as goal
@@ -35,10 +35,10 @@ invariant_of-self-2 g c =
     let message = c.args.message.now in
     let there : Contains w.kept.under_way.items message = c.in-Some.ensures.found.0 refl in
     let before : c.make_room.new.self.under_way.items ≡ w.kept.under_way.items = c.make_room.ensures.messages ∙ ap (λ (b : Listed Message). b.items) c.in-Some.ensures.same in
-    let left : c.again.new.self.items ≡ w.kept.under_way.items ++ message ∷ [] =
-    copied_on c.again.result c.make_room.new.self.under_way.items w.kept.under_way.items c.again.new.self.items message c.again.ensures.told c.again.ensures.copied
-    (c.again.ensures.succeeds c.in_ok-make_room.ensures.bag_room) before there in
-    let after : c.keep_nothing.new.self.under_way.items ≡ c.again.new.self.items = ap (λ (b : Listed Message). b.items) c.keep_nothing.ensures.messages in
+    let left : c.put.new.self.items ≡ w.kept.under_way.items ++ message ∷ [] =
+    put_on c.put.result c.make_room.new.self.under_way.items w.kept.under_way.items c.put.new.self.items message c.put.ensures.ok
+    (c.put.ensures.succeeds c.in_ok-make_room.ensures.bag_room) before in
+    let after : c.keep_nothing.new.self.under_way.items ≡ c.put.new.self.items = ap (λ (b : Listed Message). b.items) c.keep_nothing.ensures.messages in
     let moves : c.keep_nothing.new.self.log.moves ≡ w.kept.log.moves ++ record { step = Repeat message; sends = []; marks = [] } ∷ [] =
     quiet_move w.kept.log.moves c.make_room.new.self.log.moves c.keep_nothing.new.self.log.moves c.args.step.now (Repeat message)
     c.make_room.ensures.moves c.requires c.keep_nothing.ensures.moves in
