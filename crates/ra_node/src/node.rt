@@ -107,8 +107,8 @@ impl Node {
         ensures value { result ≡ opening_node member.node member.nodes start }
         ensures consistent { IsConsistentNode result }
     {
-        // Each reader tells that it is a member.
-        let _node = member.node();
+        // For the proof: a member is one of its nodes.
+        let _ = member.node();
         Node {
             member,
             start,
@@ -453,7 +453,7 @@ impl Node {
                 return Err(fault);
             }
         };
-        let Ok(()) = self.meet(name, slot) else {
+        let Ok(()) = self.observe(name, slot) else {
             return Err(AskError::Memory);
         };
         Ok(outcome)
@@ -487,7 +487,7 @@ impl Node {
                 return Err(fault);
             }
         };
-        let Ok(()) = self.meet(name, slot) else {
+        let Ok(()) = self.observe(name, slot) else {
             return Err(ReceiveError::Memory);
         };
         Ok(outcome)
@@ -501,15 +501,15 @@ impl Node {
         Slot::new(alloc, self.member, name, self.start)
     }
 
-    /// Takes in the slot of a name that the node had not met.
+    /// Observes a name that the node had not met: its slot is one of the node's from now on.
     ///
     /// # Errors
     ///
     /// `Memory`: the node is as before.
-    fn meet(&mut self, name: Name, slot: Slot) -> Result<(), Memory>
+    fn observe(&mut self, name: Name, slot: Slot) -> Result<(), Memory>
         requires first { map.get self.old.resources name ≡ None }
         requires consistent { IsConsistentResource self.old.me self.old.nodes name self.old.start slot }
-        ensures met { OnOk result (self.new ≡ with_resource self.old name slot) }
+        ensures observed { OnOk result (self.new ≡ with_resource self.old name slot) }
         ensures err { OnErr result (self.new ≡ self.old) }
         ensures consistent { IsConsistentNode self.new }
     {

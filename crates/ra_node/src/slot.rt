@@ -170,9 +170,9 @@ impl Slot {
             (λ fault. IsAskRefusal self.old client fault × (self.new ≡ self.old)) }
     {
         self.may_ask(client)?;
-        let Phase::Idle = self.automaton.phase() else {
+        if self.automaton.phase() != Phase::Idle {
             return self.queue_up(alloc, client, mode);
-        };
+        }
         let Ok(mut marks) = marks_for(alloc, 2) else {
             return Err(AskError::Memory);
         };

@@ -28,8 +28,8 @@ next_entry-requested-requires c = (c.in_ok-may_ask.ensures.allowed.0 refl).numbe
 pub request_when_idle-requires-clause-number_left : goal.request_when_idle-requires-clause-number_left
 request_when_idle-requires-clause-number_left c = subst (λ (r : Resource). r.state.highest < greatest_number) (sym c.self.view_is) (c.in_ok-may_ask.ensures.allowed.0 refl).number_left
 
-pub returns-in_default-marks_for : goal.returns-in_default-marks_for
-returns-in_default-marks_for c = (c.in_ok-may_ask.ensures.allowed.0 refl, refl)
+pub returns-in_default : goal.returns-in_default
+returns-in_default c = (c.in_ok-may_ask.ensures.allowed.0 refl, refl)
 
 pub returns-in_default-request_when_idle : goal.returns-in_default-request_when_idle
 returns-in_default-request_when_idle c =
