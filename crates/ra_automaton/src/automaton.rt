@@ -86,8 +86,8 @@ impl Automaton {
         ensures value { result ≡ opening member.node member.nodes name start }
         ensures consistent { IsConsistent result }
     {
-        // Each reader tells that it is a member.
-        let _node = member.node();
+        // For the proof: a member is one of its nodes.
+        let _ = member.node();
         Automaton {
             member,
             name,
@@ -189,7 +189,7 @@ impl Automaton {
         ensures consistent { IsConsistent self.new }
         ensures memory_only_for_reply { OnErr result (IsRepliedAtOnce self.old message.now) }
     {
-        // Before the message, the state is consistent.
+        // For the proof: before the message, the state is consistent.
         let _ = &self.member;
         match *message {
             Message::Request {
@@ -388,8 +388,11 @@ impl Automaton {
         matches!(self.phase, Phase::Inside { .. })
     }
 
-    /// Adds the REPLYs that are deferred. After an error some may have been added. It does not allocate if there is room for
-    /// one to each node.
+    /// Adds the REPLYs that are deferred. It does not allocate if there is room for one to each node.
+    ///
+    /// # Errors
+    ///
+    /// `Memory`: memory ran out. Some REPLYs may have been added.
     fn push_replies(&self, sends: &mut Messages) -> Result<(), Memory>
         ensures ok { OnOk result (sends.new.items ≡ sends.old.items ++ map (λ deferred.
             Message.Reply self.now.me deferred.0 self.now.name deferred.1) (finmap.entries self.now.deferred)) }
@@ -400,8 +403,12 @@ impl Automaton {
         self.deferrals.push_replies(sends, me, self.name)
     }
 
-    /// Adds the REPLYs that are deferred and then the REQUESTs that a client makes next, in this mode. After an error some may
-    /// have been added. It does not allocate if there is room for two messages to each node.
+    /// Adds the REPLYs that are deferred and then the REQUESTs that a client makes next, in this mode. It does not allocate if
+    /// there is room for two messages to each node.
+    ///
+    /// # Errors
+    ///
+    /// `Memory`: memory ran out. Some of these messages may have been added.
     fn push_turn(&self, sends: &mut Messages, mode: Mode) -> Result<(), Memory>
         requires { self.now.highest < greatest_number }
         ensures ok { OnOk result (sends.new.items ≡ (sends.old.items ++ map (λ deferred.

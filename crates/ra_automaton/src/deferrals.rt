@@ -89,8 +89,11 @@ impl Deferrals {
         self.nodes = NodeSet::empty();
     }
 
-    /// Adds a REPLY to each deferred node, in ascending order. After an error some may have been added. It does not
-    /// allocate if the list has as much room as this.
+    /// Adds a REPLY to each deferred node, in ascending order. It does not allocate if the list has as much room as this.
+    ///
+    /// # Errors
+    ///
+    /// `Memory`: memory ran out. Some REPLYs may have been added.
     pub fn push_replies(&self, sends: &mut Messages, me: NodeId, name: Name) -> Result<(), Memory>
         ensures ok { OnOk result (sends.new.items ≡ sends.old.items
             ++ map (λ entry. Message.Reply me entry.0 name entry.1) (finmap.entries self.now.numbers)) }

@@ -4,8 +4,11 @@ ghost use Rattle.ra_automaton.specs.Steps.{others_of};
 
 use ra_stamp::{Member, Memory, Message, Messages, Mode, Name, NodeId};
 
-/// Adds a REQUEST to each other node, in ascending order. After an error some may have been added. It does not allocate
-/// if there is room for one to each node.
+/// Adds a REQUEST to each other node, in ascending order. It does not allocate if there is room for one to each node.
+///
+/// # Errors
+///
+/// `Memory`: memory ran out. Some REQUESTs may have been added.
 pub fn push_requests(
     sends: &mut Messages,
     member: Member,

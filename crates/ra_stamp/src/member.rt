@@ -75,7 +75,7 @@ impl Member {
         requires { place < nodes }
         ensures { result ≡ record { node = place + 1; nodes = nodes } }
     {
-        // The count is at most 64.
+        // For the proof: there are at most 64 nodes.
         let _ = nodes.get();
         let node = NodeId::at(usize::from(place));
         Member { node, nodes }
