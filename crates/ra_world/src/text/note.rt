@@ -9,9 +9,15 @@ const MAX_QUOTED: usize = 60;
 
 /// A note on one line, as it is made. As in a [`Draft`], if memory runs out for a part, the note remembers it and `finish`
 /// reports it.
-#[derive(Drop)]
 pub struct Note {
     draft: Draft,
+}
+
+// What it owns is freed here, so that no other crate proves how each of its parts is dropped.
+impl Drop for Note {
+    fn drop(self) {
+        let Note { draft: _ } = self;
+    }
 }
 
 impl Note {
@@ -136,7 +142,8 @@ impl Note {
     ///
     /// `Memory`: memory ran out for some part.
     pub fn finish(self) -> Result<Option<String>, Memory> {
-        let text = self.draft.finish()?;
+        let Note { draft } = self;
+        let text = draft.finish()?;
         if text.is_empty() {
             Ok(None)
         } else {
