@@ -12,7 +12,10 @@ pub fn refusal_after(alloc: Global, lines: &[u8], mark: &Mark) -> Option<MarkCau
         return None;
     };
     let (mut rest, mut is_whole) = (lines, true);
-    while let (line, Some(after)) = cut(rest, b'\n') {
+    for _ in 0..u64::MAX {
+        let (line, Some(after)) = cut(rest, b'\n') else {
+            break;
+        };
         if let Some(Line::Marked(made)) = &Line::parse(line) {
             is_whole = is_whole && try_mark(&mut table, made).is_ok();
         }
