@@ -9,7 +9,7 @@ pub mod line_text;
 pub mod not_under_way;
 pub mod obstacle;
 pub mod open_request;
-pub mod open_text;
+pub mod open_requests;
 pub mod refused_step;
 pub mod replay;
 pub mod table_steps;

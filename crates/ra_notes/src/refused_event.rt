@@ -1,9 +1,9 @@
 //! Why the node of a book does not take a line.
 use crate::book_openings::Opening;
 use ra_book::{Refusal, TimedNode, event_of};
-use ra_explain::Stage;
+use ra_explain::{Reached, Stage};
 use ra_history::{BookError, BookKind};
-use ra_stamp::{Mark, Mode, Name};
+use ra_stamp::{Mark, Name};
 use ra_world::cut;
 use std::alloc::Global;
 
@@ -12,12 +12,9 @@ use std::alloc::Global;
 pub struct ClientState {
     pub client: u32,
     pub name: Name,
-    /// The mode in which it last asked.
-    pub mode: Mode,
-    /// How far it is, or `None` if it neither waits, nor is queued, nor holds.
-    pub stage: Option<Stage>,
-    /// The line at which it last asked, or from which on it holds, counted from 1 over the whole text.
-    pub since: u64,
+    /// How far it is, or `None` if it neither waits, nor is queued, nor holds. If it waits, the line is the one at which it asked. Lines are
+    /// counted over the whole text.
+    pub reached: Option<Reached>,
 }
 
 impl ClientState {
@@ -27,21 +24,28 @@ impl ClientState {
             && self.client == *client
             && self.name == *name
         {
-            self.mode = *mode;
-            self.stage = Some(Stage::Queued);
-            self.since = line;
+            self.reached = Some(Reached {
+                stage: Stage::Queued,
+                mode: *mode,
+                since: line,
+            });
         }
         for mark in marks {
             let entry = mark.entry();
             if self.client == entry.client && self.name == entry.name {
-                match mark {
-                    Mark::Requested(_) => self.stage = Some(Stage::Waits),
-                    Mark::Entered(_) => {
-                        self.stage = Some(Stage::Holds);
-                        self.since = line;
-                    }
-                    Mark::Left(_) => self.stage = None,
-                }
+                self.reached = match (mark, self.reached) {
+                    (Mark::Requested(_), Some(asked)) => Some(Reached {
+                        stage: Stage::Waits,
+                        ..asked
+                    }),
+                    (Mark::Entered(_), Some(asked)) => Some(Reached {
+                        stage: Stage::Holds,
+                        since: line,
+                        ..asked
+                    }),
+                    // It left the name; no client gets a request that it has not asked for.
+                    _ => None,
+                };
             }
         }
     }
@@ -93,9 +97,7 @@ pub fn refused_event(
             Some(ClientState {
                 client: *client,
                 name: *name,
-                mode: Mode::Exclusive,
-                stage: None,
-                since: 0,
+                reached: None,
             })
         }
         _ => None,

@@ -23,18 +23,11 @@ fn push_client(note: &mut Note, why: BookError, state: &ClientState) {
             return;
         }
     };
-    let stage = state.stage;
-    push_stage(
-        note,
-        state.client,
-        &state.name,
-        None,
-        stage,
-        state.mode,
-        state.since,
-    );
-    note.push(match stage {
-        Some(Stage::Holds) if asks => " and may not ask for it again: expected its release first",
+    let reached = state.reached;
+    push_stage(note, state.client, &state.name, None, reached);
+    note.push(match reached {
+        Some(reached) if asks && reached.stage.is(Stage::Holds) =>
+            " and may not ask for it again: expected its release first",
         _ if asks => " and may not ask for it again: expected its grant and its release first",
         Some(_) => " and does not hold it: expected its grant first",
         None => ": expected a client that does",

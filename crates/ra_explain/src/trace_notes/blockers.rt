@@ -1,6 +1,6 @@
 //! Which requests are in the way of one that waits or is queued.
 use crate::trace_notes::open_request::OpenRequest;
-use crate::trace_notes::open_text::{OpenText, Sought};
+use crate::trace_notes::open_requests::{OpenRequests, Sought};
 use ra_world::Note;
 
 /// The most clients that are named of those at one stage, or of those with something left to do.
@@ -27,7 +27,7 @@ impl TellsBlocker for ByLine {
 /// Adds the first of these requests, and how many more there are. Returns whether there is any.
 pub fn push_blockers<T: TellsBlocker>(
     note: &mut Note,
-    open: &OpenText,
+    open: &OpenRequests,
     sought: &Sought,
     tells: &T,
 ) -> bool {

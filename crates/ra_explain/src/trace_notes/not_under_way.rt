@@ -2,7 +2,7 @@
 use crate::note_parts::{push_number_in, push_numbered};
 use crate::trace_notes::line_form::version_of;
 use crate::trace_notes::open_request::OpenRequest;
-use crate::trace_notes::open_text::Sought;
+use crate::trace_notes::open_requests::Sought;
 use crate::trace_notes::replay::Replay;
 use crate::trace_notes::text_line::TextLine;
 use ra_stamp::Message;

@@ -1,7 +1,7 @@
 //! What is in the way of a mark that a lock table does not allow.
 use crate::note_parts::{push_number_in, push_numbered};
-use crate::trace_notes::open_request::Stage;
-use crate::trace_notes::open_text::{OpenText, Sought};
+use crate::trace_notes::open_request::{Stage, push_entry};
+use crate::trace_notes::open_requests::{OpenRequests, Sought};
 use crate::trace_notes::replay::Replay;
 use crate::trace_notes::table_steps::refusal_after;
 use crate::trace_notes::text_line::TextLine;
@@ -23,7 +23,7 @@ const IN_TABLE: [&str; 7] = [
 ];
 
 /// Adds the first of these requests, which is in the way of another one, with its number, if there is one. Returns whether there is.
-fn push_other(note: &mut Note, joint: &str, open: &OpenText, sought: &Sought) -> bool {
+fn push_other(note: &mut Note, joint: &str, open: &OpenRequests, sought: &Sought) -> bool {
     let request = open.next_of(0, sought);
     if let Some(request) = request {
         note.push(joint);
@@ -54,10 +54,10 @@ fn push_fate(note: &mut Note, entry: &Entry, replay: &Replay, cause: MarkCause) 
         &Sought::AtNode(entry.stamp.node, entry.name),
     ) && !push_other(note, ": ", open, &Sought::Of(entry.client, entry.name))
     {
-        if let Some(released) = &replay.released {
+        if let Some((released, line)) = &replay.released {
             note.push(": ");
-            released.push(note, " last released ", " in line ");
-            push_numbered(note, ", with number ", released.entry.stamp.seq);
+            push_entry(note, released, " last released ", " in line ", *line);
+            push_numbered(note, ", with number ", released.stamp.seq);
             return;
         }
         note.push(": it was never requested");

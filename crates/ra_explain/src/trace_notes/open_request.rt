@@ -1,6 +1,6 @@
 //! A client that waits, is queued or holds, as a note says it.
 use crate::note_parts::{push_name_and_mode, push_numbered};
-use ra_stamp::{Entry, Mode, Name, NodeId, conflicts};
+use ra_stamp::{Entry, Mode, Name, conflicts};
 use ra_world::Note;
 
 /// What a client does between its ask and its release.
@@ -15,9 +15,9 @@ pub enum Stage {
 }
 
 impl Stage {
-    /// Returns whether it is another one.
-    pub fn is(self, other: Stage) -> bool {
-        self as u8 == other as u8
+    /// Returns whether it is this stage.
+    pub fn is(self, stage: Stage) -> bool {
+        self as u8 == stage as u8
     }
 
     /// Returns what a client at it has done with a name.
@@ -28,6 +28,16 @@ impl Stage {
             Stage::Holds => " has held ",
         }
     }
+}
+
+/// How far a client is with a name.
+#[derive(Clone, Copy)]
+pub struct Reached {
+    pub stage: Stage,
+    /// The mode in which it asked.
+    pub mode: Mode,
+    /// The line since which it is at this stage, counted from 1.
+    pub since: u64,
 }
 
 /// A client that waits, is queued or holds, and its request.
@@ -53,21 +63,26 @@ impl OpenRequest {
             && (self.stage.is(Stage::Holds) || self.entry.stamp < entry.stamp)
     }
 
-    /// Adds whose it is, what that client does with the name, and in or since which line.
-    pub fn push(&self, note: &mut Note, does: &str, place: &str) {
-        let entry = &self.entry;
-        note.client(entry.client);
-        push_numbered(note, " at node ", entry.stamp.node.get());
-        push_name_and_mode(note, does, &entry.name, entry.mode);
-        push_numbered(note, place, self.since);
-    }
-
     /// Adds that it is in the way of another one, since it holds or came first.
     pub fn push_in_the_way(&self, note: &mut Note) {
         if self.stage.is(Stage::Holds) {
-            self.push(note, Stage::Holds.done(), " since line ");
+            push_entry(
+                note,
+                &self.entry,
+                Stage::Holds.done(),
+                " since line ",
+                self.since,
+            );
         } else {
-            self.push(note, " asked for ", " in line ");
+            push_entry(note, &self.entry, " asked for ", " in line ", self.since);
         }
     }
+}
+
+/// Adds whose an entry is, what that client does with the name, and in or since which line.
+pub fn push_entry(note: &mut Note, entry: &Entry, does: &str, place: &str, line: u64) {
+    note.client(entry.client);
+    push_numbered(note, " at node ", entry.stamp.node.get());
+    push_name_and_mode(note, does, &entry.name, entry.mode);
+    push_numbered(note, place, line);
 }

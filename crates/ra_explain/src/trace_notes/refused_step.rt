@@ -1,26 +1,24 @@
 //! Why a node refuses what a client wants at a line of a trace.
 use crate::note_parts::{push_name_and_mode, push_numbered};
-use crate::trace_notes::open_request::Stage;
+use crate::trace_notes::open_request::Reached;
 use crate::trace_notes::replay::Replay;
 use crate::trace_notes::text_line::TextLine;
-use ra_stamp::{Mode, Name, NodeId};
+use ra_stamp::{Name, NodeId};
 use ra_trace::Line;
 use ra_world::{Note, Step};
 
-/// Adds what a client at a stage has done with a name, in which mode and since which line, or at none, that it does not hold the name. It
-/// adds at which node that is, if one is told.
+/// Adds how far a client is with a name, in which mode and since which line, or that it does not hold the name if it is at no stage. It adds
+/// at which node that is, if one is told.
 pub fn push_stage(
     note: &mut Note,
     client: u32,
     name: &Name,
     node: Option<NodeId>,
-    stage: Option<Stage>,
-    mode: Mode,
-    since: u64,
+    reached: Option<Reached>,
 ) {
     note.client(client);
-    match stage {
-        Some(stage) => push_name_and_mode(note, stage.done(), name, mode),
+    match reached {
+        Some(reached) => push_name_and_mode(note, reached.stage.done(), name, reached.mode),
         None => {
             note.push(" does not hold ");
             note.name(name);
@@ -29,8 +27,8 @@ pub fn push_stage(
     if let Some(node) = node {
         push_numbered(note, " at node ", node.get());
     }
-    if stage.is_some() {
-        push_numbered(note, " since line ", since);
+    if let Some(reached) = reached {
+        push_numbered(note, " since line ", reached.since);
     }
 }
 
@@ -67,8 +65,12 @@ pub fn push_refused(note: &mut Note, line: &TextLine<'_>, replay: &Replay, other
     } else if replay.nodes == 0 || !replay.open.is_whole {
         note.push(other);
     } else if let Some(open) = replay.open.clients.get(&(node, client, name)) {
-        let (at, stage, mode) = (Some(node), Some(open.stage), open.entry.mode);
-        push_stage(note, client, &name, at, stage, mode, open.since);
+        let reached = Reached {
+            stage: open.stage,
+            mode: open.entry.mode,
+            since: open.since,
+        };
+        push_stage(note, client, &name, Some(node), Some(reached));
         note.push(if is_ask {
             " and may not ask for it again"
         } else {
@@ -77,6 +79,6 @@ pub fn push_refused(note: &mut Note, line: &TextLine<'_>, replay: &Replay, other
     } else if is_ask {
         push_exhausted(note, &name);
     } else {
-        push_stage(note, client, &name, Some(node), None, Mode::Exclusive, 0);
+        push_stage(note, client, &name, Some(node), None);
     }
 }

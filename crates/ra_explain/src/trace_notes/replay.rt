@@ -1,6 +1,6 @@
 //! The lines before a wrong line, gone through once more for what they say of it.
-use crate::trace_notes::open_request::{OpenRequest, Stage};
-use crate::trace_notes::open_text::OpenText;
+use crate::trace_notes::open_request::Stage;
+use crate::trace_notes::open_requests::OpenRequests;
 use ra_stamp::{Entry, Mark, Message, Stamp};
 use ra_trace::Line;
 use ra_world::{Step, cut};
@@ -15,7 +15,7 @@ pub struct Replay {
     /// How many nodes there are, as the first line of a trace says, or 0.
     pub nodes: u16,
     /// Which clients wait, are queued and hold after them.
-    pub open: OpenText,
+    pub open: OpenRequests,
     /// The mark that the line is, if it is one. Its entry is meant by what follows.
     pub mark: Option<Mark>,
     /// The greatest number that was granted for the name of the entry, and its line. Both are 0 if none was.
@@ -23,8 +23,8 @@ pub struct Replay {
     pub granted_at: u64,
     /// The line in which the entry was released, or 0 if it was not.
     pub released_at: u64,
-    /// The last request that its node released for the name, if there is one, with the line in which it was.
-    pub released: Option<OpenRequest>,
+    /// The last entry that its node released on the name, if there is one, and the line in which it did.
+    pub released: Option<(Entry, u64)>,
     /// Which nodes have a REPLY to the request of the entry delivered, by their numbers.
     replied: [bool; NUMBERS],
     /// The message that the line delivers, loses or repeats, if it does.
@@ -47,7 +47,7 @@ impl Replay {
         };
         let mut replay = Replay {
             nodes: 0,
-            open: OpenText::new(alloc),
+            open: OpenRequests::new(alloc),
             mark,
             granted: 0,
             granted_at: 0,
@@ -167,11 +167,7 @@ impl Replay {
                 if *made == entry {
                     self.released_at = number;
                 }
-                self.released = Some(OpenRequest {
-                    entry: *made,
-                    stage: Stage::Queued,
-                    since: number,
-                });
+                self.released = Some((*made, number));
             }
             _ => {}
         }

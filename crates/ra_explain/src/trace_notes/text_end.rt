@@ -2,8 +2,8 @@
 use crate::note_parts::push_number_in;
 use crate::trace_notes::blockers::{ByLine, MAX_CLIENTS, push_blockers, want_text};
 use crate::trace_notes::line_form::version_of;
-use crate::trace_notes::open_request::Stage;
-use crate::trace_notes::open_text::{OpenText, Sought};
+use crate::trace_notes::open_request::{Stage, push_entry};
+use crate::trace_notes::open_requests::{OpenRequests, Sought};
 use crate::trace_notes::replay::Replay;
 use memchr::memchr;
 use ra_stamp::Memory;
@@ -101,15 +101,21 @@ impl LineCounts {
 
 /// Adds the first clients at a stage, and what is in the way of those that wait or are queued: `want` if no other client is. Returns how
 /// many clients are named then, if this many are named before.
-fn push_clients(note: &mut Note, open: &OpenText, stage: Stage, before: u64, want: &str) -> u64 {
+fn push_clients(
+    note: &mut Note,
+    open: &OpenRequests,
+    stage: Stage,
+    before: u64,
+    want: &str,
+) -> u64 {
     let (mut after, mut named) = (0, before);
     for _ in 0..MAX_CLIENTS {
         let Some(request) = open.next_of(after, &Sought::At(stage)) else {
             break;
         };
         note.push(if named == 0 { ": " } else { "; " });
-        request.push(note, stage.done(), " since line ");
         let entry = &request.entry;
+        push_entry(note, entry, stage.done(), " since line ", request.since);
         let in_the_way = match stage {
             Stage::Waits => Sought::Blocking(*entry),
             _ => Sought::AtNode(entry.stamp.node, entry.name),

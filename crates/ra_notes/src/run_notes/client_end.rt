@@ -1,5 +1,7 @@
 //! The states of the clients of a script when a run of it ends.
-use ra_explain::{OpenRequest, OpenText, Stage, TellsBlocker, push_name_and_mode, push_numbered};
+use ra_explain::{
+    OpenRequest, OpenRequests, Stage, TellsBlocker, push_name_and_mode, push_numbered,
+};
 use ra_schedule::{Choice, Op, Policy, Script};
 use ra_stamp::{Entry, Mark, Mode, Name};
 use ra_world::{Note, Report};
@@ -12,7 +14,7 @@ pub struct RunEnd<'a> {
     pub policy: &'a Policy,
     pub report: &'a Report,
     /// The requests that wait and hold then, each with the place of the mark of its request.
-    pub requests: OpenText,
+    pub requests: OpenRequests,
 }
 
 /// The state of a client.
@@ -60,7 +62,7 @@ impl<'a> RunEnd<'a> {
         policy: &'a Policy,
         report: &'a Report,
     ) -> RunEnd<'a> {
-        let mut requests = OpenText::new(alloc);
+        let mut requests = OpenRequests::new(alloc);
         let mut place = 0;
         for mark in report.marks.as_slice() {
             place = u64::saturating_add(place, 1);

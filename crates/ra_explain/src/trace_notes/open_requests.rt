@@ -45,16 +45,16 @@ impl OpenRequest {
 
 /// Which clients wait, are queued and hold after some lines or marks.
 #[derive(Drop)]
-pub struct OpenText {
+pub struct OpenRequests {
     pub clients: HashMap<ClientKey, OpenRequest>,
     /// Whether there was memory for all of them.
     pub is_whole: bool,
 }
 
-impl OpenText {
+impl OpenRequests {
     /// Makes that of a text of which no line was followed yet.
-    pub fn new(alloc: Global) -> OpenText {
-        OpenText {
+    pub fn new(alloc: Global) -> OpenRequests {
+        OpenRequests {
             clients: HashMap::new(alloc),
             is_whole: true,
         }
