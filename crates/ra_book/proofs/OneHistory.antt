@@ -33,7 +33,7 @@ kinds_of events = map (λ event. event.kind) events
 
 -- ---- Lists
 
--- a list whose values are these, parted where one of them stands
+-- a list whose values are these, parted at one of them
 record PartedAt {X Y : Type 0} (f : X → Y) (xs : List X) (ys : List Y) (y : Y) : Type 0 where
   before : List X
   this : X

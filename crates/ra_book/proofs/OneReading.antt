@@ -40,7 +40,7 @@ feed_once (a ∷ vs) (b ∷ bs) x y f g is =
 first_line : (l : List ℕ) (ls : List (List ℕ)) (r : List ℕ) → lines_text (l ∷ ls) ++ r ≡ l ++ 10 ∷ (lines_text ls ++ r)
 first_line l ls r = append_assoc (l ++ 10 ∷ []) (lines_text ls) r ∙ append_assoc l (10 ∷ []) (lines_text ls ++ r)
 
--- lines of a text stand at its beginning, if nothing after the last line is one
+-- lines of a text are at its beginning, if nothing after the last line is one
 lines_in : (ls ms : List (List ℕ)) (r p : List ℕ) → All HasNoFeed ls → All HasNoFeed ms → HasNoFeed p → lines_text ls ++ r ≡ lines_text ms ++ p
     → (more : List (List ℕ)) × (ms ≡ ls ++ more)
 lines_in [] ms r p f g free is = (ms, refl)

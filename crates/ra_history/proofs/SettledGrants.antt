@@ -62,8 +62,8 @@ module _ (laws : GrantLaws) (books : List BookState) (moves : List Move) (entry 
     ends : NodeEvents (opening_node b.me b.nodes b.start) (happened_at b.me moves) (settled.run.ends.0 b.me)
     ends = book_ends books cluster moves settled.run.ends.0 settled.run.ends.1 k within
 
-    marks_stand : (mark : Mark) → Contains (marks_by (happened_at b.me moves)) mark → Contains (marks_in history.leads.postings) mark
-    marks_stand mark is =
+    marks_kept : (mark : Mark) → Contains (marks_by (happened_at b.me moves)) mark → Contains (marks_in history.leads.postings) mark
+    marks_kept mark is =
         let fit : Fit b.events (happened_at b.me moves) = settled.events k nobody within in
         let other = history_by b history (happened_at b.me moves) (settled.run.ends.0 b.me) fit ends in
         let same = laws.one_history b.me b.nodes b.start b.events b.sent _ history.node (settled.run.ends.0 b.me) history.leads other.0 ∙ other.1 in
@@ -103,7 +103,7 @@ module _ (laws : GrantLaws) (books : List BookState) (moves : List Move) (entry 
         get_or_default books k (book_at books k) nobody within,
         (
           sym own,
-          mark_of_whole (book_at books k) (whole k within) (Entered entry) ((history k within).node, (history k within).leads, marks_stand k within (Entered entry) here),
+          mark_of_whole (book_at books k) (whole k within) (Entered entry) ((history k within).node, (history k within).leads, marks_kept k within (Entered entry) here),
         ),
       )
 

@@ -120,8 +120,8 @@ module _ (grant : GrantsAreInTheBooks) (books : List BookState) (cluster : IsClu
       λ is. none (subst (λ (ms : List Mark). Contains ms (Entered g.entry)) (sym marks_of_run) ((grant books of.moves g.entry cluster of.histories of.run).1 is)),
     )
 
-    pub grants_stand : BooksFit books → All (λ g. Contains marks (Entered g.entry)) grants × AllPairs (λ a b. a ≢ b) grants → Settles books grants settled
-    grants_stand fit stand = record { books_are = of; fit = fit; granted = all_granted stand.0; once = stand.1 }
+    pub grants_settle : BooksFit books → All (λ g. Contains marks (Entered g.entry)) grants × AllPairs (λ a b. a ≢ b) grants → Settles books grants settled
+    grants_settle fit all = record { books_are = of; fit = fit; granted = all_granted all.0; once = all.1 }
 
     pub grants_refused : BooksFit books → (e : SettleError) → RefusesGrants grants marks e → Refuses books grants e
     grants_refused fit NotSent why = absurd why

@@ -6,7 +6,7 @@ use Rattle.ra_history.specs.declared.error.SettleError.TheVariants.{Memory}
 use Rattle.ra_history.specs.Settled.{all_lost, settled_steps, start_of}
 use Rattle.ra_history.specs.SettlingParts.{Refuses}
 use Rattle.ra_history.proofs.Causes.{refused}
-use Rattle.ra_history.proofs.SettledReport.{settles, grants_stand, grants_refused}
+use Rattle.ra_history.proofs.SettledReport.{settles, grants_settle, grants_refused}
 use Rattle.ra_history.proofs.SettlingLaws.{fitting_books_settle, settled_steps_make_settled_runs, grants_are_in_the_books}
 use Rattle.ra_history.proofs.settle_books.settle_with.Goals as goal
 
@@ -56,5 +56,5 @@ returns c =
     let steps = c.push_losses.new.steps.items in
     let are : steps ≡ settled_steps books placed = c.in_ok-push_losses.ensures.ok ∙ ap (λ (xs : List Step). xs ++ map (λ m. Lose m) (all_lost books)) c.in_ok-steps.ensures.2 in
     let settled = settles settled_steps_make_settled_runs books c.requires.cluster c.in_ok-push_losses.ensures.histories placed steps c.in_ok-settled.settled c.in_ok-steps.ensures.1 are c.in_ok-settled.ensures in
-    grants_stand grants_are_in_the_books c.args.books.now c.requires.cluster c.args.grants.now c.in_ok-settled.settled settled
+    grants_settle grants_are_in_the_books c.args.books.now c.requires.cluster c.args.grants.now c.in_ok-settled.settled settled
     c.as_slice.result.now c.as_slice.ensures c.requires.fit c.in_ok-check_grants.ensures

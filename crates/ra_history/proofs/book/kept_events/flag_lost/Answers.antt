@@ -7,11 +7,11 @@ returns-in_default c = flags_none c.args.sent.now c.args.frame.now c.in_default.
 pub returns-then-sent-place : goal.returns-then-sent-place
 returns-then-sent-place c =
     let place = c.index-sent-place in
-    let stands = c.in-Some.ensures in
-    flags_none_again c.args.sent.now c.in-Some.place place.result c.args.frame.now stands.within place.is stands.is stands.first place.result c.if-sent-place.true
+    let found = c.in-Some.ensures in
+    flags_none_again c.args.sent.now c.in-Some.place place.result c.args.frame.now found.within place.is found.is found.first place.result c.if-sent-place.true
 
 pub returns : goal.returns
 returns c =
     let place = c.index-sent-place-2 in
-    let stands = c.in-Some.ensures in
-    flags_it c.args.sent.now c.in-Some.place place.result c.args.frame.now stands.within place.is stands.is stands.first c.index-sent-place.result c.if-sent-place.false
+    let found = c.in-Some.ensures in
+    flags_it c.args.sent.now c.in-Some.place place.result c.args.frame.now found.within place.is found.is found.first c.index-sent-place.result c.if-sent-place.false
