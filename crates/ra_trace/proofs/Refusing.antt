@@ -4,7 +4,6 @@ use Rattle.std.specs.Prelude.{IfErr, IsErrOf}
 use Rattle.std.proofs.lemmas.Bool.Decides.{leb_tells}
 use Rattle.ra_stamp.specs.NodeId.{IsNodeNumber}
 use Rattle.ra_world.specs.declared.error.RunError.TheVariants as run
-use Rattle.ra_world.specs.declared.error.StepError.{StepError}
 use Rattle.ra_world.specs.declared.step.Step.{Step}
 use Rattle.ra_world.specs.Refused.{IsRefusedAt}
 use Rattle.ra_trace.specs.declared.error.WriteTraceError.{WriteTraceError}

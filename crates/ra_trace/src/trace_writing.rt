@@ -225,7 +225,7 @@ pub fn trace_text(
     };
     let mut text = Draft::new(alloc);
     let written = trace_run(alloc, &mut text, &mut world, nodes, start, steps);
-    // Before any exit, so that it is not to be dropped at each.
+    // By a call, and before any exit, since to drop it at each is longer to prove.
     drop(world);
     match written {
         Ok(()) => match text.finish() {
