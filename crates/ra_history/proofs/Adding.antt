@@ -15,9 +15,8 @@ use Rattle.ra_history.specs.declared.book.event.BookKind.TheVariants.{Asked, Gav
 use Rattle.ra_history.specs.declared.book.event.BookEvent.{BookEvent}
 use Rattle.ra_history.specs.declared.book.sent.Sent.{Sent}
 use Rattle.ra_history.specs.History.{node_event, frames_at}
-use Rattle.ra_history.specs.Book.{BookState, LeadsTo, HasHistory, HasClock, Adds, as_sent, next_clock, with_event}
+use Rattle.ra_history.specs.Book.{BookState, LeadsTo, HasClock, Adds, as_sent, next_clock, with_event}
 use Rattle.ra_history.specs.Keeping.{Keeps, IsForThisBook, ComesNext, Happens}
-use Rattle.ra_history.proofs.Kept.{history_of}
 
 -- ---- What is kept if nothing but room changed
 

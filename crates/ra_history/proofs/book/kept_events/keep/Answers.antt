@@ -1,4 +1,4 @@
-use Rattle.std.proofs.Common.{◌≡◌, ◌≤◌, ℕ, ◌+◌, List, ◌++◌, length, vec_len, vec_capacity, sym, ap, ◌∙◌, subst}
+use Rattle.std.proofs.Common.{◌≤◌, ◌+◌, List, ◌++◌, length, vec_len, vec_capacity, sym, ap, ◌∙◌, subst}
 use Rattle.ra_stamp.specs.declared.message.Message.{Message}
 use Rattle.ra_history.specs.History.{frames_at}
 use Rattle.ra_history.specs.Book.{as_sent}
