@@ -4,6 +4,7 @@ use std::alloc::Global;
 use std::process::Abort;
 use std::sync::Wait;
 use std::thread::Threads;
+use test_support::{Difference, row};
 
 /// A REQUEST of node 1 for node 2, in version 1: exclusively, the name r, number 1, clock 1.
 const REQUEST: &str = "0101010201000000000000000100000000000000010172";
@@ -14,11 +15,18 @@ const REPLY: &str = "02020002000100000000000000000100000000000000020172\n";
 /// The words of a command line.
 const WORDS: [&str; 6] = ["ra", "answer", "--node", "2", "--nodes", "3"];
 
-/// Ends the test unless these bytes are those of the text.
-fn assert_text<T: Abort>(rt: &T, text: &str, bytes: &[u8]) {
-    let came = str::from_utf8(bytes).unwrap_or("no text");
+/// Asserts that these bytes are those of the text.
+fn assert_text(rt: &impl Abort, label: &str, bytes: &[u8], text: &str) {
+    let (at, came) = (row(label), str::from_utf8(bytes).unwrap_or("no text"));
     if came != text {
-        panic!(rt; "expected {text:?}, and {came:?} came");
+        panic!(rt;
+            "{}",
+            Difference {
+                at,
+                expected: &text,
+                came: &came
+            }
+        );
     }
 }
 
@@ -61,12 +69,14 @@ fn served<T: AllocGlobal + Threads + Wait + Sync>(rt: &T) -> Vec<u8> {
 
 #[test]
 fn a_request_is_answered(rt: HostRuntime) {
-    assert_text(&rt, REPLY, answered(rt.alloc()).as_slice());
+    let came = answered(rt.alloc());
+    assert_text(&rt, "what `answer` writes", came.as_slice(), REPLY);
 }
 
 #[test]
 fn a_command_is_served(rt: HostRuntime) {
-    assert_text(&rt, REPLY, served(&rt).as_slice());
+    let came = served(&rt);
+    assert_text(&rt, "what `serve` writes", came.as_slice(), REPLY);
 }
 
 /// Returns what is printed if there are no words for this cause, or nothing if the status is not 2.
@@ -80,15 +90,8 @@ fn refused(alloc: Global, fault: CommandFault) -> Vec<u8> {
 
 #[test]
 fn words_that_are_not_there_are_refused(rt: HostRuntime) {
-    let alloc = rt.alloc();
-    assert_text(
-        &rt,
-        "refused Usage\n",
-        refused(alloc, CommandFault::Usage).as_slice(),
-    );
-    assert_text(
-        &rt,
-        "refused Memory\n",
-        refused(alloc, CommandFault::Memory).as_slice(),
-    );
+    let came = refused(rt.alloc(), CommandFault::Usage);
+    assert_text(&rt, "wrong words", came.as_slice(), "refused Usage\n");
+    let came = refused(rt.alloc(), CommandFault::Memory);
+    assert_text(&rt, "no memory", came.as_slice(), "refused Memory\n");
 }

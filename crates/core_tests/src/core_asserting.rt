@@ -1,28 +1,14 @@
 //! How a test ends that does not find what it should. `test_support` has what it prints then.
 use ra_stamp::NodeId;
-use std::fmt::{Debug, Display};
+use std::fmt::Debug;
 use std::process::Abort;
-use test_support::{At, Difference, Tried, first_misprint, row};
-
-/// Asserts that each of these values prints as the text beside it.
-pub fn assert_prints<T: Display>(rt: &(impl Abort + AllocGlobal), rows: &[(T, &str)]) {
-    if let Some((text, came)) = first_misprint(rt.alloc(), rows) {
-        assert_same(rt, row(text), &came.as_str(), &text);
-    }
-}
+use test_support::{At, Difference};
 
 /// Returns the node with this number, of 1 to 64.
 pub fn node(rt: &impl Abort, number: u16) -> NodeId {
     match NodeId::new(number) {
         Some(node) => node,
         None => panic!(rt; "there is no node {number}"),
-    }
-}
-
-/// Asserts that calls of which a growth was refused had the right answer, and changed nothing.
-pub fn assert_grown(rt: &impl Abort, tried: Tried) {
-    if let Some(fault) = tried.fault() {
-        panic!(rt; "{fault}");
     }
 }
 

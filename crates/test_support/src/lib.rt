@@ -1,6 +1,7 @@
 //! What tests of several crates share. Nothing but tests uses it.
 #![tactic(auto)]
 
+mod asserting;
 mod failures;
 mod frames;
 mod messages;
@@ -15,6 +16,7 @@ pub use frames::{ASKS_1, ASKS_2, Change, with};
 pub use messages::{entry, entry_of, id, message_between, q, r, reply, request, writer};
 pub use modes::{Modes, PAIRS};
 pub use printing::printed;
+pub use ra_stamp::Memory;
 pub use reports::ONE_LOCK_LINES;
 pub use streams::{FailingReader, FailingWriter, failing_writer};
-pub use tried::{Tried, again, at_once_or, both, tried_if};
+pub use tried::{Tried, again, both};

@@ -9,11 +9,3 @@ pub fn printed<T: Display>(alloc: Global, value: &T) -> String {
         Err(_) => String::new(alloc),
     }
 }
-
-/// Asserts, by the `assert_prints` of the crate that calls it, that each of these variants of each type prints as its name.
-#[macro_export]
-macro_rules! assert_words {
-    ($rt:expr; $($kind:ident: $($variant:ident)+);+) => {
-        $(assert_prints($rt, &[$(($kind::$variant, stringify!($variant))),+]);)+
-    };
-}

@@ -1,8 +1,10 @@
 //! What becomes of calls if a growth may be refused.
 //!
-//! A test of growth makes each call, and makes it again if it answered that memory ran out and left all as it was. If it met no
+//! A test of growth makes each call, and makes it again if it answered that memory ran out. Whatever else a call answers or
+//! changes, the test asserts on the spot, and so prints which call it was, what was expected and what came. If the test met no
 //! refusal, as under `rt test`, it passes. If it met one and found all as it should be, it fails with words of its own. By these
 //! `tools/refuse-growth`, which has each allocation refused in turn, tells it from one that failed.
+use ra_stamp::Memory;
 
 /// What became of calls.
 #[derive(Clone, Copy, Debug, PartialEq)]
@@ -11,8 +13,8 @@ pub enum Tried {
     NoFailure,
     /// One answered that memory ran out and left all as it was, and was taken when it was made again.
     RetrySucceeded,
-    /// Anything else.
-    Broken,
+    /// One answered that memory ran out, and again when it was made again, though at most one growth is refused.
+    RefusedTwice,
 }
 
 impl Tried {
@@ -21,28 +23,10 @@ impl Tried {
         match self {
             Tried::NoFailure => None,
             Tried::RetrySucceeded => Some("a growth was refused, and the call made again"),
-            Tried::Broken => Some("a refused growth had another answer, or changed something"),
+            Tried::RefusedTwice => {
+                Some("expected that memory runs out at most once, and it ran out twice")
+            }
         }
-    }
-}
-
-/// Returns what became of a call, by whether it did what it should.
-pub fn tried_if(good: bool) -> Tried {
-    if good {
-        Tried::NoFailure
-    } else {
-        Tried::Broken
-    }
-}
-
-/// Returns what became of a call. The second one is made only if the first ran out of memory and left all as it was.
-pub fn at_once_or(is_done: bool, is_done_again: bool) -> Tried {
-    if is_done {
-        Tried::NoFailure
-    } else if is_done_again {
-        Tried::RetrySucceeded
-    } else {
-        Tried::Broken
     }
 }
 
@@ -50,17 +34,16 @@ pub fn at_once_or(is_done: bool, is_done_again: bool) -> Tried {
 pub fn both(first: Tried, second: Tried) -> Tried {
     match (first, second) {
         (Tried::NoFailure, Tried::NoFailure) => Tried::NoFailure,
-        (Tried::Broken, _) | (_, Tried::Broken) => Tried::Broken,
+        (Tried::RefusedTwice, _) | (_, Tried::RefusedTwice) => Tried::RefusedTwice,
         _ => Tried::RetrySucceeded,
     }
 }
 
-/// Returns what became of calls that were made twice. Each time they answer whether memory ran out, if the first of them is
-/// refused.
-pub fn again(first: Result<Tried, bool>, second: Result<Tried, bool>) -> Tried {
+/// Returns what became of calls that were made twice. Each time they may find no memory, if the first of them is refused.
+pub fn again(first: Result<Tried, Memory>, second: Result<Tried, Memory>) -> Tried {
     match (first, second) {
         (Ok(tried), _) => tried,
-        (Err(memory), Ok(tried)) if memory => both(Tried::RetrySucceeded, tried),
-        _ => Tried::Broken,
+        (Err(Memory), Ok(tried)) => both(Tried::RetrySucceeded, tried),
+        (Err(Memory), Err(Memory)) => Tried::RefusedTwice,
     }
 }

@@ -2,88 +2,106 @@
 //! that carries frames, and do what they should when they are made again.
 use crate::thread_scripts::letter_scripts::{Client, TWO_WRITERS, USES_R, script_of};
 use crate::thread_scripts::own_threads::run_in;
-use crate::whole_clusters::cluster_asserting::assert_grown;
+use crate::whole_clusters::cluster_asserting::{assert_same, fail_at};
 use crate::whole_clusters::cluster_calls::{books_at_the_end, clusters_of, site, use_name};
 use crate::whole_clusters::cluster_values::{WANTING, node};
 use ra_cluster::{
     BookError, CallError, Cluster, ClusterError, OpenGate, SiteError, Stop, run_cluster,
 };
 use ra_schedule::Script;
+use ra_stamp::Memory;
 use std::alloc::Global;
 use std::process::Abort;
 use std::sync::Wait;
 use std::thread::Threads;
-use test_support::{Tried, again};
+use test_support::{At, Tried, again, assert_grown, row};
 
-/// Returns whether a call of a cluster may answer this if a growth was refused, either in the caller's thread or in one
-/// that carries frames, which then stops all nodes.
-fn is_wanting(fault: SiteError) -> bool {
-    matches!(
-        fault,
+/// Returns that memory ran out, after asserting that a call of a cluster may answer this if a growth was refused, either in the
+/// caller's thread or in one that carries frames, which then stops all nodes.
+fn judge_refusal(rt: &impl Abort, at: At<'_>, fault: SiteError) -> Memory {
+    match fault {
         WANTING
-            | SiteError::Stopped(Stop::Memory)
-            | SiteError::Stopped(Stop::Send)
-            | SiteError::Stopped(Stop::Spawn)
-            | SiteError::Refused(BookError::Failed)
-    )
+        | SiteError::Stopped(Stop::Memory)
+        | SiteError::Stopped(Stop::Send)
+        | SiteError::Stopped(Stop::Spawn)
+        | SiteError::Refused(BookError::Failed) => {}
+        other => assert_same(rt, at, &Some(other), &None),
+    }
+    Memory
 }
 
-/// Returns what became of an unlock, which needs no memory. If the cluster was stopped, returns whether memory ran out.
-fn judge_unlock(unlocked: Result<(), SiteError>) -> Result<Tried, bool> {
+/// Looks at what an unlock answered, which needs no memory. If the cluster was stopped, memory ran out.
+fn judge_unlock(rt: &impl Abort, unlocked: Result<(), SiteError>) -> Result<Tried, Memory> {
+    let at = row("a client unlocks");
     match unlocked {
         Ok(()) => Ok(Tried::NoFailure),
-        Err(fault) if fault == WANTING => Ok(Tried::Broken),
-        Err(fault) => Err(is_wanting(fault)),
+        Err(fault) => {
+            if fault == WANTING {
+                assert_same(rt, at, &unlocked, &Ok(()));
+            }
+            Err(judge_refusal(rt, at, fault))
+        }
     }
 }
 
-/// The client of node 1 locks `r` and unlocks it. If it is not let in, or the cluster was stopped, returns whether memory ran out.
+/// The client of node 1 locks `r` and unlocks it. If it is not let in, or the cluster was stopped, memory ran out.
 fn try_client<R: Wait + Abort>(
     rt: &R,
     alloc: Global,
     cluster: &Cluster<OpenGate>,
-) -> Result<Tried, bool> {
+) -> Result<Tried, Memory> {
+    let at = row("a client locks");
     match use_name(rt, alloc, cluster, node(rt, 1), 1, None) {
-        Ok(held) => judge_unlock(held.unlocked),
-        Err(CallError::Site(fault)) => Err(is_wanting(fault)),
-        Err(CallError::NoNode) => Ok(Tried::Broken),
+        Ok(held) => judge_unlock(rt, held.unlocked),
+        Err(CallError::Site(fault)) => Err(judge_refusal(rt, at, fault)),
+        Err(CallError::NoNode) => fail_at(rt, at, "there is no node 1"),
     }
 }
 
-/// Returns whether a cluster of threads may answer this if a growth was refused.
-fn is_of_memory(fault: ClusterError) -> bool {
-    matches!(
-        fault,
-        ClusterError::Memory
-            | ClusterError::Fault(Stop::Memory)
-            | ClusterError::Fault(Stop::Send)
-            | ClusterError::Fault(Stop::Spawn)
-    )
-}
-
-/// Returns what became of clients, of which each has its grant kept. If node 1 was stopped, returns whether that is since memory ran
-/// out.
-fn judge_kept(fault: Option<Stop>, kept: usize, clients: usize) -> Result<Tried, bool> {
+/// Returns that memory ran out, after asserting that a cluster of threads may answer this if a growth was refused.
+fn judge_fault(rt: &impl Abort, at: At<'_>, fault: ClusterError) -> Memory {
     match fault {
-        None if kept == clients => Ok(Tried::NoFailure),
-        None => Ok(Tried::Broken),
-        Some(stop) => Err(is_of_memory(ClusterError::Fault(stop))),
+        ClusterError::Memory
+        | ClusterError::Fault(Stop::Memory)
+        | ClusterError::Fault(Stop::Send)
+        | ClusterError::Fault(Stop::Spawn) => {}
+        other => assert_same(rt, at, &Some(other), &None),
+    }
+    Memory
+}
+
+/// Looks at clients, of which each has its grant kept. If node 1 was stopped, that is since memory ran out.
+fn judge_kept(
+    rt: &impl Abort,
+    fault: Option<Stop>,
+    kept: usize,
+    clients: usize,
+) -> Result<Tried, Memory> {
+    match fault {
+        None => {
+            assert_same(rt, row("the grants that are kept"), &kept, &clients);
+            Ok(Tried::NoFailure)
+        }
+        Some(stop) => {
+            let at = row("why node 1 was stopped");
+            Err(judge_fault(rt, at, ClusterError::Fault(stop)))
+        }
     }
 }
 
-/// Has threads run a script of clients in a cluster, and looks at the grants that are kept. If one is not kept, returns whether the
-/// cluster was stopped because memory ran out.
+/// Has threads run a script of clients in a cluster, and looks at the grants that are kept. If one is not kept, memory ran out.
 fn try_keeping<R: AllocGlobal + Threads + Wait + Abort + Sync>(
     rt: &R,
     cluster: &Cluster<OpenGate>,
     nodes: u16,
     clients: &[Client],
-) -> Result<Tried, bool> {
+) -> Result<Tried, Memory> {
     let Some(script) = script_of(rt.alloc(), nodes, clients) else {
-        return Err(true);
+        return Err(Memory);
     };
     let kept = run_in(rt, rt.alloc(), &script, cluster).len();
-    judge_kept(site(rt, cluster, 1).fault(rt), kept, clients.len())
+    let fault = site(rt, cluster, 1).fault(rt);
+    judge_kept(rt, fault, kept, clients.len())
 }
 
 /// What clients do in a cluster.
@@ -97,12 +115,12 @@ enum Work {
     Script(u16, &'static [Client]),
 }
 
-/// Has clients do this in a cluster. If they do not, returns whether memory ran out.
+/// Has clients do this in a cluster. If they do not, memory ran out.
 fn try_in<R: AllocGlobal + Threads + Wait + Abort + Sync>(
     rt: &R,
     cluster: &Cluster<OpenGate>,
     work: Work,
-) -> Result<Tried, bool> {
+) -> Result<Tried, Memory> {
     let alloc = rt.alloc();
     match work {
         Work::Alone => Ok(again(
@@ -115,11 +133,11 @@ fn try_in<R: AllocGlobal + Threads + Wait + Abort + Sync>(
 }
 
 /// Makes a cluster, has clients do this in it, and closes it, which takes no memory. If the cluster cannot be made, or was stopped,
-/// returns whether memory ran out.
+/// memory ran out.
 fn try_work<R: AllocGlobal + Threads + Wait + Abort + Sync>(
     rt: &R,
     work: Work,
-) -> Result<Tried, bool> {
+) -> Result<Tried, Memory> {
     let nodes = match work {
         Work::Alone => 1,
         Work::Carried => 2,
@@ -128,18 +146,16 @@ fn try_work<R: AllocGlobal + Threads + Wait + Abort + Sync>(
     let clusters = clusters_of(rt.alloc(), nodes, 0, OpenGate);
     let (tried, books) = match clusters.first() {
         Some(cluster) => (try_in(rt, cluster, work), nodes),
-        None => (Err(true), 0),
+        None => (Err(Memory), 0),
     };
-    if books_at_the_end(rt.alloc(), clusters).len() == usize::from(books) {
-        tried
-    } else {
-        Ok(Tried::Broken)
-    }
+    let closed = books_at_the_end(rt.alloc(), clusters).len();
+    assert_same(rt, row("how many books"), &closed, &usize::from(books));
+    tried
 }
 
 /// Does so, and does it anew if memory ran out.
 fn grow<R: AllocGlobal + Threads + Wait + Abort + Sync>(rt: &R, work: Work) {
-    assert_grown(rt, again(try_work(rt, work), try_work(rt, work)));
+    assert_grown!(rt, again(try_work(rt, work), try_work(rt, work)));
 }
 
 #[test]
@@ -152,34 +168,36 @@ fn growth_of_a_whole_cluster_of_two_nodes(rt: HostRuntime) {
     grow(&rt, Work::Carried);
 }
 
-/// Has threads run a script of two writers. If they do not, returns whether memory ran out. The test starts no thread
-/// of its own around this, since that thread would have growths of its own.
-fn try_threads<R: Threads + Wait + Sync>(
+/// Has threads run a script of two writers. If they do not, memory ran out. The test starts no thread of its own around this, since
+/// that thread would have growths of its own.
+fn try_threads<R: Threads + Wait + Abort + Sync>(
     rt: &R,
     alloc: Global,
     script: &Script,
-) -> Result<Tried, bool> {
+) -> Result<Tried, Memory> {
+    let at = row("two writers on threads");
     match run_cluster(rt, alloc, script, &OpenGate) {
-        Ok(settled) if settled.report.requests == 2 && settled.report.sent == 4 => {
+        Ok(settled) => {
+            let came = (settled.report.requests, settled.report.sent);
+            assert_same(rt, at, &came, &(2, 4));
             Ok(Tried::NoFailure)
         }
-        Ok(_) => Ok(Tried::Broken),
-        Err(fault) => Err(is_of_memory(fault)),
+        Err(fault) => Err(judge_fault(rt, at, fault)),
     }
 }
 
 /// Makes a script and has threads run it. If the script cannot be made, memory ran out.
-fn try_cluster<R: Threads + Wait + Sync>(rt: &R, alloc: Global) -> Result<Tried, bool> {
+fn try_cluster<R: Threads + Wait + Abort + Sync>(rt: &R, alloc: Global) -> Result<Tried, Memory> {
     match script_of(alloc, 2, TWO_WRITERS) {
         Some(script) => try_threads(rt, alloc, &script),
-        None => Err(true),
+        None => Err(Memory),
     }
 }
 
 #[test]
 fn growth_of_a_cluster(rt: HostRuntime) {
     let alloc = rt.alloc();
-    assert_grown(&rt, again(try_cluster(&rt, alloc), try_cluster(&rt, alloc)));
+    assert_grown!(&rt, again(try_cluster(&rt, alloc), try_cluster(&rt, alloc)));
 }
 
 #[test]

@@ -1,15 +1,15 @@
 //! Each growth of a post or a site is refused: the call answers that memory ran out, and does what it should when it is
 //! made again; or a frame is lost, and all sites are stopped.
 use crate::site_tests::site_cluster::{Cluster, books_at_the_end, loses_inbox, make_cluster, send};
-use crate::site_tests::site_ends::{Ended, assert_ended};
-use crate::whole_clusters::cluster_asserting::{assert_grown, assert_same};
+use crate::site_tests::site_ends::{Ended, assert_ended, is_lost};
+use crate::whole_clusters::cluster_asserting::{assert_same, fail_at};
 use crate::whole_clusters::cluster_values::{WANTING, request};
 use ra_cluster::{Book, Inbox, NewPostError, OpenGate, Post, SendError, Site, SiteError, Stop};
-use ra_stamp::{Entry, Mode};
+use ra_stamp::{Entry, Memory, Mode};
 use std::alloc::Global;
 use std::process::Abort;
 use std::sync::Wait;
-use test_support::{Tried, again, r, row};
+use test_support::{Tried, again, assert_grown, assert_memory, part, r, row};
 
 /// Sends a frame from node 1 to node 2.
 fn send_one<R: Wait + Abort>(rt: &R, alloc: Global, post: &Post) -> Result<(), Option<SendError>> {
@@ -18,25 +18,30 @@ fn send_one<R: Wait + Abort>(rt: &R, alloc: Global, post: &Post) -> Result<(), O
 
 /// Sends a frame from node 1 to node 2, and sends it again if it was refused.
 fn try_send<R: Wait + Abort>(rt: &R, alloc: Global, post: &Post) -> Tried {
-    match send_one(rt, alloc, post) {
-        Ok(()) => Tried::NoFailure,
-        Err(Some(SendError::Refused)) if send_one(rt, alloc, post).is_ok() => Tried::RetrySucceeded,
-        Err(_) => Tried::Broken,
+    let (at, came) = (row("a frame is sent"), send_one(rt, alloc, post));
+    if came.is_ok() {
+        return Tried::NoFailure;
     }
+    assert_same(rt, at, &came, &Err(Some(SendError::Refused)));
+    assert_same(rt, at, &send_one(rt, alloc, post), &Ok(()));
+    Tried::RetrySucceeded
 }
 
-/// Makes a post and sends a frame through it. If the post cannot be made, returns whether memory ran out.
-fn try_post<R: Wait + Abort>(rt: &R, alloc: Global) -> Result<Tried, bool> {
+/// Makes a post and sends a frame through it. If the post cannot be made, memory ran out.
+fn try_post<R: Wait + Abort>(rt: &R, alloc: Global) -> Result<Tried, Memory> {
     match Post::new(alloc, 2) {
         Ok((post, _inboxes)) => Ok(try_send(rt, alloc, &post)),
-        Err(fault) => Err(fault == NewPostError::Memory),
+        Err(fault) => {
+            let at = row("a post is made");
+            Err(assert_memory!(rt, at, fault, NewPostError::Memory))
+        }
     }
 }
 
 #[test]
 fn growth_of_a_post(rt: HostRuntime) {
     let alloc = rt.alloc();
-    assert_grown(&rt, again(try_post(&rt, alloc), try_post(&rt, alloc)));
+    assert_grown!(&rt, again(try_post(&rt, alloc), try_post(&rt, alloc)));
 }
 
 /// Returns what a site shows: its events, the holder of `r`, and how many requests wait, how many clients are queued, and the fault.
@@ -75,18 +80,18 @@ fn try_site<R: Wait + Abort>(rt: &R, alloc: Global, all: &Cluster, site: &Site) 
 }
 
 /// Makes a cluster of one site, at which a client locks `r` and unlocks it. If it cannot be made, memory ran out.
-fn try_sites<R: Wait + Abort>(rt: &R, alloc: Global) -> Result<Tried, bool> {
+fn try_sites<R: Wait + Abort>(rt: &R, alloc: Global) -> Result<Tried, Memory> {
     let clusters = make_cluster(alloc, 1);
     match clusters.first() {
         Some(all) => Ok(try_site(rt, alloc, all, all.site(rt, 1))),
-        None => Err(true),
+        None => Err(Memory),
     }
 }
 
 #[test]
 fn growth_of_a_site(rt: HostRuntime) {
     let alloc = rt.alloc();
-    assert_grown(&rt, again(try_sites(&rt, alloc), try_sites(&rt, alloc)));
+    assert_grown!(&rt, again(try_sites(&rt, alloc), try_sites(&rt, alloc)));
 }
 
 /// Has a site take all frames that are left in an inbox. Returns how many events it has then, or `None` if it is stopped since memory
@@ -122,64 +127,69 @@ const LOST: &[Ended] = &[
     Ended(Some(Stop::Send), 0),
 ];
 
-/// Asserts that the books have lost a frame. Returns whether the frame for node 2 is lost, and that for node 3 either is the one that is
-/// left in its inbox, or is lost too.
-fn are_accounted_for(rt: &impl Abort, books: &[Book], left: u64) -> Tried {
-    assert_ended(rt, "the frame for node 2 is lost", books, LOST);
-    let Some(one) = books.first() else {
-        return Tried::Broken;
+/// Asserts that the books have lost the frame for node 2, and that the one for node 3 is either left in its inbox, or is lost, too, as
+/// there was no memory for it.
+fn judge_losses(rt: &impl Abort, books: &[Book], left: u64) -> Tried {
+    let words = "the frame for node 2 is lost";
+    assert_ended(rt, words, books, LOST);
+    let at = part(words, "which frames are lost, and how many are left");
+    let came = match books.first() {
+        Some(one) => (is_lost(one, 0), is_lost(one, 1)),
+        None => (None, None),
     };
-    match (one.sent(0), one.sent(1)) {
-        (Some(two), Some(three)) if two.lost && !three.lost && left == 1 => Tried::NoFailure,
-        (Some(two), Some(three)) if two.lost && three.lost && left == 0 => Tried::RetrySucceeded,
-        _ => Tried::Broken,
+    if left == 0 {
+        assert_same(rt, at, &(came, left), &((Some(true), Some(true)), 0));
+        return Tried::RetrySucceeded;
     }
+    assert_same(rt, at, &(came, left), &((Some(true), Some(false)), 1));
+    Tried::NoFailure
 }
 
 /// Has client 1 of node 1 of three lock `r`, and closes the post. The inbox of node 2 is gone, so at least the frame for node 2 is lost.
-/// Returns how many frames are left for node 3. If the client was refused, or that cannot be looked at, returns whether memory ran out.
-fn loses<R: AllocGlobal + Wait + Abort>(rt: &R, all: &Cluster) -> Result<u64, bool> {
+/// Returns how many frames are left for node 3. If the client was refused, or that cannot be looked at, memory ran out.
+fn loses<R: AllocGlobal + Wait + Abort>(rt: &R, all: &Cluster) -> Result<u64, Memory> {
+    let at = row("a client locks, and a frame is lost");
     let Some(inbox) = all.inboxes.get(1) else {
-        return Err(false);
+        fail_at(rt, at, "node 3 has no inbox");
     };
     let came = refusal_of_lock(rt, rt.alloc(), all, all.site(rt, 1));
     all.post.close(rt);
-    if came != Some(SiteError::Stopped(Stop::Send)) {
-        return Err(came == Some(WANTING));
+    if came == Some(WANTING) {
+        return Err(Memory);
     }
-    frames_left(rt, inbox).ok_or(true)
+    assert_same(rt, at, &came, &Some(SiteError::Stopped(Stop::Send)));
+    frames_left(rt, inbox).ok_or(Memory)
 }
 
-/// Loses the inbox of node 2 of the cluster, and does so. If it cannot be done, returns whether memory ran out.
+/// Loses the inbox of node 2 of the cluster, and does so. If it cannot be done, memory ran out.
 fn loses_two<R: AllocGlobal + Wait + Abort>(
     rt: &R,
     clusters: &mut Vec<Cluster>,
-) -> Result<u64, bool> {
+) -> Result<u64, Memory> {
     let Some(all) = clusters.get_mut(0) else {
-        return Err(true);
+        return Err(Memory);
     };
-    if loses_inbox(all, 1) {
-        loses(rt, all)
-    } else {
-        Err(false)
+    if !loses_inbox(all, 1) {
+        fail_at(rt, row("an inbox is lost"), "node 2 has none");
     }
+    loses(rt, all)
 }
 
-/// Makes the three nodes, and does so. If it cannot be done, returns whether memory ran out.
-fn try_losing<R: AllocGlobal + Wait + Abort>(rt: &R) -> Result<Tried, bool> {
+/// Makes the three nodes, and does so. If it cannot be done, memory ran out.
+fn try_losing<R: AllocGlobal + Wait + Abort>(rt: &R) -> Result<Tried, Memory> {
     let mut clusters = make_cluster(rt.alloc(), 3);
     let left = loses_two(rt, &mut clusters);
     let books = books_at_the_end(rt.alloc(), clusters);
     match left {
         // Memory ran out while the books were put together.
-        Ok(_) if books.len() != 3 => Err(true),
-        Ok(left) => Ok(are_accounted_for(rt, &books, left)),
-        Err(memory) => Err(memory),
+        Ok(_) if books.len() != 3 => Err(Memory),
+        Ok(left) => Ok(judge_losses(rt, &books, left)),
+        Err(Memory) => Err(Memory),
     }
 }
 
 /// A frame for which there is no memory is flagged as lost, and the others of its event are sent.
 #[test]
 fn growth_of_lost_frames(rt: HostRuntime) {
-    assert_grown(&rt, again(try_losing(&rt), try_losing(&rt)));
+    assert_grown!(&rt, again(try_losing(&rt), try_losing(&rt)));
 }

@@ -67,7 +67,7 @@ pub fn assert_ended(rt: &impl Abort, words: &str, books: &[Book], ended: &[Ended
 }
 
 /// Returns whether a book sent a frame at this place that is lost, or not, or `None` if it sent none.
-fn is_lost(one: &Book, place: u64) -> Option<bool> {
+pub fn is_lost(one: &Book, place: u64) -> Option<bool> {
     match one.sent(place) {
         Some(sent) => Some(sent.lost),
         None => None,

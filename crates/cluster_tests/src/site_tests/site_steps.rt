@@ -1,4 +1,5 @@
-//! What a cluster of sites with a post does and shows, step by step, with clients on threads of their own.
+//! What a cluster of sites with a post does and shows, step by step, with clients on threads of their own. A trace cannot tell it: calls
+//! are refused, nodes are stopped, the post is closed, and steps wait for threads.
 use crate::site_tests::site_cluster::{Cluster, gated_cluster, loses_inbox, send, taken_from};
 use crate::site_tests::site_ends::{Shown, after_all, assert_all_shown};
 use crate::whole_clusters::cluster_asserting::{assert_comes_to, assert_same, fail_at};

@@ -5,12 +5,12 @@ use crate::site_tests::site_steps::Step::{
     RefusesToUnlock, Sends, Stops, Unlocks,
 };
 use crate::site_tests::site_steps::{Gone, Row, TWO_NODES};
-use crate::whole_clusters::cluster_asserting::{assert_prints, assert_same};
+use crate::whole_clusters::cluster_asserting::assert_same;
 use crate::whole_clusters::plays::play_sites;
 use ra_cluster::{BookError, NewPostError, Post, SendError, SiteError, Stop};
 use ra_frame::FrameError;
 use std::alloc::Global;
-use test_support::{At, assert_words};
+use test_support::{At, assert_prints, assert_words};
 
 /// The last clock, after which there is none for an event.
 const LAST_CLOCK: u64 = 1 << 62;
@@ -339,6 +339,6 @@ const SITE_ERRORS: &[(SiteError, &str)] = &[
 
 #[test]
 fn what_posts_and_sites_refuse_is_printed_as_its_word(rt: HostRuntime) {
-    assert_prints(&rt, SITE_ERRORS);
+    assert_prints!(&rt, SITE_ERRORS);
     assert_words!(&rt; NewPostError: BadCount Memory; SendError: Closed Refused);
 }

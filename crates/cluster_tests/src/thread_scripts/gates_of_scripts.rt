@@ -10,7 +10,7 @@ use std::sync::Wait;
 use std::sync::atomic::{AtomicU64, Ordering};
 use std::thread;
 use std::thread::Threads;
-use test_support::{At, row};
+use test_support::{part, row};
 
 /// How the gate of two clients holds up the one until the other comes.
 #[derive(Clone, Copy)]
@@ -57,18 +57,19 @@ impl Meets {
 
     /// Asserts that it was called `one` and `two` times for the steps of node 1 and node 2 and once for each client inside,
     /// and nobody waited in vain. So a cluster that goes on after the gate's `false` is found out too.
-    fn assert_seen(&self, rt: &impl Abort, at: At<'_>, one: u64, two: u64) {
+    fn assert_seen(&self, rt: &impl Abort, label: &str, one: u64, two: u64) {
         let steps = (
             self.steps.0.load(Ordering::SeqCst),
             self.steps.1.load(Ordering::SeqCst),
         );
-        assert_same(rt, at, &steps, &(one, two));
+        assert_same(rt, part(label, "steps of each node"), &steps, &(one, two));
         let insides = (
             self.insides.0.load(Ordering::SeqCst),
             self.insides.1.load(Ordering::SeqCst),
         );
-        assert_same(rt, at, &insides, &(1, 1));
-        assert_same(rt, at, &self.missed.load(Ordering::SeqCst), &0);
+        assert_same(rt, part(label, "calls inside"), &insides, &(1, 1));
+        let missed = self.missed.load(Ordering::SeqCst);
+        assert_same(rt, part(label, "waits in vain"), &missed, &0);
     }
 }
 
@@ -99,20 +100,29 @@ impl Gate for Meets {
     }
 }
 
-/// How two clients meet, how many nodes there are, the clients, how many messages are sent, and the steps of node 1 and of node 2.
-struct Met(Meeting, u16, &'static [Client], u128, u64, u64);
+/// What it shows, how two clients meet, how many nodes there are, the clients, how many messages are sent, and the steps of node 1 and
+/// of node 2.
+struct Met(
+    &'static str,
+    Meeting,
+    u16,
+    &'static [Client],
+    u128,
+    u64,
+    u64,
+);
 
 /// Ends the test unless two clients meet, and come to their end.
 fn assert_meet<R: AllocGlobal + Threads + Wait + Abort + Sync>(rt: &R, met: &Met) {
-    let Met(meeting, nodes, clients, sent, one, two) = met;
+    let Met(label, meeting, nodes, clients, sent, one, two) = met;
     let (gate, end) = (Meets::new(*meeting), End::Done(2, *sent));
-    let at = row("two clients meet");
-    assert_ends(rt, at, *nodes, clients, &gate, end);
-    gate.assert_seen(rt, at, *one, *two);
+    assert_ends(rt, row(label), *nodes, clients, &gate, end);
+    gate.assert_seen(rt, label, *one, *two);
 }
 
 /// Readers of two nodes.
 const READERS: &Met = &Met(
+    "readers of two nodes are inside together",
     Meeting::Inside,
     2,
     &[Client(1, READS_R), Client(2, READS_R)],
@@ -128,6 +138,7 @@ fn readers_of_two_nodes_are_inside_together(rt: HostRuntime) {
 
 /// Writers of two names at two nodes.
 const STEPPING: &Met = &Met(
+    "two nodes step at once",
     Meeting::Steps,
     2,
     &[Client(1, USES_A), Client(2, USES_B)],
@@ -143,6 +154,7 @@ fn two_nodes_step_at_once(rt: HostRuntime) {
 
 /// Writers of two names at a single node.
 const BESIDE: &Met = &Met(
+    "two clients of one node are inside together",
     Meeting::Both,
     1,
     &[Client(1, USES_A), Client(1, USES_B)],

@@ -2,14 +2,14 @@
 use crate::thread_scripts::endings::{End, assert_ends};
 use crate::thread_scripts::letter_scripts::Does::{Locks, Shares, Unlocks};
 use crate::thread_scripts::letter_scripts::{Client, Does, LOCKS_R, READS_R, TWO_WRITERS, USES_R};
-use crate::whole_clusters::cluster_asserting::{assert_prints, assert_same};
+use crate::whole_clusters::cluster_asserting::assert_same;
 use crate::whole_clusters::cluster_values::Counting;
 use ra_cluster::{ClusterError, OpenGate, Stop};
 use std::process::Abort;
 use std::sync::Wait;
 use std::sync::atomic::Ordering;
 use std::thread::Threads;
-use test_support::{assert_words, row};
+use test_support::{assert_prints, assert_words, row};
 
 /// What the only client does, also in a few words, how the script ends, and how often the node steps.
 struct Alone(&'static str, &'static [Does], End, u64);
@@ -160,6 +160,6 @@ const FAULTS: &[(ClusterError, &str)] = &[(ClusterError::Fault(Stop::Gate), "Fau
 
 #[test]
 fn cluster_faults_are_printed_as_their_words(rt: HostRuntime) {
-    assert_prints(&rt, FAULTS);
+    assert_prints!(&rt, FAULTS);
     assert_words!(&rt; ClusterError: OutOfOrder Unreleased Settle PlanUnmet Lost UnderWay Memory);
 }

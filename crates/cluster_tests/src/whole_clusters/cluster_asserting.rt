@@ -1,9 +1,9 @@
 //! How a test ends that does not find what it should. `test_support` has what it prints then.
 use crate::whole_clusters::cluster_values::comes_to;
-use std::fmt::{Debug, Display};
+use std::fmt::Debug;
 use std::process::Abort;
 use std::sync::atomic::{AtomicU64, Ordering};
-use test_support::{At, Difference, Tried, first_misprint, row};
+use test_support::{At, Difference};
 
 /// Asserts that what came there is what was expected.
 pub fn assert_same<T: Debug + PartialEq>(rt: &impl Abort, at: At<'_>, came: &T, expected: &T) {
@@ -19,21 +19,7 @@ pub fn assert_comes_to(rt: &impl Abort, at: At<'_>, number: &AtomicU64, least: u
     }
 }
 
-/// Asserts that each of these values prints as the text beside it.
-pub fn assert_prints<T: Display>(rt: &(impl Abort + AllocGlobal), rows: &[(T, &str)]) {
-    if let Some((text, came)) = first_misprint(rt.alloc(), rows) {
-        assert_same(rt, row(text), &came.as_str(), &text);
-    }
-}
-
 /// Ends the test: nothing like this was expected there.
 pub fn fail_at(rt: &impl Abort, at: At<'_>, came: &str) -> ! {
     panic!(rt; "{at}: {came}");
-}
-
-/// Asserts that calls of which a growth was refused had the right answer, and changed nothing.
-pub fn assert_grown(rt: &impl Abort, tried: Tried) {
-    if let Some(fault) = tried.fault() {
-        panic!(rt; "{fault}");
-    }
 }

@@ -1,4 +1,5 @@
-//! Clients of a whole cluster on threads of their own, and what a watchdog sees of them.
+//! Clients of a whole cluster on threads of their own, and what a watchdog sees of them. A trace cannot tell their acts: they wait for
+//! threads, are refused, and stop the cluster.
 use crate::whole_clusters::cluster_asserting::{assert_comes_to, assert_same, fail_at};
 use crate::whole_clusters::cluster_calls::{
     books_at_the_end, clusters_of, lock, site, site_of, unlock, use_name,

@@ -1,5 +1,5 @@
 //! What a whole cluster answers if its gate or a stop ends it, and what its clients get.
-use crate::whole_clusters::cluster_asserting::{assert_prints, assert_same};
+use crate::whole_clusters::cluster_asserting::assert_same;
 use crate::whole_clusters::cluster_calls::{books_at_the_end, clusters_of, lock, site, use_name};
 use crate::whole_clusters::cluster_values::{CAUSES, Counting, node};
 use crate::whole_clusters::plays::{Scene, play};
@@ -10,7 +10,7 @@ use std::process::Abort;
 use std::sync::Wait;
 use std::sync::atomic::Ordering;
 use std::thread::Threads;
-use test_support::{At, r, row};
+use test_support::{At, assert_prints, r, row};
 
 /// What a client meets that locks and unlocks a name: whether it is let in and, if it is, whether it gives the name back.
 type Met = Result<Result<(), SiteError>, CallError>;
@@ -193,7 +193,7 @@ const CALL_ERRORS: &[(CallError, &str)] = &[
 
 #[test]
 fn why_a_call_of_a_cluster_failed_is_printed_as_its_word(rt: HostRuntime) {
-    assert_prints(&rt, CALL_ERRORS);
+    assert_prints!(&rt, CALL_ERRORS);
 }
 
 /// Has a cluster run a closure that starts no client, and asserts that it returns what that returns.

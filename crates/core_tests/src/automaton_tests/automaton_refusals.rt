@@ -1,6 +1,6 @@
 //! What is refused: nodes that cannot be, and messages for others or from strangers; and how faults are printed.
 use crate::automaton_tests::automaton_steps::{Scene, Step, Wire, follow};
-use crate::core_asserting::{assert_prints, assert_same, node};
+use crate::core_asserting::{assert_same, node};
 use Mode::Shared;
 use Step::RefusesToTake;
 use Wire::{Replies, Requests};

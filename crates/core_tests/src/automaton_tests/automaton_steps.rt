@@ -1,4 +1,5 @@
-//! What the tests of automata share: what a node does or shows, one step after the other.
+//! What the tests of automata share: what a node does or shows, one step after the other. A trace cannot tell it: messages come that no
+//! node sent, calls are refused, and what is sent is compared.
 ghost use Rattle.std.specs.Prelude.{◌≡◌, IfSome};
 ghost use Rattle.ra_stamp.specs.Message.{name_of};
 
@@ -162,7 +163,7 @@ pub fn leave(alloc: Global, automaton: &mut Automaton) -> Result<Reaction, Leave
 }
 
 /// A node leaves and makes a request in one event. Returns what came of it.
-fn leave_and_ask(
+pub fn leave_and_ask(
     rt: &(impl Abort + AllocGlobal),
     automaton: &mut Automaton,
     mode: Mode,
@@ -231,11 +232,6 @@ fn refuses_to_take(
 fn assert_is(rt: &impl Abort, at: At<'_>, automaton: &Automaton, me: u16) {
     assert_same(rt, at, &automaton.me().get(), &me);
     assert_same(rt, at, &automaton.name(), &r());
-}
-
-/// Returns whether a node is doing this, and this is the highest number that it has met.
-pub fn shows(automaton: &Automaton, phase: Phase, highest: u64) -> bool {
-    automaton.phase() == phase && automaton.highest() == highest
 }
 
 /// Asserts that a node is doing this, and that this is the highest number that it has met.

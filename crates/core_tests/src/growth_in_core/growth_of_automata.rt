@@ -1,15 +1,16 @@
 //! If a growth is refused, the call returns `Memory` and changes nothing, and it succeeds when it is made again.
 use crate::automaton_tests::automaton_steps::{
-    Wire, awaited_by, deferred_by, leave, message, request, shows,
+    Wire, awaited_by, deferred_by, leave, leave_and_ask, receive, request,
 };
-use crate::core_asserting::assert_grown;
+use crate::core_asserting::assert_same;
 use Call::{Ask, Leave, LeaveAndAsk, Reply, Request};
-use Tried::{Broken, NoFailure, RetrySucceeded};
-use ra_automaton::{Automaton, LeaveError, NewError, Reaction, ReceiveError, RequestError};
+use ra_automaton::{Automaton, LeaveError, NewError, Phase, Reaction, ReceiveError, RequestError};
 use ra_frame::{Frame, encode};
-use ra_stamp::{Message, Mode};
+use ra_stamp::{Memory, Message, Mode};
 use std::alloc::Global;
-use test_support::{Tried, again, both, id, r};
+use std::fmt::Debug;
+use std::process::Abort;
+use test_support::{At, Tried, again, assert_grown, assert_memory, both, id, r, row};
 
 /// A call to the automaton of node 1 of 2.
 #[derive(Clone, Copy)]
@@ -35,86 +36,103 @@ const CALLS: [Call; 8] = [
     Leave,
 ];
 
-/// Has the automaton take a message about its resource. If it does not, returns whether memory ran out.
-fn take(alloc: Global, automaton: &mut Automaton, wire: Wire) -> Result<(), bool> {
-    match message(automaton.name(), wire) {
-        Some(message) => match automaton.receive(alloc, &message).err() {
-            None => Ok(()),
-            Some(fault) => Err(fault == ReceiveError::Memory),
-        },
-        None => Err(false),
-    }
-}
-
-/// Returns whether a leave sent this many messages, or, if it was refused, whether memory ran out.
-fn left(came: Result<Reaction, LeaveError>, sends: u64) -> Result<(), bool> {
+/// Looks at what a call answered. If it was refused, asserts that memory ran out, which is the fault `memory`.
+fn judge<E: Debug + PartialEq + Copy>(
+    rt: &impl Abort,
+    at: At<'_>,
+    came: Result<Reaction, E>,
+    memory: E,
+) -> Result<(), Memory> {
     match came {
-        Ok(reaction) if reaction.sends.len() == sends => Ok(()),
-        Ok(_) => Err(false),
-        Err(fault) => Err(fault == LeaveError::Memory),
+        Ok(_) => Ok(()),
+        Err(fault) => Err(assert_memory!(rt, at, fault, memory)),
     }
 }
 
-/// Makes a call. If it is refused, returns whether memory ran out. Leaving sends the deferred REPLY, and asking again
-/// sends a REQUEST.
-fn make(alloc: Global, automaton: &mut Automaton, call: Call) -> Result<(), bool> {
-    match call {
-        Ask => match request(alloc, automaton, Mode::Exclusive).err() {
-            None => Ok(()),
-            Some(fault) => Err(fault == RequestError::Memory),
-        },
-        Reply(seq) => take(alloc, automaton, Wire::Replies(2, 1, seq)),
-        Request(seq) => take(alloc, automaton, Wire::Requests(2, 1, Mode::Exclusive, seq)),
-        LeaveAndAsk if automaton.highest() == u64::MAX => Err(false),
-        LeaveAndAsk => left(automaton.leave_and_request(alloc, Mode::Shared), 2),
-        Leave => left(leave(alloc, automaton), 1),
+/// Looks at what a leave answered. If it was taken, asserts that it sent this many messages, otherwise that memory ran out.
+fn judge_leave(
+    rt: &impl Abort,
+    at: At<'_>,
+    came: Result<Reaction, LeaveError>,
+    sends: u64,
+) -> Result<(), Memory> {
+    if let Ok(reaction) = &came {
+        assert_same(rt, at, &reaction.sends.len(), &sends);
     }
+    judge(rt, at, came, LeaveError::Memory)
 }
 
-/// Makes a call again that ran out of memory, if all is as it was.
-fn make_again(alloc: Global, automaton: &mut Automaton, call: Call, is_as_before: bool) -> Tried {
-    if is_as_before && make(alloc, automaton, call).is_ok() {
-        RetrySucceeded
-    } else {
-        Broken
-    }
-}
-
-/// Makes a call, and makes it again if memory ran out.
-fn try_call(alloc: Global, automaton: &mut Automaton, call: Call) -> Tried {
-    let (phase, highest) = (automaton.phase(), automaton.highest());
-    let (awaited, deferred) = (awaited_by(automaton), deferred_by(automaton));
-    match make(alloc, automaton, call) {
-        Ok(()) => NoFailure,
-        Err(memory) => {
-            let is_as_before = memory
-                && shows(automaton, phase, highest)
-                && awaited_by(automaton) == awaited
-                && deferred_by(automaton) == deferred;
-            make_again(alloc, automaton, call, is_as_before)
+/// Makes a call. If it is refused, memory ran out. Leaving sends the deferred REPLY, and asking again sends a REQUEST.
+fn make(
+    rt: &(impl Abort + AllocGlobal),
+    at: At<'_>,
+    automaton: &mut Automaton,
+    call: Call,
+) -> Result<(), Memory> {
+    let wire = match call {
+        Ask => {
+            let came = request(rt.alloc(), automaton, Mode::Exclusive);
+            return judge(rt, at, came, RequestError::Memory);
         }
+        LeaveAndAsk => return judge_leave(rt, at, leave_and_ask(rt, automaton, Mode::Shared), 2),
+        Leave => return judge_leave(rt, at, leave(rt.alloc(), automaton), 1),
+        Reply(seq) => Wire::Replies(2, 1, seq),
+        Request(seq) => Wire::Requests(2, 1, Mode::Exclusive, seq),
+    };
+    judge(rt, at, receive(rt, automaton, wire), ReceiveError::Memory)
+}
+
+/// What an automaton shows: what it is doing and the highest number that it has met, and which of the nodes 1 to 3 it awaits and
+/// defers.
+type Shown = ((Phase, u64), ([bool; 3], [Option<u64>; 3]));
+
+/// Returns what an automaton shows.
+fn shown(automaton: &Automaton) -> Shown {
+    (
+        (automaton.phase(), automaton.highest()),
+        (awaited_by(automaton), deferred_by(automaton)),
+    )
+}
+
+/// Makes a call, and makes it again if memory ran out, after which all has to be as it was.
+fn try_call(
+    rt: &(impl Abort + AllocGlobal),
+    at: At<'_>,
+    automaton: &mut Automaton,
+    call: Call,
+) -> Tried {
+    let before = shown(automaton);
+    if make(rt, at, automaton, call).is_ok() {
+        return Tried::NoFailure;
     }
+    assert_same(rt, at, &shown(automaton), &before);
+    assert_same(rt, at, &make(rt, at, automaton, call), &Ok(()));
+    Tried::RetrySucceeded
 }
 
 /// Makes all calls.
-fn try_calls(alloc: Global, automaton: &mut Automaton) -> Tried {
-    let mut tried = NoFailure;
+fn try_calls(rt: &(impl Abort + AllocGlobal), automaton: &mut Automaton) -> Tried {
+    let mut tried = Tried::NoFailure;
     for place in 0..CALLS.len() {
-        tried = both(tried, try_call(alloc, automaton, CALLS[place]));
+        let at = At("an automaton", "call", place + 1);
+        tried = both(tried, try_call(rt, at, automaton, CALLS[place]));
     }
     tried
 }
 
-/// Makes an automaton and all calls to it. If there is no automaton, returns whether memory ran out.
-fn try_automaton(alloc: Global) -> Result<Tried, bool> {
-    match Automaton::new(alloc, id(1), 2, r(), 0) {
-        Ok(mut automaton) => Ok(try_calls(alloc, &mut automaton)),
-        Err(fault) => Err(fault == NewError::Memory),
+/// Makes an automaton and all calls to it. If there is no automaton, memory ran out.
+fn try_automaton(rt: &(impl Abort + AllocGlobal)) -> Result<Tried, Memory> {
+    match Automaton::new(rt.alloc(), id(1), 2, r(), 0) {
+        Ok(mut automaton) => Ok(try_calls(rt, &mut automaton)),
+        Err(fault) => {
+            let at = row("an automaton is made");
+            Err(assert_memory!(rt, at, fault, NewError::Memory))
+        }
     }
 }
 
-/// Encodes a frame. If there are no bytes, returns whether memory ran out.
-fn try_frame(alloc: Global) -> Result<Tried, bool> {
+/// Encodes a frame that fits. If there are no bytes, memory ran out.
+fn try_frame(rt: &impl Abort, alloc: Global) -> Result<Tried, Memory> {
     let frame = Frame {
         clock: 1,
         message: Message::Reply {
@@ -125,21 +143,21 @@ fn try_frame(alloc: Global) -> Result<Tried, bool> {
         },
     };
     if !frame.fits() {
-        return Err(false);
+        panic!(rt; "the frame does not fit");
     }
     match encode(alloc, &frame) {
-        Ok(_) => Ok(NoFailure),
-        Err(_) => Err(true),
+        Ok(_) => Ok(Tried::NoFailure),
+        Err(_) => Err(Memory),
     }
 }
 
 #[test]
 fn growth_of_an_automaton(rt: HostRuntime) {
-    let alloc = rt.alloc();
-    assert_grown(&rt, again(try_automaton(alloc), try_automaton(alloc)));
+    assert_grown!(&rt, again(try_automaton(&rt), try_automaton(&rt)));
 }
 
 #[test]
 fn growth_of_a_frame(rt: HostRuntime) {
-    assert_grown(&rt, again(try_frame(rt.alloc()), try_frame(rt.alloc())));
+    let alloc = rt.alloc();
+    assert_grown!(&rt, again(try_frame(&rt, alloc), try_frame(&rt, alloc)));
 }

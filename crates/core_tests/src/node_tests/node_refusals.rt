@@ -1,5 +1,5 @@
 //! What is refused: nodes that cannot be, and messages for others or from strangers; and how faults are printed.
-use crate::core_asserting::{assert_prints, assert_same, node};
+use crate::core_asserting::{assert_same, node};
 use crate::node_tests::node_steps::{Scene, Step, Wire, follow};
 use Step::{HasHighest, RefusesMessage};
 use Wire::Requests;

@@ -1,4 +1,5 @@
-//! What the tests of nodes share: what a node does or shows, one step after the other.
+//! What the tests of nodes share: what a node does or shows, one step after the other. A trace cannot tell it: messages come that no
+//! other node sent, calls are refused, and what is sent is compared.
 use crate::core_asserting::{assert_same, node};
 use Mode::Exclusive;
 use Step::{

@@ -1,11 +1,11 @@
 //! The lock table: what it answers, one call after the other.
-use crate::core_asserting::{assert_prints, assert_same};
+use crate::core_asserting::assert_same;
 use Call::{Asks, CanEnter, Enters, Leaves};
 use Mode::{Exclusive, Shared};
 use ra_stamp::{Entry, Mode, Name, NodeId};
 use ra_table::{EnterError, LeaveError, RequestError, Table};
 use std::process::Abort;
-use test_support::{At, Modes, PAIRS, assert_words, entry_of};
+use test_support::{At, Modes, PAIRS, assert_prints, assert_words, entry_of};
 
 /// An entry: its mode, the letter that is its name, its node, its client and its number.
 #[derive(Clone, Copy)]
@@ -233,7 +233,7 @@ const LEAVE_FAULTS: &[(LeaveError, &str)] = &[(LeaveError::NotHeld, "NotHeld")];
 
 #[test]
 fn a_refusal_is_printed_as_one_word(rt: HostRuntime) {
-    assert_prints(&rt, LEAVE_FAULTS);
+    assert_prints!(&rt, LEAVE_FAULTS);
     assert_words!(&rt;
         RequestError: NodeBusy NotAbove Memory;
         EnterError: NotWaiting Held Earlier Memory);

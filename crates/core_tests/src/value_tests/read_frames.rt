@@ -1,5 +1,5 @@
 //! Frames as they are read and written: both versions are read, and version 2 is written.
-use crate::core_asserting::{assert_prints, assert_same, node};
+use crate::core_asserting::{assert_same, node};
 use Kind::{Asks, Replies};
 use Mode::{Exclusive, IntentExclusive, IntentShared, Shared, SharedIntentExclusive};
 use ra_frame::{Frame, FrameError, decode, encode};

@@ -1,12 +1,12 @@
 ghost use Rattle.ra_stamp.specs.NodeId.{IsNodeNumber};
 
-use crate::core_asserting::{assert_prints, assert_same};
+use crate::core_asserting::assert_same;
 use ra_stamp::{
     Entry, Mark, Marks, Memory, Message, Messages, Mode, Name, NameError, NodeId, Stamp, conflicts,
 };
 use std::cmp::Ordering;
 use std::process::Abort;
-use test_support::{At, Modes, PAIRS, id, r, row};
+use test_support::{At, Modes, PAIRS, assert_prints, id, r, row};
 
 /// Returns a REQUEST from node 1 to node 2.
 fn request(name: Name, seq: u64) -> Message {
@@ -112,7 +112,7 @@ fn modes_print_their_words(rt: HostRuntime) {
         (Mode::IntentExclusive, "IX"),
         (Mode::SharedIntentExclusive, "SIX"),
     ];
-    assert_prints(&rt, WORDS);
+    assert_prints!(&rt, WORDS);
 }
 
 /// Asserts that two stamps are ordered so. The label says which.
@@ -257,8 +257,8 @@ const NAME_FAULTS: &[(NameError, &str)] = &[
 
 #[test]
 fn faults_print_their_names(rt: HostRuntime) {
-    assert_prints(&rt, &[(Memory, "Memory")]);
-    assert_prints(&rt, NAME_FAULTS);
+    assert_prints!(&rt, &[(Memory, "Memory")]);
+    assert_prints!(&rt, NAME_FAULTS);
 }
 
 /// Returns the entry of a request of client 7 at node 2 for the name.
@@ -283,11 +283,11 @@ fn assert_name_prints(rt: &(impl Abort + AllocGlobal), name: Name, line: &str) {
 fn assert_named(rt: &(impl Abort + AllocGlobal), name: Name) {
     assert_name_prints(rt, name, "disk-1 disk-1   disk-1");
     let requested = Mark::Requested(entry(name, Mode::Exclusive));
-    assert_prints(rt, &[(requested, "request 2 7 disk-1 X 3")]);
+    assert_prints!(rt, &[(requested, "request 2 7 disk-1 X 3")]);
     let entered = Mark::Entered(entry(name, Mode::Shared));
-    assert_prints(rt, &[(entered, "enter 2 7 disk-1 S 3")]);
+    assert_prints!(rt, &[(entered, "enter 2 7 disk-1 S 3")]);
     let left = Mark::Left(entry(name, Mode::Exclusive));
-    assert_prints(rt, &[(left, "leave 2 7 disk-1 X 3")]);
+    assert_prints!(rt, &[(left, "leave 2 7 disk-1 X 3")]);
 }
 
 #[test]

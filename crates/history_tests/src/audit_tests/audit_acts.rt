@@ -1,4 +1,5 @@
-//! What a cluster, its clients and its auditor do and show, act by act. Frames come that no node sent.
+//! What a cluster, its clients and its auditor do and show, act by act. A trace cannot tell it: frames come that no node sent, rounds are
+//! made at any time and may be refused, and a call that finds no memory is made again. Messages are lines of a trace.
 use crate::audit_tests::audited_clusters::{
     Ended, assert_ended, closed, clusters_of, comes, refusal_of_lock, refusal_of_unlock, site,
 };
@@ -14,7 +15,7 @@ use Mode::Exclusive;
 use ra_audit::{Auditor, FinishError, RoundError, TakeError, Told};
 use ra_cluster::{BookError, CallError, Cluster, Handed, OpenGate, Site, SiteError, Stop};
 use ra_frame::Frame;
-use ra_stamp::Mode;
+use ra_stamp::{Memory, Mode};
 use ra_world::NewError;
 use std::alloc::Global;
 use std::process::Abort;
@@ -22,7 +23,7 @@ use std::sync::Wait;
 use std::sync::atomic::{AtomicU64, Ordering};
 use std::thread;
 use std::thread::Threads;
-use test_support::{At, Tried, both, row as row_at};
+use test_support::{At, Tried, assert_memory, both, row as row_at};
 
 /// The answer of a call that found no memory and did nothing.
 const WANTING: SiteError = SiteError::Refused(BookError::Memory);
@@ -485,7 +486,7 @@ fn done_with<R: AllocGlobal + Threads + Wait + Abort + Sync>(
     rt: &R,
     auditor: &mut Auditor,
     row: &Row,
-) -> Result<Tried, bool> {
+) -> Result<Tried, Memory> {
     let Made {
         nodes,
         is_audited,
@@ -494,7 +495,7 @@ fn done_with<R: AllocGlobal + Threads + Wait + Abort + Sync>(
     let mut clusters = clusters_of(rt.alloc(), nodes, is_audited);
     let tried = match clusters.get_mut(0) {
         Some(cluster) => Ok(done(rt, cluster, auditor, row)),
-        None => Err(true),
+        None => Err(Memory),
     };
     let books = closed(rt.alloc(), clusters);
     if tried.is_ok() {
@@ -504,15 +505,15 @@ fn done_with<R: AllocGlobal + Threads + Wait + Abort + Sync>(
 }
 
 /// Has a cluster and an auditor do and show all of a row, and closes the cluster. Ends the test if something else comes of it. If they
-/// cannot be made, returns whether memory ran out.
+/// cannot be made, memory ran out.
 pub fn try_row<R: AllocGlobal + Threads + Wait + Abort + Sync>(
     rt: &R,
     row: &Row,
-) -> Result<Tried, bool> {
+) -> Result<Tried, Memory> {
     let (nodes, start) = row.made.auditor;
     match Auditor::new(rt.alloc(), nodes, start) {
         Ok(mut auditor) => done_with(rt, &mut auditor, row),
-        Err(fault) => Err(fault == NewError::Memory),
+        Err(fault) => Err(assert_memory!(rt, row_at(row.words), fault, NewError::Memory)),
     }
 }
 

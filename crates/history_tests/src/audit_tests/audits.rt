@@ -1,4 +1,5 @@
-//! An auditor, which takes what has happened at books and puts it into one run, round after round.
+//! An auditor, which takes what has happened at books and puts it into one run, round after round. A trace cannot tell in which parts it
+//! takes the events, nor which of them do not fit.
 use crate::growth_in_histories::growth_of_settling::ONE_LOCK;
 use crate::kept_books::book_steps::Call::{Ask, Receive};
 use crate::kept_books::book_steps::Step::Takes;

@@ -4,23 +4,23 @@ use crate::audit_tests::audits::Act::{AdvancesInParts, Gets, Has, Leaves};
 use crate::audit_tests::audits::{Act, EVENT_BY_EVENT, LOST, Part, Shown, audited};
 use crate::growth_in_histories::growth_of_settling::ONE_LOCK;
 use crate::kept_books::histories::{ONE, TWO, books_after};
-use crate::kept_books::history_asserting::assert_grown;
+use ra_stamp::Memory;
 use std::process::Abort;
-use test_support::{Tried, again};
+use test_support::{Tried, again, assert_grown};
 
 /// Has an auditor of the books of [`ONE_LOCK`] do all of this. If these cannot be made, memory ran out.
-fn try_auditor(rt: &(impl Abort + AllocGlobal), all: &[Act]) -> Result<Tried, bool> {
+fn try_auditor(rt: &(impl Abort + AllocGlobal), all: &[Act]) -> Result<Tried, Memory> {
     let (alloc, words) = (rt.alloc(), "a growth may be refused");
     let books = books_after(rt, alloc, words, &[ONE, TWO], ONE_LOCK);
     if books.len() != 2 {
-        return Err(true);
+        return Err(Memory);
     }
-    audited(rt, alloc, words, &books, all).ok_or(true)
+    audited(rt, alloc, words, &books, all).ok_or(Memory)
 }
 
 /// Tries it, and tries it anew if memory ran out before it began.
 fn grow(rt: &(impl Abort + AllocGlobal), all: &[Act]) {
-    assert_grown(rt, again(try_auditor(rt, all), try_auditor(rt, all)));
+    assert_grown!(rt, again(try_auditor(rt, all), try_auditor(rt, all)));
 }
 
 #[test]

@@ -2,25 +2,36 @@
 //! should when it is made again.
 use crate::kept_books::book_steps::Call::{Ask, Receive};
 use crate::kept_books::book_steps::{ASK, ASKS, Call, LEAVE, REPLIES, counts_of, refusal};
-use crate::kept_books::history_asserting::{assert_grown, assert_same};
+use crate::kept_books::history_asserting::assert_same;
 use crate::kept_books::history_values::new_book;
 use ra_history::{Book, BookError};
 use ra_stamp::Mode;
 use std::alloc::Global;
 use std::process::Abort;
-use test_support::{At, Tried, both};
+use test_support::{At, Tried, assert_grown, both};
 
-/// Makes a call of a book, and makes it again if memory ran out and the book has these events, sent frames and clock, as before. A
-/// leave needs no memory: it may not be refused, whichever growth is.
-fn try_call(alloc: Global, book: &mut Book, call: Call<'_>, kept: (u64, u64, u64)) -> Tried {
-    match refusal(alloc, book, call) {
-        None => Tried::NoFailure,
-        Some(BookError::Memory)
-            if !matches!(call, Call::Leave(_))
-                && counts_of(book) == kept
-                && refusal(alloc, book, call).is_none() => { Tried::RetrySucceeded }
-        Some(_) => Tried::Broken,
+/// Makes a call of a book, and makes it again if memory ran out, when the book has to have these events, sent frames and clock, as
+/// before. A leave needs no memory: it may not be refused, whichever growth is.
+fn try_call(
+    rt: &impl Abort,
+    alloc: Global,
+    at: At<'_>,
+    book: &mut Book,
+    call: Call<'_>,
+    kept: (u64, u64, u64),
+) -> Tried {
+    let due = match call {
+        Call::Leave(_) => None,
+        _ => Some(BookError::Memory),
+    };
+    let came = refusal(alloc, book, call);
+    if came.is_none() {
+        return Tried::NoFailure;
     }
+    assert_same(rt, at, &came, &due);
+    assert_same(rt, at, &counts_of(book), &kept);
+    assert_same(rt, at, &refusal(alloc, book, call), &None);
+    Tried::RetrySucceeded
 }
 
 /// A call of a book, and what the book has before the call: this many events and sent frames, and this clock.
@@ -67,7 +78,8 @@ fn try_rows(
         let Row(call, kept) = rows[place];
         let at = At(words, "before call", place + 1);
         assert_same(rt, at, &counts_of(book), &kept);
-        tried = both(tried, try_call(alloc, book, call, kept));
+        let at = At("a book", "call", place + 1);
+        tried = both(tried, try_call(rt, alloc, at, book, call, kept));
     }
     let at = At(words, "after call", rows.len());
     assert_same(rt, at, &counts_of(book), &end);
@@ -78,50 +90,43 @@ fn try_rows(
 const MANY: u64 = 5_000;
 
 /// A client of a cluster of one node asks for `r` and leaves it, many times.
-fn try_many_calls(alloc: Global, book: &mut Book) -> Tried {
+fn try_many_calls(rt: &impl Abort, alloc: Global, book: &mut Book) -> Tried {
     let (mut tried, mut events) = (Tried::NoFailure, 0u64);
     for _ in 0..MANY {
         for call in [ASK, LEAVE] {
-            tried = both(tried, try_call(alloc, book, call, (events, 0, events)));
+            let at = At("a large book", "after events:", events as usize);
+            let kept = (events, 0, events);
+            tried = both(tried, try_call(rt, alloc, at, book, call, kept));
             events = events.wrapping_add(1);
         }
     }
     tried
 }
 
-/// Makes the book of a node of this many, which takes no memory, and all calls of it. It has this at the end.
-fn try_book(
-    rt: &(impl Abort + AllocGlobal),
-    me: u16,
-    nodes: u16,
-    rows: &[Row],
-    end: (u64, u64, u64),
-) -> Tried {
+/// Makes the book of a node of this many, which takes no memory.
+fn book_of(rt: &(impl Abort + AllocGlobal), me: u16, nodes: u16) -> Book {
     match new_book(rt.alloc(), me, nodes, 0) {
-        Ok(mut book) => try_rows(rt, rt.alloc(), &mut book, rows, end),
-        Err(_) => Tried::Broken,
-    }
-}
-
-/// Makes the book of the node of a cluster of one, and many calls of it.
-fn try_many(alloc: Global) -> Tried {
-    match new_book(alloc, 1, 1, 0) {
-        Ok(mut book) => try_many_calls(alloc, &mut book),
-        Err(_) => Tried::Broken,
+        Ok(book) => book,
+        Err(fault) => panic!(rt; "there is no book of node {me} of {nodes}: {fault}"),
     }
 }
 
 #[test]
 fn growth_of_a_book(rt: HostRuntime) {
-    assert_grown(&rt, try_book(&rt, 1, 2, LOCKS, (3, 1, 4)));
+    let mut book = book_of(&rt, 1, 2);
+    let tried = try_rows(&rt, rt.alloc(), &mut book, LOCKS, (3, 1, 4));
+    assert_grown!(&rt, tried);
 }
 
 #[test]
 fn growth_of_a_book_that_answers_and_defers(rt: HostRuntime) {
-    assert_grown(&rt, try_book(&rt, 2, 2, ANSWERS, (6, 4, 10)));
+    let mut book = book_of(&rt, 2, 2);
+    let tried = try_rows(&rt, rt.alloc(), &mut book, ANSWERS, (6, 4, 10));
+    assert_grown!(&rt, tried);
 }
 
 #[test]
 fn large_growth_of_a_book(rt: HostRuntime) {
-    assert_grown(&rt, try_many(rt.alloc()));
+    let mut book = book_of(&rt, 1, 1);
+    assert_grown!(&rt, try_many_calls(&rt, rt.alloc(), &mut book));
 }

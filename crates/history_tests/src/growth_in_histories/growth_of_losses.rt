@@ -6,14 +6,14 @@ use crate::audit_tests::audit_acts::{Act, LOSING, Row, Sends, hand_over};
 use crate::audit_tests::audited_clusters::{clusters_of, refusal_of_lock, refusal_of_unlock, site};
 use crate::audit_tests::audits::Shown;
 use crate::growth_in_histories::growth_of_rounds::grow;
-use crate::kept_books::history_asserting::{assert_grown, assert_same};
+use crate::kept_books::history_asserting::assert_same;
 use ra_cluster::{Cluster, OpenGate, Stop};
-use ra_stamp::{Message, Mode};
+use ra_stamp::{Memory, Message, Mode};
 use std::alloc::Global;
 use std::process::Abort;
 use std::sync::Wait;
 use std::thread::Threads;
-use test_support::{At, Tried, again, both, reply, request};
+use test_support::{At, Tried, again, assert_grown, both, part, reply, request, row};
 
 /// What two nodes handed over so far: what became of the calls, the clock of the last event of node 1 and of node 2, 0 before the first, and
 /// how many frames were lost.
@@ -88,43 +88,54 @@ fn use_in_a_round<R: AllocGlobal + Wait + Abort>(rt: &R, cluster: &Cluster<OpenG
     round_after(rt, cluster, NO_ROUND)
 }
 
-/// Returns what became of the rounds, if one frame was handed over as lost in a cluster that was stopped since a frame could not be sent.
+/// Returns what became of the rounds. In a cluster that was stopped since a frame could not be sent, one frame was handed over as lost.
 /// In one that was stopped for another cause, it may be that the closed post did not take a frame after that; in any other one, none
-/// is lost. If the client did not lock and unlock the name, returns whether memory ran out.
-fn judge(fault: Option<Stop>, rounds: Rounds) -> Result<Tried, bool> {
+/// is lost. If the client did not lock and unlock the name, memory ran out.
+fn judge(rt: &impl Abort, fault: Option<Stop>, rounds: Rounds) -> Result<Tried, Memory> {
+    let label = "a cluster that may be stopped";
+    let (lost, clock) = (part(label, "lost frames"), part(label, "clock of node 1"));
     match fault {
-        None if rounds.lost == 0 && rounds.clocks.0 == 4 => Ok(rounds.tried),
-        // The client was refused.
-        None if rounds.lost == 0 && rounds.clocks.0 == 0 => Err(true),
-        Some(Stop::Send) if rounds.lost == 1 => Err(true),
-        Some(Stop::Memory) | Some(Stop::Spawn) if rounds.lost <= 1 => Err(true),
-        _ => Ok(Tried::Broken),
+        None => {
+            assert_same(rt, lost, &rounds.lost, &0);
+            // The client was refused.
+            if rounds.clocks.0 == 0 {
+                return Err(Memory);
+            }
+            assert_same(rt, clock, &rounds.clocks.0, &4);
+            return Ok(rounds.tried);
+        }
+        Some(Stop::Send) => assert_same(rt, lost, &rounds.lost, &1),
+        Some(Stop::Memory) | Some(Stop::Spawn) => {
+            assert_same(rt, lost, &rounds.lost, &rounds.lost.min(1));
+        }
+        Some(other) => assert_same(rt, row(label), &Some(other), &None),
     }
+    Err(Memory)
 }
 
 /// Has the client use the name while the threads of the nodes run, with a round, and makes another one after they have ended.
 fn try_cluster<R: AllocGlobal + Threads + Wait + Abort + Sync>(
     rt: &R,
     cluster: &Cluster<OpenGate>,
-) -> Result<Tried, bool> {
+) -> Result<Tried, Memory> {
     let first = cluster.run(rt, rt.alloc(), || use_in_a_round(rt, cluster));
     let rounds = round_after(rt, cluster, first);
-    judge(site(rt, cluster, 1).fault(rt), rounds)
+    judge(rt, site(rt, cluster, 1).fault(rt), rounds)
 }
 
 /// Makes the cluster, and does so. If it cannot be made, memory ran out.
-fn try_running<R: AllocGlobal + Threads + Wait + Abort + Sync>(rt: &R) -> Result<Tried, bool> {
+fn try_running<R: AllocGlobal + Threads + Wait + Abort + Sync>(rt: &R) -> Result<Tried, Memory> {
     let clusters = clusters_of(rt.alloc(), 2, true);
     match clusters.first() {
         Some(cluster) => try_cluster(rt, cluster),
-        None => Err(true),
+        None => Err(Memory),
     }
 }
 
 /// A frame for which there is no memory is handed over as lost.
 #[test]
 fn growth_of_lost_frames_that_are_audited(rt: HostRuntime) {
-    assert_grown(&rt, again(try_running(&rt), try_running(&rt)));
+    assert_grown!(&rt, again(try_running(&rt), try_running(&rt)));
 }
 
 /// The client asks in vain. Its REQUEST is lost.

@@ -4,15 +4,14 @@ use crate::audit_tests::audit_acts::Act::{Audits, Ends, Enters, Leaves, Shows};
 use crate::audit_tests::audit_acts::Answer::Fine;
 use crate::audit_tests::audit_acts::{OF_ONE, Row, try_row};
 use crate::audit_tests::audits::Shown;
-use crate::kept_books::history_asserting::assert_grown;
 use std::process::Abort;
 use std::sync::Wait;
 use std::thread::Threads;
-use test_support::again;
+use test_support::{again, assert_grown};
 
 /// Does a row, and does it anew if memory ran out before it began.
 pub fn grow<R: AllocGlobal + Threads + Wait + Abort + Sync>(rt: &R, row: &Row) {
-    assert_grown(rt, again(try_row(rt, row), try_row(rt, row)));
+    assert_grown!(rt, again(try_row(rt, row), try_row(rt, row)));
 }
 
 /// The name is locked and unlocked twice, with a round while it is locked, one afterwards, and the end.

@@ -5,13 +5,13 @@ use crate::kept_books::histories::Done::{AtNode, Loses, Passes};
 use crate::kept_books::histories::{
     Done, Granted, Made, ONE, TWO, books_after, grants_of, new_books,
 };
-use crate::kept_books::history_asserting::{assert_grown, assert_same};
+use crate::kept_books::history_asserting::assert_same;
 use crate::kept_books::history_values::settled;
-use ra_history::{Book, Grant, SettleError, Settled};
-use ra_stamp::Mode;
+use ra_history::{Book, BookError, Grant, SettleError, Settled};
+use ra_stamp::{Memory, Mode};
 use std::alloc::Global;
 use std::process::Abort;
-use test_support::{Tried, again, row};
+use test_support::{Tried, again, assert_grown, assert_memory, row};
 
 /// What is done to two books: the client of node 1 asks, enters and leaves.
 pub const ONE_LOCK: &[Done] = &[
@@ -35,43 +35,44 @@ fn assert_run(rt: &impl Abort, settled: &Settled, due: Due) {
     assert_same(rt, at, &report.under_way, &0);
 }
 
-/// Settles books. If that is refused, returns whether memory ran out.
+/// Settles books. If that is refused, memory ran out.
 fn try_to_settle(
     rt: &impl Abort,
     alloc: Global,
     books: &[Book],
     grants: &[Grant],
     due: Due,
-) -> Result<Tried, bool> {
+) -> Result<Tried, Memory> {
     match settled(alloc, books, grants) {
         Ok(settled) => {
             assert_run(rt, &settled, due);
             Ok(Tried::NoFailure)
         }
-        Err(fault) => Err(fault == Some(SettleError::Memory)),
+        Err(fault) => {
+            let at = row("books settle");
+            Err(assert_memory!(rt, at, fault, Some(SettleError::Memory)))
+        }
     }
 }
 
 /// The run of the one lock: the ask, two messages and the leave.
 const ONE_RUN: Due = (4, (1, 2), (0, 0));
 
-/// Settles two books. If that is refused, returns whether memory ran out.
-fn try_settling(rt: &impl Abort, alloc: Global) -> Result<Tried, bool> {
+/// Settles two books. If that is refused, memory ran out.
+fn try_settling(rt: &impl Abort, alloc: Global) -> Result<Tried, Memory> {
     let books = books_after(rt, alloc, "one lock", &[ONE, TWO], ONE_LOCK);
     if books.len() == 2 {
         try_to_settle(rt, alloc, &books, &[], ONE_RUN)
     } else {
-        Err(true)
+        Err(Memory)
     }
 }
 
 #[test]
 fn growth_of_settling(rt: HostRuntime) {
     let alloc = rt.alloc();
-    assert_grown(
-        &rt,
-        again(try_settling(&rt, alloc), try_settling(&rt, alloc)),
-    );
+    let (first, second) = (try_settling(&rt, alloc), try_settling(&rt, alloc));
+    assert_grown!(&rt, again(first, second));
 }
 
 /// The same, after which the client asks again, and its REQUEST is lost.
@@ -87,48 +88,48 @@ const ASKS_AGAIN: &[Done] = &[
 /// The run of the client, with the loss at its end.
 const LOSING_RUN: Due = (6, (2, 3), (1, 1));
 
-/// Settles two books with a grant, and with the last REQUEST lost. If that is refused, returns whether memory ran out.
-fn try_settling_a_loss(rt: &impl Abort, alloc: Global) -> Result<Tried, bool> {
+/// Settles two books with a grant, and with the last REQUEST lost. If that is refused, memory ran out.
+fn try_settling_a_loss(rt: &impl Abort, alloc: Global) -> Result<Tried, Memory> {
     let books = books_after(rt, alloc, "a loss", &[ONE, TWO], ASKS_AGAIN);
     let grants = grants_of(rt, alloc, &[Granted(1, 1, Mode::Exclusive, 1)]);
     if grants.len() == 1 && books.len() == 2 {
         try_to_settle(rt, alloc, &books, &grants, LOSING_RUN)
     } else {
-        Err(true)
+        Err(Memory)
     }
 }
 
 #[test]
 fn growth_of_settling_with_a_grant_and_a_loss(rt: HostRuntime) {
     let alloc = rt.alloc();
-    assert_grown(
-        &rt,
-        again(
-            try_settling_a_loss(&rt, alloc),
-            try_settling_a_loss(&rt, alloc),
-        ),
-    );
+    let first = try_settling_a_loss(&rt, alloc);
+    let second = try_settling_a_loss(&rt, alloc);
+    assert_grown!(&rt, again(first, second));
 }
 
 /// How often a client asks for `r` and leaves it in the book that is settled. Each time takes two events.
 const VERY_MANY: u64 = 50_000;
 
-/// Has a client ask for a name and leave it. Returns whether that succeeds.
-fn asks_and_leaves(alloc: Global, book: &mut Book) -> bool {
-    refusal(alloc, book, ASK).is_none() && refusal(alloc, book, LEAVE).is_none()
-}
-
-/// Has a client of the first book do so very often. Returns whether that succeeds.
-fn become_large(alloc: Global, books: &mut [Book]) -> bool {
-    let Some(book) = books.get_mut(0) else {
-        return false;
-    };
-    for _ in 0..VERY_MANY {
-        if !asks_and_leaves(alloc, book) {
-            return false;
+/// Has a client ask for a name and leave it. If that is refused, memory ran out.
+fn ask_and_leave(rt: &impl Abort, alloc: Global, book: &mut Book) -> Result<(), Memory> {
+    for call in [ASK, LEAVE] {
+        if let Some(fault) = refusal(alloc, book, call) {
+            let at = row("a book becomes large");
+            return Err(assert_memory!(rt, at, fault, BookError::Memory));
         }
     }
-    true
+    Ok(())
+}
+
+/// Has a client of the first book do so very often. If there is no book, or that is refused, memory ran out.
+fn become_large(rt: &impl Abort, alloc: Global, books: &mut [Book]) -> Result<(), Memory> {
+    let Some(book) = books.get_mut(0) else {
+        return Err(Memory);
+    };
+    for _ in 0..VERY_MANY {
+        ask_and_leave(rt, alloc, book)?;
+    }
+    Ok(())
 }
 
 /// The book of a single node.
@@ -141,24 +142,17 @@ const ALONE: Made = Made {
 /// The run of that client.
 const LARGE_RUN: Due = (2 * VERY_MANY, (VERY_MANY as u128, 0), (0, 0));
 
-/// Settles books with very many events. If that is refused, returns whether memory ran out.
-fn try_large_settling(rt: &impl Abort, alloc: Global) -> Result<Tried, bool> {
+/// Settles books with very many events. If that is refused, memory ran out.
+fn try_large_settling(rt: &impl Abort, alloc: Global) -> Result<Tried, Memory> {
     let mut books = new_books(alloc, &[ALONE]);
-    if become_large(alloc, books.as_mut_slice()) {
-        try_to_settle(rt, alloc, &books, &[], LARGE_RUN)
-    } else {
-        Err(true)
-    }
+    become_large(rt, alloc, books.as_mut_slice())?;
+    try_to_settle(rt, alloc, &books, &[], LARGE_RUN)
 }
 
 #[test]
 fn large_growth_of_settling(rt: HostRuntime) {
     let alloc = rt.alloc();
-    assert_grown(
-        &rt,
-        again(
-            try_large_settling(&rt, alloc),
-            try_large_settling(&rt, alloc),
-        ),
-    );
+    let first = try_large_settling(&rt, alloc);
+    let second = try_large_settling(&rt, alloc);
+    assert_grown!(&rt, again(first, second));
 }

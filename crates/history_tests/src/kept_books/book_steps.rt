@@ -1,4 +1,5 @@
-//! What the tests of books share: the steps that a book does or shows, one after another.
+//! What the tests of books share: the steps that a book does or shows, one after another. A trace cannot tell them: bytes come that no
+//! node sent, calls are refused, and clocks and frames are compared.
 use crate::kept_books::history_asserting::{assert_same, fail_at};
 use crate::kept_books::history_values::bytes_of;
 use Call::{Ask, Leave, Receive};

@@ -3,7 +3,7 @@ use crate::kept_books::book_steps::{
     ASK, ASKS, ASKS_1, Call, LEAVE, REPLIES, REPLIES_1, Step, Turn, Wire,
 };
 use crate::kept_books::histories::{Made, ONE, TWO, TWO_OF_THREE, assert_follows};
-use crate::kept_books::history_asserting::{assert_prints, assert_same};
+use crate::kept_books::history_asserting::assert_same;
 use crate::kept_books::history_values::new_book;
 use Call::{Ask, Receive};
 use Step::{
@@ -15,7 +15,7 @@ use ra_frame::FrameError;
 use ra_history::{BookError, MarkLostError, NewError, Stop};
 use ra_stamp::Mode;
 use std::process::Abort;
-use test_support::{assert_words, row};
+use test_support::{assert_prints, assert_words, row};
 
 /// The same REQUEST at clock 2^62-1.
 const ASKS_LATE: [u8; 25] = [
@@ -255,7 +255,7 @@ const FRAME_ERRORS: &[(BookError, &str)] = &[(BookError::Frame(FrameError::Trail
 
 #[test]
 fn refusals_and_faults_are_printed_as_their_words(rt: HostRuntime) {
-    assert_prints(&rt, FRAME_ERRORS);
+    assert_prints!(&rt, FRAME_ERRORS);
     assert_words!(&rt;
         BookError: Failed Busy Exhausted NotHeld WrongNode Stranger ClockFull Memory;
         Stop: Memory Send Clock Exhausted Frame Refused Gate Spawn;

@@ -3,10 +3,9 @@
 use crate::kept_books::book_steps::Call::Receive;
 use crate::kept_books::book_steps::{ASK, ASKS, ASKS_1, counts_of, refusal};
 use crate::kept_books::histories::{TWO_OF_THREE, new_books};
-use crate::kept_books::history_asserting::assert_same;
+use crate::kept_books::history_asserting::{assert_same, fail_at};
 use ra_frame::FrameError;
 use ra_history::{Book, BookError};
-use std::alloc::Global;
 use std::process::Abort;
 use test_support::{At, r};
 
@@ -39,53 +38,66 @@ fn with<const N: usize>(text: &[u8; N], place: usize, byte: u8) -> [u8; N] {
     bytes
 }
 
-/// Returns whether a book has nothing but the ask: one event, two REQUESTs, the clock 1, no fault, and the number 1, which waits.
-fn is_as_before(book: &Book) -> bool {
+/// Asserts that a book has nothing but the ask: one event, two REQUESTs, the clock 1, no fault, and the number 1, which waits.
+fn assert_as_before(rt: &impl Abort, at: At<'_>, book: &Book) {
     let node = book.node();
-    counts_of(book) == (1, 2, 1)
-        && book.fault().is_none()
-        && (node.highest(&r()), node.waiting(), node.queued()) == (1, 1, 0)
+    let came = (node.highest(&r()), node.waiting(), node.queued());
+    assert_same(rt, at, &came, &(1, 1, 0));
+    assert_same(rt, at, &counts_of(book), &(1, 2, 1));
+    assert_same(rt, at, &book.fault(), &None);
 }
 
-/// Client 1 of a new book asks for `r` exclusively, and the bytes come. Returns whether the book takes them, or why not.
-/// Returns `None` if it takes them without an event, or does not take them and is not as before.
-fn outcome_at(alloc: Global, book: &mut Book, bytes: &[u8]) -> Option<Result<(), BookError>> {
-    if refusal(alloc, book, ASK).is_some() {
-        return None;
-    }
-    match refusal(alloc, book, Receive(bytes)) {
-        None if book.events().len() == 2 => Some(Ok(())),
-        Some(fault) if is_as_before(book) => Some(Err(fault)),
-        _ => None,
+/// Client 1 of a new book asks for `r` exclusively, and the bytes come. Returns whether the book takes them, or why not. Asserts that
+/// they are its second event if it takes them, and that it is as before otherwise.
+fn outcome_at(
+    rt: &(impl Abort + AllocGlobal),
+    at: At<'_>,
+    book: &mut Book,
+    bytes: &[u8],
+) -> Result<(), BookError> {
+    assert_same(rt, at, &refusal(rt.alloc(), book, ASK), &None);
+    match refusal(rt.alloc(), book, Receive(bytes)) {
+        None => {
+            assert_same(rt, at, &book.events().len(), &2);
+            Ok(())
+        }
+        Some(fault) => {
+            assert_as_before(rt, at, book);
+            Err(fault)
+        }
     }
 }
 
 /// The same for the book of node 2 of 3.
-fn outcome(alloc: Global, bytes: &[u8]) -> Option<Result<(), BookError>> {
-    let mut books = new_books(alloc, &[TWO_OF_THREE]);
+fn outcome(rt: &(impl Abort + AllocGlobal), at: At<'_>, bytes: &[u8]) -> Result<(), BookError> {
+    let mut books = new_books(rt.alloc(), &[TWO_OF_THREE]);
     match books.get_mut(0) {
-        Some(book) => outcome_at(alloc, book, bytes),
-        None => None,
+        Some(book) => outcome_at(rt, at, book, bytes),
+        None => fail_at(rt, at, "there is no memory for the book"),
     }
 }
 
-/// Returns with how many of the 256 bytes at the place the REQUEST is taken, or `None` if a book is not as it is to be.
-fn count_taken<const N: usize>(alloc: Global, text: &[u8; N], place: usize) -> Option<u32> {
+/// Returns with how many of the 256 bytes at the place the REQUEST is taken.
+fn count_taken<const N: usize>(
+    rt: &(impl Abort + AllocGlobal),
+    at: At<'_>,
+    text: &[u8; N],
+    place: usize,
+) -> u32 {
     let mut count = 0u32;
     for byte in 0..=u8::MAX {
-        if outcome(alloc, &with(text, place, byte))?.is_ok() {
+        if outcome(rt, at, &with(text, place, byte)).is_ok() {
             count = count.wrapping_add(1);
         }
     }
-    Some(count)
+    count
 }
 
 /// Ends the test unless the REQUEST is taken with as many of the 256 bytes at each place.
 fn assert_taken<R: Abort + AllocGlobal, const N: usize>(rt: &R, text: &[u8; N], taken: &[u32; N]) {
     for place in 0..N {
         let at = At("the frame is taken with other bytes", "place", place);
-        let came = count_taken(rt.alloc(), text, place);
-        assert_same(rt, at, &came, &Some(taken[place]));
+        assert_same(rt, at, &count_taken(rt, at, text, place), &taken[place]);
     }
 }
 
@@ -101,11 +113,10 @@ fn with_another_byte_a_frame_of_version_2_is_taken_or_leaves_the_book(rt: HostRu
 
 /// Ends the test if a part of these bytes is taken, or is not too short.
 fn assert_short<R: Abort + AllocGlobal>(rt: &R, text: &[u8]) {
-    let short = Some(Err(BookError::Frame(FrameError::Short)));
+    let short = Err(BookError::Frame(FrameError::Short));
     for end in 0..text.len() {
         let at = At("a part of the frame", "bytes up to", end);
-        let came = outcome(rt.alloc(), &text[..end]);
-        assert_same(rt, at, &came, &short);
+        assert_same(rt, at, &outcome(rt, at, &text[..end]), &short);
     }
 }
 

@@ -6,7 +6,7 @@ use crate::kept_books::histories::Done::{AtNode, Passes};
 use crate::kept_books::histories::{
     Done, Granted, Made, ONE, TWO, books_after, grants_of, new_books,
 };
-use crate::kept_books::history_asserting::{assert_prints, assert_same, fail_at};
+use crate::kept_books::history_asserting::{assert_same, fail_at};
 use crate::kept_books::history_values::{settled, step_of};
 use Mode::{Exclusive, Shared};
 use Outcome::{Refused, Settles};

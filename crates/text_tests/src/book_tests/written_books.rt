@@ -2,10 +2,11 @@
 use crate::shared_texts::all_kinds;
 use crate::text_asserting::assert_same;
 use ra_book::push_book;
-use ra_history::Book;
-use ra_stamp::{Mode, Name};
+use ra_history::{Book, BookError};
+use ra_stamp::{Memory, Mode, Name};
 use std::alloc::Global;
-use test_support::{id, r, row};
+use std::process::Abort;
+use test_support::{assert_memory, id, r, row};
 
 /// The REPLY of node 2 to the request of node 1 about `r` with number 6, at clock 9.
 const REPLY: [u8; 25] = [
@@ -17,38 +18,51 @@ const REPLY: [u8; 25] = [
 pub const TEXT: &str = "earlier\nbook 1 1 2 5\nask 7 r X\nask 4294967295 r SIX\n\
     receive 02020002000100000000000000000600000000000000090172\nrelease 7 r\nask 0 a-B_9.z IS\n";
 
-/// A client asks for a name. Returns whether the book took that.
-fn asks(alloc: Global, book: &mut Book, client: u32, name: Name, mode: Mode) -> bool {
-    book.ask(alloc, client, name, mode).is_ok()
+/// A client asks for a name. Returns why the book does not take that, or `None` if it does.
+fn fault_of_ask(
+    alloc: Global,
+    book: &mut Book,
+    client: u32,
+    name: Name,
+    mode: Mode,
+) -> Option<BookError> {
+    book.ask(alloc, client, name, mode).err()
 }
 
-/// Does to a book what the text says. Returns whether all of it was done.
-pub fn is_filled(alloc: Global, book: &mut Book) -> bool {
-    asks(alloc, book, 7, r(), Mode::Exclusive)
-        && asks(alloc, book, u32::MAX, r(), Mode::SharedIntentExclusive)
-        && book.receive(alloc, &REPLY).is_ok()
-        && book.leave(alloc, 7, r()).is_ok()
-        && asks(alloc, book, 0, all_kinds(), Mode::IntentShared)
-}
-
-/// Writes another text and then a book. Returns whether there was room.
-fn pushes(text: &mut String, book: &Book) -> bool {
-    text.push_str("earlier\n").is_ok() && push_book(text, book).is_ok()
-}
-
-/// Makes the book, and writes it. Returns whether nothing is refused.
-fn writes(alloc: Global, text: &mut String) -> bool {
-    match Book::new(alloc, id(1), 2, 5) {
-        Ok(mut book) => is_filled(alloc, &mut book) && pushes(text, &book),
-        Err(_) => false,
+/// Looks at why a book did not take an event, if it did not. Asserts that memory ran out then.
+fn judge(rt: &impl Abort, label: &str, fault: Option<BookError>) -> Result<(), Memory> {
+    match fault {
+        None => Ok(()),
+        Some(fault) => Err(assert_memory!(rt, row(label), fault, BookError::Memory)),
     }
+}
+
+/// Does to a book what the text says.
+///
+/// # Errors
+///
+/// `Memory`: there is no memory for all of it.
+pub fn fill(rt: &(impl Abort + AllocGlobal), book: &mut Book) -> Result<(), Memory> {
+    let alloc = rt.alloc();
+    let fault = fault_of_ask(alloc, book, 7, r(), Mode::Exclusive);
+    judge(rt, "client 7 asks", fault)?;
+    let fault = fault_of_ask(alloc, book, u32::MAX, r(), Mode::SharedIntentExclusive);
+    judge(rt, "another client asks", fault)?;
+    judge(rt, "node 2 replies", book.receive(alloc, &REPLY).err())?;
+    judge(rt, "client 7 leaves", book.leave(alloc, 7, r()).err())?;
+    let fault = fault_of_ask(alloc, book, 0, all_kinds(), Mode::IntentShared);
+    judge(rt, "client 0 asks", fault)
 }
 
 #[test]
 fn a_book_is_written_line_by_line(rt: HostRuntime) {
-    let mut text = String::new(rt.alloc());
-    if !writes(rt.alloc(), &mut text) {
-        panic!(rt; "the book refuses a step, or there is no memory for its text: {text:?}");
-    }
-    assert_same(&rt, row("the book"), &text.as_str(), &TEXT);
+    let (at, mut text) = (row("the book"), String::new(rt.alloc()));
+    let mut book = match Book::new(rt.alloc(), id(1), 2, 5) {
+        Ok(book) => book,
+        Err(fault) => panic!(rt; "{at}: there is none: {fault}"),
+    };
+    assert_same(&rt, at, &fill(&rt, &mut book), &Ok(()));
+    assert_same(&rt, at, &text.push_str("earlier\n").is_ok(), &true);
+    assert_same(&rt, at, &push_book(&mut text, &book), &Ok(()));
+    assert_same(&rt, at, &text.as_str(), &TEXT);
 }

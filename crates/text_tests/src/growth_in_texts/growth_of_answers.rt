@@ -1,17 +1,17 @@
 //! If a growth is refused, the line is refused for lack of memory, nothing has changed, and the line can come again.
 ghost use Rattle.ra_book.specs.Timed.{CanCome};
 
-use crate::text_asserting::{assert_grown, assert_same};
+use crate::text_asserting::assert_same;
 use ra_book::{TimedNode, answer_book, event_of};
 use ra_history::{BookError, BookKind};
-use ra_stamp::{Member, NodeId};
-use std::alloc::Global;
+use ra_stamp::{Member, Memory};
 use std::io;
 use std::io::Write;
 use std::process::Abort;
-use test_support::{Tried, again, both, row, tried_if};
+use test_support::{At, Tried, again, assert_grown, both, id, part, row};
 
 /// A line that comes twice: the answer when it comes first, and the answer after that.
+#[derive(Clone, Copy)]
 struct Pair(&'static str, &'static str);
 
 /// The only node there is takes a lock, queues a client, and gives the lock back twice.
@@ -60,28 +60,33 @@ fn after<'a>(text: &'a str, first: &str, second: &str) -> Option<&'a str> {
 }
 
 /// Returns what became of a line that came twice, and the text after its answers.
-fn tried_of<'a>(text: &'a str, pair: &Pair) -> (Tried, &'a str) {
+fn tried_of<'a>(rt: &impl Abort, at: At<'_>, text: &'a str, pair: &Pair) -> (Tried, &'a str) {
     if let Some(rest) = after(text, pair.0, pair.1) {
         return (Tried::NoFailure, rest);
     }
     match after(text, MEMORY, pair.0) {
         Some(rest) => (Tried::RetrySucceeded, rest),
-        None => (Tried::Broken, ""),
+        None => {
+            let Pair(first, second) = pair;
+            panic!(rt;
+                "{at}: expected {first:?} and {second:?}, or {MEMORY:?} and {first:?}, and {text:?} came"
+            )
+        }
     }
 }
 
 /// Returns what became of the lines with these answers.
-fn tried_in(text: &str) -> Tried {
-    let Some(mut rest) = text.strip_prefix("ok\n") else {
-        return Tried::Broken;
-    };
-    let mut all = Tried::NoFailure;
-    for pair in &PAIRS {
-        let (tried, next) = tried_of(rest, pair);
-        all = both(all, tried);
+fn tried_in(rt: &impl Abort, text: &str) -> Tried {
+    let (label, mut tried) = ("a book", Tried::NoFailure);
+    let mut rest = text.strip_prefix("ok\n").unwrap_or("");
+    for place in 0..PAIRS.len() {
+        let at = At(label, "answers to the pair of lines", place + 1);
+        let (one, next) = tried_of(rt, at, rest, &PAIRS[place]);
+        tried = both(tried, one);
         rest = next;
     }
-    if rest.is_empty() { all } else { Tried::Broken }
+    assert_same(rt, part(label, "the end of the answers"), &rest, &"");
+    tried
 }
 
 #[test]
@@ -94,7 +99,7 @@ fn lines_that_are_refused_for_memory_come_again(rt: HostRuntime) {
     let came = answer_book(rt.alloc(), &mut reader, &mut kept);
     assert_same(&rt, row("the end"), &came, &Ok(()));
     let text = kept.bytes.get(..kept.count).unwrap_or(b"");
-    assert_grown(&rt, tried_in(str::from_utf8(text).unwrap_or("")));
+    assert_grown!(&rt, tried_in(&rt, str::from_utf8(text).unwrap_or("")));
 }
 
 /// A line of a node, with the number of frames that it sends and of marks that it makes.
@@ -117,55 +122,65 @@ const LINES: [Line; 4] = [
     ("release 7 door", 1, 1),
 ];
 
-/// Hands an event to the node. If it is refused, returns whether that is for lack of memory and the clock is as before.
-fn take(alloc: Global, node: &mut TimedNode, kind: &BookKind, line: &Line) -> Result<Tried, bool>
+/// Hands an event to the node. If it is refused, memory ran out, and the clock is as before.
+fn take(
+    rt: &(impl Abort + AllocGlobal),
+    node: &mut TimedNode,
+    kind: &BookKind,
+    line: &Line,
+) -> Result<Tried, Memory>
     requires { CanCome kind.now }
 {
-    let clock = node.clock();
-    match node.take(alloc, kind) {
-        Ok(outcome) => Ok(tried_if(outcome.sends.len() == line.1 && outcome.marks.len() == line.2)),
-        Err(why) => Err(why == BookError::Memory && node.clock() == clock),
+    let (at, clock) = (row(line.0), node.clock());
+    match node.take(rt.alloc(), kind) {
+        Ok(outcome) => {
+            let came = (outcome.sends.len(), outcome.marks.len());
+            assert_same(rt, at, &came, &(line.1, line.2));
+            Ok(Tried::NoFailure)
+        }
+        Err(why) => {
+            assert_same(rt, at, &(why, node.clock()), &(BookError::Memory, clock));
+            Err(Memory)
+        }
     }
 }
 
-/// Hands a line to the node. If it is refused, returns whether that is for lack of memory and the clock is as before.
-fn hand(alloc: Global, node: &mut TimedNode, line: &Line) -> Result<Tried, bool> {
+/// Hands a line to the node. If it is refused, memory ran out, and the clock is as before.
+fn hand(
+    rt: &(impl Abort + AllocGlobal),
+    node: &mut TimedNode,
+    line: &Line,
+) -> Result<Tried, Memory> {
     match event_of(line.0.as_bytes()) {
-        Ok(kind) => take(alloc, node, &kind, line),
-        Err(_) => Err(false),
+        Ok(kind) => take(rt, node, &kind, line),
+        Err(_) => panic!(rt; "{:?} tells no event", line.0),
     }
 }
 
-/// Hands a line to the node, and again if it was refused for lack of memory.
-fn try_line(alloc: Global, node: &mut TimedNode, line: &Line) -> Tried {
-    let first = hand(alloc, node, line);
+/// Hands a line to the node, and again if it was refused.
+fn try_line(rt: &(impl Abort + AllocGlobal), node: &mut TimedNode, line: &Line) -> Tried {
+    let first = hand(rt, node, line);
     let second = match first {
-        Err(true) => hand(alloc, node, line),
+        Err(Memory) => hand(rt, node, line),
         _ => first,
     };
     again(first, second)
 }
 
-/// Returns node 1 of 2.
-fn first_of_two() -> Option<Member> {
-    Member::new(NodeId::new(1)?, 2).ok()
-}
-
 /// Hands all lines to a node.
-fn try_lines(alloc: Global, member: Member) -> Tried {
-    let mut node = TimedNode::new(alloc, member, 0);
+fn try_lines(rt: &(impl Abort + AllocGlobal), member: Member) -> Tried {
+    let mut node = TimedNode::new(rt.alloc(), member, 0);
     let mut all = Tried::NoFailure;
     for line in &LINES {
-        all = both(all, try_line(alloc, &mut node, line));
+        all = both(all, try_line(rt, &mut node, line));
     }
     all
 }
 
 #[test]
 fn events_that_are_refused_for_memory_come_again(rt: HostRuntime) {
-    let tried = match first_of_two() {
-        Some(member) => try_lines(rt.alloc(), member),
-        None => Tried::Broken,
-    };
-    assert_grown(&rt, tried);
+    match Member::new(id(1), 2) {
+        Ok(member) => assert_grown!(&rt, try_lines(&rt, member)),
+        Err(fault) => panic!(rt; "there is no node 1 of 2: {fault}"),
+    }
 }

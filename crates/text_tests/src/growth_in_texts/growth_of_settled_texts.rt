@@ -1,10 +1,10 @@
 //! If a growth is refused, books do not settle for lack of memory, and what comes of them is the same when they are read again.
-use crate::text_asserting::assert_grown;
+use crate::text_asserting::assert_same;
 use ra_book::{SettleTextError, SettledText, TextCause, settle_text};
+use ra_stamp::Memory;
 use ra_trace::trace_text;
-use std::alloc::Global;
 use std::process::Abort;
-use test_support::{Tried, again, both, tried_if};
+use test_support::{At, Tried, again, assert_grown, both, part, row};
 
 /// The run into which books settle: its trace, how many messages were sent, and how many copies were put under way.
 #[derive(Clone, Copy)]
@@ -14,11 +14,15 @@ struct Run {
     copies: u128,
 }
 
+/// What comes of books.
+type Settling = Result<Run, SettleTextError>;
+
 /// A text of books, and what comes of it without and with repeats.
 struct Scene {
+    label: &'static str,
     books: &'static str,
-    once: Result<Run, SettleTextError>,
-    with_copies: Result<Run, SettleTextError>,
+    once: Settling,
+    with_copies: Settling,
 }
 
 /// Client 7 at node 1 of 2 locks and unlocks `r`.
@@ -61,19 +65,20 @@ end
 };
 
 /// The frame that came in line 5 was never sent.
-const NOT_SENT: Result<Run, SettleTextError> = Err(SettleTextError::Invalid {
+const NOT_SENT: Settling = Err(SettleTextError::Invalid {
     line: 5,
     cause: TextCause::NotSent,
 });
 
 /// The books, which end before line 4, are not those of a cluster.
-const NO_CLUSTER: Result<Run, SettleTextError> = Err(SettleTextError::Invalid {
+const NO_CLUSTER: Settling = Err(SettleTextError::Invalid {
     line: 4,
     cause: TextCause::Books,
 });
 
 const SCENES: [Scene; 4] = [
     Scene {
+        label: "one lock",
         books: "book 1 2 2 0
 receive 02010001000201000000000000000100000000000000010172
 book 1 1 2 0
@@ -86,6 +91,7 @@ release 7 r
     },
     // The REQUEST comes twice, and each of its REPLYs, with clocks 2 and 3, comes twice.
     Scene {
+        label: "each frame comes twice",
         books: "book 1 1 2 0
 ask 7 r X
 receive 02020002000100000000000000000100000000000000020172
@@ -104,8 +110,8 @@ receive 02010001000201000000000000000100000000000000010172
         }),
         with_copies: Ok(WITH_COPIES),
     },
-    // The REPLY has another clock than the one that was sent.
     Scene {
+        label: "the reply has another clock than the one that was sent",
         books: "book 1 2 2 0
 receive 02010001000201000000000000000100000000000000010172
 book 1 1 2 0
@@ -115,71 +121,63 @@ receive 02020002000100000000000000000100000000000000090172
         once: NOT_SENT,
         with_copies: NOT_SENT,
     },
-    // The book of node 2 is missing.
     Scene {
+        label: "the book of node 2 is missing",
         books: "book 1 1 3 0\nbook 1 3 3 0\nask 7 r X\n",
         once: NO_CLUSTER,
         with_copies: NO_CLUSTER,
     },
 ];
 
-/// Returns whether books settle into this run. If memory runs out for its trace, returns that.
-fn try_run(alloc: Global, text: &SettledText, run: &Run) -> Result<Tried, bool> {
-    let report = &text.settled.report;
-    match trace_text(alloc, text.nodes, text.start, &text.settled.steps) {
-        Ok(trace) => Ok(tried_if(
-            trace.as_str() == run.trace && report.sent == run.sent && report.repeated == run.copies,
-        )),
-        Err(_) => Err(true),
-    }
-}
-
-/// Returns whether books settle as expected. If memory runs out for the trace, returns that.
-fn try_settled(
-    alloc: Global,
+/// Asserts that books settle into this run. If there is no memory for its trace, says so.
+fn try_run(
+    rt: &(impl Abort + AllocGlobal),
+    at: At<'_>,
     text: &SettledText,
-    expected: &Result<Run, SettleTextError>,
-) -> Result<Tried, bool> {
-    match expected {
-        Ok(run) => try_run(alloc, text, run),
-        Err(_) => Ok(Tried::Broken),
+    run: &Run,
+) -> Result<Tried, Memory> {
+    let report = &text.settled.report;
+    match trace_text(rt.alloc(), text.nodes, text.start, &text.settled.steps) {
+        Ok(trace) => {
+            assert_same(rt, at, &trace.as_str(), &run.trace);
+            let came = (report.sent, report.repeated);
+            assert_same(rt, at, &came, &(run.sent, run.copies));
+            Ok(Tried::NoFailure)
+        }
+        Err(_) => Err(Memory),
     }
 }
 
-/// Returns whether books are to be refused for this reason.
-fn is_expected(why: &SettleTextError, expected: &Result<Run, SettleTextError>) -> bool {
-    match expected {
-        Ok(_) => false,
-        Err(expected) => why == expected,
-    }
-}
-
-/// Settles books. If that is refused, returns whether memory ran out.
+/// Settles books, and asserts that the expected run or refusal comes of them. If they are refused for another cause, memory ran out.
 fn try_books(
-    alloc: Global,
+    rt: &(impl Abort + AllocGlobal),
+    at: At<'_>,
     books: &str,
     repeats: bool,
-    expected: &Result<Run, SettleTextError>,
-) -> Result<Tried, bool> {
-    match settle_text(alloc, books.as_bytes(), repeats) {
-        Ok(text) => try_settled(alloc, &text, expected),
-        Err(SettleTextError::Memory) => Err(true),
-        Err(why) => Ok(tried_if(is_expected(&why, expected))),
+    expected: &Settling,
+) -> Result<Tried, Memory> {
+    match (settle_text(rt.alloc(), books.as_bytes(), repeats), expected) {
+        (Ok(text), Ok(run)) => return try_run(rt, at, &text, run),
+        (Ok(_), Err(why)) => assert_same(rt, at, &None, &Some(*why)),
+        (Err(SettleTextError::Memory), _) => return Err(Memory),
+        (Err(came), Ok(_)) => assert_same(rt, at, &Some(came), &None),
+        (Err(came), Err(why)) => assert_same(rt, at, &came, why),
     }
+    Ok(Tried::NoFailure)
 }
 
 /// Settles the books of each scene.
-fn try_scenes(alloc: Global, repeats: bool) -> Tried {
+fn try_scenes(rt: &(impl Abort + AllocGlobal), repeats: bool) -> Tried {
     let mut all = Tried::NoFailure;
     for scene in &SCENES {
-        let expected = if repeats {
-            &scene.with_copies
+        let (at, expected) = if repeats {
+            (part(scene.label, "with repeats"), &scene.with_copies)
         } else {
-            &scene.once
+            (row(scene.label), &scene.once)
         };
         let tried = again(
-            try_books(alloc, scene.books, repeats, expected),
-            try_books(alloc, scene.books, repeats, expected),
+            try_books(rt, at, scene.books, repeats, expected),
+            try_books(rt, at, scene.books, repeats, expected),
         );
         all = both(all, tried);
     }
@@ -188,10 +186,10 @@ fn try_scenes(alloc: Global, repeats: bool) -> Tried {
 
 #[test]
 fn growth_of_books_that_settle(rt: HostRuntime) {
-    assert_grown(&rt, try_scenes(rt.alloc(), false));
+    assert_grown!(&rt, try_scenes(&rt, false));
 }
 
 #[test]
 fn growth_of_books_that_settle_with_copies(rt: HostRuntime) {
-    assert_grown(&rt, try_scenes(rt.alloc(), true));
+    assert_grown!(&rt, try_scenes(&rt, true));
 }

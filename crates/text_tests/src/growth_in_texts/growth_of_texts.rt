@@ -9,10 +9,10 @@ use crate::script_texts::choice_words::choices_of;
 use crate::script_texts::performed_scripts::{performed, reader_of, text_of};
 use crate::script_texts::script_clients::script_of;
 use crate::shared_texts::{ONE_LOCK, ONE_LOCK_SCRIPT, TWO_LOCKS, failing};
-use crate::text_asserting::assert_grown;
+use crate::text_asserting::assert_same;
 use crate::trace_tests::log_readers::TWO_WRITERS;
 use crate::trace_tests::trace_readers::{Judged, Way, checked_text};
-use crate::trace_tests::traced_steps::{fault_of_steps, steps_of, text_of_steps};
+use crate::trace_tests::traced_steps::{assert_left, fault_of_steps, steps_of, text_of_steps};
 use ra_draw::{DrawError, Part};
 use ra_explain::Unanswered::WrongNode;
 use ra_frame::FrameError;
@@ -21,10 +21,11 @@ use ra_script::{PerformError, ScriptError, find_run};
 use ra_stamp::Memory;
 use ra_trace::{Cause, MarksVerdict, TraceError, Verdict, WriteTraceError};
 use ra_world::Steps;
-use std::alloc::Global;
+use std::fmt::Debug;
 use std::io;
 use std::io::Write;
-use test_support::{FailingWriter, Tried, again, both, tried_if};
+use std::process::Abort;
+use test_support::{At, FailingWriter, Tried, again, assert_grown, assert_memory, both, part, row};
 
 /// The verdict on the trace of one lock.
 const ONE_LOCK_VERDICT: Verdict = Verdict::Valid {
@@ -38,61 +39,96 @@ const TWO_WRITERS_VERDICT: MarksVerdict = MarksVerdict::Valid {
     grants: 2,
 };
 
-/// Checks a text. If that is refused, returns whether memory ran out.
-fn try_check<V: Judged>(alloc: Global, text: &str, way: Way, valid: V) -> Result<Tried, bool> {
-    match checked_text::<V>(alloc, text.as_bytes(), way) {
-        Ok(verdict) => Ok(tried_if(verdict == valid)),
-        Err(fault) => Err(fault == TraceError::Memory),
+/// Compares what came of a call with what is expected. If the call was refused, memory ran out, which is the fault `memory`.
+fn judge<T: Debug + PartialEq + Copy, E: Debug + PartialEq + Copy>(
+    rt: &impl Abort,
+    at: At<'_>,
+    came: Result<T, E>,
+    expected: T,
+    memory: E,
+) -> Result<Tried, Memory> {
+    match came {
+        Ok(came) => {
+            assert_same(rt, at, &came, &expected);
+            Ok(Tried::NoFailure)
+        }
+        Err(fault) => Err(assert_memory!(rt, at, fault, memory)),
     }
 }
 
+/// Checks a text. If that is refused, memory ran out.
+fn try_check<V: Judged>(
+    rt: &(impl Abort + AllocGlobal),
+    at: At<'_>,
+    text: &str,
+    way: Way,
+    valid: V,
+) -> Result<Tried, Memory> {
+    let came = checked_text::<V>(rt.alloc(), text.as_bytes(), way);
+    judge(rt, at, came, valid, TraceError::Memory)
+}
+
 /// Checks a text, twice.
-fn try_way<V: Judged>(alloc: Global, text: &str, way: Way, valid: V) -> Tried {
+fn try_way<V: Judged>(
+    rt: &(impl Abort + AllocGlobal),
+    at: At<'_>,
+    text: &str,
+    way: Way,
+    valid: V,
+) -> Tried {
     again(
-        try_check(alloc, text, way, valid),
-        try_check(alloc, text, way, valid),
+        try_check(rt, at, text, way, valid),
+        try_check(rt, at, text, way, valid),
     )
 }
 
 /// Checks a text, with its length as the limit and without a limit.
-fn try_checks<V: Judged>(alloc: Global, text: &str, length: u8, valid: V) -> Tried {
+fn try_checks<V: Judged>(
+    rt: &(impl Abort + AllocGlobal),
+    label: &str,
+    text: &str,
+    length: u8,
+    valid: V,
+) -> Tried {
+    let (whole, within) = (part(label, "in pieces"), part(label, "within a limit"));
     both(
-        try_way(alloc, text, Way::InPieces(64), valid),
-        try_way(alloc, text, Way::Within(length), valid),
+        try_way(rt, whole, text, Way::InPieces(64), valid),
+        try_way(rt, within, text, Way::Within(length), valid),
     )
 }
 
 #[test]
 fn growth_of_checkers(rt: HostRuntime) {
-    let traces = try_checks(rt.alloc(), ONE_LOCK, 140, ONE_LOCK_VERDICT);
-    let logs = try_checks(rt.alloc(), TWO_WRITERS, 100, TWO_WRITERS_VERDICT);
-    assert_grown(&rt, both(traces, logs));
+    let traces = try_checks(&rt, "a trace", ONE_LOCK, 140, ONE_LOCK_VERDICT);
+    let logs = try_checks(&rt, "a mark log", TWO_WRITERS, 100, TWO_WRITERS_VERDICT);
+    assert_grown!(&rt, both(traces, logs));
 }
 
-/// Reads a script of one client. If that is refused, returns whether memory ran out.
-fn try_script(alloc: Global) -> Result<Tried, bool> {
-    match script_of(alloc, ONE_LOCK_SCRIPT.as_bytes()) {
-        Ok(script) => Ok(tried_if(script.nodes() == 2 && script.clients() == 1)),
-        Err(fault) => Err(fault == ScriptError::Memory),
-    }
+/// Reads a script of one client. If that is refused, memory ran out.
+fn try_script(rt: &(impl Abort + AllocGlobal)) -> Result<Tried, Memory> {
+    let at = row("the nodes and clients of a script");
+    let came = match script_of(rt.alloc(), ONE_LOCK_SCRIPT.as_bytes()) {
+        Ok(script) => Ok((script.nodes(), script.clients())),
+        Err(fault) => Err(fault),
+    };
+    judge(rt, at, came, (2, 1), ScriptError::Memory)
 }
 
-/// Reads choices. If that is refused, returns whether memory ran out.
-fn try_choices(alloc: Global) -> Result<Tried, bool> {
-    match choices_of(alloc, "c1 m0 m0 l0 c1") {
-        Ok(choices) => Ok(tried_if(choices.len() == 5)),
-        Err(fault) => Err(fault == ChoicesError::Memory),
-    }
+/// Reads choices. If that is refused, memory ran out.
+fn try_choices(rt: &(impl Abort + AllocGlobal)) -> Result<Tried, Memory> {
+    let at = row("the number of choices");
+    let came = match choices_of(rt.alloc(), "c1 m0 m0 l0 c1") {
+        Ok(choices) => Ok(choices.len()),
+        Err(fault) => Err(fault),
+    };
+    judge(rt, at, came, 5, ChoicesError::Memory)
 }
 
 #[test]
 fn growth_of_a_script_and_of_choices(rt: HostRuntime) {
-    let alloc = rt.alloc();
-    let script = again(try_script(alloc), try_script(alloc));
-    assert_grown(
-        &rt,
-        both(script, again(try_choices(alloc), try_choices(alloc))),
-    );
+    let script = again(try_script(&rt), try_script(&rt));
+    let choices = again(try_choices(&rt), try_choices(&rt));
+    assert_grown!(&rt, both(script, choices));
 }
 
 /// Returns a writer that takes this text and nothing else.
@@ -100,105 +136,106 @@ fn taking(text: &str) -> FailingWriter<'_> {
     failing(text, 1_000, None)
 }
 
-/// Returns whether nothing was written of this text.
-fn is_untouched(writer: &FailingWriter<'_>, text: &str) -> bool {
-    writer.left.len() == text.len() && writer.other.is_none()
-}
-
-/// Returns whether the whole text was written, and nothing else.
-fn is_whole(writer: &FailingWriter<'_>) -> bool {
-    writer.left.is_empty() && writer.other.is_none()
-}
-
-/// Writes the trace of a run. If that is refused, returns whether memory ran out and nothing was written.
-fn try_trace(alloc: Global, steps: &Steps) -> Result<Tried, bool> {
-    let mut writer = taking(ONE_LOCK);
-    match fault_of_steps(alloc, 2, 0, steps, &mut writer) {
-        None => Ok(tried_if(is_whole(&writer))),
-        Some(fault) => Err(fault == WriteTraceError::Memory && is_untouched(&writer, ONE_LOCK)),
+/// Writes the trace of a run. If that is refused, memory ran out, and nothing was written.
+fn try_trace(rt: &(impl Abort + AllocGlobal), steps: &Steps) -> Result<Tried, Memory> {
+    let (at, mut writer) = (row("a trace that is written"), taking(ONE_LOCK));
+    match fault_of_steps(rt.alloc(), 2, 0, steps, &mut writer) {
+        None => {
+            assert_left(rt, at, &writer, 0);
+            Ok(Tried::NoFailure)
+        }
+        Some(fault) => {
+            assert_left(rt, at, &writer, ONE_LOCK.len());
+            Err(assert_memory!(rt, at, fault, WriteTraceError::Memory))
+        }
     }
 }
 
-/// Makes the text of the trace of a run. If that is refused, returns whether memory ran out.
-fn try_trace_text(alloc: Global, steps: &Steps) -> Result<Tried, bool> {
-    match text_of_steps(alloc, 2, 0, steps) {
-        Ok(text) => Ok(tried_if(text.as_str() == ONE_LOCK)),
-        Err(fault) => Err(fault == WriteTraceError::Memory),
+/// Makes the text of the trace of a run. If that is refused, memory ran out.
+fn try_trace_text(rt: &(impl Abort + AllocGlobal), steps: &Steps) -> Result<Tried, Memory> {
+    let at = row("the text of a trace");
+    match text_of_steps(rt.alloc(), 2, 0, steps) {
+        Ok(text) => {
+            assert_same(rt, at, &text.as_str(), &ONE_LOCK);
+            Ok(Tried::NoFailure)
+        }
+        Err(fault) => Err(assert_memory!(rt, at, fault, WriteTraceError::Memory)),
     }
 }
 
 /// Makes the steps of a run, and its trace, as a text or written. If there are no steps, memory ran out.
-fn try_run(alloc: Global, is_text: bool) -> Result<Tried, bool> {
-    match steps_of(alloc, ONE_LOCK) {
-        Some(steps) if is_text => try_trace_text(alloc, &steps),
-        Some(steps) => try_trace(alloc, &steps),
-        None => Err(true),
+fn try_run(rt: &(impl Abort + AllocGlobal), is_text: bool) -> Result<Tried, Memory> {
+    match steps_of(rt.alloc(), ONE_LOCK) {
+        Some(steps) if is_text => try_trace_text(rt, &steps),
+        Some(steps) => try_trace(rt, &steps),
+        None => Err(Memory),
     }
 }
 
 #[test]
 fn growth_of_a_trace(rt: HostRuntime) {
-    let alloc = rt.alloc();
-    let written = again(try_run(alloc, false), try_run(alloc, false));
-    let made = again(try_run(alloc, true), try_run(alloc, true));
-    assert_grown(&rt, both(written, made));
+    let written = again(try_run(&rt, false), try_run(&rt, false));
+    let made = again(try_run(&rt, true), try_run(&rt, true));
+    assert_grown!(&rt, both(written, made));
 }
 
-/// Performs a script. If that is refused, returns whether memory ran out and nothing was written.
-fn try_performance(alloc: Global, format: OutputKind) -> Result<Tried, bool> {
+/// Performs a script. If that is refused, memory ran out, and nothing was written.
+fn try_performance(
+    rt: &(impl Abort + AllocGlobal),
+    at: At<'_>,
+    format: OutputKind,
+) -> Result<Tried, Memory> {
     let text = text_of(format);
     let (mut reader, mut writer) = (reader_of(ONE_LOCK_SCRIPT.as_bytes()), taking(text));
-    match performed(alloc, &mut reader, &mut writer, format, &Policy::Oldest) {
-        Ok(finished) => Ok(tried_if(finished && is_whole(&writer))),
-        Err(fault) => Err(fault == PerformError::Memory && is_untouched(&writer, text)),
-    }
+    let policy = &Policy::Oldest;
+    let came = performed(rt.alloc(), &mut reader, &mut writer, format, policy);
+    let left = if came.is_ok() { 0 } else { text.len() };
+    assert_left(rt, at, &writer, left);
+    judge(rt, at, came, true, PerformError::Memory)
 }
 
 /// Performs a script in a format, twice.
-fn try_format(alloc: Global, format: OutputKind) -> Tried {
+fn try_format(rt: &(impl Abort + AllocGlobal), label: &str, format: OutputKind) -> Tried {
     again(
-        try_performance(alloc, format),
-        try_performance(alloc, format),
+        try_performance(rt, row(label), format),
+        try_performance(rt, row(label), format),
     )
 }
 
 #[test]
 fn growth_of_a_performance(rt: HostRuntime) {
-    let (lines, trace) = (
-        try_format(rt.alloc(), OutputKind::Lines),
-        try_format(rt.alloc(), OutputKind::Trace),
-    );
-    let (choices, state) = (
-        try_format(rt.alloc(), OutputKind::Choices),
-        try_format(rt.alloc(), OutputKind::State),
-    );
-    let shrunk = try_format(rt.alloc(), OutputKind::Shrunk);
+    let lines = try_format(&rt, "lines", OutputKind::Lines);
+    let trace = try_format(&rt, "trace", OutputKind::Trace);
+    let choices = try_format(&rt, "choices", OutputKind::Choices);
+    let state = try_format(&rt, "state", OutputKind::State);
+    let shrunk = try_format(&rt, "shrunk", OutputKind::Shrunk);
     let first = both(both(lines, trace), both(choices, state));
-    assert_grown(&rt, both(first, shrunk));
+    assert_grown!(&rt, both(first, shrunk));
 }
 
 /// What is said of a line if nothing more precise is known.
 const LESS: &str = ": said of all";
 
-/// Checks what is said. If the note was refused, or says less since there was no memory for the lines before, returns that memory ran
-/// out.
-fn try_note(told: Told, text: &str) -> Result<Tried, bool> {
-    match told {
-        Ok(Some(note)) if note.as_str().ends_with(LESS) && !text.ends_with(LESS) => Err(true),
-        Ok(Some(note)) => Ok(tried_if(note.as_str() == text)),
-        Ok(None) => Ok(Tried::Broken),
-        Err(Memory) => Err(true),
+/// Checks what is said. If the note was refused, or says less since there was no memory for the lines before, memory ran out.
+fn try_note(rt: &impl Abort, at: At<'_>, told: Told, text: &str) -> Result<Tried, Memory> {
+    match told? {
+        Some(note) if note.as_str().ends_with(LESS) && !text.ends_with(LESS) => {
+            return Err(Memory);
+        }
+        Some(note) => assert_same(rt, at, &note.as_str(), &text),
+        None => assert_same(rt, at, &None, &Some(text)),
     }
+    Ok(Tried::NoFailure)
 }
 
 /// Asks for each of these notes, twice.
-fn try_notes(alloc: Global, notes: &[Note]) -> Tried {
+fn try_notes(rt: &(impl Abort + AllocGlobal), label: &str, notes: &[Note]) -> Tried {
     let mut tried = Tried::NoFailure;
     for place in 0..notes.len() {
-        let Note(asked, text) = &notes[place];
+        let (at, Note(asked, text)) = (At(label, "note", place + 1), &notes[place]);
         let (first, second) = (
-            try_note(said(alloc, *asked), text),
-            try_note(said(alloc, *asked), text),
+            try_note(rt, at, said(rt.alloc(), *asked), text),
+            try_note(rt, at, said(rt.alloc(), *asked), text),
         );
         tried = both(tried, again(first, second));
     }
@@ -239,7 +276,7 @@ const OF_LINES: &[Note] = &[
 
 #[test]
 fn growth_of_what_is_said_of_lines(rt: HostRuntime) {
-    assert_grown(&rt, try_notes(rt.alloc(), OF_LINES));
+    assert_grown!(&rt, try_notes(&rt, "lines", OF_LINES));
 }
 
 /// What is said of scripts, of their choices and of their runs.
@@ -269,7 +306,7 @@ const OF_SCRIPTS: &[Note] = &[
 
 #[test]
 fn growth_of_what_is_said_of_scripts(rt: HostRuntime) {
-    assert_grown(&rt, try_notes(rt.alloc(), OF_SCRIPTS));
+    assert_grown!(&rt, try_notes(&rt, "scripts", OF_SCRIPTS));
 }
 
 /// What is said of frames and of digits.
@@ -293,60 +330,62 @@ const OF_FRAMES: &[Note] = &[
 
 #[test]
 fn growth_of_what_is_said_of_frames(rt: HostRuntime) {
-    assert_grown(&rt, try_notes(rt.alloc(), OF_FRAMES));
+    assert_grown!(&rt, try_notes(&rt, "frames", OF_FRAMES));
 }
 
 /// Three seeds.
 const SEEDS: SeedRange = SeedRange { first: 5, last: 7 };
 
-/// Looks among three seeds for the trace of one that comes to an end, which is the first one or none. If that is refused, returns
-/// whether memory ran out.
+/// Looks among three seeds for the trace of one that comes to an end, which is the first one or none. If that is refused, memory ran
+/// out.
 fn try_search(
-    alloc: Global,
+    rt: &(impl Abort + AllocGlobal),
     script: &ra_schedule::Script,
     ending: Ending,
     is_there: bool,
-) -> Result<Tried, bool> {
-    match find_run(
-        alloc,
-        script,
-        None,
-        ending,
-        SEEDS,
-        OutputKind::Trace,
-        &mut (),
-    ) {
+) -> Result<Tried, Memory> {
+    let (alloc, at) = (rt.alloc(), row("a search for a trace"));
+    let format = OutputKind::Trace;
+    match find_run(alloc, script, None, ending, SEEDS, format, &mut ()) {
         Ok(Some(found)) => {
-            Ok(tried_if(is_there && found.finished && found.text.as_str() == ONE_LOCK))
+            let came = (true, found.finished, found.text.as_str());
+            assert_same(rt, at, &came, &(is_there, true, ONE_LOCK));
+            Ok(Tried::NoFailure)
         }
-        Ok(None) => Ok(tried_if(!is_there)),
-        Err(fault) => Err(fault == ChoicesError::Memory),
+        Ok(None) => {
+            assert_same(rt, at, &false, &is_there);
+            Ok(Tried::NoFailure)
+        }
+        Err(fault) => Err(assert_memory!(rt, at, fault, ChoicesError::Memory)),
     }
 }
 
-/// Reads the script, and looks for a trace. If there is no script, returns whether memory ran out.
-fn try_script_search(alloc: Global, ending: Ending, is_there: bool) -> Result<Tried, bool> {
-    match script_of(alloc, ONE_LOCK_SCRIPT.as_bytes()) {
-        Ok(script) => try_search(alloc, &script, ending, is_there),
-        Err(fault) => Err(fault == ScriptError::Memory),
+/// Reads the script, and looks for a trace. If there is no script, memory ran out.
+fn try_script_search(
+    rt: &(impl Abort + AllocGlobal),
+    ending: Ending,
+    is_there: bool,
+) -> Result<Tried, Memory> {
+    let at = row("the script of a search");
+    match script_of(rt.alloc(), ONE_LOCK_SCRIPT.as_bytes()) {
+        Ok(script) => try_search(rt, &script, ending, is_there),
+        Err(fault) => Err(assert_memory!(rt, at, fault, ScriptError::Memory)),
     }
 }
 
 /// Looks for a trace, twice.
-fn try_searches(alloc: Global, ending: Ending, is_there: bool) -> Tried {
+fn try_searches(rt: &(impl Abort + AllocGlobal), ending: Ending, is_there: bool) -> Tried {
     again(
-        try_script_search(alloc, ending, is_there),
-        try_script_search(alloc, ending, is_there),
+        try_script_search(rt, ending, is_there),
+        try_script_search(rt, ending, is_there),
     )
 }
 
 #[test]
 fn growth_of_a_search_for_a_trace(rt: HostRuntime) {
-    let found = try_searches(rt.alloc(), Ending::Finished, true);
-    assert_grown(
-        &rt,
-        both(found, try_searches(rt.alloc(), Ending::Stuck, false)),
-    );
+    let found = try_searches(&rt, Ending::Finished, true);
+    let missed = try_searches(&rt, Ending::Stuck, false);
+    assert_grown!(&rt, both(found, missed));
 }
 
 /// Counts the bytes that are written, and those that begin or end an element. It takes no memory.
@@ -384,43 +423,50 @@ fn nothing_counted() -> Counter {
     }
 }
 
-/// Returns whether elements were written, and each to its end.
-fn is_closed(writer: &Counter) -> bool {
-    writer.open > 0 && writer.open == writer.close
+/// Looks at what came of drawing. A picture has elements, each with its end. If there is none, memory ran out, and nothing was
+/// written.
+fn judge_drawing<V: Judged>(
+    rt: &impl Abort,
+    label: &str,
+    came: Result<V, DrawError>,
+    valid: V,
+    writer: &Counter,
+) -> Result<Tried, Memory> {
+    match came {
+        Ok(_) => {
+            assert_same(rt, part(label, "has elements"), &(writer.open > 0), &true);
+            let at = part(label, "elements that begin and end");
+            assert_same(rt, at, &writer.close, &writer.open);
+        }
+        Err(_) => assert_same(rt, part(label, "bytes"), &writer.bytes, &0),
+    }
+    judge(rt, row(label), came, valid, DrawError::Memory)
 }
 
-/// Draws a trace in which a REQUEST is deferred. If that is refused, returns whether memory ran out and nothing was written.
-fn try_drawing(alloc: Global) -> Result<Tried, bool> {
+/// Draws a trace in which a REQUEST is deferred. If that is refused, memory ran out.
+fn try_drawing(rt: &(impl Abort + AllocGlobal)) -> Result<Tried, Memory> {
     let (mut reader, mut writer) = (TWO_LOCKS.as_bytes(), nothing_counted());
     let valid = Verdict::Valid {
         requests: 2,
         messages: 8,
     };
-    match drawn_to(alloc, &mut reader, &mut writer, Part::WHOLE) {
-        Ok(verdict) => Ok(tried_if(verdict == valid && is_closed(&writer))),
-        Err(fault) => Err(fault == DrawError::Memory && writer.bytes == 0),
-    }
+    let came = drawn_to(rt.alloc(), &mut reader, &mut writer, Part::WHOLE);
+    judge_drawing(rt, "a picture of a trace", came, valid, &writer)
 }
 
 #[test]
 fn growth_of_a_picture(rt: HostRuntime) {
-    assert_grown(&rt, again(try_drawing(rt.alloc()), try_drawing(rt.alloc())));
+    assert_grown!(&rt, again(try_drawing(&rt), try_drawing(&rt)));
 }
 
-/// Draws a mark log. If that is refused, returns whether memory ran out and nothing was written.
-fn try_drawing_marks(alloc: Global) -> Result<Tried, bool> {
+/// Draws a mark log. If that is refused, memory ran out.
+fn try_drawing_marks(rt: &(impl Abort + AllocGlobal)) -> Result<Tried, Memory> {
     let (mut reader, mut writer) = (TWO_WRITERS.as_bytes(), nothing_counted());
-    match drawn_marks_to(alloc, &mut reader, &mut writer, Part::WHOLE) {
-        Ok(verdict) => Ok(tried_if(verdict == TWO_WRITERS_VERDICT && is_closed(&writer))),
-        Err(fault) => Err(fault == DrawError::Memory && writer.bytes == 0),
-    }
+    let came = drawn_marks_to(rt.alloc(), &mut reader, &mut writer, Part::WHOLE);
+    judge_drawing(rt, "a picture of marks", came, TWO_WRITERS_VERDICT, &writer)
 }
 
 #[test]
 fn growth_of_a_picture_of_marks(rt: HostRuntime) {
-    let alloc = rt.alloc();
-    assert_grown(
-        &rt,
-        again(try_drawing_marks(alloc), try_drawing_marks(alloc)),
-    );
+    assert_grown!(&rt, again(try_drawing_marks(&rt), try_drawing_marks(&rt)));
 }

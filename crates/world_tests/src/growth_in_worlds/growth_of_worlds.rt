@@ -1,21 +1,22 @@
 //! Each growth is refused in turn: the call returns `Memory`, leaves everything as it was, and succeeds when made
 //! again.
-use crate::run_tests::reported_runs::{adds, run_of};
+use crate::run_tests::reported_runs::run_of;
 use crate::script_tests::drives::{driven, summed};
 use crate::script_tests::listing::{found, lockers};
-use crate::script_tests::script_plans::{adds_client, fault_of_client, fault_of_op};
-use crate::world_steps::alike_worlds::are_alike;
-use crate::world_steps::world_acts::{ASKS, LEAVES, fault_of, new_world, report_of, step_of};
-use crate::world_steps::world_asserting::assert_grown;
+use crate::script_tests::script_plans::{fault_of_client, fault_of_op};
+use crate::world_steps::alike_worlds::assert_alike;
+use crate::world_steps::report_totals::totals;
+use crate::world_steps::world_acts::{ASKS, LEAVES, fault_of, new_world, report_of, step};
+use crate::world_steps::world_asserting::assert_same;
 use Choice::{Client, Message};
 use ra_schedule::{
     AddClientError, AddOpError, Choice, DriveError, Ending, Faults, NewScriptError, Observer, Op,
     Policy, Script, SeedOutcome, SeedRange, Survey, Tally, survey,
 };
 use ra_stamp::{Mark, Memory, Mode, Name};
-use ra_world::{Report, RunError, Step, StepError, Steps, World, mark_line, report_text};
-use std::alloc::Global;
-use test_support::{Tried, again, both, entry, id, r, tried_if};
+use ra_world::{RunError, Step, StepError, Steps, World, mark_line, report_text};
+use std::process::Abort;
+use test_support::{At, Tried, again, assert_grown, assert_memory, both, entry, id, part, r, row};
 
 /// Node 1 enters first, then node 2, and then the REQUEST of node 1 is repeated and lost. Its copy is repeated so often
 /// that no room is left for one more.
@@ -40,98 +41,97 @@ const LINES: [&str; 18] = [
     "repeat request 1 2 r X 2",
 ];
 
-/// Returns whether the steps of these lines are made.
-fn do_all(alloc: Global, world: &mut World, lines: &[&str]) -> bool {
+/// Makes a step. If it is refused, memory ran out.
+fn make(
+    rt: &(impl Abort + AllocGlobal),
+    at: At<'_>,
+    world: &mut World,
+    step: &Step,
+) -> Result<(), Memory> {
+    match fault_of(rt.alloc(), world, step) {
+        None => Ok(()),
+        Some(fault) => Err(assert_memory!(rt, at, fault, StepError::Memory)),
+    }
+}
+
+/// Asserts that a world is like another one in which exactly these steps were made. If there is no memory to see that, says so.
+fn compare(
+    rt: &(impl Abort + AllocGlobal),
+    at: At<'_>,
+    world: &World,
+    lines: &[&str],
+) -> Result<Tried, Memory> {
+    let Some(mut other) = new_world(rt.alloc(), 2, 0) else {
+        return Err(Memory);
+    };
     for line in lines {
-        match step_of(line) {
-            Some(step) if fault_of(alloc, world, &step).is_none() => {}
-            _ => return false,
-        }
+        make(rt, part(at.0, line), &mut other, &step(rt, line))?;
     }
-    true
+    assert_alike(rt, at, world, &other)?;
+    Ok(Tried::NoFailure)
 }
 
-/// Returns whether a world is like another one in which exactly these steps were made.
-fn is_after(alloc: Global, world: &World, lines: &[&str]) -> bool {
-    match new_world(alloc, 2, 0) {
-        Some(mut other) => do_all(alloc, &mut other, lines) && are_alike(alloc, world, &other),
-        None => false,
-    }
+/// Returns what a world shows without memory: how many steps it has made, how many messages are under way, and the first one.
+fn shown(world: &World) -> (u64, (u64, Option<ra_stamp::Message>)) {
+    (world.steps(), (world.under_way(), world.message_at(0)))
 }
 
-/// Makes a step again that ran out of memory, if all is as it was.
-fn make_again(alloc: Global, world: &mut World, step: &Step, is_as_before: bool) -> Tried {
-    if is_as_before && fault_of(alloc, world, step).is_none() {
-        Tried::RetrySucceeded
-    } else {
-        Tried::Broken
+/// Makes a step, and makes it again if memory ran out and what the world shows is unchanged.
+fn try_step(rt: &(impl Abort + AllocGlobal), at: At<'_>, world: &mut World, step: &Step) -> Tried {
+    let before = shown(world);
+    if make(rt, at, world, step).is_ok() {
+        return Tried::NoFailure;
     }
-}
-
-/// Makes a step, and makes it again if memory ran out.
-fn try_step(alloc: Global, world: &mut World, step: &Step) -> Tried {
-    let (steps, left, first) = (world.steps(), world.under_way(), world.message_at(0));
-    match fault_of(alloc, world, step) {
-        None => Tried::NoFailure,
-        Some(fault) => {
-            let is_as_before = fault == StepError::Memory
-                && world.steps() == steps
-                && world.under_way() == left
-                && world.message_at(0) == first;
-            make_again(alloc, world, step, is_as_before)
-        }
-    }
+    assert_same(rt, at, &shown(world), &before);
+    assert_same(rt, at, &make(rt, at, world, step), &Ok(()));
+    Tried::RetrySucceeded
 }
 
 /// Makes the step of a line after those made, and again if memory ran out and the world is unchanged.
-fn try_line(alloc: Global, world: &mut World, made: &[&str], line: &str) -> Tried {
-    let Some(step) = step_of(line) else {
-        return Tried::Broken;
-    };
-    match fault_of(alloc, world, &step) {
-        None => Tried::NoFailure,
-        Some(fault) => {
-            let is_as_before = fault == StepError::Memory && is_after(alloc, world, made);
-            make_again(alloc, world, &step, is_as_before)
-        }
+fn try_line(
+    rt: &(impl Abort + AllocGlobal),
+    world: &mut World,
+    made: &[&str],
+    line: &str,
+) -> Tried {
+    let (at, step) = (At(line, "after steps:", made.len()), step(rt, line));
+    if make(rt, at, world, &step).is_ok() {
+        return Tried::NoFailure;
     }
-}
-
-/// Returns whether this is the report on all steps.
-fn is_report(report: &Report) -> bool {
-    report.marks.len() == 7
-        && report.sent == 5
-        && report.requests == 3
-        && report.lost == 1
-        && report.repeated == 8
-        && report.under_way == 8
-        && report.waiting == 1
+    let compared = compare(rt, at, world, made);
+    assert_same(rt, at, &compared, &Ok(Tried::NoFailure));
+    assert_same(rt, at, &make(rt, at, world, &step), &Ok(()));
+    Tried::RetrySucceeded
 }
 
 /// Makes the report of a world in which all steps were made. If there is none, memory ran out.
-fn try_report(alloc: Global, world: &World) -> Result<Tried, bool> {
-    match report_of(alloc, world) {
-        Some(report) => Ok(tried_if(is_report(&report))),
-        None => Err(true),
+fn try_report(rt: &(impl Abort + AllocGlobal), world: &World) -> Result<Tried, Memory> {
+    match report_of(rt.alloc(), world) {
+        Some(report) => {
+            let (marks, at) = (report.marks.len(), row("the report of all steps"));
+            assert_same(rt, at, &marks, &7);
+            assert_same(rt, at, &totals(&report), &[3, 5, 8, 1, 8, 1, 0]);
+            Ok(Tried::NoFailure)
+        }
+        None => Err(Memory),
     }
 }
 
 /// Makes all steps, and the report.
-fn try_steps(alloc: Global, world: &mut World) -> Tried {
+fn try_steps(rt: &(impl Abort + AllocGlobal), world: &mut World) -> Tried {
     let mut tried = Tried::NoFailure;
     for place in 0..LINES.len() {
-        let line = try_line(alloc, world, &LINES[..place], LINES[place]);
+        let line = try_line(rt, world, &LINES[..place], LINES[place]);
         tried = both(tried, line);
     }
     // The comparison takes memory itself, and at most one growth is refused.
-    if is_after(alloc, world, &LINES) || is_after(alloc, world, &LINES) {
-        both(
-            tried,
-            again(try_report(alloc, world), try_report(alloc, world)),
-        )
-    } else {
-        Tried::Broken
-    }
+    let at = row("after all steps");
+    let compared = again(
+        compare(rt, at, world, &LINES),
+        compare(rt, at, world, &LINES),
+    );
+    let reported = again(try_report(rt, world), try_report(rt, world));
+    both(tried, both(compared, reported))
 }
 
 /// What is tried in a new world of two nodes.
@@ -145,157 +145,164 @@ enum Trial {
     Lines,
 }
 
-/// Tries this in a new world. If it is refused, returns whether memory ran out.
-fn try_in(alloc: Global, world: &mut World, trial: Trial) -> Result<Tried, bool> {
+/// Tries this in a new world. If it is refused, memory ran out.
+fn try_in(
+    rt: &(impl Abort + AllocGlobal),
+    world: &mut World,
+    trial: Trial,
+) -> Result<Tried, Memory> {
     match trial {
-        Trial::Steps => Ok(try_steps(alloc, world)),
-        Trial::ManyAsks => Ok(both(try_asks(alloc, world), try_middle(alloc, world))),
-        Trial::Lines => try_lines(alloc, world),
+        Trial::Steps => Ok(try_steps(rt, world)),
+        Trial::ManyAsks => Ok(both(try_asks(rt, world), try_middle(rt, world))),
+        Trial::Lines => try_lines(rt, world),
     }
 }
 
 /// Makes a world and tries this in it. If there is no world, memory ran out.
-fn try_in_new(alloc: Global, trial: Trial) -> Result<Tried, bool> {
-    let Some(mut world) = new_world(alloc, 2, 0) else {
-        return Err(true);
-    };
-    try_in(alloc, &mut world, trial)
+fn try_in_new(rt: &(impl Abort + AllocGlobal), trial: Trial) -> Result<Tried, Memory> {
+    match new_world(rt.alloc(), 2, 0) {
+        Some(mut world) => try_in(rt, &mut world, trial),
+        None => Err(Memory),
+    }
 }
 
 /// Makes a world and tries this in it, twice.
-fn try_world(alloc: Global, trial: Trial) -> Tried {
-    again(try_in_new(alloc, trial), try_in_new(alloc, trial))
+fn grow_world(rt: &(impl Abort + AllocGlobal), trial: Trial) {
+    assert_grown!(rt, again(try_in_new(rt, trial), try_in_new(rt, trial)));
 }
 
 #[test]
 fn growth_of_a_world(rt: HostRuntime) {
-    assert_grown(&rt, try_world(rt.alloc(), Trial::Steps));
+    grow_world(&rt, Trial::Steps);
 }
 
 /// 32 letters, of which 1,024 names of two letters are made.
 const LETTERS: &[u8] = b"abcdefghijklmnopqrstuvwxyzABCDEF";
 
-/// Has client 1 of node 1 ask for a name.
-fn try_ask(alloc: Global, world: &mut World, name: Name) -> Tried {
+/// Has client 1 of node 1 ask for the name of two letters.
+fn try_ask(
+    rt: &(impl Abort + AllocGlobal),
+    at: At<'_>,
+    world: &mut World,
+    letters: [u8; 2],
+) -> Tried {
+    let name = match Name::new(&letters) {
+        Ok(name) => name,
+        Err(fault) => panic!(rt; "{at}: there is no such name: {fault}"),
+    };
     let step = Step::Ask {
         node: id(1),
         client: 1,
         name,
         mode: Mode::Exclusive,
     };
-    try_step(alloc, world, &step)
-}
-
-/// Has client 1 of node 1 ask for the name of two letters.
-fn try_ask_for(alloc: Global, world: &mut World, first: u8, second: u8) -> Tried {
-    match Name::new(&[first, second]) {
-        Ok(name) => try_ask(alloc, world, name),
-        Err(_) => Tried::Broken,
-    }
-}
-
-/// Has it ask for each name that begins with a letter.
-fn try_asks_for(alloc: Global, world: &mut World, first: u8) -> Tried {
-    let mut tried = Tried::NoFailure;
-    for second in LETTERS {
-        tried = both(tried, try_ask_for(alloc, world, first, *second));
-    }
-    tried
+    try_step(rt, at, world, &step)
 }
 
 /// Has it ask for more than a thousand names, one after the other, so that as many messages are under way.
-fn try_asks(alloc: Global, world: &mut World) -> Tried {
+fn try_asks(rt: &(impl Abort + AllocGlobal), world: &mut World) -> Tried {
     let mut tried = Tried::NoFailure;
     for first in LETTERS {
-        tried = both(tried, try_asks_for(alloc, world, *first));
+        for second in LETTERS {
+            let at = At("many asks", "after messages:", world.under_way() as usize);
+            tried = both(tried, try_ask(rt, at, world, [*first, *second]));
+        }
     }
     tried
 }
 
 /// Delivers the message in the middle, for which a world learns the place of each message. There may be no memory for
 /// that.
-fn try_middle(alloc: Global, world: &mut World) -> Tried {
+fn try_middle(rt: &(impl Abort + AllocGlobal), world: &mut World) -> Tried {
+    let at = row("the message in the middle");
     match world.message_at(500) {
-        Some(message) => try_step(alloc, world, &Step::Deliver(message)),
-        None => Tried::Broken,
+        Some(message) => try_step(rt, at, world, &Step::Deliver(message)),
+        None => panic!(rt; "{at}: it is not under way"),
     }
 }
 
 #[test]
 fn large_growth_of_a_world(rt: HostRuntime) {
-    assert_grown(&rt, try_world(rt.alloc(), Trial::ManyAsks));
+    grow_world(&rt, Trial::ManyAsks);
 }
 
-/// Adds a step to a list, and again if memory ran out.
-fn try_push(steps: &mut Steps, step: &Step) -> Tried {
-    let before = steps.len();
-    if adds(steps, Some(*step)) {
-        Tried::NoFailure
-    } else if steps.len() == before && adds(steps, Some(*step)) {
-        Tried::RetrySucceeded
-    } else {
-        Tried::Broken
+/// Adds the step of a line to a list, and again if memory ran out.
+fn try_push(rt: &impl Abort, steps: &mut Steps, line: &str) -> Tried {
+    let (at, before, step) = (part("a list", line), steps.len(), step(rt, line));
+    if steps.push(step).is_ok() {
+        return Tried::NoFailure;
     }
-}
-
-/// Runs steps at one node. If that is refused, returns whether memory ran out.
-fn try_run(alloc: Global, steps: &Steps) -> Result<Tried, bool> {
-    match run_of(alloc, 1, 0, steps) {
-        Ok(report) => Ok(tried_if(report.marks.len() == 3 && report.sent == 0)),
-        Err(fault) => Err(fault == RunError::Memory),
-    }
+    assert_same(rt, at, &steps.len(), &before);
+    assert_same(rt, at, &steps.push(step), &Ok(()));
+    Tried::RetrySucceeded
 }
 
 /// Makes a list of the two steps of a lock.
-fn try_pushes(steps: &mut Steps) -> Tried {
-    match (step_of(ASKS), step_of(LEAVES)) {
-        (Some(asks), Some(leaves)) => both(try_push(steps, &asks), try_push(steps, &leaves)),
-        _ => Tried::Broken,
+fn try_pushes(rt: &impl Abort, steps: &mut Steps) -> Tried {
+    both(try_push(rt, steps, ASKS), try_push(rt, steps, LEAVES))
+}
+
+/// Runs steps at one node. If that is refused, memory ran out.
+fn try_run(rt: &(impl Abort + AllocGlobal), steps: &Steps) -> Result<Tried, Memory> {
+    let at = row("a run");
+    match run_of(rt.alloc(), 1, 0, steps) {
+        Ok(report) => {
+            assert_same(rt, at, &(report.marks.len(), report.sent), &(3, 0));
+            Ok(Tried::NoFailure)
+        }
+        Err(fault) => Err(assert_memory!(rt, at, fault, RunError::Memory)),
     }
 }
 
 #[test]
 fn growth_of_a_run(rt: HostRuntime) {
-    let alloc = rt.alloc();
-    let mut steps = Steps::new(alloc);
-    let pushed = try_pushes(&mut steps);
-    let run = again(try_run(alloc, &steps), try_run(alloc, &steps));
-    assert_grown(&rt, both(pushed, run));
+    let mut steps = Steps::new(rt.alloc());
+    let pushed = try_pushes(&rt, &mut steps);
+    let run = again(try_run(&rt, &steps), try_run(&rt, &steps));
+    assert_grown!(&rt, both(pushed, run));
 }
 
 /// Compares a text with the expected one. If there is no text, memory ran out.
-fn try_text(found: Result<String, Memory>, text: &str) -> Result<Tried, bool> {
-    match found {
-        Ok(found) => Ok(tried_if(found.as_str() == text)),
-        Err(_) => Err(true),
-    }
+fn try_text(
+    rt: &impl Abort,
+    label: &str,
+    came: Result<String, Memory>,
+    expected: &str,
+) -> Result<Tried, Memory> {
+    let text = came?;
+    assert_same(rt, row(label), &text.as_str(), &expected);
+    Ok(Tried::NoFailure)
 }
 
 /// Makes the line of a mark. If there is no line, memory ran out.
-fn try_mark(alloc: Global) -> Result<Tried, bool> {
+fn try_mark(rt: &(impl Abort + AllocGlobal)) -> Result<Tried, Memory> {
     let mark = Mark::Entered(entry(2, 7, r(), Mode::Shared, 3));
-    try_text(mark_line(alloc, &mark), "enter 2 7 r S 3\n")
+    let line = mark_line(rt.alloc(), &mark);
+    try_text(rt, "the line of a mark", line, "enter 2 7 r S 3\n")
 }
 
 #[test]
 fn growth_of_the_line_of_a_mark(rt: HostRuntime) {
-    assert_grown(&rt, again(try_mark(rt.alloc()), try_mark(rt.alloc())));
+    assert_grown!(&rt, again(try_mark(&rt), try_mark(&rt)));
 }
 
 /// The lines of the report of a world in which nothing has happened.
 const NOTHING: &str = "requests 0\nmessages 0\nunder-way 0\nlost 0\nwaiting 0\nqueued 0\n";
 
 /// Makes the lines of the report of a world in which nothing has happened. If there are no lines, memory ran out.
-fn try_lines(alloc: Global, world: &World) -> Result<Tried, bool> {
-    match report_of(alloc, world) {
-        Some(report) => try_text(report_text(alloc, &report), NOTHING),
-        None => Err(true),
+fn try_lines(rt: &(impl Abort + AllocGlobal), world: &World) -> Result<Tried, Memory> {
+    match report_of(rt.alloc(), world) {
+        Some(report) => {
+            let text = report_text(rt.alloc(), &report);
+            try_text(rt, "the report of a new world", text, NOTHING)
+        }
+        None => Err(Memory),
     }
 }
 
 #[test]
 fn growth_of_the_lines_of_a_report(rt: HostRuntime) {
-    assert_grown(&rt, try_world(rt.alloc(), Trial::Lines));
+    grow_world(&rt, Trial::Lines);
 }
 
 /// The lines of the report of a single node at which client 1 asks for `r` and leaves it.
@@ -310,139 +317,146 @@ waiting 0
 queued 0
 ";
 
-/// Makes the lines of the report of a run. If there are no lines, returns whether memory ran out.
-fn try_lines_of_marks(alloc: Global, steps: &Steps) -> Result<Tried, bool> {
-    match run_of(alloc, 1, 0, steps) {
-        Ok(report) => try_text(report_text(alloc, &report), ONE_LOCK),
-        Err(fault) => Err(fault == RunError::Memory),
+/// Makes the lines of the report of a run. If there are no lines, memory ran out.
+fn try_lines_of_marks(rt: &(impl Abort + AllocGlobal), steps: &Steps) -> Result<Tried, Memory> {
+    let label = "the report of a run";
+    match run_of(rt.alloc(), 1, 0, steps) {
+        Ok(report) => try_text(rt, label, report_text(rt.alloc(), &report), ONE_LOCK),
+        Err(fault) => Err(assert_memory!(rt, row(label), fault, RunError::Memory)),
     }
 }
 
 #[test]
 fn growth_of_the_lines_of_a_report_with_marks(rt: HostRuntime) {
-    let alloc = rt.alloc();
-    let mut steps = Steps::new(alloc);
-    let pushed = try_pushes(&mut steps);
+    let mut steps = Steps::new(rt.alloc());
+    let pushed = try_pushes(&rt, &mut steps);
     let lines = again(
-        try_lines_of_marks(alloc, &steps),
-        try_lines_of_marks(alloc, &steps),
+        try_lines_of_marks(&rt, &steps),
+        try_lines_of_marks(&rt, &steps),
     );
-    assert_grown(&rt, both(pushed, lines));
+    assert_grown!(&rt, both(pushed, lines));
 }
 
-/// Adds a client at a node again after memory ran out, if there are as many clients as before.
-fn add_client_again(alloc: Global, script: &mut Script, number: u16, before: u32) -> Tried {
-    if script.clients() == before && adds_client(alloc, script, number) {
-        Tried::RetrySucceeded
-    } else {
-        Tried::Broken
-    }
+/// Adds a client at a node, and again if memory ran out, when there have to be as many clients as before.
+fn try_client(rt: &(impl Abort + AllocGlobal), script: &mut Script, number: u16) -> Tried {
+    let (at, before) = (
+        At("a script", "client at node", usize::from(number)),
+        script.clients(),
+    );
+    let Some(fault) = fault_of_client(rt.alloc(), script, number) else {
+        return Tried::NoFailure;
+    };
+    assert_same(rt, at, &fault, &AddClientError::Memory);
+    assert_same(rt, at, &script.clients(), &before);
+    assert_same(rt, at, &fault_of_client(rt.alloc(), script, number), &None);
+    Tried::RetrySucceeded
 }
 
-/// Adds a client at a node, and again if memory ran out.
-fn try_client(alloc: Global, script: &mut Script, number: u16) -> Tried {
-    let before = script.clients();
-    match fault_of_client(alloc, script, number) {
-        None => Tried::NoFailure,
-        Some(AddClientError::Memory) => add_client_again(alloc, script, number, before),
-        Some(_) => Tried::Broken,
-    }
-}
-
-/// Adds an operation of the last client again after memory ran out, if the client has no more operations than before.
-fn add_op_again(script: &mut Script, op: &Op, client: u32, before: u64) -> Tried {
-    let is_as_before = script.ops_of(client) == Some(before) && script.op(client, before).is_none();
-    if is_as_before && fault_of_op(script, op).is_none() && script.op(client, before) == Some(*op) {
-        Tried::RetrySucceeded
-    } else {
-        Tried::Broken
-    }
-}
-
-/// Adds an operation of the last client, and again if memory ran out.
-fn try_op(script: &mut Script, op: &Op) -> Tried {
+/// Adds an operation of the last client, and again if memory ran out, when the client has to have no more operations than before.
+fn try_op(rt: &impl Abort, script: &mut Script, op: &Op) -> Tried {
     let client = script.clients();
+    let at = At("a script", "operation of client", client as usize);
     let before = script.ops_of(client).unwrap_or(u64::MAX);
-    match fault_of_op(script, op) {
-        None => Tried::NoFailure,
-        Some(AddOpError::Memory) => add_op_again(script, op, client, before),
-        Some(_) => Tried::Broken,
-    }
+    let Some(fault) = fault_of_op(script, op) else {
+        return Tried::NoFailure;
+    };
+    assert_same(rt, at, &fault, &AddOpError::Memory);
+    assert_same(rt, at, &script.ops_of(client), &Some(before));
+    assert_same(rt, at, &script.op(client, before), &None);
+    assert_same(rt, at, &fault_of_op(script, op), &None);
+    assert_same(rt, at, &script.op(client, before), &Some(*op));
+    Tried::RetrySucceeded
 }
 
 /// Adds a client at a node that locks `r` and unlocks it.
-fn try_locker(alloc: Global, script: &mut Script, number: u16) -> Tried {
-    let added = try_client(alloc, script, number);
-    let locked = both(added, try_op(script, &Op::Lock(r(), Mode::Exclusive)));
-    both(locked, try_op(script, &Op::Unlock(r())))
+fn try_locker(rt: &(impl Abort + AllocGlobal), script: &mut Script, number: u16) -> Tried {
+    let added = try_client(rt, script, number);
+    let locked = both(added, try_op(rt, script, &Op::Lock(r(), Mode::Exclusive)));
+    both(locked, try_op(rt, script, &Op::Unlock(r())))
 }
 
-/// Drives a cluster through a script with its steps recorded. If that is refused, returns whether memory ran out.
-fn try_drive(alloc: Global, script: &Script, policy: &Policy) -> Result<Tried, bool> {
-    match driven(alloc, script, policy, 1_000) {
-        Ok(made) => Ok(tried_if(made.finished && made.report.sent == 4)),
-        Err(fault) => Err(fault == DriveError::Memory),
+/// Drives a cluster through a script with its steps recorded. If that is refused, memory ran out.
+fn try_drive(
+    rt: &(impl Abort + AllocGlobal),
+    script: &Script,
+    policy: &Policy,
+) -> Result<Tried, Memory> {
+    let at = row("a script is driven");
+    match driven(rt.alloc(), script, policy, 1_000) {
+        Ok(made) => {
+            assert_same(rt, at, &(made.finished, made.report.sent), &(true, 4));
+            Ok(Tried::NoFailure)
+        }
+        Err(fault) => Err(assert_memory!(rt, at, fault, DriveError::Memory)),
     }
 }
 
 /// The same without recording the steps.
-fn try_summary(alloc: Global, script: &Script, policy: &Policy) -> Result<Tried, bool> {
-    match summed(alloc, script, policy, 1_000) {
-        Ok(made) => Ok(tried_if(made.finished && made.report.sent == 4)),
-        Err(fault) => Err(fault == DriveError::Memory),
+fn try_summary(
+    rt: &(impl Abort + AllocGlobal),
+    script: &Script,
+    policy: &Policy,
+) -> Result<Tried, Memory> {
+    let at = row("a script is summarized");
+    match summed(rt.alloc(), script, policy, 1_000) {
+        Ok(made) => {
+            assert_same(rt, at, &(made.finished, made.report.sent), &(true, 4));
+            Ok(Tried::NoFailure)
+        }
+        Err(fault) => Err(assert_memory!(rt, at, fault, DriveError::Memory)),
     }
 }
 
 /// Drives a cluster through a script by a policy.
-fn try_policy(alloc: Global, script: &Script, policy: &Policy) -> Tried {
+fn try_policy(rt: &(impl Abort + AllocGlobal), script: &Script, policy: &Policy) -> Tried {
     both(
+        again(try_drive(rt, script, policy), try_drive(rt, script, policy)),
         again(
-            try_drive(alloc, script, policy),
-            try_drive(alloc, script, policy),
-        ),
-        again(
-            try_summary(alloc, script, policy),
-            try_summary(alloc, script, policy),
+            try_summary(rt, script, policy),
+            try_summary(rt, script, policy),
         ),
     )
 }
 
-/// Makes a script of two clients at two nodes, and drives a cluster through it. If there is no script, returns whether
-/// memory ran out.
-fn try_script(alloc: Global, policy: &Policy) -> Result<Tried, bool> {
-    match Script::new(alloc, 2) {
+/// Makes a script of two clients at two nodes, and drives a cluster through it. If there is no script, memory ran out.
+fn try_script(rt: &(impl Abort + AllocGlobal), policy: &Policy) -> Result<Tried, Memory> {
+    match Script::new(rt.alloc(), 2) {
         Ok(mut script) => {
-            let first = try_locker(alloc, &mut script, 1);
-            let made = both(first, try_locker(alloc, &mut script, 2));
-            Ok(both(made, try_policy(alloc, &script, policy)))
+            let first = try_locker(rt, &mut script, 1);
+            let made = both(first, try_locker(rt, &mut script, 2));
+            Ok(both(made, try_policy(rt, &script, policy)))
         }
-        Err(fault) => Err(fault == NewScriptError::Memory),
+        Err(fault) => Err(assert_memory!(
+            rt,
+            row("a script is made"),
+            fault,
+            NewScriptError::Memory
+        )),
     }
 }
 
 /// Makes such a script and drives a cluster through it, twice.
-fn try_scripts(alloc: Global, policy: &Policy) -> Tried {
-    again(try_script(alloc, policy), try_script(alloc, policy))
+fn grow_script(rt: &(impl Abort + AllocGlobal), policy: &Policy) {
+    assert_grown!(rt, again(try_script(rt, policy), try_script(rt, policy)));
 }
 
 #[test]
 fn growth_of_a_script_driven_in_order(rt: HostRuntime) {
-    assert_grown(&rt, try_scripts(rt.alloc(), &Policy::Oldest));
+    grow_script(&rt, &Policy::Oldest);
 }
 
 #[test]
 fn growth_of_a_script_driven_by_chance(rt: HostRuntime) {
-    assert_grown(&rt, try_scripts(rt.alloc(), &Policy::Seeded(1)));
+    grow_script(&rt, &Policy::Seeded(1));
 }
 
 /// Client 2 asks first, and a copy of the REPLY to it arrives.
 #[test]
 fn growth_of_a_script_driven_by_chance_with_a_repeat(rt: HostRuntime) {
-    let tried = match Faults::new(0, 100) {
-        Some(faults) => try_scripts(rt.alloc(), &Policy::Faulty { seed: 2, faults }),
-        None => Tried::Broken,
-    };
-    assert_grown(&rt, tried);
+    match Faults::new(0, 100) {
+        Some(faults) => grow_script(&rt, &Policy::Faulty { seed: 2, faults }),
+        None => panic!(rt; "there are no such faults"),
+    }
 }
 
 /// Counts what an observer is told, which takes no memory.
@@ -457,33 +471,48 @@ impl Observer for Count {
     }
 }
 
-/// Returns whether a survey found that three seeds, from 1 up, finish.
-fn is_of_three_seeds(found: &Survey) -> bool {
-    found.finished == Some(Tally { seeds: 3, first: 1 })
-        && found.stuck.is_none()
-        && found.limit.is_none()
+/// Returns how many seeds there are, and the first of them.
+fn seeds_of(tally: Option<Tally>) -> Option<(u128, u64)> {
+    match tally {
+        Some(Tally { seeds, first }) => Some((seeds, first)),
+        None => None,
+    }
+}
+
+/// Asserts that a survey found that three seeds, from 1 up, finish.
+fn assert_three_seeds(rt: &impl Abort, found: &Survey) {
+    let at = row("a survey of three seeds");
+    assert_same(rt, at, &seeds_of(found.finished), &Some((3, 1)));
+    assert_same(rt, at, &seeds_of(found.stuck), &None);
+    assert_same(rt, at, &seeds_of(found.limit), &None);
 }
 
 /// Three seeds.
 const SEEDS: SeedRange = SeedRange { first: 1, last: 3 };
 
-/// Surveys three seeds. If that is refused, returns whether memory ran out and the observer was not told of the last seed.
-fn try_survey(alloc: Global, script: &Script) -> Result<Tried, bool> {
-    let mut count = Count { told: 0 };
-    match survey(alloc, script, None, SEEDS, 1_000, &mut count) {
-        Ok(found) => Ok(tried_if(is_of_three_seeds(&found) && count.told == 3)),
-        Err(Memory) => Err(count.told < 3),
-    }
+/// Asserts that an observer was told of all three seeds, or not of the last one.
+fn assert_told(rt: &impl Abort, label: &str, count: &Count, is_all: bool) {
+    let at = part(label, "whether all seeds are told");
+    assert_same(rt, at, &(count.told == 3), &is_all);
 }
 
-/// Looks among three seeds for one that gets stuck, without finding one. If that is refused, returns whether memory ran
-/// out and the observer was not told of the last seed.
-fn try_search(alloc: Global, script: &Script) -> Result<Tried, bool> {
+/// Surveys three seeds. If that is refused, memory ran out, and the observer was not told of the last seed.
+fn try_survey(rt: &(impl Abort + AllocGlobal), script: &Script) -> Result<Tried, Memory> {
     let mut count = Count { told: 0 };
-    match found(alloc, script, Ending::Stuck, SEEDS, 1_000, &mut count) {
-        Ok(seed) => Ok(tried_if(seed.is_none() && count.told == 3)),
-        Err(Memory) => Err(count.told < 3),
-    }
+    let came = survey(rt.alloc(), script, None, SEEDS, 1_000, &mut count);
+    assert_told(rt, "a survey", &count, came.is_ok());
+    assert_three_seeds(rt, &came?);
+    Ok(Tried::NoFailure)
+}
+
+/// Looks among three seeds for one that gets stuck, without finding one. If that is refused, memory ran out, and the observer was
+/// not told of the last seed.
+fn try_search(rt: &(impl Abort + AllocGlobal), script: &Script) -> Result<Tried, Memory> {
+    let (label, mut count) = ("a search", Count { told: 0 });
+    let came = found(rt.alloc(), script, Ending::Stuck, SEEDS, 1_000, &mut count);
+    assert_told(rt, label, &count, came.is_ok());
+    assert_same(rt, row(label), &came?, &None);
+    Ok(Tried::NoFailure)
 }
 
 /// The oldest choices for the two clients: both ask, and node 1 defers the REQUEST of node 2, which answers at once.
@@ -498,11 +527,15 @@ const OLDEST: [Choice; 8] = [
     Client(2),
 ];
 
-/// Drives the two clients, and compares the choices that are recorded. If that is refused, returns whether memory ran out.
-fn try_listing(alloc: Global, script: &Script) -> Result<Tried, bool> {
-    match driven(alloc, script, &Policy::Oldest, 1_000) {
-        Ok(made) => Ok(tried_if(made.choices.as_slice() == OLDEST.as_slice())),
-        Err(fault) => Err(fault == DriveError::Memory),
+/// Drives the two clients, and compares the choices that are recorded. If that is refused, memory ran out.
+fn try_listing(rt: &(impl Abort + AllocGlobal), script: &Script) -> Result<Tried, Memory> {
+    let at = row("the choices of a run");
+    match driven(rt.alloc(), script, &Policy::Oldest, 1_000) {
+        Ok(made) => {
+            assert_same(rt, at, &made.choices.as_slice(), &OLDEST.as_slice());
+            Ok(Tried::NoFailure)
+        }
+        Err(fault) => Err(assert_memory!(rt, at, fault, DriveError::Memory)),
     }
 }
 
@@ -514,39 +547,34 @@ enum Use {
     Listing,
 }
 
-/// Makes this of a script. If it is refused, returns whether memory ran out, and what else holds then.
-fn try_use(alloc: Global, script: &Script, used: Use) -> Result<Tried, bool> {
+/// Makes a script of two clients, and this of it. If it is refused, memory ran out.
+fn try_use(rt: &(impl Abort + AllocGlobal), used: Use) -> Result<Tried, Memory> {
+    let Some(script) = lockers(rt.alloc(), 2) else {
+        return Err(Memory);
+    };
     match used {
-        Use::Survey => try_survey(alloc, script),
-        Use::Search => try_search(alloc, script),
-        Use::Listing => try_listing(alloc, script),
-    }
-}
-
-/// Makes a script of two clients, and this of it. If there is no script, memory ran out.
-fn try_use_of_new(alloc: Global, used: Use) -> Result<Tried, bool> {
-    match lockers(alloc, 2) {
-        Some(script) => try_use(alloc, &script, used),
-        None => Err(true),
+        Use::Survey => try_survey(rt, &script),
+        Use::Search => try_search(rt, &script),
+        Use::Listing => try_listing(rt, &script),
     }
 }
 
 /// Makes such a script, and this of it, twice.
-fn try_lockers(alloc: Global, used: Use) -> Tried {
-    again(try_use_of_new(alloc, used), try_use_of_new(alloc, used))
+fn grow_lockers(rt: &(impl Abort + AllocGlobal), used: Use) {
+    assert_grown!(rt, again(try_use(rt, used), try_use(rt, used)));
 }
 
 #[test]
 fn growth_of_a_survey(rt: HostRuntime) {
-    assert_grown(&rt, try_lockers(rt.alloc(), Use::Survey));
+    grow_lockers(&rt, Use::Survey);
 }
 
 #[test]
 fn growth_of_a_search(rt: HostRuntime) {
-    assert_grown(&rt, try_lockers(rt.alloc(), Use::Search));
+    grow_lockers(&rt, Use::Search);
 }
 
 #[test]
 fn growth_of_the_choices_of_a_run(rt: HostRuntime) {
-    assert_grown(&rt, try_lockers(rt.alloc(), Use::Listing));
+    grow_lockers(&rt, Use::Listing);
 }

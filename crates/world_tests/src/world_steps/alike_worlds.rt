@@ -1,45 +1,49 @@
 //! Whether two worlds are alike in all that they show.
 use crate::world_steps::report_totals::totals;
 use crate::world_steps::world_acts::report_of;
+use crate::world_steps::world_asserting::assert_same;
+use ra_stamp::Memory;
 use ra_world::{Report, World};
-use std::alloc::Global;
+use std::process::Abort;
+use test_support::At;
 
-/// Returns whether the same messages are under way in two worlds, in the same order.
-fn have_the_same_messages(one: &World, other: &World) -> bool {
-    for place in 0..one.under_way() {
-        if one.message_at(place) != other.message_at(place) {
-            return false;
+/// Asserts that the same messages are under way in two worlds, in the same order.
+fn assert_same_messages(rt: &impl Abort, at: At<'_>, came: &World, expected: &World) {
+    for place in 0..expected.under_way() {
+        assert_same(rt, at, &came.message_at(place), &expected.message_at(place));
+    }
+    assert_same(rt, at, &came.under_way(), &expected.under_way());
+}
+
+/// Asserts that two reports are the same.
+fn assert_same_reports(rt: &impl Abort, at: At<'_>, came: &Report, expected: &Report) {
+    assert_same(rt, at, &came.marks.as_slice(), &expected.marks.as_slice());
+    assert_same(rt, at, &totals(came), &totals(expected));
+}
+
+/// Returns how many steps a world has made, and how many requests and messages there were.
+fn counts(world: &World) -> (u64, (u128, u128)) {
+    (world.steps(), (world.requests(), world.sent()))
+}
+
+/// Asserts that two worlds have made as many steps, have the same messages under way and report the same.
+///
+/// # Errors
+///
+/// `Memory`: there is no memory for a report.
+pub fn assert_alike(
+    rt: &(impl Abort + AllocGlobal),
+    at: At<'_>,
+    came: &World,
+    expected: &World,
+) -> Result<(), Memory> {
+    assert_same(rt, at, &counts(came), &counts(expected));
+    assert_same_messages(rt, at, came, expected);
+    match (report_of(rt.alloc(), came), report_of(rt.alloc(), expected)) {
+        (Some(came), Some(expected)) => {
+            assert_same_reports(rt, at, &came, &expected);
+            Ok(())
         }
+        _ => Err(Memory),
     }
-    one.under_way() == other.under_way()
-}
-
-/// Returns whether two reports are the same.
-fn are_the_same(one: &Report, other: &Report) -> bool {
-    one.marks.as_slice() == other.marks.as_slice() && totals(one) == totals(other)
-}
-
-/// Returns whether a world reports this.
-fn reports(alloc: Global, world: &World, expected: &Report) -> bool {
-    match report_of(alloc, world) {
-        Some(report) => are_the_same(&report, expected),
-        None => false,
-    }
-}
-
-/// Returns whether two worlds report the same.
-fn reports_the_same(alloc: Global, one: &World, other: &World) -> bool {
-    match report_of(alloc, one) {
-        Some(report) => reports(alloc, other, &report),
-        None => false,
-    }
-}
-
-/// Returns whether two worlds have made as many steps, have the same messages under way and report the same.
-pub fn are_alike(alloc: Global, one: &World, other: &World) -> bool {
-    reports_the_same(alloc, one, other)
-        && one.steps() == other.steps()
-        && one.requests() == other.requests()
-        && one.sent() == other.sent()
-        && have_the_same_messages(one, other)
 }

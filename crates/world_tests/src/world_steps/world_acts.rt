@@ -1,4 +1,5 @@
-//! What the tests of worlds share: what happens in a world, and what it shows, one after the other.
+//! What the tests of worlds share: what happens in a world, and what it shows, one after the other. A run is the lines of its trace; the
+//! other acts are what no such line tells: refusals, what is shown, where a message is looked for first, and steps in great number.
 use crate::world_steps::report_totals::totals;
 use crate::world_steps::world_asserting::{assert_same, assert_text};
 use Act::{
@@ -86,7 +87,7 @@ pub fn step_of(line: &str) -> Option<Step> {
 }
 
 /// Returns the step that a line tells.
-fn step(rt: &impl Abort, line: &str) -> Step {
+pub fn step(rt: &impl Abort, line: &str) -> Step {
     match step_of(line) {
         Some(step) => step,
         None => panic!(rt; "{line:?} tells no step"),

@@ -1,15 +1,8 @@
 //! How a test ends that does not find what it should. `test_support` has what it prints then.
 use ra_stamp::Memory;
-use std::fmt::{Debug, Display};
+use std::fmt::Debug;
 use std::process::Abort;
-use test_support::{At, Difference, Tried, first_misprint, row};
-
-/// Asserts that calls of which a growth was refused had the right answer, and changed nothing.
-pub fn assert_grown(rt: &impl Abort, tried: Tried) {
-    if let Some(fault) = tried.fault() {
-        panic!(rt; "{fault}");
-    }
-}
+use test_support::{At, Difference};
 
 /// Asserts that there is this text.
 pub fn assert_text(rt: &impl Abort, at: At<'_>, came: Result<String, Memory>, expected: &str) {
@@ -23,12 +16,5 @@ pub fn assert_text(rt: &impl Abort, at: At<'_>, came: Result<String, Memory>, ex
 pub fn assert_same<T: Debug + PartialEq>(rt: &impl Abort, at: At<'_>, came: &T, expected: &T) {
     if came != expected {
         panic!(rt; "{}", Difference { at, expected, came });
-    }
-}
-
-/// Asserts that each of these values prints as the text beside it.
-pub fn assert_prints<T: Display>(rt: &(impl Abort + AllocGlobal), rows: &[(T, &str)]) {
-    if let Some((text, came)) = first_misprint(rt.alloc(), rows) {
-        assert_same(rt, row(text), &came.as_str(), &text);
     }
 }
