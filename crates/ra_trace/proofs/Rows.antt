@@ -15,13 +15,13 @@ use Rattle.ra_stamp.specs.declared.mode.Mode.{Mode}
 use Rattle.ra_world.specs.declared.step.Step.{Step}
 use Rattle.ra_world.specs.declared.step.Step.TheVariants.{Ask, Leave, Deliver, Lose, Repeat}
 use Rattle.ra_stamp.specs.Mode.{mode_word}
-use Rattle.ra_world.specs.Lines.{entry_fields}
+use Rattle.ra_world.specs.Lines.{entry_fields, message_fields}
 use Rattle.ra_trace.specs.declared.line.Line.{Line}
 use Rattle.ra_trace.specs.declared.line.Line.TheVariants.{First, Stepped, Marked, Last}
 use Rattle.ra_trace.specs.declared.line.version.Version.{Version}
 use Rattle.ra_trace.specs.declared.line.version.Version.TheVariants.{One, Two}
 use Rattle.ra_trace.specs.Forms.{Form, IsReadable, fields, node_of, client_of, start_of, seq_of, name_of, mode_of, first_in, ask_in, leave_in, request_in, reply_in, entry_in, last_in, forms, rest_after, line_by, line_in}
-use Rattle.ra_trace.specs.TraceText.{message_fields, step_line, line_text, IsClientNumber, IsSeq, IsEntryLine, IsMessageLine, IsStepLine}
+use Rattle.ra_trace.specs.TraceText.{step_line, line_text, IsClientNumber, IsSeq, IsEntryLine, IsMessageLine, IsStepLine}
 use Rattle.ra_trace.proofs.Cuts.{IsFree, mapped, cases_Option, rest_after-only}
 use Rattle.ra_trace.proofs.Spelled.{Reads, reads_fields, reads_node, reads_client, reads_start, reads_seq, reads_name, reads_mode}
 

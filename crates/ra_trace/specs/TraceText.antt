@@ -13,20 +13,12 @@ use Rattle.ra_world.specs.declared.step.Step.TheVariants.{Ask, Leave, Deliver, L
 use Rattle.ra_world.specs.Traffic.{Move}
 use Rattle.ra_world.specs.Run.{IsRun}
 use Rattle.ra_stamp.specs.Mode.{mode_word}
-use Rattle.ra_world.specs.Lines.{field, mark_line}
+use Rattle.ra_world.specs.Lines.{field, mark_line, message_fields}
 use Rattle.ra_trace.specs.declared.line.Line.{Line}
 use Rattle.ra_trace.specs.declared.line.Line.TheVariants.{First, Stepped, Marked, Last}
 use Rattle.ra_trace.specs.declared.line.version.Version.{Version}
 use Rattle.ra_trace.specs.declared.line.version.Version.TheVariants.{Two}
 use Rattle.ra_trace.specs.Version.{version_word, IsNodeIn, IsModeIn, MayRepeat}
-
--- the fields of a message: kind, sender, receiver, name, for a REQUEST the mode, and number
-abbrev pub message_fields : Message → List ℕ
-message_fields (Request from to name mode seq) =
-    field (codes "request") ++ field (decimal from) ++ field (decimal to) ++ field name ++ field (mode_word mode)
-    ++ field (decimal seq)
-message_fields (Reply from to name seq) =
-    field (codes "reply") ++ field (decimal from) ++ field (decimal to) ++ field name ++ field (decimal seq)
 
 -- the line of a step: its word, and then the fields of the client's step or of the message
 abbrev pub step_line : Step → List ℕ

@@ -3,7 +3,7 @@ ghost use Rattle.std.specs.Io.KnownBytes.{Appends};
 ghost use Rattle.ra_world.specs.Traffic.{Move};
 ghost use Rattle.ra_world.specs.Run.{GoesOn, WorldRun};
 ghost use Rattle.ra_world.specs.Drafting.{Adds, Says};
-ghost use Rattle.ra_world.specs.Lines.{field, mark_line};
+ghost use Rattle.ra_world.specs.Lines.{field, mark_line, message_fields};
 ghost use Rattle.ra_trace.specs.TraceText as spec;
 ghost use Rattle.ra_trace.specs.TraceText.{IsTrace};
 ghost use Rattle.ra_trace.specs.Ranges.{StepFits, MarkFits};
@@ -20,43 +20,22 @@ use ra_world::{
 use std::alloc::Global;
 use std::io::Write;
 
-/// Adds a word, a node, a number and a name. The number is that of a client, or of the node that gets a message.
-fn push_start(text: &mut Draft, word: &str, node: NodeId, second: u64, name: &Name)
-    ensures { Adds text.old (word.now ++ field (decimal node) ++ field (decimal second) ++ field name.now) text.new }
+/// Adds a word, and the node, the client and the name of a client's step.
+fn push_start(text: &mut Draft, word: &str, node: NodeId, client: u32, name: &Name)
+    ensures { Adds text.old (word.now ++ field (decimal node) ++ field (decimal client) ++ field name.now) text.new }
 {
     text.push(word);
     text.push_number(node.get());
-    text.push_number(second);
+    text.push_number(client);
     text.push_field(name.as_str());
 }
 
 /// Adds a word and the fields of a message.
 fn push_sent(text: &mut Draft, word: &str, message: &Message)
-    ensures { Adds text.old (word.now ++ spec.message_fields message.now) text.new }
+    ensures { Adds text.old (word.now ++ message_fields message.now) text.new }
 {
     text.push(word);
-    match message {
-        Message::Request {
-            from,
-            to,
-            name,
-            mode,
-            seq,
-        } => {
-            push_start(text, " request", *from, u64::from(to.get()), name);
-            text.push_field(mode.word());
-            text.push_number(*seq);
-        }
-        Message::Reply {
-            from,
-            to,
-            name,
-            seq,
-        } => {
-            push_start(text, " reply", *from, u64::from(to.get()), name);
-            text.push_number(*seq);
-        }
-    }
+    text.push_message(message);
 }
 
 /// Adds the line of a step.
@@ -70,11 +49,11 @@ fn push_step(text: &mut Draft, step: &Step)
             name,
             mode,
         } => {
-            push_start(text, "ask", *node, u64::from(*client), name);
+            push_start(text, "ask", *node, *client, name);
             text.push_field(mode.word());
         }
         Step::Leave { node, client, name } => {
-            push_start(text, "release", *node, u64::from(*client), name);
+            push_start(text, "release", *node, *client, name);
         }
         Step::Deliver(message) => push_sent(text, "deliver", message),
         Step::Lose(message) => push_sent(text, "lose", message),

@@ -4,9 +4,9 @@ use Rattle.ra_stamp.specs.Mode.{mode_word}
 use Rattle.ra_world.specs.declared.step.Step.{Step}
 use Rattle.ra_world.specs.declared.step.Step.TheVariants.{Ask, Leave, Deliver, Lose, Repeat}
 use Rattle.ra_world.specs.Drafting.{Adds}
-use Rattle.ra_world.specs.Lines.{field}
+use Rattle.ra_world.specs.Lines.{field, message_fields}
 use Rattle.ra_world.proofs.Drafts.{adds_as, adds_to, adds_both}
-use Rattle.ra_trace.specs.TraceText.{message_fields, step_line}
+use Rattle.ra_trace.specs.TraceText.{step_line}
 use Rattle.ra_trace.proofs.trace_writing.push_step.Goals as goal
 use Rattle.ra_trace.proofs.trace_writing.push_step.Goals.{in-Ask, in-Leave, in-Deliver, in-Lose, in-Repeat}
 
@@ -25,20 +25,13 @@ whole (Deliver message) = refl
 whole (Lose message) = refl
 whole (Repeat message) = refl
 
--- the client is the second number
-abbrev of_client : List ℕ → ℕ → List ℕ → ℕ → List ℕ
-of_client word node name client = word ++ field (decimal node) ++ field (decimal client) ++ field name
-
 pub returns : goal.returns
 returns c =
     let words : Adds c.args.text.now (step_words c.args.step.now) c.match-step.text =
     elim c.match-step.branch [
       | in-Ask w ↦
-          let start = adds_as w.push_start.ensures (ap (of_client (codes "ask") w.in-Ask.node w.in-Ask.name) w.from.ensures) in
-          adds_to w.text-is (adds_as (adds_both start (adds_as w.push_field.ensures (ap field w.word.ensures))) (sym (ap step_words w.in-Ask.is)))
-      | in-Leave w ↦
-          let start = adds_as w.push_start-in-Leave.ensures (ap (of_client (codes "release") w.in-Leave.node w.in-Leave.name) w.from-in-Leave.ensures) in
-          adds_to w.text-is (adds_as start (sym (ap step_words w.in-Leave.is)))
+          adds_to w.text-is (adds_as (adds_both w.push_start.ensures (adds_as w.push_field.ensures (ap field w.word.ensures))) (sym (ap step_words w.in-Ask.is)))
+      | in-Leave w ↦ adds_to w.text-is (adds_as w.push_start-in-Leave.ensures (sym (ap step_words w.in-Leave.is)))
       | in-Deliver w ↦ adds_to w.text-is (adds_as w.push_sent.ensures (sym (ap step_words w.in-Deliver.is)))
       | in-Lose w ↦ adds_to w.text-is (adds_as w.push_sent-in-Lose.ensures (sym (ap step_words w.in-Lose.is)))
       | in-Repeat w ↦ adds_to w.text-is (adds_as w.push_sent-in-Repeat.ensures (sym (ap step_words w.in-Repeat.is)))
