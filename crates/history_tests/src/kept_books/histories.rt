@@ -1,5 +1,5 @@
-//! Books to which something was done, and grants that clients got. A trace cannot tell what is done: a book alone goes on, shows what it
-//! has, or takes what no book sent.
+//! Books to which something was done, and grants that clients got. The scenes are no traces, since most are no run: a book alone goes
+//! on, shows what it has, or takes what no book sent.
 use crate::kept_books::book_steps::Call::Receive;
 use crate::kept_books::book_steps::{Step, does, takes};
 use crate::kept_books::history_asserting::{assert_same, fail_at};
