@@ -5,9 +5,8 @@
 #[macro_export]
 macro_rules! assert_prints {
     ($rt:expr, $rows:expr) => {
-        if let Some((expected, came)) = $crate::first_misprint($rt.alloc(), $rows) {
-            let (at, came) = ($crate::row(expected), came.as_str());
-            panic!($rt; "{}", $crate::Difference { at, expected: &expected, came: &came });
+        if let Some(difference) = $crate::misprint($rt.alloc(), $rows) {
+            panic!($rt; "{difference}");
         }
     };
 }

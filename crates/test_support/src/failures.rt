@@ -35,6 +35,7 @@ impl fmt::Display for At<'_> {
 }
 
 /// Something else came than was expected there.
+#[derive(Drop)]
 pub struct Difference<'a, T> {
     pub at: At<'a>,
     pub expected: &'a T,
@@ -48,15 +49,18 @@ impl<T: Debug> fmt::Display for Difference<'_, T> {
     }
 }
 
-/// Returns the first text that is not printed as its value, with what is printed, or `None` if each is.
-pub fn first_misprint<'a, T: Display>(
-    alloc: Global,
-    rows: &[(T, &'a str)],
-) -> Option<(&'a str, String)> {
+/// Returns the text of a difference, or an empty one if there is no memory for it.
+fn difference_text<T: Debug>(alloc: Global, at: At<'_>, expected: &T, came: &T) -> String {
+    printed(alloc, &Difference { at, expected, came })
+}
+
+/// Returns what a test prints that fails since a value is not printed as the text beside it, of the first such value, or `None` if
+/// each is.
+pub fn misprint<T: Display>(alloc: Global, rows: &[(T, &str)]) -> Option<String> {
     for (value, text) in rows {
         let came = printed(alloc, value);
         if came.as_str() != *text {
-            return Some((*text, came));
+            return Some(difference_text(alloc, row(text), text, &came.as_str()));
         }
     }
     None

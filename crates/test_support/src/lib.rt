@@ -11,7 +11,7 @@ mod reports;
 mod streams;
 mod tried;
 
-pub use failures::{At, Difference, first_misprint, part, row};
+pub use failures::{At, Difference, misprint, part, row};
 pub use frames::{ASKS_1, ASKS_2, Change, with};
 pub use messages::{entry, entry_of, id, message_between, q, r, reply, request, writer};
 pub use modes::{Modes, PAIRS};

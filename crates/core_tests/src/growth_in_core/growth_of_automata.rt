@@ -2,13 +2,12 @@
 use crate::automaton_tests::automaton_steps::{
     Wire, awaited_by, deferred_by, leave, leave_and_ask, receive, request,
 };
-use crate::core_asserting::assert_same;
+use crate::core_asserting::{assert_same, judge};
 use Call::{Ask, Leave, LeaveAndAsk, Reply, Request};
 use ra_automaton::{Automaton, LeaveError, NewError, Phase, Reaction, ReceiveError, RequestError};
 use ra_frame::{Frame, encode};
 use ra_stamp::{Memory, Message, Mode};
 use std::alloc::Global;
-use std::fmt::Debug;
 use std::process::Abort;
 use test_support::{At, Tried, again, assert_grown, assert_memory, both, id, r, row};
 
@@ -36,19 +35,6 @@ const CALLS: [Call; 8] = [
     Leave,
 ];
 
-/// Looks at what a call answered. If it was refused, asserts that memory ran out, which is the fault `memory`.
-fn judge<E: Debug + PartialEq + Copy>(
-    rt: &impl Abort,
-    at: At<'_>,
-    came: Result<Reaction, E>,
-    memory: E,
-) -> Result<(), Memory> {
-    match came {
-        Ok(_) => Ok(()),
-        Err(fault) => Err(assert_memory!(rt, at, fault, memory)),
-    }
-}
-
 /// Looks at what a leave answered. If it was taken, asserts that it sent this many messages, otherwise that memory ran out.
 fn judge_leave(
     rt: &impl Abort,
@@ -59,7 +45,7 @@ fn judge_leave(
     if let Ok(reaction) = &came {
         assert_same(rt, at, &reaction.sends.len(), &sends);
     }
-    judge(rt, at, came, LeaveError::Memory)
+    judge(rt, at, came.err(), LeaveError::Memory)
 }
 
 /// Makes a call. If it is refused, memory ran out. Leaving sends the deferred REPLY, and asking again sends a REQUEST.
@@ -72,14 +58,19 @@ fn make(
     let wire = match call {
         Ask => {
             let came = request(rt.alloc(), automaton, Mode::Exclusive);
-            return judge(rt, at, came, RequestError::Memory);
+            return judge(rt, at, came.err(), RequestError::Memory);
         }
         LeaveAndAsk => return judge_leave(rt, at, leave_and_ask(rt, automaton, Mode::Shared), 2),
         Leave => return judge_leave(rt, at, leave(rt.alloc(), automaton), 1),
         Reply(seq) => Wire::Replies(2, 1, seq),
         Request(seq) => Wire::Requests(2, 1, Mode::Exclusive, seq),
     };
-    judge(rt, at, receive(rt, automaton, wire), ReceiveError::Memory)
+    judge(
+        rt,
+        at,
+        receive(rt, automaton, wire).err(),
+        ReceiveError::Memory,
+    )
 }
 
 /// What an automaton shows: what it is doing and the highest number that it has met, and which of the nodes 1 to 3 it awaits and

@@ -1,5 +1,5 @@
 //! If a growth is refused, the call returns `Memory` and changes nothing, and it succeeds when it is made again.
-use crate::core_asserting::assert_same;
+use crate::core_asserting::{assert_same, judge};
 use crate::growth_in_core::growth_of_bags::{try_many_pushes, try_many_puts};
 use crate::node_tests::node_steps::{fault_of_ask, fault_of_leave, fault_of_message};
 use crate::node_tests::thousand_names::numbered;
@@ -8,11 +8,9 @@ use ra_node::{AskError, LeaveError, Node, Outcome, ReceiveError};
 use ra_stamp::{Entry, Memory, Message, Mode, Name};
 use ra_table::{EnterError, RequestError, Table};
 use std::alloc::Global;
-use std::fmt::Debug;
 use std::process::Abort;
 use test_support::{
-    At, Tried, again, assert_grown, assert_memory, both, id, message_between, r, reply, request,
-    row, writer,
+    At, Tried, again, assert_grown, both, id, message_between, r, reply, request, row, writer,
 };
 
 /// A call to node 1 of 2 about `r`.
@@ -39,19 +37,6 @@ const CALLS: [Call; 8] = [
     Reply(6),
     Leave(2),
 ];
-
-/// Looks at why a call was refused, if it was. Asserts that memory ran out then, which is the fault `memory`.
-fn judge<E: Debug + PartialEq + Copy>(
-    rt: &impl Abort,
-    at: At<'_>,
-    fault: Option<E>,
-    memory: E,
-) -> Result<(), Memory> {
-    match fault {
-        None => Ok(()),
-        Some(fault) => Err(assert_memory!(rt, at, fault, memory)),
-    }
-}
 
 /// Has a node take a message. If it does not, memory ran out.
 fn take(
