@@ -226,20 +226,25 @@ fn large_growth_of_a_world(rt: HostRuntime) {
     grow_world(&rt, Trial::ManyAsks);
 }
 
-/// Adds the step of a line to a list, and again if memory ran out.
-fn try_push(rt: &impl Abort, steps: &mut Steps, line: &str) -> Tried {
-    let (at, before, step) = (part("a list", line), steps.len(), step(rt, line));
-    if steps.push(step).is_ok() {
+/// Adds a step to a list, and again if memory ran out.
+fn try_push(rt: &impl Abort, at: At<'_>, steps: &mut Steps, step: &Step) -> Tried {
+    let before = steps.len();
+    if steps.push(*step).is_ok() {
         return Tried::NoFailure;
     }
     assert_same(rt, at, &steps.len(), &before);
-    assert_same(rt, at, &steps.push(step), &Ok(()));
+    assert_same(rt, at, &steps.push(*step), &Ok(()));
     Tried::RetrySucceeded
 }
 
 /// Makes a list of the two steps of a lock.
 fn try_pushes(rt: &impl Abort, steps: &mut Steps) -> Tried {
-    both(try_push(rt, steps, ASKS), try_push(rt, steps, LEAVES))
+    let label = "a list of steps";
+    let (asks, leaves) = (step(rt, ASKS), step(rt, LEAVES));
+    both(
+        try_push(rt, part(label, ASKS), steps, &asks),
+        try_push(rt, part(label, LEAVES), steps, &leaves),
+    )
 }
 
 /// Runs steps at one node. If that is refused, memory ran out.
