@@ -7,7 +7,7 @@ use Rattle.std.proofs.lemmas.List.Elements.{All-nil, All-cons, All-head, All-tai
 use Rattle.std.proofs.lemmas.Grind.{flat_map-append}
 use Rattle.ra_stamp.specs.declared.entry.Mark.{Mark}
 use Rattle.ra_stamp.specs.declared.entry.Mark.TheVariants.{Requested, Entered, Left}
-use Rattle.ra_table.specs.Table.{empty_table, TableRun}
+use Rattle.ra_table.specs.Table.{empty_table}
 use Rattle.ra_table.specs.Laws.{AllowsMark}
 use Rattle.ra_world.specs.Lines.{entry_fields, mark_line}
 use Rattle.ra_world.specs.Quiet.{requests_in}
@@ -28,7 +28,7 @@ use Rattle.ra_trace.specs.NextLine.{EndsSo, TakesBytes, FailsWithin, HasNone}
 use Rattle.ra_trace.specs.TraceText.{IsMarkLine}
 use Rattle.ra_trace.specs.Marks.{marks_text, grants_in, IsMarkRun, TableRefuses}
 use Rattle.ra_trace.specs.MarksReading.{HasReadMarks, JudgesMarks, StopsAfterMarks, AnswersMarks}
-use Rattle.ra_trace.specs.MarksAlong.{TableLaws, IsNewLog, TakesMark, IsLogOf, IsAlongMarks, JudgedMark, JudgedOther, JudgedLine, IsMissing, TurnsMarks, SomeMarkTaken}
+use Rattle.ra_trace.specs.MarksAlong.{TableLaws, TakesMark, IsLogOf, IsAlongMarks, JudgedMark, JudgedOther, JudgedLine, IsMissing, TurnsMarks, SomeMarkTaken}
 use Rattle.ra_trace.proofs.Along.{consumed_both, nothing_taken}
 use Rattle.ra_trace.proofs.Ends.{feed_is_over, some_bytes_at_feed}
 use Rattle.ra_trace.proofs.Lines.{begins_once}
@@ -87,20 +87,6 @@ few limit left old now log number along =
     }
 
 -- ---- After right lines
-
-pub along_none : TableLaws → (limit : ℕ) (old : Option (List ℕ)) (log : MarkLog) → IsNewLog log → IsAlongMarks limit limit old old log 1
-along_none laws limit old log new = record {
-  marks = [];
-  taken = nothing_taken old;
-  room = omega arith;
-  number_is = refl;
-  so_far = record {
-    lines = All-nil (IsMarkLine Two);
-    run = subst (TableRun []) (sym new.table_is) laws.empty;
-    requests_is = new.requests_is;
-    grants_is = new.grants_is;
-  };
-}
 
 run_of : (log : MarkLog) (marks : List Mark) → IsLogOf log marks → IsMarkRun marks
 run_of log marks so_far = record { lines = so_far.lines; table = log.table; run = so_far.run }

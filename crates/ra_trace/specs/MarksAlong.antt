@@ -30,12 +30,6 @@ pub record TableLaws : Type 0 where
       → AllowsMark table mark ↔ ((next : LockTable) × TableRun (marks ++ mark ∷ []) next)
   pub same : (marks : List Mark) (a b : LockTable) → TableRun marks a → TableRun marks b → SameEntries a b
 
--- nothing was requested or granted yet
-pub record IsNewLog (log : MarkLog) : Type 0 where
-  pub table_is : log.table ≡ empty_table
-  pub requests_is : log.requests ≡ 0
-  pub grants_is : log.grants ≡ 0
-
 -- the log after one more mark
 pub record TakesMark (old : MarkLog) (mark : Mark) (new : MarkLog) : Type 0 where
   pub step : TableStep old.table mark new.table

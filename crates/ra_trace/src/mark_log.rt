@@ -8,8 +8,7 @@ ghost use Rattle.ra_world.specs.Quiet.{requests_in};
 ghost use Rattle.ra_trace.specs.declared.mark_log.marks_verdict.MarksVerdict.{MarksVerdict};
 ghost use Rattle.ra_trace.specs.Check.{ChecksLog};
 ghost use Rattle.ra_trace.specs.Marks.{grants_in};
-ghost use Rattle.ra_trace.specs.MarksAlong.{IsAlongMarks, IsNewLog, JudgedLine, JudgedMark, SomeMarkTaken, TurnsMarks};
-ghost use Rattle.ra_trace.specs.MarksReading.{AnswersMarks};
+ghost use Rattle.ra_trace.specs.MarksAlong.{IsAlongMarks, JudgedLine, JudgedMark, SomeMarkTaken, TurnsMarks};
 
 use crate::line::Line;
 use crate::line_source::{ByBytes, FromBuffer, LineRoom, LineSource};
@@ -101,43 +100,6 @@ fn take_next<R: Read, S: LineSource<R>>(
     }
 }
 
-/// Returns the verdict of a text of at most `limit` bytes, line by line: at the first wrong line, or at the end of the text.
-///
-/// # Errors
-///
-/// `Read`, `Limit`, `Memory`.
-fn verdict_after<R: Read, S: LineSource<R>>(
-    reader: &mut R,
-    log: &mut MarkLog,
-    limit: usize,
-) -> Result<MarksVerdict, TraceError>
-    requires most { limit ≤ 16777216 }
-    requires new { IsNewLog log.old }
-    ensures { AnswersMarks limit (R.remaining reader.old) (R.remaining reader.new) result }
-{
-    let mut taken = 0;
-    let mut room = LineRoom::new();
-    let mut left = limit;
-    let mut line = 1;
-    loop {
-        let next = match take_next::<R, S>(reader, &mut room, &mut taken, log, left) {
-            Ok(next) => next,
-            Err(fault) => return Err(fault),
-        };
-        if let MarkJudgement::Wrong(cause) = next {
-            return Ok(MarksVerdict::Invalid { line, cause });
-        }
-        if let MarkJudgement::End = next {
-            return Ok(MarksVerdict::Valid {
-                requests: log.requests,
-                grants: log.grants,
-            });
-        }
-        line += 1;
-        left -= taken;
-    }
-}
-
 /// Checks a log as `check_marks_within` does, and takes the bytes from the reader in the way of `S`.
 ///
 /// # Errors
@@ -159,7 +121,27 @@ fn check_by<R: Read, S: LineSource<R>>(
         requests: 0,
         grants: 0,
     };
-    verdict_after::<R, S>(reader, &mut log, limit as usize)
+    let mut taken = 0;
+    let mut room = LineRoom::new();
+    let mut left = limit as usize;
+    let mut line = 1;
+    loop {
+        let next = match take_next::<R, S>(reader, &mut room, &mut taken, &mut log, left) {
+            Ok(next) => next,
+            Err(fault) => return Err(fault),
+        };
+        if let MarkJudgement::Wrong(cause) = next {
+            return Ok(MarksVerdict::Invalid { line, cause });
+        }
+        if let MarkJudgement::End = next {
+            return Ok(MarksVerdict::Valid {
+                requests: log.requests,
+                grants: log.grants,
+            });
+        }
+        line += 1;
+        left -= taken;
+    }
 }
 
 /// Checks a log of marks: lines such as `request 1 7 r X 3`, `enter 1 7 r X 3` and `leave 1 7 r X 3`, each with node, client,

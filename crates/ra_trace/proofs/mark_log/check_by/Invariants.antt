@@ -1,6 +1,6 @@
 use Rattle.ra_trace.specs.MarksAlong.{IsAlongMarks}
 use Rattle.ra_trace.proofs.MarksAlong.{IsFew}
-use Rattle.ra_trace.proofs.mark_log.verdict_after.Given as goal
+use Rattle.ra_trace.proofs.mark_log.check_by.Given as goal
 
 -- the lines so far are those of a run, and there are no more of them than bytes
 abbrev pub invariant-loop-next : goal.invariant-loop-next
