@@ -1,8 +1,7 @@
 -- What an auditor keeps as it puts an event into the run.
 use Rattle.std.proofs.Common.{◌≡◌, ◌≢◌, ℕ, ◌+◌, ◌-◌, ◌<◌, ◌≤◌, Bool, true, false, cond, ltb, leb, IsTrue, MatchOption, Option, None, Err, IsErrOf, Ok, Result, OnOk, OnErr, List, [], ◌∷◌, ◌++◌, map, length, get_or, set, take, drop, length-drop, Some, refl, sym, ap, ◌∙◌, subst, inl, inr, arith}
-use Rattle.std.specs.Prelude.{All, slice_get, sum_by}
+use Rattle.std.specs.Prelude.{All, slice_get}
 use Rattle.std.specs.List.{flat_map, range_with_len}
-use Rattle.std.proofs.lemmas.List.Sums.{sum_by-set}
 use Rattle.std.proofs.lemmas.Option.{same_Some, slice_get_read, get_or_from_slice_get, slice_get_within}
 use Rattle.std.proofs.lemmas.List.Elements.{All-set, All-map}
 use Rattle.std.proofs.Math.Seq.{map-set_same}
@@ -181,14 +180,6 @@ pub due_from : (nodes : List ProgressState) (n place from clock : ℕ) (p : Prog
 due_from nodes n place from clock p numbers number within at all =
     subst (λ (q : ProgressState). clock ≤ clock_of q.settled) (sym at)
     (all place p within (number_of nodes n place p numbers within ∙ number))
-
--- ---- How many events wait
-
-pub fewer_wait : (nodes : List ProgressState) (place : ℕ) (p q : ProgressState) → place < length nodes → p ≡ get_or nodes place p → length q.waiting < length p.waiting
-    → sum_by (λ p. length p.waiting) (set nodes place q) < sum_by (λ p. length p.waiting) nodes
-fewer_wait nodes place p q within at less =
-    let same : length (get_or nodes place p).waiting ≡ length p.waiting = ap (λ (x : ProgressState). length x.waiting) (sym at) in
-    omega (arith, sum_by-set (λ (p : ProgressState). length p.waiting) nodes place q p within, same, less)
 
 -- ---- An event that does not fit
 

@@ -336,15 +336,6 @@ taken_from_slot exact old new m place place_is apart within some only is =
     flies_from_slot exact old new m found.0 apart there (subst (λ (k : ℕ). k < length old.slots) place_is within)
     (is ∙ ap (λ (k : ℕ). record old { slots = set old.slots k None }) place_is)
 
--- no message is taken
-pub flies_as : (flights : FlightState) → FliesAfter flights [] flights.clock flights.last flights
-flies_as flights = record {
-  only = λ m c is. (is, in_none m);
-  others = λ m c none is. is;
-  clock_is = refl;
-  last_is = refl;
-}
-
 -- an event is next
 pub flies_next : (old mid new : FlightState) (taken : List Message) (clock : ℕ) (sends : List Message) → FliesAfter old taken old.clock old.last mid
     → new ≡ record mid { clock = clock; last = sends } → FliesAfter old taken clock sends new

@@ -52,29 +52,11 @@ least_second a b one none is = record {
 not_before : (c d : ℕ) (nodes : List ProgressState) → c ≤ d → All (IsNotBefore d) nodes → All (IsNotBefore c) nodes
 not_before c d nodes less = All-weaker (IsNotBefore d) (IsNotBefore c) (λ p h event is. let low : d ≤ event.clock = h event is in omega (arith, low, less)) nodes
 
-pub least_one : (a b : List ProgressState) (one other : AuditFault) → IsLeastWaiting a one → IsLeastWaiting b other → one.event.clock ≤ other.event.clock → IsLeastWaiting (a ++ b) one
-least_one a b one other is and less = record {
-  at_node = any_left (λ p. (p.node ≡ one.node) × (slice_get p.waiting 0 ≡ Some one.event)) a b is.at_node;
-  least = All-append (IsNotBefore one.event.clock) a b is.least (not_before one.event.clock other.event.clock b less and.least);
-}
-
 pub least_other : (a b : List ProgressState) (one other : AuditFault) → IsLeastWaiting a one → IsLeastWaiting b other → other.event.clock ≤ one.event.clock → IsLeastWaiting (a ++ b) other
 least_other a b one other is and less = record {
   at_node = any_right (λ p. (p.node ≡ other.node) × (slice_get p.waiting 0 ≡ Some other.event)) a b and.at_node;
   least = All-append (IsNotBefore other.event.clock) a b (not_before other.event.clock one.event.clock a less is.least) and.least;
 }
-
--- of one node
-pub least_here : (p : ProgressState) (event : BookEvent) (fault : AuditFault) → slice_get p.waiting 0 ≡ Some event → fault.node ≡ p.node → fault.event ≡ event → IsLeastWaiting (p ∷ []) fault
-least_here p event fault is node same = record {
-  at_node = (0, p, omega arith, refl, (sym node, is ∙ ap (λ (e : BookEvent). Some e) (sym same)));
-  least = All-cons (IsNotBefore fault.event.clock) p []
-      (λ other at. let e : fault.event ≡ other = same ∙ same_event event other (sym is ∙ at) in subst (λ (x : BookEvent). fault.event.clock ≤ x.clock) e (omega arith))
-      (All-nil (IsNotBefore fault.event.clock));
-}
-  where
-    same_event : (x y : BookEvent) → Some x ≡ Some y → x ≡ y
-    same_event x y e = cc
 
 pub none_here : (p : ProgressState) → slice_get p.waiting 0 ≡ None → NoneWaits (p ∷ [])
 none_here p none = All-cons (λ (p : ProgressState). p.waiting ≡ []) p [] (of p.waiting none) (All-nil (λ (p : ProgressState). p.waiting ≡ []))

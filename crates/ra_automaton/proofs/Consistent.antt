@@ -164,9 +164,6 @@ still_awaited s other node k =
 pub is_waiting : (phase : Phase) (seq : ℕ) (mode : Mode) → phase ≡ Waiting seq mode → IsWaiting phase
 is_waiting phase seq mode e = subst IsWaiting (sym e) tt
 
-not_waiting_idle : (phase : Phase) (seq : ℕ) (mode : Mode) → phase ≡ Waiting seq mode → phase ≡ Idle → ⊥
-not_waiting_idle phase seq mode e k = cc
-
 pub consistent_waits_on : (s : State) (other : ℕ) → IsConsistent s → (set.remove s.awaited other ≡ set.empty → ⊥) → IsWaiting s.phase → IsConsistent (record s { awaited = set.remove s.awaited other })
 consistent_waits_on s other h left waiting =
     record {
@@ -241,9 +238,6 @@ own_numbered Idle highest me other number wanted n h = absurd h
 own_numbered (Waiting seq mode) highest me other number wanted n h = not_earlier seq number me other n.0 h.earlier
 own_numbered (Inside seq mode) highest me other number wanted n h = not_earlier seq number me other n.0 h.earlier
 
-pub numbered_where_own_first : (s : State) (other number : ℕ) (wanted : Mode) → IsConsistent s → OwnGoesFirst s.phase s.me other number wanted → 1 ≤ number
-numbered_where_own_first s other number wanted h own = own_numbered s.phase s.highest s.me other number wanted h.numbered own
-
 pub consistent_taken : (old : State) (other number : ℕ) (wanted : Mode) (sends : List Message) (new : State) → IsConsistent old → IsOther old other
     → Defers old other number wanted sends new ⊎ RepliesAtOnce old other number wanted sends new → IsConsistent new
 consistent_taken old other number wanted sends new h is takes =
@@ -252,9 +246,6 @@ consistent_taken old other number wanted sends new h is takes =
           (later_fits old other number h (own_numbered old.phase old.highest old.me other number wanted h.numbered defers.own_first)))
       | inr replies ↦ subst IsConsistent (sym replies.new_is) (consistent_meet old number h)
     ]
-
-pub busy_where_own_first : (s : State) (other number : ℕ) (wanted : Mode) → OwnGoesFirst s.phase s.me other number wanted → s.phase ≢ Idle
-busy_where_own_first s other number wanted h = own_is_busy s.phase s.me other number wanted h
 
 -- each step keeps a state consistent
 pub consistent_request : (old : State) (mode : Mode) (sends : List Message) (entered : Bool) (new : State) → IsConsistent old → RequestStep old mode sends entered new → IsConsistent new

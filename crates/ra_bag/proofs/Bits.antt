@@ -1,15 +1,14 @@
 -- The bits of slots keep showing which slots have a message as slots are appended, emptied and dropped.
-use Rattle.std.proofs.Common.{◌≡◌, ◌≢◌, ◌<◌, ◌≤◌, ◌+◌, ◌-◌, ◌*◌, ◌/◌, ◌%◌, ◌^◌, ℕ, zero, suc, Bool, true, false, cond, List, ◌∷◌, [], ◌++◌, length, get_or, set, take, drop, map, replicate, Option, Some, None, inl, inr, refl, sym, ap, ◌∙◌, subst, arith, append_assoc, true≢false}
+use Rattle.std.proofs.Common.{◌≡◌, ◌≢◌, ◌<◌, ◌≤◌, ◌+◌, ◌-◌, ◌*◌, ◌/◌, ◌%◌, ◌^◌, ℕ, zero, suc, true, false, cond, List, ◌∷◌, [], ◌++◌, length, get_or, set, take, drop, map, replicate, Option, Some, None, inl, inr, refl, sym, ap, ◌∙◌, subst, arith, append_assoc, true≢false}
 use Rattle.std.specs.Prelude.{count_ones}
 use Rattle.std.specs.Option.{is_some}
-use Rattle.std.specs.List.{count_by}
 use Rattle.std.specs.Simd.Lanes.{mask_l}
 use Rattle.std.proofs.lemmas.Simd.{mask_l-lt, ones-mask_l}
 use Rattle.std.proofs.lemmas.Bool.Decides.{leb_tells}
 use Rattle.std.proofs.lemmas.List.Recursion.{is_count_by}
 use Rattle.std.proofs.lemmas.List.{length-append, length-map, length-drop, length-take-le, length-replicate, take_all, drop_all, take-append-le, drop-append-le, get_or-take, get_or-drop, get_or-replicate, get_or-append-add, get_or_append_left, take-set-le, drop-set-lt, drop-set-add, drop-drop, set_split, set-append_right}
 use Rattle.std.proofs.Math.Seq.{take-set-lt, take-add, take-append-add}
-use Rattle.std.proofs.Math.Nat.{pow-suc, mod-eq_of_lt, div-add-mod}
+use Rattle.std.proofs.Math.Nat.{pow-suc, mod-eq_of_lt}
 use Rattle.std.proofs.Math.Pow.{pow_mono}
 use Rattle.ra_stamp.specs.declared.message.Message.{Message}
 use Rattle.ra_bag.specs.declared.filled.Filled.{Filled}

@@ -61,9 +61,6 @@ out_there slots m i lt is =
     subst (λ (ms : List Message). Contains ms m) (sym (split slots i m lt is))
     (length prefix, omega (arith, length-append prefix (m ∷ suffix)), at_seam prefix suffix m m)
 
-pub contains_both : (slots : List (Option Message)) (m : Message) → Contains slots (Some m) ↔ Contains (messages_in slots) m
-contains_both slots m = (λ there. out_there slots m there.0 there.1 there.2, there_in slots m)
-
 -- ---- What is taken
 
 pub takes_first : (slots : List (Option Message)) (i : ℕ) (m : Message) (new : List Message) → i < length slots → get_or slots i (Some m) ≡ Some m

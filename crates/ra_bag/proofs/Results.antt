@@ -1,5 +1,5 @@
 -- What a result has if it is no error.
-use Rattle.std.proofs.Common.{◌≡◌, true, false, Result, Ok, Err}
+use Rattle.std.proofs.Common.{◌≡◌, false, Result, Ok, Err}
 use Rattle.std.specs.Prelude.{OnOk, is_err}
 use Rattle.std.proofs.lemmas.Bool.{true≢false}
 

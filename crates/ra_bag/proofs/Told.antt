@@ -23,11 +23,6 @@ pub kept_next : {Q : Type 0} (items : Q → List ℕ) (first next : ℕ) (old ne
     → AreKept items (Some first) old numbers → (rest : List ℕ) × (numbers ≡ first ∷ rest) × AreKept items (Some next) new rest
 kept_next items first next old new numbers less kept = (later_numbers items old, kept, less)
 
-pub kept_none : {Q : Type 0} (items : Q → List ℕ) (first : ℕ) (old new : Option Q) (numbers : List ℕ) → later_numbers items old ≡ later_numbers items new → new ≡ None
-    → AreKept items (Some first) old numbers → (rest : List ℕ) × (numbers ≡ first ∷ rest) × AreKept items None new rest
-kept_none items first old new numbers less gone kept =
-    ([], kept ∙ ap (λ l. first ∷ l) (less ∙ ap (later_numbers items) gone), subst (λ q. AreKept items None q []) (sym gone) refl)
-
 pub no_number : {Q : Type 0} (items : Q → List ℕ) (queue : Option Q) (numbers : List ℕ) → AreKept items None queue numbers → numbers ≡ []
 no_number items None numbers kept = kept
 no_number items (Some queue) numbers kept = absurd kept

@@ -12,7 +12,7 @@ use Rattle.ra_book.specs.declared.text_settling.gathering.Gathered.{Gathered}
 use Rattle.ra_book.specs.declared.text_settling.gathering.LineFault.{LineFault}
 use Rattle.ra_book.specs.declared.text_settling.gathering.LineFault.TheVariants as line_fault
 use Rattle.ra_book.specs.Texts.{Begins, IsRead}
-use Rattle.ra_book.specs.Gathering.{HasGathered, IsGathered, TakesEvent, TakesFirst, TakesLine, books_of}
+use Rattle.ra_book.specs.Gathering.{HasGathered, IsGathered, TakesFirst, TakesLine, books_of}
 use Rattle.ra_book.specs.Verdicts.{IsNoLine, IsWrong, IsWrongAt}
 use Rattle.ra_book.proofs.Lines.{happened, opened}
 
@@ -108,8 +108,3 @@ pub takes_first : (old new : Gathered) (number : ℕ) (line : List ℕ) (r : Res
 takes_first old new number line (Ok done) h = inl h
 takes_first old new number line (Err (line_fault.Wrong why)) h = h
 takes_first old new number line (Err line_fault.Memory) h = tt
-
-pub takes_event : (old new : Gathered) (number : ℕ) (line : List ℕ) (r : Result (Unit {0}) LineFault) → TakesEvent old number line new r → TakesLine old number line new r
-takes_event old new number line (Ok done) h = inr h
-takes_event old new number line (Err (line_fault.Wrong why)) h = h
-takes_event old new number line (Err line_fault.Memory) h = tt

@@ -1,11 +1,9 @@
 -- What is read of a line is what it says.
-use Rattle.std.proofs.Common.{◌≡◌, ◌<◌, ◌≤◌, ◌^◌, ◌%◌, ◌/◌, ◌==◌, ◌↔◌, ℕ, true, inl, inr, List, ◌∷◌, ◌++◌, length, Option, Some, None, Err, option_map, refl, sym, ap, subst, ◌∙◌, codes, append_assoc, arith, eq-eqb}
+use Rattle.std.proofs.Common.{◌≡◌, ◌<◌, ◌≤◌, ◌^◌, ◌↔◌, ℕ, List, ◌∷◌, ◌++◌, length, Option, Some, None, Err, option_map, refl, sym, ap, subst, ◌∙◌, codes, append_assoc, arith}
 use Rattle.std.specs.Prelude.{IsErrOf}
 use Rattle.std.specs.Fmt.{decimal}
-use Rattle.std.proofs.lemmas.Bool.{cases_Bool}
 use Rattle.std.proofs.lemmas.Option.{same_Some}
 use Rattle.std.proofs.lemmas.List.{append_cancel_left}
-use Rattle.hex.specs.Hex.{decode_of, decode_sized}
 use Rattle.ra_stamp.specs.Name.{IsName}
 use Rattle.ra_stamp.specs.NodeId.{IsNodeNumber}
 use Rattle.ra_stamp.specs.declared.member.MemberError.{MemberError}
@@ -114,14 +112,6 @@ no_words line no_receive no_ask no_release (Ask client name mode) h =
 no_words line no_receive no_ask no_release (Release client name) h =
     clash (codes "release ") (release_tail (client, name)) line (release_text client name ∙ sym h.2) no_release
 no_words line no_receive no_ask no_release (Receive digits) h = clash (codes "receive ") digits line (sym h.2) no_receive
-
--- bytes of half as many as there are digits
-pub half_sized : (digits : List ℕ) → decode_sized digits (length digits / 2) ≡ decode_of digits
-half_sized digits =
-    elim (cases_Bool (length digits % 2 == 1)) [
-      | inl odd ↦ rw odd
-      | inr even ↦ rw even (let same : (length digits / 2 == length digits / 2) ≡ true = eq-eqb (length digits / 2) (length digits / 2) refl in rw same)
-    ]
 
 -- the first line
 pub no_first : (line rest : List ℕ) → line ≡ codes "book 1 " ++ rest → first_of rest ≡ None → (node nodes start : ℕ) → IsFirst line node nodes start → ⊥

@@ -1,5 +1,5 @@
 -- What is shown of a line, and what is kept of it.
-use Rattle.std.proofs.Common.{◌≡◌, ◌≢◌, ℕ, ◌+◌, ◌<◌, ◌≤◌, ◌^◌, Bool, true, false, List, [], ◌∷◌, ◌++◌, length, take, refl, sym, ap, subst, ◌∙◌, append_assoc, length-append, arith, Option, Result, Ok, Err}
+use Rattle.std.proofs.Common.{◌≡◌, ◌≢◌, ℕ, ◌+◌, ◌<◌, ◌≤◌, Bool, true, false, List, [], ◌∷◌, ◌++◌, length, take, refl, sym, ap, subst, ◌∙◌, append_assoc, length-append, arith, Option, Result, Ok, Err}
 use Rattle.std.proofs.Math.Seq.{take-append_seam}
 use Rattle.std.proofs.lemmas.Bool.{false≢true}
 use Rattle.std.specs.Result.{is_err, is_ok}
@@ -12,7 +12,7 @@ use Rattle.ra_book.specs.declared.next_line.input_piece.Piece.{Piece}
 use Rattle.ra_book.specs.declared.next_line.input_piece.Piece.TheVariants.{Part, Over, End}
 use Rattle.ra_book.specs.declared.next_line.input_piece.TakenBytes.{TakenBytes}
 use Rattle.ra_world.specs.declared.error.ReadFault.{ReadFault}
-use Rattle.ra_book.specs.Input.{HasNoFeed, IsKeptLine, IsPiece, Keeps, TakesShown, TakesPiece, TakesLine, TakesOpen, TakesMost}
+use Rattle.ra_book.specs.Input.{HasNoFeed, IsKeptLine, IsPiece, Keeps, TakesShown, TakesPiece, TakesLine, TakesOpen}
 
 -- more bytes than there is room for
 pub too_many : (text bytes more : List ℕ) → IsKeptLine text bytes false → 256 < length bytes + length more → IsKeptLine (text ++ more) bytes true
@@ -37,10 +37,6 @@ over_shown shown part rest is =
 
 pub over_within : (shown part rest : List ℕ) → shown ≡ part ++ 10 ∷ rest → length part + 1 ≤ length shown
 over_within shown part rest is = omega (arith, ap length is, length-append part (10 ∷ rest))
-
--- nothing is kept
-pub keeps_nothing : (line : KeptLine) → Keeps line line []
-keeps_nothing line text kept = subst (λ (t : List ℕ). IsKeptLine t line.bytes.items line.is_long) (sym (append-nil text)) kept
 
 empty : (bytes : List ℕ) → length bytes ≡ 0 → bytes ≡ []
 empty [] h = refl
@@ -69,10 +65,6 @@ part_more old mid new line line' turns (text, took, free, kept, many) (part, too
   keeps text kept,
   omega (arith, many, some, length-append text part),
 )
-
--- all turns were taken
-pub most_taken : (old now : Option (List ℕ)) (line : KeptLine) (turns : ℕ) → HasSome old now line turns → 2 ^ 64 ≤ turns + 1 → TakesMost old now
-most_taken old now line turns (text, took, free, kept, many) all = (text, took, omega (arith, many, all))
 
 pub over_more : (old mid new : Option (List ℕ)) (line line' : KeptLine) (turns : ℕ) → HasSome old mid line turns
     → TakesPiece mid new line line' (Ok Over) → TakesLine old new line'

@@ -30,9 +30,6 @@ pub refused : {T : Type 0} (P : T → Type 0) (Q : ClusterError → Type 0) (e :
 refused P Q e why (Ok v) is = absurd is
 refused P Q e why (Err x) is = subst Q (sym is) why
 
-pub memory_is : IsOfThreads Memory
-memory_is = (λ is. absurd (cc), λ is. absurd (cc))
-
 -- what is true and not
 pub never : {b : Bool} → IsTrue b → b ≡ false → ⊥
 never is not = absurd (cc)

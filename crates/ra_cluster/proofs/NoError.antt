@@ -1,5 +1,5 @@
 -- What holds of a call that has not failed.
-use Rattle.std.proofs.Common.{◌≡◌, false, Result, Ok, Err, sym}
+use Rattle.std.proofs.Common.{◌≡◌, false, Result, Ok, Err}
 use Rattle.std.specs.Prelude.{is_err, OnOk}
 use Rattle.std.proofs.lemmas.Bool.{false≢true}
 

@@ -1,10 +1,9 @@
 -- The sites of a cluster are in the order of their numbers, and so are the books that they give when they are closed.
-use Rattle.std.proofs.Common.{◌≡◌, ℕ, Bool, zero, suc, ◌+◌, ◌<◌, ◌≤◌, List, [], ◌∷◌, ◌++◌, map, length, get_or, Bor, Option, Some, None, is_some, IfSome, ltb, sym, ap, ◌∙◌, subst, inl, inr, arith}
+use Rattle.std.proofs.Common.{◌≡◌, ℕ, Bool, zero, suc, ◌+◌, ◌<◌, ◌≤◌, List, [], ◌∷◌, ◌++◌, map, length, get_or, Bor, Option, Some, None, is_some, IfSome, ltb, sym, ap, ◌∙◌, arith}
 use Rattle.std.specs.Prelude.{All}
 use Rattle.std.specs.List.{range_with_len}
 use Rattle.std.proofs.Math.Seq.{get_or-append_seam}
-use Rattle.std.proofs.lemmas.List.{nil_from_length, length-append, map-append, length-map, append-nil, append_assoc, get_or_default, same_lists}
-use Rattle.std.proofs.lemmas.Bool.{cases_lt}
+use Rattle.std.proofs.lemmas.List.{nil_from_length, length-append, map-append, length-map, append-nil, append_assoc, same_lists}
 use Rattle.std.proofs.lemmas.List.Elements.{All-append, All-nil, All-cons}
 use Rattle.std.proofs.lemmas.List.FromFn.{length-range_with_len, get_or-range_with_len}
 use borrow.Author.Tests.{ltb-true}
@@ -143,16 +142,6 @@ closes_all n start books left some empty c =
 -- so many of the sites, from the first one on, have the numbers of the first nodes
 abbrev pub AreFirst : List ℕ → ℕ → Type 0
 AreFirst sites i = (k d : ℕ) → k < i → get_or sites k d ≡ k + 1
-
--- one more of them has
-pub first_more : (sites : List ℕ) (i site : ℕ) → AreFirst sites i → site ≡ get_or sites i site → site ≡ i + 1 → i < length sites → AreFirst sites (i + 1)
-first_more sites i site before at here within k d low =
-    elim (cases_lt k i) [
-      | inl less ↦ before k d less
-      | inr not ↦
-          let same : i ≡ k = omega arith in
-          subst (λ (j : ℕ). get_or sites j d ≡ j + 1) same (sym (get_or_default sites i site d within) ∙ sym at ∙ here)
-    ]
 
 -- sites of which each has the number of its place are those of nodes 1 to n, in order
 pub numbers_of_first : (sites : List ℕ) (i : ℕ) → i ≡ length sites → AreFirst sites i → sites ≡ range_with_len 1 (length sites)

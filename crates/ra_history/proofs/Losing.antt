@@ -77,10 +77,6 @@ same_frames : (xs : List Sent) (place : ℕ) (x : Sent) → x ≡ get_or xs plac
     → map (λ (t : Sent). t.frame) (set xs place (record { frame = x.frame; lost = true })) ≡ map (λ (t : Sent). t.frame) xs
 same_frames xs place x at = map-set_same (λ (t : Sent). t.frame) xs place (record { frame = x.frame; lost = true }) x (ap (λ (t : Sent). t.frame) at)
 
--- two reads of one place
-same_read : (xs : List Sent) (place : ℕ) (x y : Sent) → place < length xs → x ≡ get_or xs place x → y ≡ get_or xs place y → y ≡ x
-same_read xs place x y lt at at' = at' ∙ get_or_default xs place y x lt ∙ sym at
-
 not_both : {b : Bool} → b ≡ true → b ≡ false → ⊥
 not_both is not = absurd (cc)
 

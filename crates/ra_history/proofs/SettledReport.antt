@@ -17,7 +17,7 @@ use Rattle.ra_history.specs.declared.error.SettleError.TheVariants.{NotSent, Twi
 use Rattle.ra_history.specs.declared.book.grant.Grant.{Grant}
 use Rattle.ra_history.specs.declared.settle_books.settled.Settled.{Settled}
 use Rattle.ra_history.specs.Book.{BookState, HasHistory}
-use Rattle.ra_history.specs.Settled.{IsCluster, IsSettledOrder, IsSettledRun, IsGranted, BooksFit, Placed, settled_steps, start_of}
+use Rattle.ra_history.specs.Settled.{IsCluster, IsSettledOrder, IsGranted, BooksFit, Placed, settled_steps, start_of}
 use Rattle.ra_history.specs.SettlingParts.{HasRun, StepsMakeSettledRuns, GrantsAreInTheBooks, RefusesGrants, SettlesBooks, Settles, Refuses}
 
 -- a run of these steps
@@ -55,13 +55,6 @@ never_refused books b n start steps cluster history is nodes starts runs = (
 pub from_zero : (books : List BookState) → 1 ≤ length books → All (λ b. b.start ≡ 0) books → start_of books ≡ 0
 from_zero [] some all = absurd (omega (arith, some))
 from_zero (b ∷ books) some all = all 0 b (omega arith)
-
--- a settled run of this many books from 0 is a run of this many nodes from 0
-pub run_from_zero : (books : List BookState) (nodes : ℕ) (steps : List Step) (report : Report) → IsCluster books → length books ≡ nodes → All (λ b. b.start ≡ 0) books
-    → (moves : List Move) × (map (λ move. move.step) moves ≡ steps) × IsSettledRun books moves × Reports (length books) (start_of books) moves report → RunOf nodes 0 steps report
-run_from_zero books nodes steps report cluster count zero (moves, steps_are, settled, reports) =
-    subst (λ (n : ℕ). RunOf n 0 steps report) count
-    (subst (λ (s : ℕ). RunOf (length books) s steps report) (from_zero books cluster.some zero) (moves, steps_are, settled.run, reports))
 
 -- what came of the steps, with the number of the books
 pub has_run : (books : List BookState) (b : BookState) (n start : ℕ) (settled : Settled) → IsCluster books → b ≡ get_or books 0 b → n ≡ b.nodes → start ≡ b.start

@@ -7,7 +7,7 @@ use Rattle.ra_schedule.specs.declared.driver.client_state.ClientState.TheVariant
 use Rattle.ra_schedule.specs.declared.driver.client_progress.Progress.{Progress}
 use Rattle.ra_schedule.specs.declared.script.Op.{Op}
 use Rattle.ra_schedule.specs.Progress.{IsProgress}
-use Rattle.ra_schedule.specs.Schedule.{steps_of, steps_by, IsWaiting, IsEnabled}
+use Rattle.ra_schedule.specs.Schedule.{IsEnabled}
 use Rattle.ra_schedule.specs.Script.{ScriptClient, ScriptState, client_at, op_at}
 use Rattle.ra_schedule.specs.StateText.{AreClientLines, IsAt, IsClientLine, client_line}
 

@@ -1,5 +1,5 @@
 -- Flags of which some are looked at again, one after the other.
-use Rattle.std.proofs.Common.{◌≡◌, ◌≢◌, ◌⊎◌, ℕ, ◌+◌, ◌<◌, Bool, List, [], take, get_or, length, slice_index_or, refl, sym, ◌∙◌, subst, arith, inl, inr}
+use Rattle.std.proofs.Common.{◌≡◌, ◌≢◌, ◌⊎◌, ℕ, ◌+◌, ◌<◌, Bool, List, take, get_or, length, slice_index_or, refl, sym, ◌∙◌, subst, arith, inl, inr}
 use Rattle.std.specs.Prelude.{Contains}
 use Rattle.std.proofs.lemmas.Bool.{cases_eq}
 use Rattle.std.proofs.lemmas.List.{take_more}
@@ -57,6 +57,3 @@ not_met numbers i d other within apart not has =
       | inl before ↦ not before
       | inr same ↦ apart (sym same)
     ]
-
-pub none_met : (number : ℕ) → Contains [] number → ⊥
-none_met number (k, within, is) = omega arith

@@ -75,9 +75,6 @@ none_done : (o : Option (List Choice)) → o ≡ option_map (λ rest. [] ++ rest
 none_done None = refl
 none_done (Some rest) = refl
 
-pub IsChosenTo-none : (words : List (List ℕ)) → IsChosenTo words 0 []
-IsChosenTo-none words = record { same = none_done (choices_in words) }
-
 one_done : (done : List Choice) (x : Choice) (o : Option (List Choice)) → option_map (λ rest. done ++ rest) (option_map (λ others. x ∷ others) o) ≡ option_map (λ rest. (done ++ x ∷ []) ++ rest) o
 one_done done x None = refl
 one_done done x (Some rest) = ap Some (sym (append_assoc done (x ∷ []) rest))

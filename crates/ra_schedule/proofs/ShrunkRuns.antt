@@ -210,10 +210,6 @@ pub record SoFar (script : ScriptState) (given : List Move) (list : Listed) : Ty
   pub no_longer : length moves ≤ length given
   pub unrepeated : repeated_by given ≡ [] → repeated_by moves ≡ []
 
--- the given one
-pub given_one : (script : ScriptState) (moves : List Move) (list : Listed) → IsStuckList script moves list → SoFar script moves list
-given_one script moves list is = record { moves = moves; is = is; no_longer = omega arith; unrepeated = λ none. none }
-
 as_many : (moves : List Move) → length (steps_of moves) ≡ length moves
 as_many [] = refl
 as_many (move ∷ moves) = ap suc (as_many moves)

@@ -1,5 +1,5 @@
 -- A text is read as choices exactly if it is how they are written.
-use Rattle.std.proofs.Common.{◌≡◌, ◌<◌, ◌^◌, ◌+◌, ◌*◌, ◌-◌, ℕ, true, false, ◌==◌, not, nat_le, List, [], ◌∷◌, length, get_or, map, fold, Option, Some, None, option_map, option_and_then, refl, sym, ap, subst, ◌∙◌, inl, inr, arith, rules, ◌⊎◌, All, Result, Ok, Err, length-append}
+use Rattle.std.proofs.Common.{◌≡◌, ◌<◌, ◌^◌, ◌+◌, ◌*◌, ◌-◌, ℕ, true, false, ◌==◌, nat_le, List, [], ◌∷◌, length, get_or, map, fold, Option, Some, None, option_map, option_and_then, refl, sym, ap, subst, ◌∙◌, inl, inr, arith, rules, ◌⊎◌, All, Result, Ok, Err, length-append}
 use Rattle.std.proofs.lemmas.Bool.{cases_Bool, and_parts, leb-true, eqb-true, ne_eqb}
 use Rattle.std.proofs.lemmas.Fmt.{decimal-digits_value, decimal_is_IsNumeral, digits_decimal, digits_value-decimal, length-decimal-le}
 use Rattle.std.proofs.lemmas.List.Elements.{All-nil, All-cons, All-head, All-tail}
@@ -200,11 +200,6 @@ only_choices text (Err why) ok err choices h =
       | inl w ↦ absurd (let clash : None ≡ Some choices = sym w.1 ∙ choices_of-spelled text choices h in cc)
       | inr memory ↦ memory
     ]
-
--- the empty text
-pub choices_of-none : (text : List ℕ) → length text ≡ 0 → choices_of text ≡ Some []
-choices_of-none [] none = refl
-choices_of-none (b ∷ text) none = absurd (omega arith)
 
 -- a text with a word that is not one
 pub refused_word : (text : List ℕ) (place : ℕ) (done : List Choice) (word : List ℕ) (why : ChoicesError) → 0 < length text → place < length (slice_split (λ b. b == 32) text)

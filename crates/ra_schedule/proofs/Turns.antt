@@ -6,22 +6,20 @@ use Rattle.std.proofs.lemmas.List as lists
 use Rattle.std.proofs.lemmas.List.Elements.{All-replicate}
 use Rattle.std.proofs.lemmas.Option.{IfSome_then}
 use Rattle.ra_stamp.specs.NodeId.{IsNodeNumber}
-use Rattle.ra_stamp.specs.declared.message.Message.{Message as Sent}
 use Rattle.ra_world.specs.declared.step.Step.{Step}
 use Rattle.ra_world.specs.declared.step.Step.TheVariants.{Ask, Leave, Deliver, Lose, Repeat}
-use Rattle.ra_world.specs.Traffic.{Move, IsUnderWay}
+use Rattle.ra_world.specs.Traffic.{Move}
 use Rattle.ra_world.specs.World.{WorldState}
-use Rattle.ra_world.specs.Run.{IsRun, GoesOn}
+use Rattle.ra_world.specs.Run.{IsRun}
 use Rattle.ra_schedule.specs.declared.driver.Driver.{Driver}
 use Rattle.ra_schedule.specs.declared.driver.drive_script.Driven.{Driven}
 use Rattle.ra_schedule.specs.declared.driver.drive_script.DrivenCluster.{DrivenCluster}
 use Rattle.ra_schedule.specs.declared.driver.client_progress.Progress.{Progress}
 use Rattle.ra_schedule.specs.declared.choice.Choice.{Choice}
-use Rattle.ra_schedule.specs.declared.choice.Choice.TheVariants.{Client, Message, Lost, Repeated}
 use Rattle.ra_schedule.specs.declared.choice.Policy.{Policy}
 use Rattle.ra_schedule.specs.declared.choice.picking.Picked.{Picked}
 use Rattle.ra_schedule.specs.Script.{ScriptClient, ScriptState, client_at, op_at}
-use Rattle.ra_schedule.specs.Schedule.{steps_of, steps_in, steps_by, Enters, IsEnabled, IsAtPlace, StandsFor, Picks, Ends, Follows}
+use Rattle.ra_schedule.specs.Schedule.{steps_of, steps_in, steps_by, Enters, IsEnabled, StandsFor, Picks, Ends, Follows}
 use Rattle.ra_schedule.specs.Listing.{AreChoicesBy}
 use Rattle.ra_schedule.specs.Progress.{IsProgress, Tracks, OfEach, IsProgressAfter, AreCountable, AreDone, IsStuck, AreStuck, NoneEnters, recorded}
 use Rattle.ra_schedule.specs.PolicyState.{IsRandomState, IsRandomStateElsewhere, generator_at, generator_in, words_drawn, words_for}
@@ -284,22 +282,6 @@ contained [] k x e = absurd cc
 contained (y ∷ xs) zero x e = (0, omega arith, cc)
 contained (y ∷ xs) (suc k) x e =
     let (i, within, is) = contained xs k x e in (suc i, omega arith, is)
-
-at_place_is_under_way : (moves : List Move) (place : ℕ) (message : Sent) → IsAtPlace moves place message → IsUnderWay moves message
-at_place_is_under_way moves place message (left, leaves, is) = (left, leaves, contained left place message is)
-
-pub can_be_done : LawsBelow → (script : ScriptState) (moves : List Move) (choice : Choice) (step : Step) → IsNodeNumber script.nodes
-    → IsRun script.nodes 0 moves → StandsFor script moves choice step → GoesOn script.nodes 0 moves step
-can_be_done laws script moves (Client client) step count run means = means.goes_on
-can_be_done laws script moves (Message place) step count run (message, at, is) =
-    subst (GoesOn script.nodes 0 moves) (sym is)
-    ((laws.deliver script.nodes 0 moves count run message).1 (at_place_is_under_way moves place message at))
-can_be_done laws script moves (Lost place) step count run (message, at, is) =
-    subst (GoesOn script.nodes 0 moves) (sym is)
-    ((laws.lose script.nodes 0 moves count run message).1 (at_place_is_under_way moves place message at))
-can_be_done laws script moves (Repeated place) step count run (message, at, is) =
-    subst (GoesOn script.nodes 0 moves) (sym is)
-    ((laws.repeat script.nodes 0 moves count run message).1 (at_place_is_under_way moves place message at))
 
 -- ---- The end
 

@@ -1,8 +1,8 @@
 -- One more operation of a client, and one more client.
-use Rattle.std.proofs.Common.{◌≡◌, ◌<◌, ◌≤◌, ◌+◌, ℕ, true, false, List, [], ◌∷◌, ◌++◌, length, get_or, drop, nat_lt, Some, None, Ok, Err, refl, sym, ap, ◌∙◌, inl, inr, arith, length-append}
+use Rattle.std.proofs.Common.{◌≡◌, ◌<◌, ◌≤◌, ◌+◌, ℕ, false, List, [], ◌∷◌, ◌++◌, length, get_or, drop, nat_lt, Some, None, Ok, Err, refl, sym, ap, ◌∙◌, inl, inr, arith, length-append}
 use Rattle.std.proofs.lemmas.Bool.{cases_Bool}
 use Rattle.std.proofs.lemmas.Bool.Decides.{nat_tests}
-use Rattle.std.proofs.lemmas.List.{same_from_push, at_drop_more, drop_all, length_push, length-map, get_or-map}
+use Rattle.std.proofs.lemmas.List.{same_from_push, at_drop_more, length_push, length-map, get_or-map}
 use Rattle.std.specs.Borrow.{Bor}
 use Rattle.ra_stamp.specs.declared.mode.Mode.{Mode}
 use Rattle.ra_schedule.specs.declared.error.AddOpError.{AddOpError}
@@ -124,22 +124,12 @@ IsAddedTo-refused base node strings place script string why lt at few step h =
       | inr memory ↦ inr memory
     ]
 
-pub IsAddedTo-all : (base : ScriptState) (node : ℕ) (strings : List (List ℕ)) (place : ℕ) (script : ScriptState) → length strings ≤ place
-    → (h : IsAddedTo base node strings place script) → ops_after [] strings ≡ Ok h.done
-IsAddedTo-all base node strings place script past h = h.same ∙ rw (drop_all place strings past)
-
 -- within the limit, the operations are those of the strings
 pub script_ops-few : (strings : List (List ℕ)) → length strings ≤ 1024 → script_ops strings ≡ ops_after [] strings
 script_ops-few strings few = rw (within (length strings) few)
   where
     within : (n : ℕ) → n ≤ 1024 → nat_lt 1024 n ≡ false
     within n h = grind (arith, nat_tests)
-
-pub script_ops-many : (strings : List (List ℕ)) → 1024 < length strings → script_ops strings ≡ Err fault.Limit
-script_ops-many strings many = rw (beyond (length strings) many)
-  where
-    beyond : (n : ℕ) → 1024 < n → nat_lt 1024 n ≡ true
-    beyond n h = grind (arith, nat_tests)
 
 pub length-texts : (strings : List (Bor (List ℕ))) → length (texts strings) ≡ length strings
 length-texts strings = length-map strings _

@@ -257,13 +257,6 @@ refused_tree text why refusal =
       | inr memory ↦ inr memory
     ]
 
-pub refused_shape : (text : List ℕ) (tree : Members) (why : ScriptError) → tree_of text ≡ Ok tree → IsRefusal (ok_or (document_of tree) fault.Shape) why → IsRefusal (script_of text) why
-refused_shape text tree why is refusal =
-    elim refusal [
-      | inl because ↦ inl (rw (is, because))
-      | inr memory ↦ inr memory
-    ]
-
 -- what one with the right shape comes to
 pub script_of-shape : (text : List ℕ) (tree : Members) (document : Document) → tree_of text ≡ Ok tree → document_of tree ≡ Some document → script_of text ≡ script_in document
 script_of-shape text tree document is shape = rw (is, shape)

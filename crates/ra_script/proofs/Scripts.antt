@@ -9,10 +9,9 @@ use Rattle.ra_schedule.specs.declared.script.Op.{Op}
 use Rattle.ra_schedule.specs.Script.{ScriptClient, ScriptState, IsScript}
 use Rattle.ra_script.specs.declared.script_reading.document.ClientRef.{ClientRef}
 use Rattle.ra_script.specs.declared.error.ScriptError.{ScriptError}
-use Rattle.ra_script.specs.declared.error.ScriptError.TheVariants as fault
-use Rattle.ra_script.specs.Document.{ClientTable, Document, client_table}
+use Rattle.ra_script.specs.Document.{ClientTable, client_table}
 use Rattle.ra_script.specs.Faults.{IsRefusal}
-use Rattle.ra_script.specs.ScriptText.{with_last, result_and_then, natural, is_up_to, are_placed, script_ops, script_client, clients_after, script_in}
+use Rattle.ra_script.specs.ScriptText.{with_last, result_and_then, natural, is_up_to, are_placed, script_ops, script_client, clients_after}
 
 -- a number that was looked at
 pub up_to_some : (b : Bool) (m n : ℕ) → Some m ≡ (if b then Some n else None) → (b ≡ true) × (m ≡ n)
@@ -100,31 +99,6 @@ IsScriptTo-refused nodes tables place script table why lt at refusal h =
 
 pub IsScriptTo-all : (nodes : ℕ) (tables : List ClientTable) (place : ℕ) (script : ScriptState) → length tables ≤ place → IsScriptTo nodes tables place script → clients_after [] tables ≡ Ok script.clients
 IsScriptTo-all nodes tables place script past h = h.same ∙ rw (drop_all place tables past)
-
--- the checks before the operations
-pub script_in-nodes : (document : Document) → is_up_to 64 document.nodes ≡ false → script_in document ≡ Err fault.Nodes
-script_in-nodes document nodes = rw nodes
-
-pub script_in-clients : (document : Document) → is_up_to 64 document.nodes ≡ true → are_placed (natural document.nodes) document.clients ≡ false → script_in document ≡ Err fault.Clients
-script_in-clients document nodes clients = rw (nodes, clients)
-
--- the script is what the clients make
-pub script_in-ok : (document : Document) (nodes : ℕ) (script : ScriptState) → is_up_to 64 document.nodes ≡ true → nodes ≡ natural document.nodes → are_placed nodes document.clients ≡ true
-    → IsScriptTo nodes document.clients (length document.clients) script → script_in document ≡ Ok script
-script_in-ok document nodes script within same placed h =
-    let placed-too : are_placed (natural document.nodes) document.clients ≡ true = rw (← same) placed in
-    let all = IsScriptTo-all nodes document.clients (length document.clients) script (omega arith) h in
-    let nodes-too : natural document.nodes ≡ script.nodes = sym (h.nodes_are ∙ same) in
-    rw (within, placed-too, all, nodes-too)
-
-pub script_in-refused : (document : Document) (nodes : ℕ) (why : ScriptError) → is_up_to 64 document.nodes ≡ true → nodes ≡ natural document.nodes → are_placed nodes document.clients ≡ true
-    → IsRefusal (clients_after [] document.clients) why → IsRefusal (script_in document) why
-script_in-refused document nodes why within same placed refusal =
-    let placed-too : are_placed (natural document.nodes) document.clients ≡ true = rw (← same) placed in
-    elim refusal [
-      | inl because ↦ inl (rw (within, placed-too, because))
-      | inr memory ↦ inr memory
-    ]
 
 -- the client at a place, as its table
 pub table_at : (clients : List ClientRef) (place : ℕ) (client : ClientRef) → place < length clients → client ≡ get_or clients place client → client_table client ≡ get_or (map client_table clients) place (client_table client)

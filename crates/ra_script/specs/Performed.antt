@@ -65,10 +65,6 @@ pub record IsPerformedAs (format : OutputKind) (policy : Policy) (input output :
   pub run : IsWholeRun script policy turn_limit moves report finished
   pub says : Says format policy script moves report output
 
--- the same, and the output is the trace
-abbrev pub IsTraced : Policy → List ℕ → List ℕ → Bool → Type 0
-IsTraced policy input output finished = IsPerformedAs Trace policy input output finished
-
 -- the policy's run repeats a message, and no word stands for a repeat
 pub record HasNoWords (policy : Policy) (input : List ℕ) : Type 0 where
   pub script : ScriptState

@@ -18,8 +18,6 @@ use Rattle.ra_node.proofs.Lookups.{true_of}
 use Rattle.ra_automaton.proofs.Apart.{cases_same, tied, untied}
 use Rattle.ra_world.proofs.Lists.{filter_hit, filter_miss, filter_none}
 
--- ---- Tests
-
 -- ---- Whose dialog a message is of
 
 -- which node asks in it, and which answers

@@ -1,6 +1,5 @@
 -- Drafts to which parts are added.
-use Rattle.std.proofs.Common.{◌≡◌, ℕ, true, List, [], ◌++◌, sym, ap, subst, ◌∙◌, append_assoc, append-nil, string_bytes}
-use Rattle.std.proofs.lemmas.Bool.{false≢true}
+use Rattle.std.proofs.Common.{◌≡◌, ℕ, List, [], ◌++◌, sym, ap, subst, ◌∙◌, append_assoc, append-nil}
 use Rattle.ra_world.specs.declared.text.draft.Draft.{Draft}
 use Rattle.ra_world.specs.Drafting.{Adds}
 
@@ -20,12 +19,3 @@ adds_to {a} {b} {c} {x} same adds = subst (λ (d : Draft). Adds a x d) (sym same
 pub adds_both : {a b c : Draft} {x y : List ℕ} → Adds a x b → Adds b y c → Adds a (x ++ y) c
 adds_both {a} {b} {c} {x} {y} first second =
     record { says = λ before is kept. second.says (before ++ x) (first.says before is) kept ∙ append_assoc before x y }
-
--- memory ran out
-pub adds_refused : {a b : Draft} {x : List ℕ} → b.refused ≡ true → Adds a x b
-adds_refused {a} {b} {x} refused = record { says = λ before is kept. absurd (false≢true (sym kept ∙ refused)) }
-
--- the part was added to the text
-pub adds_text : {a b : Draft} {x : List ℕ} → b.refused ≡ a.refused → string_bytes b.text ≡ string_bytes a.text ++ x → Adds a x b
-adds_text {a} {b} {x} same added =
-    record { says = λ before is kept. added ∙ ap (λ (text : List ℕ). text ++ x) (is (sym same ∙ kept)) }

@@ -34,7 +34,3 @@ sum_so_far : {X : Type 0} (f : X → ℕ) (from : ℕ) (xs : List X) (i : ℕ)
 sum_so_far f from xs zero = sum_from f from xs
 sum_so_far f from [] (suc i) = omega arith
 sum_so_far f from (y ∷ ys) (suc i) = sum_so_far f (from + f y) ys i
-
--- with the next item, no more is counted than all
-pub sum_with_next : {X : Type 0} (f : X → ℕ) (xs : List X) (i : ℕ) (x : X) → i < length xs → x ≡ get_or xs i x → sum_by f (take i xs) + f x ≤ sum_by f xs
-sum_with_next f xs i x within is = omega (arith, sum_next f xs i x within is, sum_so_far f 0 xs (i + 1))

@@ -29,12 +29,6 @@ cases_node n i = elim (cases_lt i 1) [
   ]
 ]
 
--- the number and the mode of a phase that has them
-abbrev pub seq_in : ℕ → Phase → ℕ
-seq_in d Idle = d
-seq_in d (Waiting seq mode) = seq
-seq_in d (Inside seq mode) = seq
-
 abbrev pub mode_in : Mode → Phase → Mode
 mode_in d Idle = d
 mode_in d (Waiting seq mode) = mode

@@ -23,9 +23,6 @@ use Rattle.ra_world.proofs.Asking.{more_between, none_between}
 
 -- ---- Dialogs whose nodes change a little
 
-abbrev NotFirst : State → ℕ → Type 0
-NotFirst s i = (seq : ℕ) (mode : Mode) → LetsPass s i seq mode
-
 pub move_asker : {Lossy : Type 0} (r : List ℕ) (i j : ℕ) (si si' sj : State) (ms : List Message) → ((seq : ℕ) (mode : Mode) → Awaits si j seq mode → Awaits si' j seq mode) → (IsTrue (set.contains si'.awaited j) → IsTrue (set.contains si.awaited j)) → Dialog Lossy r i j si sj ms → Dialog Lossy r i j si' sj ms
 move_asker {Lossy} r i j si si' sj ms awaits back d = elim d [
   | inl silent ↦ inl (record { none = silent.none; not_deferred = silent.not_deferred; unheard = λ h. silent.unheard (back h) })

@@ -4,7 +4,7 @@ use Rattle.std.specs.Prelude.{bytes_eq}
 use Rattle.std.proofs.lemmas.List.{append-nil}
 use Rattle.std.proofs.lemmas.List.Elements.{filter-append}
 use Rattle.std.proofs.lemmas.Slice.Eq.{bytes_eq-Decides}
-use Rattle.std.proofs.lemmas.Bool.{and_parts, eq-eqb, eqb-true, false_from_ne_true}
+use Rattle.std.proofs.lemmas.Bool.{and_parts, eq-eqb, eqb-true}
 use Rattle.ra_stamp.specs.declared.entry.Entry.{Entry}
 use Rattle.ra_table.specs.Table.{Gains, Loses}
 use Rattle.ra_world.proofs.Lists.{tail_of, filter_hit, filter_miss}
@@ -21,9 +21,6 @@ is_of_both i r e h =
 
 pub is_of_here : (i : ℕ) (r : List ℕ) (e : Entry) → e.stamp.node ≡ i → e.name ≡ r → is_of i r e ≡ true
 is_of_here i r e node name = rw (eq-eqb e.stamp.node i node, (bytes_eq-Decides e.name r).1 name) refl
-
-pub is_of_not : (i : ℕ) (r : List ℕ) (e : Entry) → (e.stamp.node ≡ i → e.name ≡ r → ⊥) → is_of i r e ≡ false
-is_of_not i r e h = false_from_ne_true (is_of i r e) (λ t. let both = is_of_both i r e t in h both.0 both.1)
 
 abbrev pub of : ℕ → List ℕ → List Entry → List Entry
 of i r es = filter (is_of i r) es

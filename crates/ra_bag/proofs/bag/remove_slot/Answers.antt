@@ -1,4 +1,4 @@
-use Rattle.std.proofs.Common.{rules, ◌≡◌, ◌≢◌, ◌<◌, ◌+◌, ◌-◌, ℕ, true, List, Option, Some, None, length, get_or, set, take, drop, sym, ap, ◌∙◌, subst, true≢false, arith}
+use Rattle.std.proofs.Common.{rules, ◌≡◌, ◌<◌, ◌+◌, ◌-◌, ℕ, true, List, Option, Some, None, length, get_or, set, take, drop, sym, ap, ◌∙◌, subst, true≢false, arith}
 use Rattle.std.specs.Option.{is_some}
 use Rattle.std.proofs.lemmas.List.{length-set, length-take-le, get_or_default}
 use Rattle.ra_stamp.specs.declared.message.Message.{Message}

@@ -1,4 +1,4 @@
-use Rattle.std.proofs.Common.{rules, ◌≡◌, ◌≢◌, ◌≤◌, ◌+◌, ◌%◌, length, ap, ◌∙◌, arith}
+use Rattle.std.proofs.Common.{rules, ◌≡◌, ◌≢◌, ◌≤◌, ◌+◌, ◌%◌, length, ap, arith}
 use Rattle.std.proofs.lemmas.List.{take_all}
 use Rattle.ra_bag.specs.Bag.{messages_in}
 use Rattle.ra_bag.proofs.Bits.{here_set, next_rest, next_set, next_unset}

@@ -1,4 +1,4 @@
-use Rattle.std.proofs.Common.{◌≡◌, ℕ, ◌+◌, ◌-◌, refl, arith}
+use Rattle.std.proofs.Common.{◌≡◌, ◌+◌, ◌-◌, refl, arith}
 use Rattle.std.proofs.lemmas.Result.{err_from_is_err_and}
 use Rattle.ra_schedule.proofs.SurveySeeds.{none_yet, one_more_seed, all_seeds}
 use Rattle.ra_schedule.proofs.ToldSeeds.{told_none, told_more, tells_seeds, tells_some}

@@ -53,8 +53,6 @@ returns-in_err-script-clause-clients c = IfOk-from_err c.from_residual.result _ 
 pub returns-in_err-script-clause-script : goal.returns-in_err-script-clause-script
 returns-in_err-script-clause-script c = IfOk-from_err c.from_residual.result _ c.from_residual.ensures.0
 
--- ---- A client is refused
-
 -- ---- All clients are added
 
 pub returns-clause-nodes : goal.returns-clause-nodes

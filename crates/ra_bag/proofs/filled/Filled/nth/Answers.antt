@@ -1,7 +1,6 @@
-use Rattle.std.proofs.Common.{rules, ◌≡◌, ◌<◌, ◌≤◌, ◌+◌, ◌*◌, ◌%◌, ◌^◌, length, get_or, sym, ap, ◌∙◌, refl, arith}
+use Rattle.std.proofs.Common.{rules, ◌≡◌, ◌<◌, ◌≤◌, length, get_or, sym, ap, ◌∙◌, refl, arith}
 use Rattle.std.specs.Prelude.{count_ones}
 use Rattle.std.proofs.lemmas.List.{get_or_default}
-use Rattle.ra_bag.specs.Bag.{messages_in}
 use Rattle.ra_bag.proofs.Emptied.{at_end}
 use Rattle.ra_bag.proofs.Bits.{ones, part, part_word, found_in, next_part, past_parts, at_most_64}
 use Rattle.ra_bag.proofs.filled.Filled.nth.Goals as goal

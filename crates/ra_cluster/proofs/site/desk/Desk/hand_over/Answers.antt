@@ -1,4 +1,4 @@
-use Rattle.std.proofs.Common.{rules, ◌≡◌, ℕ, Result, Ok, Err, sym, ◌∙◌, inl, inr}
+use Rattle.std.proofs.Common.{rules, ◌≡◌, Result, Ok, Err, sym, ◌∙◌, inl, inr}
 use Rattle.ra_history.specs.History.{clock_of}
 use Rattle.ra_cluster.specs.declared.site.take_error.TakeError.{TakeError}
 use Rattle.ra_cluster.specs.declared.site.take_error.TakeError.TheVariants.{OutOfTurn}
