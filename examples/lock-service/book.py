@@ -93,7 +93,7 @@ class Node:
         except FileNotFoundError:
             fail(
                 f"there is no program {program}: at the top of the repository, `./ra --help` builds crates/ra/out/ra, once,"
-                " in 15 to 27 minutes on four processors"
+                " in 11 to 24 minutes on four processors"
             )
         except OSError as why:
             fail(f"cannot start the node: {why}")
