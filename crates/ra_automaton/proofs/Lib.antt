@@ -6,5 +6,4 @@ pub mod Opening
 mod Sent
 pub mod Consistent
 pub mod Refusals
-mod Kept
 mod DeferredLemmas

@@ -1,1 +1,0 @@
--- What the invariant says of an automaton's fields.
