@@ -6,7 +6,7 @@ use std::fmt;
 
 /// How a resource is locked. The modes are those of J. N. Gray, R. A. Lorie, G. R. Putzolu and I. L. Traiger, Granularity of locks and
 /// degrees of consistency in a shared data base (1976). It prints as its word: `S`, `X`, `IS`, `IX` or `SIX`.
-#[derive(Clone, Copy, Debug, PartialEq, Eq)]
+#[derive(Clone, Copy, Debug, PartialEq, Eq, Hash)]
 pub enum Mode {
     /// To read it whole.
     Shared,
