@@ -11,7 +11,7 @@ pub enum NewError {
     BadCount,
     /// The node's number is above the number of nodes.
     BadNode,
-    /// Memory ran out.
+    /// Memory ran out. No call answers this yet, since what is made takes no memory before it grows.
     Memory,
 }
 
