@@ -23,3 +23,4 @@ pub mod Possible
 pub mod Bringing
 pub mod Receiving
 pub mod Chains
+pub mod Overview

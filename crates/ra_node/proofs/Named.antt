@@ -89,3 +89,13 @@ sum_of_slots f (e ∷ es) distinct =
     sum_by-cons g e es
     ∙ ap (λ n. f e.1 + n) (sum_of_slots f es distinct.1)
     ∙ sym (sum_of_insert f m e.0 e.1 (get_slot es e.0 ∙ absent e.0 es distinct.0))
+
+ones : {X : Type 0} (xs : List X) → sum_by (λ _. 1) xs ≡ length xs
+ones [] = refl
+ones (x ∷ xs) = omega (arith, sum_by-cons (λ _. 1) x xs, ones xs)
+
+-- there are as many slots as names, if no name has two
+pub slots_are_names : (slots : List (List ℕ × Resource)) → IsDistinct bytes_eq (keys_of slots) → length slots ≡ finmap.len (finmap.from_entries {R = cmp} slots)
+slots_are_names slots distinct =
+    let m = finmap.from_entries {R = cmp} slots in
+    sym (ones slots) ∙ (sum_of_slots (λ _. 1) slots distinct ∙ (ones (finmap.entries m) ∙ sym (finmap.len-entries m)))

@@ -10,3 +10,4 @@ pub mod Carried
 pub mod Memory
 pub mod View
 pub mod Room
+pub mod Overview

@@ -46,6 +46,7 @@
 
 mod error;
 mod laws;
+mod listing;
 mod marks;
 mod node;
 mod outcome;

@@ -2,11 +2,12 @@ ghost use Rattle.std.specs.Prelude.{◌≡◌, ◌↔◌, None, length, slice_ge
 ghost use Rattle.ra_node.specs.Resource.{unmet};
 ghost use Rattle.ra_node.specs.Room.{IsNothing, HasRoomToLeave};
 
+use crate::listing::{held_of, names_of};
 use crate::outcome::nothing;
 use crate::slot::Slot;
 use crate::{AskError, LeaveError, NewError, Outcome, Queued, ReceiveError};
 use ra_automaton::check_address;
-use ra_stamp::{Entry, Member, Memory, Message, Mode, Name, NodeId};
+use ra_stamp::{Entry, Member, Memory, Message, Mode, Name, NodeCount, NodeId};
 use std::alloc::Global;
 use std::collections::HashMap;
 use std::marker::Model;
@@ -83,6 +84,7 @@ impl Node {
     ghost use Rattle.ra_node.specs.Calls.{AnswersMayAsk, AnswersLeave};
     ghost use Rattle.ra_node.specs.Faults.{IsAskRefusal};
     ghost use Rattle.ra_node.specs.Memory.{BringsNothing};
+    ghost use Rattle.ra_node.specs.Overview.{AreNames, AreHeld};
 
     /// Makes node `me` of `nodes`, which has met nothing yet. The highest number of each resource begins at `start`, 0
     /// to 2^64-1, which must be the same at all nodes. It does not allocate until the first name comes.
@@ -412,6 +414,63 @@ impl Node {
         ensures consistent { IsConsistentNode self.now }
     {
         self.queued
+    }
+
+    /// Returns the node's own number. It does not allocate.
+    pub fn me(&self) -> NodeId
+        ensures value { result ≡ self.now.me }
+        ensures consistent { IsConsistentNode self.now }
+    {
+        self.member.node()
+    }
+
+    /// Returns how many nodes there are. It does not allocate.
+    pub fn nodes(&self) -> NodeCount
+        ensures value { result ≡ self.now.nodes }
+        ensures consistent { IsConsistentNode self.now }
+    {
+        self.member.count()
+    }
+
+    /// Returns the highest number of a name that the node has not met yet, 0 to 2^64-1. It does not allocate.
+    pub fn start(&self) -> u64
+        ensures value { result ≡ self.now.start }
+        ensures consistent { IsConsistentNode self.now }
+    {
+        self.start
+    }
+
+    /// Returns how many names the node has met. It does not allocate.
+    pub fn names_len(&self) -> usize
+        ensures value { result ≡ map.len self.now.resources }
+        ensures consistent { IsConsistentNode self.now }
+    {
+        self.slots.len()
+    }
+
+    /// Returns the names that the node has met, in ascending order of their bytes. The cost is that of sorting them.
+    ///
+    /// # Errors
+    ///
+    /// `Memory`: memory ran out.
+    pub fn names(&self, alloc: Global) -> Result<Vec<Name>, Memory>
+        ensures names { IfOk result (λ names. AreNames self.now names.items) }
+        ensures consistent { IsConsistentNode self.now }
+    {
+        names_of(alloc, &self.slots)
+    }
+
+    /// Returns the requests that are granted at this node, in ascending order of the bytes of their names. The cost is
+    /// linear in the number of names that the node has met, and that of sorting those that are held.
+    ///
+    /// # Errors
+    ///
+    /// `Memory`: memory ran out.
+    pub fn held(&self, alloc: Global) -> Result<Vec<Entry>, Memory>
+        ensures held { IfOk result (λ held. AreHeld self.now held.items) }
+        ensures consistent { IsConsistentNode self.now }
+    {
+        held_of(alloc, &self.slots)
     }
 
     /// Returns the slot of a name, or `None` if the node has not met it yet.

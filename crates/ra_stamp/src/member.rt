@@ -98,4 +98,12 @@ impl Member {
     {
         self.nodes.get()
     }
+
+    /// Returns how many nodes the cluster has, as a count that is known to be 1 to 64. It does not allocate.
+    pub fn count(self) -> NodeCount
+        ensures value { result ≡ self.nodes }
+        ensures valid { IsMember self.node self.nodes }
+    {
+        self.nodes
+    }
 }
