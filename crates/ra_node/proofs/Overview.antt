@@ -1,12 +1,11 @@
 -- The names and the granted requests of a node's slots, as those of the node, in the order of the names.
-use Rattle.std.proofs.Common.{◌≡◌, ◌↔◌, ◌⊎◌, ℕ, ◌+◌, ◌<◌, ◌≤◌, Bool, true, false, List, [], ◌∷◌, ◌++◌, map, length, Option, Some, None, Result, Ok, Err, IfOk, IsSome, refl, sym, ap, ◌∙◌, subst, arith, inl, inr}
+use Rattle.std.proofs.Common.{◌≡◌, ◌↔◌, ◌⊎◌, ℕ, ◌+◌, true, false, List, [], ◌∷◌, map, Option, Some, None, Result, Ok, Err, IfOk, IsSome, refl, sym, ap, ◌∙◌, subst, arith, inl, inr}
 use Rattle.std.specs.Prelude.{Contains, filter_map, get_or, unwrap_or, IsPermutation, IsSorted, IsSortedByKey}
 use Rattle.std.specs.List.{cons_option, AllByRecursion, IsDistinct}
 use Rattle.std.specs.List.Sorted.{IsStrictlySortedBy}
 use Rattle.std.specs.Str.{bytes_eq}
 use Rattle.std.specs.Map.{lookup, keys_of, values_of}
 use Rattle.std.specs.HashMap.{HashMap, keys, values}
-use Rattle.std.specs.declared.cmp.Ordering.{Ordering}
 use Rattle.std.specs.declared.cmp.Ordering.TheVariants.{Less, Equal, Greater}
 use Rattle.std.specs.Ordering.{nat_cmp, is_eq, is_lt, ordering_reverse}
 use Rattle.std.specs.Cmp.Lexicographic.{slice_cmp, nat_list_cmp_total}
@@ -57,7 +56,7 @@ rising names up distinct =
 cons_cases : {X : Type 0} (x : X) (xs : List X) (y : X) → Contains (x ∷ xs) y → (x ≡ y) ⊎ Contains xs y
 cons_cases x xs y c =
     elim (Contains-append_cases (x ∷ []) xs y c) [
-      | inl here ↦ elim (Contains-push_cases [] x y here) [ inl none ↦ absurd (omega (arith, none.1.0)) | inr same ↦ inl same ]
+      | inl here ↦ elim (Contains-push_cases [] x y here) [ inl none ↦ absurd (omega (arith, none.1)) | inr same ↦ inl same ]
       | inr there ↦ inr there
     ]
 
@@ -72,7 +71,7 @@ abbrev IsOfOne : List Resource → Entry → Type 0
 IsOfOne rs e = (r : Resource) × Contains rs r × (holder_of r ≡ Some e)
 
 from_granted : (rs : List Resource) (e : Entry) → Contains (filter_map holder_of rs) e → IsOfOne rs e
-from_granted [] e c = absurd (omega (arith, c.1.0))
+from_granted [] e c = absurd (omega (arith, c.1))
 from_granted (r ∷ rs) e c = at (holder_of r) refl c (from_granted rs e)
   where
     goes_on : IsOfOne rs e → IsOfOne (r ∷ rs) e
@@ -91,7 +90,7 @@ after_one None es e c = c
 after_one (Some x) es e c = later x es e c
 
 to_granted : (rs : List Resource) (r : Resource) (e : Entry) → Contains rs r → holder_of r ≡ Some e → Contains (filter_map holder_of rs) e
-to_granted [] r e c is = absurd (omega (arith, c.1.0))
+to_granted [] r e c is = absurd (omega (arith, c.1))
 to_granted (q ∷ rs) r e c is =
     elim (cons_cases q rs r c) [
       | inl same ↦ subst (λ (o : Option Entry). Contains (cons_option o (filter_map holder_of rs)) e) (sym (ap holder_of same ∙ is)) (here_first e (filter_map holder_of rs))
@@ -144,7 +143,7 @@ granted_distinct (slot ∷ slots) named distinct =
 names_sorted : (entries : List Entry) → IsSortedByKey (λ (e : Entry). e.name) (slice_cmp nat_cmp) entries → IsSorted (slice_cmp nat_cmp) (map (λ (e : Entry). e.name) entries)
 names_sorted entries up k d low within =
     let any : Entry = record { name = []; stamp = record { seq = 0; node = 0 }; client = 0; mode = Shared } in
-    let count = length-map (λ (e : Entry). e.name) entries in
+    let count = length-map entries (λ (e : Entry). e.name) in
     let first = get_or-map (λ (e : Entry). e.name) entries k any d (omega (arith, within, count)) in
     let second = get_or-map (λ (e : Entry). e.name) entries (k + 1) any d (omega (arith, within, count)) in
     subst (λ (a : List ℕ). is_lt (slice_cmp nat_cmp a (get_or (map (λ (e : Entry). e.name) entries) k d)) ≡ false) (sym second)
@@ -192,10 +191,10 @@ module _ {S : Type 0} (me nodes start : ℕ) (slots : HashMap (List ℕ) Resourc
         there : Contains (filter_map holder_of (values slots)) e → holder_of (resource_at now e.name) ≡ Some e
         there c =
             let one = from_granted (values slots) e c in
-            let key = Contains-from_values_of slots.entries one.0 one.1.0 in
+            let key = Contains-from_values_of slots.entries one.0 one.1 in
             let slot : List ℕ × Resource = (key.0, one.0) in
             let here = found me nodes start slots.entries now is key.0 one.0 (found_at slot key.1) in
-            ap (λ (name : List ℕ). holder_of (resource_at now name)) (named slot key.1 e one.1.1) ∙ (sym (ap holder_of here) ∙ one.1.1)
+            ap (λ (name : List ℕ). holder_of (resource_at now name)) (named slot key.1 e one.2) ∙ (sym (ap holder_of here) ∙ one.2)
 
         at : (o : Option Resource) → finmap.get now.resources e.name ≡ o → holder_of (unwrap_or o (unmet now.me now.nodes e.name now.start)) ≡ Some e → Contains (filter_map holder_of (values slots)) e
         at None got granted = absurd (none-some e granted)

@@ -1,4 +1,4 @@
-use Rattle.std.proofs.Common.{sym, ap, ◌∙◌}
+use Rattle.std.proofs.Common.{ap, ◌∙◌}
 use Rattle.std.specs.FinMap as finmap
 use Rattle.ra_node.specs.Node.{NodeState}
 use Rattle.ra_node.proofs.Named.{slots_are_names}
