@@ -2,23 +2,22 @@
 -- that is given an outcome.
 use Rattle.std.specs.Prelude.{◌≡◌, ◌↔◌, ℕ, List, Result, IsOk, IfOk, OnErr, IsErrOf, IsOkUnless}
 use Rattle.ra_stamp.specs.declared.entry.Entry.{Entry}
-use Rattle.ra_automaton.specs.Steps.{greatest_number}
 use Rattle.ra_node.specs.declared.error.AskError.{AskError}
 use Rattle.ra_node.specs.declared.error.AskError.TheVariants as asking
 use Rattle.ra_node.specs.declared.error.LeaveError.{LeaveError}
 use Rattle.ra_node.specs.declared.error.LeaveError.TheVariants as leaving
 use Rattle.ra_node.specs.declared.outcome.Outcome.{Outcome}
-use Rattle.ra_node.specs.Resource.{Resource, Holds, IsBusy}
+use Rattle.ra_node.specs.Resource.{Resource, Holds}
 use Rattle.ra_node.specs.Turns.{MayAsk}
+use Rattle.ra_node.specs.Faults.{IsAskRefusal, IsLeaveRefusal}
 use Rattle.ra_node.specs.Node.{NodeState, resource_at}
 use Rattle.ra_node.specs.Events.{LeaveEvent}
 
--- whether a client may ask: `Busy` is answered exactly if it is busy, and otherwise `Exhausted` exactly if no number is left; `Memory`
--- is never answered
+-- whether a client may ask: `Busy` and `Exhausted` are answered exactly for their causes, and `Memory` never
 pub record AnswersMayAsk (r : Resource) (client : ℕ) (answer : Result (Unit {0}) AskError) : Type 0 where
   pub allowed : IsOk answer ↔ MayAsk r client
-  pub busy : IsErrOf answer asking.Busy ↔ IsBusy r client
-  pub exhausted : IsErrOf answer asking.Exhausted ↔ ((IsBusy r client → ⊥) × (r.state.highest ≡ greatest_number))
+  pub busy : IsErrOf answer asking.Busy ↔ IsAskRefusal r client asking.Busy
+  pub exhausted : IsErrOf answer asking.Exhausted ↔ IsAskRefusal r client asking.Exhausted
   pub no_memory : IsErrOf answer asking.Memory → ⊥
 
 -- the client leaves, and `NotHeld` is answered exactly if it does not hold; `Memory` is the only other error, and the node is as before
@@ -26,6 +25,6 @@ pub record AnswersMayAsk (r : Resource) (client : ℕ) (answer : Result (Unit {0
 pub record AnswersLeave (old : NodeState) (client : ℕ) (name : List ℕ) (answer : Result Outcome LeaveError) (new : NodeState)
     : Type 0 where
   pub ok : IfOk answer (λ outcome. LeaveEvent old client name outcome.sends.items outcome.marks.items new)
-  pub not_held : IsErrOf answer leaving.NotHeld ↔ ((entry : Entry) → Holds (resource_at old name) client entry → ⊥)
+  pub not_held : IsErrOf answer leaving.NotHeld ↔ IsLeaveRefusal (resource_at old name) client leaving.NotHeld
   pub allowed : IsOkUnless answer leaving.Memory ↔ ((entry : Entry) × Holds (resource_at old name) client entry)
   pub err : OnErr answer (new ≡ old)

@@ -71,13 +71,12 @@ fn drop_slot(_slot: Option<Slot>) {}
 
 impl Node {
     ghost use Rattle.ra_automaton.specs.State.{IsForNode};
-    ghost use Rattle.ra_automaton.specs.Steps.{greatest_number};
     ghost use Rattle.std.specs.FinMap as map;
     ghost use Rattle.std.specs.FinSet as set;
     ghost use Rattle.ra_stamp.specs.Message.{name_of};
     ghost use Rattle.ra_automaton.specs.Calls.{ChecksAddress};
     ghost use Rattle.ra_automaton.specs.Members.{ChecksMember};
-    ghost use Rattle.ra_node.specs.Resource.{IsBusy, Holds, holder_of, waiter_of, IsConsistentResource};
+    ghost use Rattle.ra_node.specs.Resource.{Holds, holder_of, waiter_of, IsConsistentResource};
     ghost use Rattle.ra_node.specs.Turns.{MayAsk};
     ghost use Rattle.ra_node.specs.Node.{opening_node, resource_at, with_resource, waiting_count, queued_count, IsConsistentNode};
     ghost use Rattle.ra_node.specs.Events.{AskEvent, ReceiveEvent};
@@ -143,10 +142,9 @@ impl Node {
         ensures ok { IfOk result (λ outcome.
             AskEvent self.old client name mode outcome.sends.items outcome.marks.items self.new) }
         ensures consistent { IsConsistentNode self.new }
-        ensures busy { IsErrOf result AskError.Busy ↔ IsBusy (resource_at self.old name) client }
+        ensures busy { IsErrOf result AskError.Busy ↔ IsAskRefusal (resource_at self.old name) client AskError.Busy }
         ensures exhausted { IsErrOf result AskError.Exhausted
-            ↔ ((IsBusy (resource_at self.old name) client → ⊥)
-            × ((resource_at self.old name).state.highest ≡ greatest_number)) }
+            ↔ IsAskRefusal (resource_at self.old name) client AskError.Exhausted }
         // Memory is the only other error.
         ensures allowed { IsOkUnless result AskError.Memory ↔ MayAsk (resource_at self.old name) client }
         ensures err { OnErr result (self.new ≡ self.old) }
