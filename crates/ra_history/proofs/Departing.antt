@@ -7,7 +7,9 @@ use Rattle.ra_stamp.specs.Sequence.{Listed}
 use Rattle.ra_frame.specs.declared.frame.Frame.{Frame}
 use Rattle.ra_node.specs.declared.error.LeaveError.{LeaveError}
 use Rattle.ra_node.specs.declared.error.LeaveError.TheVariants.{Memory}
+use Rattle.ra_node.specs.declared.outcome.Outcome.{Outcome}
 use Rattle.ra_node.specs.Node.{NodeState, clients_count}
+use Rattle.ra_node.specs.Room.{answer_with}
 use Rattle.ra_history.specs.declared.book.departure.Departure.{Departure}
 use Rattle.ra_history.specs.declared.error.BookError.{BookError}
 use Rattle.ra_history.specs.declared.error.BookError.TheVariants as book_error
@@ -73,9 +75,9 @@ pub taken_out : (nodes : ℕ) (departures departures' : List Departure) (departu
 taken_out nodes departures departures' departure is each = (All-pop (IsDeparture nodes) departures departures' (Some departure) is each).1
 
 -- a leave that does not want memory, of a client that holds, is not refused
-pub is_not_refused : {X : Type 0} (result : Result X LeaveError) (fault : LeaveError) → result ≡ Err fault → IsOkUnless result Memory → (IsErrOf result Memory → ⊥) → ⊥
-is_not_refused (Ok x) fault is allowed room = absurd cc
-is_not_refused {X} (Err e) fault is allowed room = room (subst (λ (f : LeaveError). IsErrOf {T = X} (Err f) Memory) (sym allowed) refl)
+pub is_not_refused : {X : Type 0} (result : Result X LeaveError) (outcome : Outcome) (fault : LeaveError) → result ≡ Err fault → IsOkUnless (answer_with result outcome) Memory → (IsErrOf result Memory → ⊥) → ⊥
+is_not_refused (Ok x) outcome fault is allowed room = absurd cc
+is_not_refused {X} (Err e) outcome fault is allowed room = room (subst (λ (f : LeaveError). IsErrOf {T = X} (Err f) Memory) (sym allowed) refl)
 
 -- what succeeds is not refused
 pub is_no_refusal : {X : Type 0} (v : X) (e : BookError) → IsErrOf (Ok v) e → ⊥

@@ -227,8 +227,11 @@ impl Book {
             // The client that holds is one for which there is a departure.
             unreachable!()
         };
-        let Departure { outcome, frames } = departure;
-        let Ok(outcome) = self.node.leave_into(alloc, client, name, outcome) else {
+        let Departure {
+            mut outcome,
+            frames,
+        } = departure;
+        let Ok(()) = self.node.leave_into(alloc, client, name, &mut outcome) else {
             // The client holds, and the outcome has room.
             unreachable!()
         };

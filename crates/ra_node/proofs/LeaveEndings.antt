@@ -13,9 +13,10 @@ use Rattle.ra_automaton.specs.State.{State, IsConsistent, IsInside}
 use Rattle.ra_automaton.specs.Steps.{LeaveStep, LeaveAndRequestStep, greatest_number}
 use Rattle.ra_node.specs.declared.queued_client.Queued.{Queued}
 use Rattle.ra_node.specs.declared.error.LeaveError.{LeaveError}
-use Rattle.ra_node.specs.declared.error.LeaveError.TheVariants.{Memory}
+use Rattle.ra_node.specs.declared.error.LeaveError.TheVariants.{NotHeld, Memory}
 use Rattle.ra_node.specs.declared.outcome.Outcome.{Outcome}
 use Rattle.ra_node.specs.Faults.{IsLeaveRefusal}
+use Rattle.ra_node.specs.Room.{answer_with}
 use Rattle.ra_node.specs.HandedOver.{IsHandedOver}
 use Rattle.ra_node.specs.Resource.{Resource, Holds, entry_of, clients_of}
 use Rattle.ra_node.specs.Turns.{request_marks, next_entry, LeaveTurn, LeavesToNext}
@@ -72,6 +73,17 @@ parts_handed_over state state' client queue queue' old next taken sends before m
 pub not_refused : {T E : Type 0} (r : Result T E) (e : E) → IsOk r → IsErrOf r e → ⊥
 not_refused (Ok v) e ok is = absurd cc
 not_refused (Err f) e ok is = false≢true ok
+
+-- a refusal for lack of memory is not `NotHeld`
+pub memory_alone : {T : Type 0} (r : Result T LeaveError) (outcome : Outcome) (P : Outcome → Type 0) (Q : Type 0) → MatchResult (answer_with r outcome) P (λ fault. (fault ≡ Memory) × Q) → IsErrOf r NotHeld → ⊥
+memory_alone (Ok v) outcome P Q ended is = absurd cc
+memory_alone {T} (Err f) outcome P Q ended is = not_memory (same_fault {T = T} f is ∙ ended.0)
+  where
+    same_fault : {T : Type 0} (f : LeaveError) → IsErrOf {T = T} (Err f) NotHeld → NotHeld ≡ f
+    same_fault f h = cc
+
+    not_memory : NotHeld ≡ Memory → ⊥
+    not_memory e = cc
 
 -- and so is no leave of an automaton that is inside, if memory does not run out
 pub never_refused : {T : Type 0} (e : Fault) (phase : Phase) → IsErrOf {T = T} (Err e) fault.NotHeld ↔ (IsInside phase → ⊥) → (IsErrOf {T = T} (Err e) fault.Memory → ⊥) → IsInside phase → ⊥

@@ -1,6 +1,6 @@
 ghost use Rattle.std.specs.Prelude.{◌≡◌, ◌↔◌, None, length, slice_get, IsErrOf, IsOk, IsOkUnless, IfOk, OnOk, OnErr, MatchResult, IsNone, IfSome, IsTrue};
 ghost use Rattle.ra_node.specs.Resource.{unmet};
-ghost use Rattle.ra_node.specs.Room.{IsNothing, HasRoomToLeave};
+ghost use Rattle.ra_node.specs.Room.{IsNothing, HasRoomToLeave, answer_with};
 
 use crate::listing::{held_of, names_of};
 use crate::outcome::nothing;
@@ -179,26 +179,33 @@ impl Node {
         ensures left { AnswersLeave self.old client name result self.new }
         ensures consistent { IsConsistentNode self.new }
     {
-        self.leave_into(alloc, client, name, nothing(alloc))
+        let mut outcome = nothing(alloc);
+        match self.leave_into(alloc, client, name, &mut outcome) {
+            Ok(()) => Ok(outcome),
+            Err(fault) => Err(fault),
+        }
     }
 
-    /// Leaves a name as `leave` does, and puts what is sent and marked into an empty outcome. It does not allocate if that
-    /// is of [`Outcome::for_leave`], made for this many nodes.
+    /// Leaves a name as `leave` does, and puts what is sent and marked into an empty outcome, which is lent. It does not
+    /// allocate if that is of [`Outcome::for_leave`], made for this many nodes.
     ///
     /// # Errors
     ///
-    /// Those of `leave`. `Memory` comes only if the outcome has less room.
+    /// Those of `leave`. After `NotHeld` the outcome is as before, with its room, so that it serves the next leave.
+    /// `Memory` comes only if the outcome has less room, and leaves it empty.
     pub fn leave_into(
         &mut self,
         alloc: Global,
         client: u32,
         name: Name,
-        empty: Outcome,
-    ) -> Result<Outcome, LeaveError>
-        requires { IsNothing empty }
-        ensures left { AnswersLeave self.old client name result self.new }
+        outcome: &mut Outcome,
+    ) -> Result<(), LeaveError>
+        requires { IsNothing outcome.old }
+        ensures left { AnswersLeave self.old client name (answer_with result outcome.new) self.new }
         ensures consistent { IsConsistentNode self.new }
-        ensures room { HasRoomToLeave self.old.nodes empty → IsErrOf result LeaveError.Memory → ⊥ }
+        ensures room { HasRoomToLeave self.old.nodes outcome.old → IsErrOf result LeaveError.Memory → ⊥ }
+        ensures kept { IsErrOf result LeaveError.NotHeld → outcome.new ≡ outcome.old }
+        ensures nothing { OnErr result (IsNothing outcome.new) }
     {
         // The totals have room, since there are fewer than 2^64 names.
         prove!(self.slots.len() < usize::MAX);
@@ -207,10 +214,10 @@ impl Node {
         };
         let waiting = self.waiting - slot.waiting();
         let queued = self.queued - slot.queued() as u128;
-        let outcome = slot.leave(alloc, client, empty);
+        let left = slot.leave(alloc, client, outcome);
         self.waiting = waiting + slot.waiting();
         self.queued = queued + slot.queued() as u128;
-        outcome
+        left
     }
 
     /// Takes a message from another node. With the last REPLY that it awaits, the node's request enters, with the mark

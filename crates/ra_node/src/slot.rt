@@ -1,7 +1,8 @@
 ghost use Rattle.std.specs.Prelude.{◌≡◌, ◌≢◌, ◌*◌, ◌<◌, ◌≤◌, ◌⊎◌, ◌↔◌, ◌∷◌, [], length, slice_get, take, IsTrue, IsErrOf, IsOk, IfOk, MatchResult, AllPairs, IsNone, IfSome, OnErr};
 ghost use Rattle.ra_stamp.specs.declared.entry.Entry.{Entry};
+ghost use Rattle.ra_stamp.specs.declared.entry.Mark.TheVariants.{Left};
 ghost use Rattle.ra_node.specs.Resource.{entry_of};
-ghost use Rattle.ra_node.specs.Room.{IsNothing, HasRoomToLeave};
+ghost use Rattle.ra_node.specs.Room.{IsNothing, HasRoomToLeave, answer_with};
 
 use crate::marks::{marks_for, push_request, push_reserved};
 use crate::outcome::nothing;
@@ -12,6 +13,7 @@ use ra_automaton::{Automaton, Phase, ReceiveError};
 use ra_stamp::{Entry, Mark, Marks, Member, Message, Messages, Mode, Name, NodeId, Stamp};
 use std::alloc::Global;
 use std::marker::Model;
+use std::mem;
 
 /// One resource at this node, with the clients of the node that use it. Contracts see the resource.
 #[derive(Drop)]
@@ -206,76 +208,79 @@ impl Slot {
     }
 
     /// Leaves for the client that holds, and the next one asks in the same event. No client may be here twice. What is
-    /// sent and marked is put into an empty outcome. It does not allocate if that has room to leave.
+    /// sent and marked is put into an empty outcome, which is lent. It does not allocate if that has room to leave.
     ///
     /// # Errors
     ///
     /// The first that holds, after which the resource is as before:
     ///
-    /// 1. `NotHeld`: the client does not hold.
-    /// 2. `Memory`: memory ran out, and there was not room to leave.
+    /// 1. `NotHeld`: the client does not hold. The outcome is as before, with its room.
+    /// 2. `Memory`: memory ran out, and there was not room to leave. The outcome is empty.
     pub fn leave(
         &mut self,
         alloc: Global,
         client: u32,
-        empty: Outcome,
-    ) -> Result<Outcome, LeaveError>
+        outcome: &mut Outcome,
+    ) -> Result<(), LeaveError>
         requires once { AllPairs (λ a b. a ≢ b) (clients_of self.old) }
-        requires nothing { IsNothing empty }
-        ensures left { MatchResult result
-            (λ outcome. LeaveTurn self.old client outcome.sends.items outcome.marks.items self.new
+        requires nothing { IsNothing outcome.old }
+        ensures left { MatchResult (answer_with result outcome.new)
+            (λ done. LeaveTurn self.old client done.sends.items done.marks.items self.new
             × IsConsistent self.new.state)
             (λ fault. IsLeaveRefusal self.old client fault × (self.new ≡ self.old)) }
-        ensures room { HasRoomToLeave self.old.state.nodes empty → IsErrOf result LeaveError.Memory → ⊥ }
+        ensures room { HasRoomToLeave self.old.state.nodes outcome.old → IsErrOf result LeaveError.Memory → ⊥ }
+        ensures kept { IsErrOf result LeaveError.NotHeld → outcome.new ≡ outcome.old }
+        ensures nothing { OnErr result (IsNothing outcome.new) }
     {
         let Some(held) = self.held_by(client) else {
             return Err(LeaveError::NotHeld);
         };
-        let Outcome { sends, mut marks } = empty;
         // Those of the request that the next client makes, and that may be granted at once, have room, too.
-        let Ok(()) = marks.reserve(3) else {
+        let Ok(()) = outcome.marks.reserve(3) else {
             return Err(LeaveError::Memory);
         };
-        push_reserved(&mut marks, Mark::Left(held));
+        let sends = mem::replace(&mut outcome.sends, Messages::new(alloc));
         if let Some(next) = self.next() {
-            return self.hand_over(alloc, next, sends, marks);
+            return self.hand_over(alloc, &held, next, sends, outcome);
         }
         let Ok(reaction) = self.automaton.leave_into(alloc, sends) else {
             // Only `Memory` can come if a client holds.
             return Err(LeaveError::Memory);
         };
         self.client = None;
-        Ok(Outcome {
-            sends: reaction.sends,
-            marks,
-        })
+        outcome.sends = reaction.sends;
+        push_reserved(&mut outcome.marks, Mark::Left(held));
+        Ok(())
     }
 
-    /// Leaves for the client that holds and asks for `next`, the first of the queue, in one reaction: the deferred REPLYs
-    /// come first. A number must be left, and no client may be here twice. The messages are put into an empty list, and
-    /// the marks of the request after those that are there.
+    /// Leaves for the client that holds, by this request, and asks for `next`, the first of the queue, in one reaction: the
+    /// deferred REPLYs come first. A number must be left, and no client may be here twice. The messages are put into an
+    /// empty list, which the outcome gets, and the marks into the outcome.
     ///
     /// # Errors
     ///
-    /// `Memory`, if the list has not room for two messages to each node: the resource is as before.
+    /// `Memory`, if the list has not room for two messages to each node: the resource and the outcome are as before.
     fn hand_over(
         &mut self,
         alloc: Global,
+        held: &Entry,
         next: Queued,
         sends: Messages,
-        mut marks: Marks,
-    ) -> Result<Outcome, LeaveError>
+        outcome: &mut Outcome,
+    ) -> Result<(), LeaveError>
         requires inside { IsInside self.old.state.phase }
         requires first { take 1 self.old.queue ≡ next ∷ [] }
         requires number_left { self.old.state.highest < greatest_number }
         requires once { AllPairs (λ a b. a ≢ b) (clients_of self.old) }
         requires none { sends.items ≡ [] }
-        requires marks { 2 ≤ marks.spare }
-        ensures handed { MatchResult result
-            (λ outcome. IsHandedOver self.old next outcome.sends.items marks.items outcome.marks.items self.new
+        requires nothing { IsNothing outcome.old }
+        requires marks { 3 ≤ outcome.old.marks.spare }
+        ensures handed { MatchResult (answer_with result outcome.new)
+            (λ done. IsHandedOver self.old next done.sends.items (Left held.now ∷ []) done.marks.items self.new
             × IsConsistent self.new.state)
             (λ fault. (fault ≡ LeaveError.Memory) × (self.new ≡ self.old)) }
         ensures room { 2 * self.old.state.nodes ≤ sends.spare → IsOk result }
+        ensures kept { OnErr result (outcome.new ≡ outcome.old) }
     {
         let requested = self.next_entry(next.client, next.mode);
         let left = self
@@ -287,11 +292,10 @@ impl Slot {
         };
         self.queue.pop_front();
         self.client = Some(next.client);
-        push_request(&mut marks, &requested, handed.entered);
-        Ok(Outcome {
-            sends: handed.sends,
-            marks,
-        })
+        outcome.sends = handed.sends;
+        push_reserved(&mut outcome.marks, Mark::Left(*held));
+        push_request(&mut outcome.marks, &requested, handed.entered);
+        Ok(())
     }
 
     /// Takes a message for this node about this resource, which comes from another node.

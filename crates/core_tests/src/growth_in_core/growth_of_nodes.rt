@@ -119,19 +119,20 @@ const BEFORE_LEAVING: usize = 5;
 /// is. If the room or a call before it is refused, memory ran out.
 fn try_leaving(rt: &(impl Abort + AllocGlobal), node: &mut Node) -> Result<Tried, Memory> {
     let label = "a leave with room";
-    let Ok(empty) = Outcome::for_leave(rt.alloc(), 2) else {
+    let Ok(mut left) = Outcome::for_leave(rt.alloc(), 2) else {
         return Err(Memory);
     };
+    // Nobody holds, and the room stays for the leave below.
+    let early = node.leave_into(rt.alloc(), 1, r(), &mut left);
+    assert_same(rt, row(label), &early, &Err(LeaveError::NotHeld));
     for place in 0..BEFORE_LEAVING {
         make(rt, At(label, "call", place + 1), node, CALLS[place])?;
     }
-    match node.leave_into(rt.alloc(), 1, r(), empty) {
-        Ok(left) => {
-            let came = (left.sends.len(), left.marks.len());
-            assert_same(rt, row(label), &came, &(2, 2));
-        }
-        Err(fault) => assert_same(rt, row(label), &Some(fault), &None),
-    }
+    let came = match node.leave_into(rt.alloc(), 1, r(), &mut left) {
+        Ok(()) => Ok((left.sends.len(), left.marks.len())),
+        Err(fault) => Err(fault),
+    };
+    assert_same(rt, row(label), &came, &Ok((2, 2)));
     Ok(Tried::NoFailure)
 }
 

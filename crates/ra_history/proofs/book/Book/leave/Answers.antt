@@ -39,7 +39,7 @@ unreachable-requires-in_default-leave_into c =
     let made = taken_out c.self.inside.nodes c.self.inside.departures.items c.pop.new.self.items c.in-Some.departure c.in-Some.ensures.items c.self.invariant.reserved.each in
     let nodes = (kept_histories_go_on.node (book_of c.self.inside) node keeps).1 in
     let room = subst (λ k. HasRoomToLeave k c.in-Some.departure.outcome) (sym nodes) made.room in
-    is_not_refused c.leave_into.result c.in_default-leave_into.field-0 c.in_default-leave_into.is (c.leave_into.ensures.left.allowed.1 allowed.1.0) (c.leave_into.ensures.room room)
+    is_not_refused c.leave_into.result c.leave_into.new.outcome c.in_default-leave_into.field-0 c.in_default-leave_into.is (c.leave_into.ensures.left.allowed.1 allowed.1.0) (c.leave_into.ensures.room room)
 
 -- ---- What was made for it
 
@@ -51,7 +51,7 @@ pub keep-requires : goal.keep-requires
 keep-requires c =
     let nodes = c.self.inside.nodes in
     let departures = c.self.inside.departures.items in
-    let outcome = c.in-Ok.outcome in
+    let outcome = c.leave_into.new.outcome in
     let sent = c.self.inside.sent in
     room_to_leave nodes (length outcome.sends.items) departures c.pop.new.self.items c.in-Some.departure c.self.inside.events.spare (vec_len sent)
     (vec_capacity sent) c.in-Some.ensures.items
@@ -87,7 +87,7 @@ invariant_of-self c =
     let old = c.self.inside.node in
     let new = c.leave_into.new.self in
     let keeps = c.self.invariant.keeps in
-    let outcome = c.in-Ok.outcome in
+    let outcome = c.leave_into.new.outcome in
     let happened = c.in-Ok.ensures.left.ok in
     let few = kept_histories_go_on.few book old new kind outcome.sends.items outcome.marks.items keeps happened in
     let count = leave_counts old new c.args.client c.args.name outcome.sends.items outcome.marks.items happened in

@@ -6,7 +6,7 @@ use Rattle.ra_node.specs.View.{IsKept}
 use Rattle.ra_node.proofs.After.{left_at, nobody_holds, same_view}
 use Rattle.ra_node.proofs.NodeLemmas.{found, slot_is_consistent, missing}
 use Rattle.ra_node.specs.Node.{resource_at}
-use Rattle.ra_node.specs.Room.{HasRoomToLeave}
+use Rattle.ra_node.specs.Room.{HasRoomToLeave, answer_with}
 use Rattle.ra_node.proofs.Refusals.{LeaveTells, left_tells}
 use Rattle.ra_node.proofs.Totals.{part, through, one_at_most, few_wait, few_queue}
 use Rattle.ra_node.proofs.node.Node.leave_into.Goals as goal
@@ -26,8 +26,8 @@ returns-in_default-clause-left c =
       err = same_view n.member.node n.member.nodes n.start n.slots.entries c.get_mut.follows.lender-at-none.entries c.args.self.now (ap (λ (m : HashMap (List ℕ) Resource _). m.entries) c.get_mut.follows.holds-at-none) c.self.view_is;
     }
 
-pub leave-outcome-requires-clause-once : goal.leave-outcome-requires-clause-once
-leave-outcome-requires-clause-once c =
+pub leave-left-requires-clause-once : goal.leave-left-requires-clause-once
+leave-left-requires-clause-once c =
     let n = c.self.inside in
     (slot_is_consistent n.member.node n.member.nodes n.start n.slots.entries c.args.self.now c.self.view_is c.args.name c.in-Some.slot.now c.self.invariant.consistent c.in-Some.ensures.value).once
 
@@ -41,7 +41,7 @@ overflow_sub-queued c =
 
 pub overflow_add-self : goal.overflow_add-self
 overflow_add-self c =
-    omega (arith, c.self.invariant.waiting, c.waiting-2.ensures, one_at_most c.leave-outcome.new.self.state.phase, few_wait c.self.inside.slots.entries c.len.ensures.unique, c.len.ensures.len, c.len.ensures.small)
+    omega (arith, c.self.invariant.waiting, c.waiting-2.ensures, one_at_most c.leave-left.new.self.state.phase, few_wait c.self.inside.slots.entries c.len.ensures.unique, c.len.ensures.len, c.len.ensures.small)
 
 pub overflow_add-self-2 : goal.overflow_add-self-2
 overflow_add-self-2 c =
@@ -59,13 +59,13 @@ returns-in_default-clause-consistent c = (invariant_of-self c).consistent
 pub invariant_of-self-2 : goal.invariant_of-self-2
 invariant_of-self-2 c =
     let n = c.self.inside in
-    let new = c.leave-outcome.new.self in
+    let new = c.leave-left.new.self in
     let slots = c.get_mut.follows.lender new in
     let moves = λ (f : Resource → ℕ). through f n.slots slots c.args.name c.in-Some.slot.now new c.in-Some.ensures.value (c.get_mut.follows.holds new) in
     let within = λ (f : Resource → ℕ). part f n.slots.entries c.args.name c.in-Some.slot.now c.in-Some.ensures.value in
     let kept = c.self.invariant in
     record {
-      consistent = (left_at n.member.node n.member.nodes n.start n.slots slots c.args.self.now c.self.view_is c.self.invariant.consistent c.in-Some.slot.now new c.leave-outcome.result _ c.args.client c.args.name c.leave-outcome.ensures.left c.in-Some.ensures.value (c.get_mut.follows.holds new)).consistent;
+      consistent = (left_at n.member.node n.member.nodes n.start n.slots slots c.args.self.now c.self.view_is c.self.invariant.consistent c.in-Some.slot.now new (answer_with c.leave-left.result c.leave-left.new.outcome) _ c.args.client c.args.name c.leave-left.ensures.left c.in-Some.ensures.value (c.get_mut.follows.holds new)).consistent;
       waiting = omega (arith, kept.waiting, moves waiting_at, within waiting_at, c.waiting.ensures, c.waiting-2.ensures);
       queued = omega (arith, kept.queued, moves (λ r. length r.queue), within (λ r. length r.queue), c.queued.ensures, c.queued-2.ensures);
       counted = omega (arith, kept.counted, moves (λ r. length r.queue / 2 ^ 64), c.queued-2.ensures, c.queued-2.type_inv);
@@ -74,17 +74,17 @@ invariant_of-self-2 c =
 pub returns-clause-consistent : goal.returns-clause-consistent
 returns-clause-consistent c = (invariant_of-self-2 c).consistent
 
-tells : (c : goal.After-self-3-1) → LeaveTells c.leave-outcome.result (resource_at c.args.self.now c.args.name) c.args.client
+tells : (c : goal.After-self-3-1) → LeaveTells (answer_with c.leave-left.result c.leave-left.new.outcome) (resource_at c.args.self.now c.args.name) c.args.client
 tells c =
     let n = c.self.inside in
     let here = found n.member.node n.member.nodes n.start n.slots.entries c.args.self.now c.self.view_is c.args.name c.in-Some.slot.now c.in-Some.ensures.value in
-    subst (λ (r : Resource). LeaveTells c.leave-outcome.result r c.args.client) here (left_tells c.leave-outcome.result c.in-Some.slot.now c.args.client c.leave-outcome.new.self _ c.leave-outcome.ensures.left)
+    subst (λ (r : Resource). LeaveTells (answer_with c.leave-left.result c.leave-left.new.outcome) r c.args.client) here (left_tells (answer_with c.leave-left.result c.leave-left.new.outcome) c.in-Some.slot.now c.args.client c.leave-left.new.self _ c.leave-left.ensures.left)
 
 pub returns-clause-left : goal.returns-clause-left
 returns-clause-left c =
     let n = c.self.inside in
-    let new = c.leave-outcome.new.self in
-    let after = left_at n.member.node n.member.nodes n.start n.slots (c.get_mut.follows.lender new) c.args.self.now c.self.view_is c.self.invariant.consistent c.in-Some.slot.now new c.leave-outcome.result _ c.args.client c.args.name c.leave-outcome.ensures.left c.in-Some.ensures.value (c.get_mut.follows.holds new) in
+    let new = c.leave-left.new.self in
+    let after = left_at n.member.node n.member.nodes n.start n.slots (c.get_mut.follows.lender new) c.args.self.now c.self.view_is c.self.invariant.consistent c.in-Some.slot.now new (answer_with c.leave-left.result c.leave-left.new.outcome) _ c.args.client c.args.name c.leave-left.ensures.left c.in-Some.ensures.value (c.get_mut.follows.holds new) in
     let told = tells c in
     record { ok = after.ok; not_held = told.not_held; allowed = told.allowed; err = after.err }
 
@@ -92,4 +92,4 @@ pub returns-clause-room : goal.returns-clause-room
 returns-clause-room c room =
     let n = c.self.inside in
     let kept = slot_is_consistent n.member.node n.member.nodes n.start n.slots.entries c.args.self.now c.self.view_is c.args.name c.in-Some.slot.now c.self.invariant.consistent c.in-Some.ensures.value in
-    c.leave-outcome.ensures.room (subst (λ (k : ℕ). HasRoomToLeave k c.args.empty) (sym kept.nodes_is) room)
+    c.leave-left.ensures.room (subst (λ (k : ℕ). HasRoomToLeave k c.args.outcome.now) (sym kept.nodes_is) room)

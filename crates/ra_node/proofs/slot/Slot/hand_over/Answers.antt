@@ -1,5 +1,7 @@
-use Rattle.std.proofs.Common.{◌≡◌, ◌++◌, sym, ap, ◌∙◌, subst}
+use Rattle.std.proofs.Common.{◌≡◌, ◌∷◌, [], List, ◌++◌, sym, ap, ◌∙◌, subst}
 use Rattle.ra_stamp.specs.declared.entry.Entry.{Entry}
+use Rattle.ra_stamp.specs.declared.entry.Mark.{Mark}
+use Rattle.ra_stamp.specs.declared.entry.Mark.TheVariants.{Left}
 use Rattle.ra_node.specs.Resource.{Resource, clients_of}
 use Rattle.ra_node.specs.Turns.{request_marks, next_entry}
 use Rattle.ra_node.proofs.Distinct.{Once, leaves_once}
@@ -14,9 +16,13 @@ returns-clause-handed c =
     let s = c.self.inside in
     let handed = c.in-Ok.handed in
     let next = c.args.next in
-    let marks : c.push_request.new.marks.items ≡ c.args.marks.items ++ request_marks handed.entered (next_entry c.args.self.now next.client next.mode) =
-    c.push_request.ensures ∙ ap (λ (e : Entry). c.args.marks.items ++ request_marks handed.entered e) c.next_entry-requested.ensures
+    let left = Left c.args.held.now ∷ [] in
+    let first : c.push_reserved.new.marks.items ≡ left = c.push_reserved.ensures.items ∙ ap (λ (ms : List Mark). ms ++ left) c.requires.nothing.marks in
+    let marks : c.push_request.new.marks.items ≡ left ++ request_marks handed.entered (next_entry c.args.self.now next.client next.mode) =
+    c.push_request.ensures
+    ∙ ap (λ (ms : List Mark). ms ++ request_marks handed.entered c.next_entry-requested.result) first
+    ∙ ap (λ (e : Entry). left ++ request_marks handed.entered e) c.next_entry-requested.ensures
     in (
-      parts_handed_over s.automaton c.leave_and_request_into-left.new.self s.client s.queue c.pop_front.new.self c.args.self.now next c.pop_front.result handed.sends.items c.args.marks.items c.push_request.new.marks.items handed.entered c.self.view_is c.in-Ok.ensures.left.ok c.requires.first c.pop_front.ensures marks,
+      parts_handed_over s.automaton c.leave_and_request_into-left.new.self s.client s.queue c.pop_front.new.self c.args.self.now next c.pop_front.result handed.sends.items left c.push_request.new.marks.items handed.entered c.self.view_is c.in-Ok.ensures.left.ok c.requires.first c.pop_front.ensures marks,
       c.leave_and_request_into-left.ensures.consistent,
     )
