@@ -1,5 +1,5 @@
 -- A world as contracts see it, why it refuses a step, and what it reports.
-use Rattle.std.specs.Prelude.{◌≡◌, ◌≢◌, ◌↔◌, ◌⊎◌, ℕ, ◌<◌, ◌≤◌, List, [], ◌∷◌, ◌++◌, length, map, Result, IfOk, IsErrOf, IsOkUnless, OnErr}
+use Rattle.std.specs.Prelude.{◌≡◌, ◌≢◌, ◌↔◌, ◌⊎◌, ℕ, ◌<◌, ◌≤◌, List, [], ◌∷◌, ◌++◌, length, map, Option, Some, None, Result, IfOk, IsErrOf, IsOkUnless, OnErr}
 use Rattle.ra_stamp.specs.NodeId.{IsNodeNumber}
 use Rattle.ra_stamp.specs.declared.entry.Entry.{Entry}
 use Rattle.ra_stamp.specs.declared.entry.Mark.{Mark}
@@ -7,7 +7,8 @@ use Rattle.ra_stamp.specs.declared.message.Message.{Message}
 use Rattle.ra_stamp.specs.Message.{to_of}
 use Rattle.ra_automaton.specs.Steps.{greatest_number}
 use Rattle.ra_node.specs.Resource.{Holds, IsBusy}
-use Rattle.ra_node.specs.Node.{NodeState, resource_at}
+use Rattle.ra_node.specs.Node.{NodeState, opening_node, resource_at}
+use Rattle.ra_node.specs.Events.{NodeEvents}
 use Rattle.ra_node.specs.Memory.{BringsNothing}
 use Rattle.ra_node.specs.declared.outcome.Outcome.{Outcome}
 use Rattle.ra_world.specs.declared.step.Step.{Step}
@@ -17,7 +18,7 @@ use Rattle.ra_world.specs.declared.error.StepError.{StepError}
 use Rattle.ra_world.specs.declared.error.StepError.TheVariants.{NoNode, NotUnderWay, Node, Memory}
 use Rattle.ra_world.specs.declared.text.report.Report.{Report}
 use Rattle.ra_world.specs.Traffic.{Move, LeavesUnderWay, IsUnderWay, sent_by, lost_by, repeated_by}
-use Rattle.ra_world.specs.Run.{IsRun, GoesOn, EndsWith, marks_of, waiting_at_all, queued_at_all}
+use Rattle.ra_world.specs.Run.{IsRun, GoesOn, EndsWith, happened_at, marks_of, waiting_at_all, queued_at_all}
 use Rattle.ra_world.specs.Quiet.{requests_in}
 
 -- how many nodes there are, the highest number with which each resource begins, and the steps so far with what came of
@@ -102,6 +103,11 @@ pub record AnswersStep (old : WorldState) (step : Step) (result : Result Outcome
   pub allowed : IsOkUnless result Memory ↔ GoesOn old.count old.start old.moves step
   pub err : OnErr result (new ≡ old)
   pub memory : IsErrOf result Memory → MayNeedMemory old.count old.start old.moves step ⊎ IsFull old.moves
+
+-- at the end of a run this is the node with this number, to which its own events lead, or no node has this number
+abbrev pub IsNodeAfter : ℕ → ℕ → List Move → ℕ → Option NodeState → Type 0
+IsNodeAfter n start moves i None = n < i
+IsNodeAfter n start moves i (Some node) = (1 ≤ i) × (i ≤ n) × NodeEvents (opening_node i n start) (happened_at i moves) node
 
 -- at the nodes at the end of a run, this many requests wait
 abbrev pub AreWaiting : ℕ → ℕ → List Move → ℕ → Type 0

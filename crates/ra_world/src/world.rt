@@ -4,7 +4,7 @@ pub mod node_places;
 pub mod run_steps;
 pub mod step_log;
 
-ghost use Rattle.std.specs.Prelude.{◌≡◌, ◌↔◌, [], List, length, slice_get, string_bytes, IsTrue, IsErrOf, IfOk, OnOk};
+ghost use Rattle.std.specs.Prelude.{◌≡◌, ◌↔◌, [], List, length, slice_get, option_copied, string_bytes, IsTrue, IsErrOf, IfOk, OnOk};
 ghost use Rattle.ra_stamp.specs.declared.message.Message.{Message};
 
 use crate::text::report::Figures;
@@ -67,7 +67,7 @@ impl<const KEEPS_MARKS: u8> WorldOf<KEEPS_MARKS> {
     ghost use Rattle.ra_world.specs.Traffic.{LeavesUnderWay, sent_by};
     ghost use Rattle.ra_world.specs.Quiet.{requests_in};
     ghost use Rattle.ra_world.specs.Run.{IsRun, GoesOn, marks_of};
-    ghost use Rattle.ra_world.specs.World.{AnswersStep, AreWaiting, AreQueued};
+    ghost use Rattle.ra_world.specs.World.{AnswersStep, AreWaiting, AreQueued, IsNodeAfter};
     ghost use Rattle.ra_world.specs.StateLines.{IsStateText};
     ghost use Rattle.ra_world.specs.Keeping.{Tries};
 
@@ -99,6 +99,35 @@ impl<const KEEPS_MARKS: u8> WorldOf<KEEPS_MARKS> {
                 log: StepLog::new(alloc),
             },
         })
+    }
+
+    /// Returns how many nodes there are, 1 to 64. It does not allocate.
+    pub fn count(&self) -> u16
+        ensures value { result ≡ self.now.count }
+        ensures run { IsRun self.now.count self.now.start self.now.moves }
+        ensures count { IsNodeNumber self.now.count }
+    {
+        self.nodes.len() as u16
+    }
+
+    /// Returns the highest number with which each resource began, 0 to 2^64-1. It does not allocate.
+    pub fn start(&self) -> u64
+        ensures value { result ≡ self.now.start }
+        ensures run { IsRun self.now.count self.now.start self.now.moves }
+        ensures count { IsNodeNumber self.now.count }
+    {
+        self.start
+    }
+
+    /// Returns the node with this number as it is after the steps so far, or `None` if there is no such node. It does not
+    /// allocate.
+    pub fn node(&self, node: NodeId) -> Option<&Node>
+        ensures value { IsNodeAfter self.now.count self.now.start self.now.moves node (option_copied result) }
+        ensures run { IsRun self.now.count self.now.start self.now.moves }
+        ensures count { IsNodeNumber self.now.count }
+    {
+        let nodes = &self.nodes;
+        nodes.get(node.place())
     }
 
     /// Makes a step, and returns what came of it: the messages that it sent, which are now under way, and its marks. A
