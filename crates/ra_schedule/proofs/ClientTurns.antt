@@ -62,11 +62,17 @@ none_waiting_holds x c (e, is, client) = cc
 one_holds : (x : Entry) (c : ℕ) → HoldsIn (HoldsBy x) c → x.client ≡ c
 one_holds x c (e, is, client) = let same : x ≡ e = cc in ap (λ (y : Entry). y.client) same ∙ client
 
-use_holder : (s : State) (phase : Phase) (client : Option ℕ) (e : Entry) → use_in s phase client ≡ HoldsBy e → client ≡ Some e.client
+pub use_holder : (s : State) (phase : Phase) (client : Option ℕ) (e : Entry) → use_in s phase client ≡ HoldsBy e → client ≡ Some e.client
 use_holder s phase None e is = absurd cc
 use_holder s Idle (Some c) e is = absurd cc
 use_holder s (Waiting seq mode) (Some c) e is = absurd cc
 use_holder s (Inside seq mode) (Some c) e is = cc
+
+pub use_waiter : (s : State) (phase : Phase) (client : Option ℕ) (e : Entry) → use_in s phase client ≡ WaitsBy e → client ≡ Some e.client
+use_waiter s phase None e is = absurd cc
+use_waiter s Idle (Some c) e is = absurd cc
+use_waiter s (Waiting seq mode) (Some c) e is = cc
+use_waiter s (Inside seq mode) (Some c) e is = absurd cc
 
 -- a client that holds is the current one
 pub holder_is : (r : Resource) (c : ℕ) → HasIt r c → r.client ≡ Some c

@@ -44,7 +44,7 @@ place_of_last ops before left op is =
     at_seam [] = refl
     at_seam (x ∷ xs) = at_seam xs
 
-next_is : (ops did rest : List Op) (op : Op) → ops ≡ did ++ op ∷ rest → slice_get ops (length did) ≡ Some op
+pub next_is : (ops did rest : List Op) (op : Op) → ops ≡ did ++ op ∷ rest → slice_get ops (length did) ≡ Some op
 next_is ops did rest op is = (place_of_last ops did rest op (is ∙ sym (append_assoc did (op ∷ []) rest))).0
 
 module _ (laws : LawsOfRuns) (script : ScriptState) (fit : IsScript script) (moves : List Move) (run : IsRun script.nodes 0 moves) (all : AllStand script moves)

@@ -36,6 +36,7 @@ mod Climbing
 mod NobodyQueued
 mod TakenNames
 mod Enabling
+mod TableNames
 mod NoDeadlock
 mod Ascending
 mod GoingOn

@@ -7,12 +7,8 @@ use Rattle.std.proofs.lemmas.List.{append-nil}
 use Rattle.std.proofs.lemmas.List.Elements.{All-contains, Contains-append_left, Contains-append_right}
 use Rattle.ra_stamp.specs.declared.entry.Entry.{Entry}
 use Rattle.ra_stamp.specs.declared.mode.Mode.{Mode}
-use Rattle.ra_automaton.specs.declared.phase.Phase.{Phase}
-use Rattle.ra_automaton.specs.declared.phase.Phase.TheVariants.{Idle, Waiting, Inside}
-use Rattle.ra_automaton.specs.State.{State}
 use Rattle.ra_automaton.specs.Steps.{greatest_number}
-use Rattle.ra_node.specs.Resource.{Resource, use_in, use_of, IsBusy}
-use Rattle.ra_node.specs.Resource.Use.{WaitsBy}
+use Rattle.ra_node.specs.Resource.{Resource, use_of, IsBusy}
 use Rattle.ra_node.specs.Node.{NodeState, opening_node, resource_at}
 use Rattle.ra_table.specs.Table.{LockTable, TableRun}
 use Rattle.ra_world.specs.declared.text.report.Report.{Report}
@@ -29,7 +25,7 @@ use Rattle.ra_schedule.specs.LockOrder.{IsBelow, IsOutOfOrder, IsUnreleased}
 use Rattle.ra_schedule.specs.BelowFinishing.{LawsOfNodes, LawsOfRuns}
 use Rattle.ra_schedule.proofs.Enabling.{held_last, place_of_last, must_wait}
 use Rattle.ra_schedule.proofs.Held.{held_pushed}
-use Rattle.ra_schedule.proofs.ClientTurns.{HasIt, holder_stands}
+use Rattle.ra_schedule.proofs.ClientTurns.{HasIt, holder_stands, use_waiter}
 use Rattle.ra_schedule.proofs.MovedNodes.{IsNode}
 use Rattle.ra_schedule.proofs.Standing.{LastLocks}
 use Rattle.ra_schedule.proofs.StandingRuns.{AllStand, is_client}
@@ -68,13 +64,7 @@ named : (script : ScriptState) (client : ℕ) (who : ScriptClient) (name : List 
 named script zero who name is has = absurd cc
 named script (suc k) who name is has = named_by script.clients k who name is has
 
--- ---- The use of a name
-
-use_waiter : (s : State) (phase : Phase) (client : Option ℕ) (e : Entry) → use_in s phase client ≡ WaitsBy e → client ≡ Some e.client
-use_waiter s phase None e is = absurd cc
-use_waiter s Idle (Some c) e is = absurd cc
-use_waiter s (Waiting seq mode) (Some c) e is = cc
-use_waiter s (Inside seq mode) (Some c) e is = absurd cc
+-- ---- No entries
 
 no_items : (es : List Entry) → ((e : Entry) → Contains es e → ⊥) → length es ≡ 0
 no_items [] none = refl

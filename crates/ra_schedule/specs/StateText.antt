@@ -3,7 +3,9 @@ use Rattle.std.specs.Prelude.{◌≡◌, ◌↔◌, ℕ, ◌+◌, Bool, true, fa
 use Rattle.std.specs.List.Sorted.{IsStrictlySortedBy}
 use Rattle.std.specs.Ordering.{nat_cmp}
 use Rattle.std.specs.Cmp.Lexicographic.{slice_cmp}
+use Rattle.ra_stamp.specs.declared.entry.Entry.{Entry}
 use Rattle.ra_stamp.specs.declared.mode.Mode.{Mode}
+use Rattle.ra_table.specs.Table.{LockTable, TableRun}
 use Rattle.ra_world.specs.declared.text.report.Report.{Report}
 use Rattle.ra_world.specs.declared.step.Step.TheVariants.{Ask}
 use Rattle.ra_world.specs.Traffic.{Move}
@@ -40,6 +42,11 @@ IsNameOf script name = (client : ℕ) × IsNameAt script client name
 pub record AreNamesOf (script : ScriptState) (names : List (List ℕ)) : Type 0 where
   pub each : (name : List ℕ) → Contains names name ↔ IsNameOf script name
   pub in_order : IsStrictlySortedBy (slice_cmp nat_cmp) names
+
+-- each request of the lock table, waiting or granted, is on one of these names
+pub record HasOnlyNames (names : List (List ℕ)) (table : LockTable) : Type 0 where
+  pub waiting : (e : Entry) → Contains table.waiting e → Contains names e.name
+  pub holding : (e : Entry) → Contains table.holding e → Contains names e.name
 
 -- ---- Clients
 
@@ -98,10 +105,12 @@ AreClientLines script moves (suc count) text = (before line : List ℕ)
 
 -- ---- A state
 
--- the text says which state the cluster and the clients of a script are in after these moves
+-- The text says which state the cluster and the clients of a script are in after these moves. It tells of each name of the
+-- script, and the lock table has requests on no others, so all of them are in the text.
 pub record ShowsState (script : ScriptState) (moves : List Move) (text : List ℕ) : Type 0 where
   pub names : List (List ℕ)
   pub are_names : AreNamesOf script names
+  pub whole_table : (table : LockTable) → TableRun (marks_of moves) table → HasOnlyNames names table
   pub clients : List ℕ
   pub are_clients : AreClientLines script moves (length script.clients) clients
   pub is_text : IsStateText script.nodes 0 moves names clients text

@@ -1,5 +1,5 @@
--- The printed lines of a state: what each node knows of each name, the messages under way, and the requests that wait and
--- hold, at the end of a run. A line is words with one space between two, and a line feed at its end, as in a report.
+-- The printed lines of a state: what each node knows of names, the messages under way, and the requests on these names that
+-- wait and hold, at the end of a run. A line is words with one space between two, and a line feed at its end, as in a report.
 use Rattle.std.specs.Prelude.{◌≡◌, ℕ, ◌+◌, List, [], ◌∷◌, ◌++◌, length, if◌then◌else◌, Option, Some, None, codes, decimal, flat_map}
 use Rattle.std.specs.List.{range_with_len}
 use Rattle.std.specs.FinSet as set
@@ -117,7 +117,7 @@ table_lines names nodes count = flat_map (λ i. table_lines_at names (nodes i)) 
 -- ---- A state
 
 -- the text of a state: how many steps were made, these names at the n nodes, the messages under way, these lines about
--- clients, and the requests that wait and hold
+-- clients, and the requests on these names that wait and hold
 abbrev pub state_text : (n steps : ℕ) → (names : List (List ℕ)) → (nodes : ℕ → NodeState) → (left : List Message) → (clients : List ℕ) → List ℕ
 state_text n steps names nodes left clients =
     total_line (codes "steps") steps
@@ -127,7 +127,8 @@ state_text n steps names nodes left clients =
     ++ table_lines names nodes n
 
 -- The text says which state n nodes are in after these moves from the start value. Of the nodes it tells what they know of
--- these names, and of the clients it has these lines. The requests of the nodes are the lock table of the moves' marks.
+-- these names, and of the clients it has these lines. The requests of the nodes are the lock table of the moves' marks, of
+-- which the text has those on these names.
 pub record IsStateText (n start : ℕ) (moves : List Move) (names : List (List ℕ)) (clients text : List ℕ) : Type 0 where
   pub nodes : ℕ → NodeState
   pub ends : EndsWith n start moves nodes

@@ -276,9 +276,10 @@ impl<const KEEPS_MARKS: u8> WorldOf<KEEPS_MARKS> {
     }
 
     /// Returns the lines of the state after the steps so far: how many they were, what each node knows of each of these names,
-    /// the messages under way, these lines about clients, and the requests that wait and hold, which are the lock table. The
-    /// cost is linear in the text and in the number of nodes times that of names, and for a name on which a node has a request
-    /// linear in the number of nodes. Finding the messages takes what `message_at` takes for each.
+    /// the messages under way, these lines about clients, and the requests on these names that wait and hold. So these are the
+    /// whole lock table only if `names` has each name on which a request waits or holds. The cost is linear in the text and in
+    /// the number of nodes times that of names, and for a name on which a node has a request linear in the number of nodes.
+    /// Finding the messages takes what `message_at` takes for each.
     ///
     /// # Errors
     ///

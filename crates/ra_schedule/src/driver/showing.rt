@@ -1,8 +1,10 @@
 //! The state at the end of what a policy makes of a script.
 ghost use Rattle.std.specs.Prelude.{◌≡◌, string_bytes, IfOk};
 ghost use Rattle.ra_schedule.specs.Drive.{Drives};
+ghost use Rattle.ra_schedule.specs.Performing.{Performs};
 ghost use Rattle.ra_schedule.specs.Progress.{Tracks};
 ghost use Rattle.ra_schedule.specs.Schedule.{steps_of};
+ghost use Rattle.ra_schedule.specs.Script.{IsScript};
 ghost use Rattle.ra_schedule.specs.StateText.{IsShown, ShowsState};
 
 use crate::driver::client_state::client_lines;
@@ -21,7 +23,8 @@ pub struct Shown {
     pub finished: bool,
 }
 
-/// Drives a cluster through a script, as [`drive`](crate::drive) does, and returns the lines of the state at the end. Beyond that
+/// Drives a cluster through a script, as [`drive`](crate::drive) does, and returns the lines of the state at the end. They tell of
+/// each name of the script, so that the requests that wait and hold in them are the whole lock table. Beyond that
 /// it costs what `World::state_text` does for the names of the script, and for each client that waits a look at the steps since its
 /// ask.
 ///
@@ -53,6 +56,8 @@ pub fn show(
 ///
 /// `Memory`: there is none for the lines.
 fn text_of(alloc: Global, script: &Script, cluster: &DrivenCluster) -> Result<String, Memory>
+    requires fit { IsScript script.now }
+    requires performs { Performs script.now cluster.now.world.moves }
     requires tracked { Tracks script.now cluster.now.world cluster.now.driver.clients.items }
     requires steps { cluster.now.driver.steps.items ≡ steps_of cluster.now.world.moves }
     ensures { IfOk result (λ text. ShowsState script.now cluster.now.world.moves (string_bytes text)) }

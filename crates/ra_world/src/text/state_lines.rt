@@ -1,4 +1,5 @@
-//! The lines of a state: what the nodes know of names, the messages under way, and the requests that wait and hold.
+//! The lines of a state: what the nodes know of names, the messages under way, and the requests on these names that wait and
+//! hold.
 ghost use Rattle.std.specs.Prelude.{◌≡◌, ◌++◌, codes, flat_map, length, string_bytes, IfOk};
 ghost use Rattle.ra_stamp.specs.NodeId.{IsNodeNumber};
 ghost use Rattle.ra_node.specs.Node.{resource_at};

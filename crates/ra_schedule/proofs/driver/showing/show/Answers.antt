@@ -3,6 +3,7 @@ use Rattle.std.proofs.lemmas.Result.{err_from_is_err_and}
 use Rattle.ra_schedule.specs.StateText.{IsShown}
 use Rattle.ra_schedule.proofs.Ended.{came_to_end, recorded_all, was_stopped}
 use Rattle.ra_schedule.proofs.HandedOn.{memory_ran_out}
+use Rattle.ra_schedule.proofs.ThoroughPolicies.{follows_performs}
 use Rattle.ra_schedule.proofs.driver.showing.show.Goals as goal
 
 pub finish-requires-clause-opened : goal.finish-requires-clause-opened
@@ -10,6 +11,13 @@ finish-requires-clause-opened c = c.in_ok-cluster.ensures.opened
 
 pub finish-requires-clause-ready : goal.finish-requires-clause-ready
 finish-requires-clause-ready c = c.in_ok-cluster.ensures.ready
+
+pub text_of-requires-clause-fit : goal.text_of-requires-clause-fit
+text_of-requires-clause-fit c = c.in_ok-cluster.ensures.fit
+
+pub text_of-requires-clause-performs : goal.text_of-requires-clause-performs
+text_of-requires-clause-performs c =
+    follows_performs c.args.script.now c.args.policy.now c.finish.new.world.moves c.in_ok-finish.ensures.ok.0.follows
 
 pub text_of-requires-clause-tracked : goal.text_of-requires-clause-tracked
 text_of-requires-clause-tracked c = c.in_ok-finish.ensures.ok.0.tracks

@@ -3,6 +3,8 @@ use Rattle.ra_world.specs.StateLines.{IsStateText}
 use Rattle.ra_schedule.specs.declared.driver.client_progress.Progress.{Progress}
 use Rattle.ra_schedule.specs.Progress.{Tracks}
 use Rattle.ra_schedule.specs.StateText.{ShowsState}
+use Rattle.ra_schedule.proofs.ScheduleLaws.{endings_rest_on_nodes, endings_rest_on_runs}
+use Rattle.ra_schedule.proofs.TableNames.{only_names_in_table}
 use Rattle.ra_schedule.proofs.driver.showing.text_of.Goals as goal
 
 pub client_lines-requires-clause-tracked : goal.client_lines-requires-clause-tracked
@@ -28,6 +30,7 @@ returns c =
     (λ text is. record {
       names = names;
       are_names = c.in_ok-names.ensures;
+      whole_table = only_names_in_table endings_rest_on_nodes endings_rest_on_runs c.args.script.now c.requires.fit world.moves c.requires.performs names c.in_ok-names.ensures;
       clients = clients;
       are_clients = c.in_ok-clients.ensures;
       is_text =
