@@ -42,7 +42,7 @@ pub record StaysBy (client : ℕ) (marks : List Mark) (old new : Resource) : Typ
 abbrev HoldsIn : Use → ℕ → Type 0
 HoldsIn u client = (e : Entry) × (u ≡ HoldsBy e) × (e.client ≡ client)
 
-held_is : (u : Use) (e : Entry) → held_entry u ≡ Some e → u ≡ HoldsBy e
+pub held_is : (u : Use) (e : Entry) → held_entry u ≡ Some e → u ≡ HoldsBy e
 held_is Nobody e is = absurd cc
 held_is (WaitsBy x) e is = absurd cc
 held_is (HoldsBy x) e is = cc

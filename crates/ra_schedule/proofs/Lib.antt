@@ -37,6 +37,9 @@ mod NobodyQueued
 mod TakenNames
 mod Enabling
 mod TableNames
+mod TurnMarks
+mod PlannedMarks
+mod PlannedRuns
 mod NoDeadlock
 mod Ascending
 mod GoingOn

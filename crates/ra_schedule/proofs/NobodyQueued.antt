@@ -1,5 +1,5 @@
--- If no client is at any name, none is queued.
-use Rattle.std.proofs.Common.{◌≡◌, ℕ, zero, suc, ◌+◌, ◌<◌, ◌≤◌, cond, ◌&&◌, T, List, [], ◌∷◌, ◌++◌, length, map, Option, Some, None, Contains, refl, sym, ap, ◌∙◌, subst, arith}
+-- If no client is at any name, none is queued; and if none is queued, every queue is empty.
+use Rattle.std.proofs.Common.{◌≡◌, ℕ, zero, suc, ◌+◌, ◌<◌, ◌≤◌, true, false, cond, ◌&&◌, T, List, [], ◌∷◌, ◌++◌, length, map, Option, Some, None, Contains, refl, sym, ap, ◌∙◌, subst, arith, inl, inr}
 use Rattle.std.specs.Prelude.{sum_by, option_to_list, unwrap_or}
 use Rattle.std.specs.List.{range_with_len}
 use Rattle.std.specs.Ordering.{nat_cmp, is_eq, is_lt}
@@ -8,6 +8,7 @@ use Rattle.std.specs.declared.cmp.Ordering.TheVariants.{Less, Equal, Greater}
 use Rattle.std.specs.Cmp.Lexicographic.{slice_cmp, nat_list_cmp_total}
 use Rattle.std.specs.FinMap as finmap
 use Rattle.std.specs.FinMap.Entries.{find, find_tied, is_sorted, below_all}
+use Rattle.std.proofs.lemmas.Bool.{cases_eq}
 use Rattle.std.proofs.lemmas.Cmp.{tied_itself}
 use Rattle.std.proofs.lemmas.List.Elements.{Contains-append_right}
 use Rattle.std.proofs.lemmas.List.Sums.{sum_by-cons}
@@ -81,3 +82,32 @@ pub nobody_queued : (n : ℕ) (nodes : ℕ → NodeState) → ((i : ℕ) (name :
     → queued_at_all n nodes ≡ 0
 nobody_queued n nodes nobody =
     over_nodes (λ i. queued_count (nodes i)) 1 n (λ i low high. nobody_at (nodes i) (λ name client. nobody i name client (low, omega (arith, high))))
+
+-- ---- If none is queued, no queue has anybody in it
+
+none_found : (k : List ℕ) (v : Resource) (es : List (List ℕ × Resource)) → sum_by (λ e. length e.1.queue) es ≡ 0 → find cmp k es ≡ Some v → length v.queue ≡ 0
+none_found k v [] none is = absurd cc
+none_found k v (e ∷ es) none is =
+    let sum = sum_by-cons (λ (x : List ℕ × Resource). length x.1.queue) e es in
+    elim (is_eq (cmp k e.0)) as (λ b. cond b (Some e.1) (find cmp k es) ≡ Some v → length v.queue ≡ 0) [
+      | true ↦ λ here. let same : e.1 ≡ v = cc in omega (arith, none, sum, ap (λ (r : Resource). length r.queue) same)
+      | false ↦ λ later. none_found k v es (omega (arith, none, sum)) later
+    ] is
+
+by_get : (node : NodeState) (name : List ℕ) (o : Option Resource) → finmap.get node.resources name ≡ o → queued_count node ≡ 0
+    → length (unwrap_or o (unmet node.me node.nodes name node.start)).queue ≡ 0
+by_get node name None is none = refl
+by_get node name (Some v) is none = none_found name v (finmap.entries node.resources) none (sym (finmap.get-entries node.resources name) ∙ is)
+
+at_each : (f : ℕ → ℕ) (first n i : ℕ) → sum_by f (range_with_len first n) ≡ 0 → first ≤ i → i < first + n → f i ≡ 0
+at_each f first zero i none low high = absurd (omega (arith, low, high))
+at_each f first (suc n) i none low high =
+    let sum = sum_by-cons f first (range_with_len (first + 1) n) in
+    elim (cases_eq first i) [
+      | inl same ↦ subst (λ (k : ℕ). f k ≡ 0) same (omega (arith, none, sum))
+      | inr apart ↦ at_each f (first + 1) n i (omega (arith, none, sum)) (omega (arith, low, apart)) (omega (arith, high))
+    ]
+
+pub empty_queues : (n : ℕ) (nodes : ℕ → NodeState) → queued_at_all n nodes ≡ 0 → (i : ℕ) (name : List ℕ) → IsNode n i → length (resource_at (nodes i) name).queue ≡ 0
+empty_queues n nodes none i name at =
+    by_get (nodes i) name (finmap.get (nodes i).resources name) refl (at_each (λ k. queued_count (nodes k)) 1 n i none at.0 (omega (arith, at.1)))

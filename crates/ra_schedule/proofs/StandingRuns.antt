@@ -74,7 +74,7 @@ nothing_held : (name : List ℕ) → IsHeldAfter [] name → ⊥
 nothing_held name ([], after, mode, is, none) = absurd cc
 nothing_held name (x ∷ before, after, mode, is, none) = absurd cc
 
-at_first : LawsOfNodes → (script : ScriptState) → IsNodeNumber script.nodes → AllStand script []
+pub at_first : LawsOfNodes → (script : ScriptState) → IsNodeNumber script.nodes → AllStand script []
 at_first laws script count =
     let nodes = λ (i : ℕ). opening_node i script.nodes 0 in
     record {

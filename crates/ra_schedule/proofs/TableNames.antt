@@ -1,11 +1,9 @@
 -- Each request in the lock table of a script's run is that of a client of the script, on a name of the script.
-use Rattle.std.proofs.Common.{◌≡◌, ◌⊎◌, ℕ, ◌≤◌, Option, Some, List, ◌∷◌, ◌++◌, All, Contains, length, map, refl, sym, ap, ◌∙◌, subst, append_assoc, arith, inl, inr}
+use Rattle.std.proofs.Common.{◌≡◌, ℕ, Option, Some, List, ◌∷◌, ◌++◌, Contains, length, map, refl, sym, ap, ◌∙◌, subst, append_assoc, arith}
 use Rattle.std.specs.Prelude.{option_to_list, option_and_then, slice_get}
 use Rattle.std.proofs.lemmas.List.Elements.{All-contains}
 use Rattle.ra_stamp.specs.declared.entry.Entry.{Entry}
-use Rattle.ra_stamp.specs.declared.mode.Mode.{Mode}
-use Rattle.ra_node.specs.Resource.{Resource, use_of, IsBusy}
-use Rattle.ra_node.specs.Resource.Use.{WaitsBy, HoldsBy}
+use Rattle.ra_node.specs.Resource.{Resource, IsBusy}
 use Rattle.ra_node.specs.Node.{resource_at}
 use Rattle.ra_table.specs.Table.{LockTable, TableRun}
 use Rattle.ra_world.specs.Traffic.{Move}

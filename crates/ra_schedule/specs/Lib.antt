@@ -6,6 +6,7 @@ pub mod LockOrder
 pub mod LockSearch
 pub mod Schedule
 pub mod Performing
+pub mod Plan
 pub mod Orderly
 pub mod Progress
 pub mod Enabled

@@ -18,8 +18,8 @@ pub use driver::showing::{Shown, show};
 pub use driver::shrinking::{Shrunk, shrink};
 pub use error::{AddClientError, AddOpError, ChoicesError, DriveError, NewScriptError};
 pub use laws::finishing::{
-    clients_in_order_never_deadlock, ordered_scripts_finish, policies_bring_scripts_to_rest,
-    scripts_come_to_rest, seeds_finish_ordered_scripts,
+    clients_in_order_never_deadlock, finished_scripts_granted_each_lock, ordered_scripts_finish,
+    policies_bring_scripts_to_rest, scripts_come_to_rest, seeds_finish_ordered_scripts,
 };
 pub use laws::{policies_lead_to_one_run, policies_repeat_no_message};
 pub use script::lock_order::{

@@ -3,6 +3,7 @@ ghost use Rattle.std.specs.Prelude.{◌≡◌, ◌≤◌, ◌<◌, ◌+◌, ◌*
 ghost use Rattle.ra_stamp.specs.NodeId.{IsNodeNumber};
 ghost use Rattle.ra_automaton.specs.Steps.{greatest_number};
 ghost use Rattle.ra_node.specs.Node.{NodeState};
+ghost use Rattle.ra_table.specs.Table.{LockTable, TableRun};
 ghost use Rattle.ra_world.specs.Quiet.{IsQuiet, requests_in};
 ghost use Rattle.ra_world.specs.Run.{IsRun, EndsWith, marks_of};
 ghost use Rattle.ra_world.specs.declared.text.report.Report.{Report};
@@ -17,6 +18,7 @@ ghost use Rattle.ra_schedule.specs.Survey.{chance, is_finished, IsOutcome, IsSur
 ghost use Rattle.ra_schedule.specs.LockOrder.{IsOutOfOrder, IsUnreleased};
 ghost use Rattle.ra_schedule.specs.Orderly.{TakeNamesInOrder, WaitsForName, SomeoneCanGoOn, IsHeldInOrder};
 ghost use Rattle.ra_schedule.specs.Performing.{Performs, IsAtRest, ChoosesItself, LosesNothing, most_turns};
+ghost use Rattle.ra_schedule.specs.Plan.{MeetsPlan};
 ghost use Rattle.ra_schedule.specs.Schedule.{steps_of, Follows, Ends, Stops, IsFinished, RepeatsNothing};
 ghost use Rattle.ra_schedule.specs.Script.{ScriptState, IsScript};
 
@@ -28,6 +30,18 @@ pub fn ordered_scripts_finish()
         → ¬ IsOutOfOrder script → ¬ IsUnreleased script
         → Performs script moves → lost_by moves ≡ [] → IsAtRest script moves
         → Reports script.nodes 0 moves report → IsFinished script (steps_of moves) report }
+{}
+
+/// A finished run did what its script says. The marks that name a client are those of its operations, in order, at its node:
+/// Requested and Entered for each lock, and Left for each unlock. So each lock was granted, and no mark names anybody else. If
+/// each client gives back all that it takes, nothing is held.
+pub fn finished_scripts_granted_each_lock()
+    ensures plan { (script : ScriptState) (moves : List Move) (report : Report) → IsScript script → Performs script moves
+        → Reports script.nodes 0 moves report → IsFinished script (steps_of moves) report
+        → MeetsPlan script report.marks.items }
+    ensures none_holds { (script : ScriptState) (moves : List Move) (report : Report) → IsScript script → Performs script moves
+        → Reports script.nodes 0 moves report → IsFinished script (steps_of moves) report → ¬ IsUnreleased script
+        → (table : LockTable) → TableRun report.marks.items table → table.holding ≡ [] }
 {}
 
 /// A script takes few turns, in whatever order: one for each operation, two for each lock and other node, and at most
