@@ -13,7 +13,7 @@ use Rattle.ra_stamp.specs.Message.{from_of}
 use Rattle.ra_stamp.specs.Stamp.{IsEarlier}
 use Rattle.ra_automaton.specs.declared.phase.Phase.{Phase}
 use Rattle.ra_automaton.specs.declared.phase.Phase.TheVariants.{Idle, Waiting, Inside}
-use Rattle.ra_automaton.specs.State.{State, IsOther, IsWaiting, IsInside, HasNumber, IsConsistent}
+use Rattle.ra_automaton.specs.State.{State, IsOther, IsWaitingPhase, IsInside, HasNumber, IsConsistent}
 use Rattle.ra_automaton.specs.Steps.{others_of, later_of, Begins, RequestStep, Defers, RepliesAtOnce, TakesReply, ReceiveStep, LeaveStep, LeaveAndRequestStep, OwnGoesFirst}
 use Rattle.ra_automaton.proofs.Apart.{tied, untied, cases_same}
 use Rattle.ra_automaton.proofs.Ranges.{any_inside, any_passes}
@@ -65,7 +65,7 @@ consistent_asked old mode h idle many =
     }
 
 idle_awaits_nobody : (s : State) → IsConsistent s → s.phase ≡ Idle → s.awaited ≡ set.empty
-idle_awaits_nobody s h idle = h.awaits_only (λ w. subst IsWaiting idle w)
+idle_awaits_nobody s h idle = h.awaits_only (λ w. subst IsWaitingPhase idle w)
 
 pub consistent_alone : (old : State) (mode : Mode) → IsConsistent old → old.phase ≡ Idle
     → IsConsistent (record old { highest = old.highest + 1; phase = Inside (old.highest + 1) mode })
@@ -161,10 +161,10 @@ still_awaited s other node k =
     second_true true b e = e
     second_true false b e = absurd cc
 
-pub is_waiting : (phase : Phase) (seq : ℕ) (mode : Mode) → phase ≡ Waiting seq mode → IsWaiting phase
-is_waiting phase seq mode e = subst IsWaiting (sym e) tt
+pub is_waiting : (phase : Phase) (seq : ℕ) (mode : Mode) → phase ≡ Waiting seq mode → IsWaitingPhase phase
+is_waiting phase seq mode e = subst IsWaitingPhase (sym e) tt
 
-pub consistent_waits_on : (s : State) (other : ℕ) → IsConsistent s → (set.remove s.awaited other ≡ set.empty → ⊥) → IsWaiting s.phase → IsConsistent (record s { awaited = set.remove s.awaited other })
+pub consistent_waits_on : (s : State) (other : ℕ) → IsConsistent s → (set.remove s.awaited other ≡ set.empty → ⊥) → IsWaitingPhase s.phase → IsConsistent (record s { awaited = set.remove s.awaited other })
 consistent_waits_on s other h left waiting =
     record {
       count = h.count;
@@ -202,7 +202,7 @@ consistent_reply s other number entered new h takes =
       ]
     ]
 
-inside_is_not_waiting : (phase : Phase) → IsInside phase → IsWaiting phase → ⊥
+inside_is_not_waiting : (phase : Phase) → IsInside phase → IsWaitingPhase phase → ⊥
 inside_is_not_waiting Idle i w = i
 inside_is_not_waiting (Waiting seq mode) i w = i
 inside_is_not_waiting (Inside seq mode) i w = w

@@ -42,10 +42,10 @@ abbrev pub IsAddressed : State → Message → Type 0
 IsAddressed s message = IsForNode s.me s.nodes message
 
 -- the node's request awaits REPLYs
-abbrev pub IsWaiting : Phase → Type 0
-IsWaiting Idle = ⊥
-IsWaiting (Waiting seq mode) = Unit {0}
-IsWaiting (Inside seq mode) = ⊥
+abbrev pub IsWaitingPhase : Phase → Type 0
+IsWaitingPhase Idle = ⊥
+IsWaitingPhase (Waiting seq mode) = Unit {0}
+IsWaitingPhase (Inside seq mode) = ⊥
 
 -- the node's request is granted
 abbrev pub IsInside : Phase → Type 0
@@ -89,8 +89,8 @@ pub record IsConsistent (s : State) : Type 0 where
   pub deferred_numbers : (node number : ℕ) → map.get s.deferred node ≡ Some number
       → (1 ≤ number) × (number ≤ s.highest)
   -- a node awaits REPLYs exactly while it waits, and defers no REPLY while it is idle
-  pub awaits : IsWaiting s.phase → s.awaited ≡ set.empty → ⊥
-  pub awaits_only : (IsWaiting s.phase → ⊥) → s.awaited ≡ set.empty
+  pub awaits : IsWaitingPhase s.phase → s.awaited ≡ set.empty → ⊥
+  pub awaits_only : (IsWaitingPhase s.phase → ⊥) → s.awaited ≡ set.empty
   pub defers_only : s.phase ≡ Idle → s.deferred ≡ map.empty
   -- the number of its request is 1 or more, and at most the highest that it has met
   pub numbered : HasNumber s.phase s.highest

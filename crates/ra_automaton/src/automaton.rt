@@ -48,7 +48,7 @@ impl Automaton {
     ghost use Rattle.std.specs.FinMap as finmap;
     ghost use Rattle.ra_stamp.specs.Message.{name_of};
     ghost use Rattle.ra_automaton.specs.State.{opening, entered_phase};
-    ghost use Rattle.ra_automaton.specs.State.{IsOther, IsAddressed, IsConsistent, IsInside, IsWaiting};
+    ghost use Rattle.ra_automaton.specs.State.{IsOther, IsAddressed, IsConsistent, IsInside, IsWaitingPhase};
     ghost use Rattle.ra_automaton.specs.Steps.{greatest_number, later_of, others_of, OwnGoesFirst, Awaits};
     ghost use Rattle.ra_automaton.specs.Steps.{Begins, Defers, RepliesAtOnce, TakesReply, LetsEnter};
     ghost use Rattle.ra_automaton.specs.Calls.{AnswersRequest, ChecksAddress, AnswersReceive};
@@ -575,7 +575,7 @@ impl Automaton {
 
     /// Takes the last REPLY that is awaited, and enters.
     fn enter(&mut self)
-        requires { IsWaiting self.old.phase }
+        requires { IsWaitingPhase self.old.phase }
         ensures { self.new ≡ record self.old { phase = entered_phase self.old.phase; awaited = set.empty } }
     {
         self.awaited = NodeSet::empty();

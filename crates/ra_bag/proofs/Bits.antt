@@ -12,7 +12,7 @@ use Rattle.std.proofs.Math.Nat.{pow-suc, mod-eq_of_lt}
 use Rattle.std.proofs.Math.Pow.{pow_mono}
 use Rattle.ra_stamp.specs.declared.message.Message.{Message}
 use Rattle.ra_bag.specs.declared.filled.Filled.{Filled}
-use Rattle.ra_bag.specs.Bag.{IsAt, messages_in}
+use Rattle.ra_bag.specs.Bag.{IsSlotAt, messages_in}
 use Rattle.ra_bag.specs.Filled.{AreBits, IsShown, KeepsShown}
 use Rattle.ra_bag.proofs.Emptied.{in_both, at_slot}
 
@@ -229,7 +229,7 @@ module _ (gone : ℕ) (slots : List (Option Message)) where
         absurd (true≢false (sym some ∙ none))
   ]
 
-  pub at_padded : (i place : ℕ) → i < length padded → is_some (get_or padded i None) ≡ true → length (messages_in (take i padded)) ≡ place → IsAt slots place (i - gone)
+  pub at_padded : (i place : ℕ) → i < length padded → is_some (get_or padded i None) ≡ true → length (messages_in (take i padded)) ≡ place → IsSlotAt slots place (i - gone)
   at_padded i place lt some before =
       let past : gone ≤ i = not_gone i some in
       let len = length-replicate {A = Option Message} gone None in
@@ -359,7 +359,7 @@ module _ (filled : Filled) (slots : List (Option Message)) (shown : IsShown fill
   part_word j word lt same = same ∙ word_at filled.words.items (padded filled.gone slots) j lt shown.1
 
   pub found_in : (j i left place at : ℕ) → length slots < 2 ^ 63 → i < length (part j) → is_some (get_or (part j) i None) ≡ true → length (messages_in (take i (part j))) ≡ left
-      → left + length (messages_in (take (64 * j) (padded filled.gone slots))) ≡ place → at ≡ ((j * 64 % 2 ^ 64 + i) % 2 ^ 64 + (2 ^ 64 - filled.gone)) % 2 ^ 64 → IsAt slots place at
+      → left + length (messages_in (take (64 * j) (padded filled.gone slots))) ≡ place → at ≡ ((j * 64 % 2 ^ 64 + i) % 2 ^ 64 + (2 ^ 64 - filled.gone)) % 2 ^ 64 → IsSlotAt slots place at
   found_in j i left place at short lt some near before is =
       let all = padded filled.gone slots in
       let later = drop (64 * j) all in
@@ -371,7 +371,7 @@ module _ (filled : Filled) (slots : List (Option Message)) (shown : IsShown fill
       let so_far : length (messages_in (take (64 * j + i) all)) ≡ place =
       omega (arith, so_many all (64 * j) i, before, near, ap (λ (l : List (Option Message)). length (messages_in l)) (take_within i 64 later (omega (arith, small)))) in
       let past : filled.gone ≤ 64 * j + i = not_gone filled.gone slots (64 * j + i) has in
-      subst (IsAt slots place) (sym (is ∙ omega (arith, short, there, shown_length, shown.0, past)))
+      subst (IsSlotAt slots place) (sym (is ∙ omega (arith, short, there, shown_length, shown.0, past)))
       (at_padded filled.gone slots (64 * j + i) place there has so_far)
 
   pub next_part : (j left count place : ℕ) → count ≡ length (messages_in (part j)) → count ≤ left → left + length (messages_in (take (64 * j) (padded filled.gone slots))) ≡ place

@@ -6,7 +6,7 @@ use Rattle.std.specs.List.{filter, remove}
 use Rattle.ra_stamp.proofs.Places.{split_at}
 use Rattle.ra_stamp.specs.declared.message.Message.{Message}
 use Rattle.ra_bag.specs.declared.found.Found.TheVariants.{At, In}
-use Rattle.ra_bag.specs.Bag.{TakesFirst, TakesOne, TakesAt, StandsIn, IsAt, messages_in, HasEmpty, FewEmpty}
+use Rattle.ra_bag.specs.Bag.{TakesFirst, TakesOne, TakesAt, StandsIn, IsSlotAt, messages_in, HasEmpty, FewEmpty}
 use Rattle.std.proofs.lemmas.List.{length-append, set_split, length-take-le, length-drop, get_or_append_left, get_or-append-add, get_or-take, get_or_default, append-nil, drop_all, length-map, get_or_past}
 use Rattle.std.proofs.lemmas.List.Elements.{filter_map-append}
 use Rattle.std.proofs.lemmas.Bool.Decides.{leb_tells}
@@ -151,7 +151,7 @@ at_most (None ∷ slots) = omega (arith, at_most slots)
 at_most (Some m ∷ slots) = omega (arith, at_most slots)
 
 -- if no slot is empty, each has the message at its place
-pub at_full : (slots : List (Option Message)) (place : ℕ) → length (messages_in slots) ≡ length slots → IsAt slots place place
+pub at_full : (slots : List (Option Message)) (place : ℕ) → length (messages_in slots) ≡ length slots → IsSlotAt slots place place
 at_full [] place full = (refl, λ lt. absurd (omega (arith, lt)))
 at_full (None ∷ slots) place full = absurd (omega (arith, full, at_most slots))
 at_full (Some m ∷ slots) zero full = (refl, λ _. refl)
@@ -165,11 +165,11 @@ past_all (m ∷ ms) zero le = absurd (omega (arith, le))
 past_all (m ∷ ms) (suc place) le = past_all ms place (omega (arith, le))
 
 -- past the end there is neither a message nor a slot
-pub at_end : (slots : List (Option Message)) (place i : ℕ) → length slots ≤ i → length (messages_in slots) ≤ place → IsAt slots place i
+pub at_end : (slots : List (Option Message)) (place i : ℕ) → length slots ≤ i → length (messages_in slots) ≤ place → IsSlotAt slots place i
 at_end slots place i end past = (get_or_past slots i None end ∙ past_all (messages_in slots) place past, λ lt. absurd (omega (arith, lt, end)))
 
 -- the place of the message in a slot is the number of messages before it
-pub at_slot : (slots : List (Option Message)) (i place : ℕ) → i < length slots → is_some (get_or slots i None) ≡ true → length (before slots i) ≡ place → IsAt slots place i
+pub at_slot : (slots : List (Option Message)) (i place : ℕ) → i < length slots → is_some (get_or slots i None) ≡ true → length (before slots i) ≡ place → IsSlotAt slots place i
 at_slot slots i place lt some len = (by slots i place lt some len, λ _. len)
   where
     by : (slots : List (Option Message)) (i place : ℕ) → i < length slots → is_some (get_or slots i None) ≡ true → length (before slots i) ≡ place

@@ -30,8 +30,8 @@ abbrev pub messages_in : List (Option Message) → List Message
 messages_in slots = filter_map (λ slot. slot) slots
 
 -- the slot contains the message at this place, or there is no such place and no such slot
-abbrev pub IsAt : List (Option Message) → ℕ → ℕ → Type 0
-IsAt slots place slot =
+abbrev pub IsSlotAt : List (Option Message) → ℕ → ℕ → Type 0
+IsSlotAt slots place slot =
     (slice_index_or slots slot None ≡ slice_get (messages_in slots) place)
     × (slot < length slots → length (messages_in (take slot slots)) ≡ place)
 

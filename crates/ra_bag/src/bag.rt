@@ -1,7 +1,7 @@
 ghost use Rattle.std.specs.Prelude.{◌≡◌, ◌≢◌, ◌+◌, ◌*◌, ◌≤◌, ◌↔◌, [], ◌∷◌, ◌++◌, take, drop, suc, length, slice_get, Contains, IsNone, IsSome, IsOk, IfOk, IfSome, OnOk, OnErr, IsTrue, IsFalse, ℕ};
 ghost use Rattle.std.specs.VecDeque.{deque_len, deque_capacity};
 ghost use Rattle.ra_stamp.specs.declared.message.Message.{Message};
-ghost use Rattle.ra_bag.specs.Bag.{TakesFirst, TakesOne, TakesAt, StandsIn, IsAt, messages_in, HasEmpty, FewEmpty};
+ghost use Rattle.ra_bag.specs.Bag.{TakesFirst, TakesOne, TakesAt, StandsIn, IsSlotAt, messages_in, HasEmpty, FewEmpty};
 ghost use Rattle.ra_bag.specs.declared.found.Found.{Found};
 ghost use Rattle.ra_bag.specs.Filled.{KeepsShown};
 ghost use Rattle.ra_bag.specs.Places.{IsFirstSlot, IsTold};
@@ -280,7 +280,7 @@ impl Bag {
 fn slot_found(slots: &VecDeque<Option<Message>>, empty: u64, filled: &Filled, found: Found) -> usize
     requires count { HasEmpty slots.now.items empty }
     requires shown { KeepsShown filled.now slots.now.items }
-    ensures { (place : ℕ) → found ≡ Found.At place → IsAt slots.now.items place result }
+    ensures { (place : ℕ) → found ≡ Found.At place → IsSlotAt slots.now.items place result }
 {
     match found {
         Found::At(place) => slot_at(slots, empty, filled, place),
@@ -293,7 +293,7 @@ fn slot_found(slots: &VecDeque<Option<Message>>, empty: u64, filled: &Filled, fo
 fn slot_at(slots: &VecDeque<Option<Message>>, empty: u64, filled: &Filled, place: u64) -> usize
     requires count { HasEmpty slots.now.items empty }
     requires shown { KeepsShown filled.now slots.now.items }
-    ensures { IsAt slots.now.items place result }
+    ensures { IsSlotAt slots.now.items place result }
 {
     if empty == 0 {
         return place as usize;
@@ -304,7 +304,7 @@ fn slot_at(slots: &VecDeque<Option<Message>>, empty: u64, filled: &Filled, place
 /// Returns the slot of the message at this place, or a slot past the end if there is no such place. Some slots may be empty.
 fn slot_among(slots: &VecDeque<Option<Message>>, filled: &Filled, place: u64) -> usize
     requires { KeepsShown filled.now slots.now.items }
-    ensures { IsAt slots.now.items place result }
+    ensures { IsSlotAt slots.now.items place result }
 {
     // For the proof: there are fewer than 2^63 slots.
     let _ = slots.len();

@@ -3,7 +3,7 @@ ghost use Rattle.std.specs.Prelude.{◌≡◌, ◌≢◌, ◌<◌, ◌≤◌, �
 ghost use Rattle.std.specs.Option.{is_some};
 ghost use Rattle.std.specs.Simd.Lanes.{mask_l};
 ghost use Rattle.ra_stamp.specs.declared.message.Message.{Message};
-ghost use Rattle.ra_bag.specs.Bag.{IsAt, messages_in};
+ghost use Rattle.ra_bag.specs.Bag.{IsSlotAt, messages_in};
 ghost use Rattle.ra_bag.specs.Filled.{IsShown, KeepsShown};
 
 use crate::slots::MAX_LINEAR_SCAN;
@@ -213,7 +213,7 @@ impl Filled {
     /// in the words before it.
     pub fn nth(&self, place: u64) -> usize
         ensures { (slots : List (Option Message)) → length slots < 2 ^ 63 → IsShown self.now slots
-            → IsAt slots place result }
+            → IsSlotAt slots place result }
     {
         let mut left = place;
         for index in 0..self.words.len() {

@@ -3,7 +3,7 @@ ghost use Rattle.std.specs.Prelude.{◌≡◌, ◌≢◌, ◌+◌, ◌-◌, ◌<
 ghost use Rattle.std.specs.List.{filter, remove};
 ghost use Rattle.std.specs.Option.{is_some};
 ghost use Rattle.std.specs.VecDeque.{deque_len, deque_capacity};
-ghost use Rattle.ra_bag.specs.Bag.{StandsIn, IsAt, messages_in};
+ghost use Rattle.ra_bag.specs.Bag.{StandsIn, IsSlotAt, messages_in};
 
 use ra_stamp::{Memory, Message};
 use std::collections::VecDeque;
@@ -103,7 +103,7 @@ pub fn is_last(slots: &VecDeque<Option<Message>>, message: &Message) -> bool
 /// Returns the slot of the message at this place among those in the slots, or one past the end if there is no such
 /// message. The cost is linear in the number of slots before it.
 pub fn nth(slots: &VecDeque<Option<Message>>, place: u64) -> usize
-    ensures { IsAt slots.now.items place result }
+    ensures { IsSlotAt slots.now.items place result }
 {
     let mut left = place;
     for slot in 0..slots.len() {

@@ -9,16 +9,16 @@ use Rattle.ra_schedule.specs.declared.script.Op.{Op}
 use Rattle.ra_schedule.specs.Progress.{IsProgress}
 use Rattle.ra_schedule.specs.Schedule.{IsEnabled}
 use Rattle.ra_schedule.specs.Script.{ScriptClient, ScriptState, client_at, op_at}
-use Rattle.ra_schedule.specs.StateText.{AreClientLines, IsAt, IsClientLine, client_line}
+use Rattle.ra_schedule.specs.StateText.{AreClientLines, IsClientState, IsClientLine, client_line}
 
 -- ---- What a client is at
 
 module _ (script : ScriptState) (moves : List Move) (client : ℕ) (progress : Progress) (is : IsProgress client moves progress) (free : IsTrue progress.waiting → ⊥) where
-  pub is_done : op_at script client progress.done ≡ None → IsAt script moves client Done
+  pub is_done : op_at script client progress.done ≡ None → IsClientState script moves client Done
   is_done none = (λ waits. free (is.waiting.1 waits), ap (op_at script client) (sym is.done) ∙ none)
 
   pub is_next : (op : Op) (enabled : Bool) → op_at script client progress.done ≡ Some op → IsTrue enabled ↔ IsEnabled script moves client
-      → IsAt script moves client (Next op enabled)
+      → IsClientState script moves client (Next op enabled)
   is_next op enabled some tells = (λ waits. free (is.waiting.1 waits), ap (op_at script client) (sym is.done) ∙ some, tells)
 
 -- ---- Lines
@@ -35,7 +35,7 @@ client_with script client node is = by (client_at script client) refl is
 
 -- the line of a client at one of the script's nodes
 pub line_of : (script : ScriptState) (moves : List Move) (client node : ℕ) (state : ClientState) → option_map (λ c. c.node) (client_at script client) ≡ Some node
-    → IsAt script moves client state → IsClientLine script moves client (client_line client node state)
+    → IsClientState script moves client state → IsClientLine script moves client (client_line client node state)
 line_of script moves client node state is at =
     let (who, there, node_is) = client_with script client node is in
     record {

@@ -12,7 +12,7 @@ use Rattle.ra_schedule.specs.declared.driver.client_progress.Progress.{Progress}
 use Rattle.ra_schedule.specs.Script.{ScriptClient, ScriptState, client_at}
 use Rattle.ra_schedule.specs.Schedule.{IsWaiting, IsAtPlace, StandsFor}
 use Rattle.ra_schedule.specs.Progress.{Tracks}
-use Rattle.ra_schedule.specs.Shrinking.{CanGoOn, IsOldest, IsQuiet, Waits}
+use Rattle.ra_schedule.specs.Shrinking.{CanGoOn, IsOldest, IsAtStandstill, Waits}
 use Rattle.ra_schedule.specs.Replaying.{SomeoneWaits}
 use Rattle.ra_schedule.proofs.Choosing.{OneList}
 use Rattle.ra_schedule.proofs.EnabledLists.{nobody_is_zero}
@@ -75,7 +75,7 @@ someone script world clients tracks = (
         (k, within, λ d. (tracks.each k d within).waiting.1 (subst (λ (n : ℕ). IsWaiting n world.moves) (omega arith) waits))
 
 -- with an oldest choice it is not quiet
-pub not_quiet : OneList → (script : ScriptState) (moves : List Move) (choice : Choice) → IsOldest script moves choice → IsQuiet script moves → ⊥
+pub not_quiet : OneList → (script : ScriptState) (moves : List Move) (choice : Choice) → IsOldest script moves choice → IsAtStandstill script moves → ⊥
 not_quiet one script moves (Client client) first quiet = quiet.none_goes_on client first.0
 not_quiet one script moves (Message place) (none, is, (message, (left, leaves, at))) quiet =
     let same : left ≡ [] = one moves left [] leaves quiet.none_under_way in

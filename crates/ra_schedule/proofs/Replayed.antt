@@ -16,7 +16,7 @@ use Rattle.ra_schedule.specs.declared.error.DriveError.{DriveError}
 use Rattle.ra_schedule.specs.Script.{ScriptState}
 use Rattle.ra_schedule.specs.Schedule.{StandsFor}
 use Rattle.ra_schedule.specs.Listing.{AreChoicesOf}
-use Rattle.ra_schedule.specs.Driving.{HasMade, IsMeaning}
+use Rattle.ra_schedule.specs.Driving.{HasTakenStep, IsMeaning}
 use Rattle.ra_schedule.specs.Shrinking.{IsAlikeAt, IsFirstAlike, IsFor, Redone, Replays, IsOldest, GoesOnOldest}
 use Rattle.ra_schedule.specs.Replaying.{AreChoicesFor, IsReplay, MadeIfPossible}
 use Rattle.ra_schedule.proofs.Lists.{split_last}
@@ -177,7 +177,7 @@ choices_more script choices new moves next move choice by means kept is = record
 
 -- the choice was made
 pub replay_more : (script : ScriptState) (choice : Choice) (world next : WorldState) (driver new : Driver) → IsReplay script world driver
-    → HasMade script choice world driver next new → IsReplay script next new × MadeIfPossible script choice world.moves next.moves
+    → HasTakenStep script choice world driver next new → IsReplay script next new × MadeIfPossible script choice world.moves next.moves
 replay_more script choice world next driver new replay made =
     let (move, means, moves) = made.made in (
       record {

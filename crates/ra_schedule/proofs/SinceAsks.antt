@@ -12,7 +12,7 @@ use Rattle.ra_schedule.specs.declared.driver.client_state.ClientState.TheVariant
 use Rattle.ra_schedule.specs.Schedule.{steps_of, Asks, Enters, IsWaiting}
 use Rattle.ra_schedule.specs.Script.{ScriptState}
 use Rattle.ra_schedule.specs.Progress.{IsAskedIn, IsWaitingAt}
-use Rattle.ra_schedule.specs.StateText.{IsAt}
+use Rattle.ra_schedule.specs.StateText.{IsClientState}
 use Rattle.ra_schedule.proofs.Waiting.{waited, nobody_waits}
 
 -- the move of the last of these steps
@@ -95,7 +95,7 @@ none_left client moves rest none ([], after, are, steps, waits, silent) = nobody
 none_left client moves rest none (m ∷ kept, after, are, steps, waits, silent) = let some = ap length steps in absurd (omega (arith, none, some))
 
 -- a client that waits is at that
-pub at_wait : (script : ScriptState) (moves : List Move) (client : ℕ) (state : ClientState) → IsWaitingAt client moves state → IsAt script moves client state
+pub at_wait : (script : ScriptState) (moves : List Move) (client : ℕ) (state : ClientState) → IsWaitingAt client moves state → IsClientState script moves client state
 at_wait script moves client Done h = absurd h
 at_wait script moves client (Waits name mode number) h = h
 at_wait script moves client (Next op enabled) h = absurd h

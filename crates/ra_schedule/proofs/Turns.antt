@@ -21,11 +21,11 @@ use Rattle.ra_schedule.specs.declared.choice.picking.Picked.{Picked}
 use Rattle.ra_schedule.specs.Script.{ScriptClient, ScriptState, client_at, op_at}
 use Rattle.ra_schedule.specs.Schedule.{steps_of, steps_in, steps_by, Enters, IsEnabled, StandsFor, Picks, Ends, Follows}
 use Rattle.ra_schedule.specs.Listing.{AreChoicesBy}
-use Rattle.ra_schedule.specs.Progress.{IsProgress, Tracks, OfEach, IsProgressAfter, AreCountable, AreDone, IsStuck, AreStuck, NoneEnters, recorded}
+use Rattle.ra_schedule.specs.Progress.{IsProgress, Tracks, OfEach, IsProgressAfter, AreCountable, AreDone, WaitsOrIsDone, WaitOrAreDone, NoneEnters, recorded}
 use Rattle.ra_schedule.specs.PolicyState.{IsRandomState, IsRandomStateElsewhere, generator_at, generator_in, words_drawn, words_for}
 use Rattle.ra_schedule.specs.Shrinking.{IsStuckRun}
 use Rattle.ra_schedule.specs.Drive.{IsWholeRun}
-use Rattle.ra_schedule.specs.Driving.{IsDriven, IsReady, IsAtEnd, IsMeaning, HasChosen, HasMade, IsThrough, Records}
+use Rattle.ra_schedule.specs.Driving.{IsDriven, IsReady, IsAtEnd, IsMeaning, HasChosen, HasTakenStep, IsThrough, Records}
 use Rattle.ra_schedule.proofs.ChoicesMade.{no_choices, choices_more}
 use Rattle.ra_schedule.specs.Below.{LawsBelow}
 use Rattle.ra_schedule.proofs.Waiting.{nobody_waits, goes_on}
@@ -123,22 +123,22 @@ nothing_left script client done n e =
     ] e
 
 -- a client that waits or has nothing left to do is so still after a move by which it did not enter
-stuck_after : (script : ScriptState) (client : ℕ) (move : Move) (old new : Progress) → IsStuck script client old
-    → IsProgressAfter move client old new → All (λ mark. Enters client mark → ⊥) move.marks → IsStuck script client new
+stuck_after : (script : ScriptState) (client : ℕ) (move : Move) (old new : Progress) → WaitsOrIsDone script client old
+    → IsProgressAfter move client old new → All (λ mark. Enters client mark → ⊥) move.marks → WaitsOrIsDone script client new
 stuck_after script client move old new (inl waits) (between, step, marks) none = inl (marks.waiting.1 (step.waiting.1 (inr waits), none))
 stuck_after script client move old new (inr done) (between, step, marks) none =
     inr (subst (λ (n : ℕ). op_at script client n ≡ None) (sym (marks.done ∙ step.done)) (nothing_left script client old.done (steps_in client move.step) done))
 
-still_stuck : (script : ScriptState) (clients new : List Progress) (first next : ℕ) (move : Move) → AreStuck script clients first
+still_stuck : (script : ScriptState) (clients new : List Progress) (first next : ℕ) (move : Move) → WaitOrAreDone script clients first
     → length new ≡ length clients → OfEach (IsProgressAfter move) clients new → next ≤ first → NoneEnters next move.marks
-    → AreStuck script new next
+    → WaitOrAreDone script new next
 still_stuck script clients new first next move stuck len after less none k d below within =
     let before : k < length clients = omega (arith, within, len) in
     stuck_after script (k + 1) move (slice_index_or clients k d) (slice_index_or new k d) (stuck k d (omega (arith, below, less)) before) (after k d before) (none k below)
 
 -- nobody of these is enabled
 pub nobody_below : (script : ScriptState) (world : WorldState) (clients : List Progress) (first : ℕ) → Tracks script world clients
-    → AreStuck script clients first → (k : ℕ) → k < first → IsEnabled script world.moves (k + 1) → ⊥
+    → WaitOrAreDone script clients first → (k : ℕ) → k < first → IsEnabled script world.moves (k + 1) → ⊥
 nobody_below script world clients first tracks stuck k below (step, enables) =
     let (who, op, at, is, made) = enables.next in
     let number : client_at script (k + 1) ≡ slice_get script.clients k = at_next script k in
@@ -161,7 +161,7 @@ module _ (script : ScriptState) (policy : Policy) (world : WorldState) (driver c
   steps_kept : chosen.steps.items ≡ recorded chosen.records world.moves
   steps_kept = steps ∙ ready.driven.steps ∙ ap (λ (b : Bool). recorded b world.moves) (sym records)
 
-  pub chosen_by : AreStuck script driver.clients.items chosen.first → IfSome chosen.random (IsRandomState script world.moves) → (picked : Option Picked)
+  pub chosen_by : WaitOrAreDone script driver.clients.items chosen.first → IfSome chosen.random (IsRandomState script world.moves) → (picked : Option Picked)
       → IfSome picked (λ p. Picks script policy world.moves p.choice) → IfSome picked (λ p. IsMeaning script world.moves p.choice p.meaning)
       → IfSome picked (λ p. generator_in chosen.random ≡ generator_at policy (words_drawn policy world.moves + words_for policy p.choice))
       → IfSome picked (HasChosen script policy world driver chosen)
@@ -171,7 +171,7 @@ module _ (script : ScriptState) (policy : Policy) (world : WorldState) (driver c
       nodes = ready.driven.nodes;
       run = ready.driven.run;
       tracks = subst (Tracks script world) (sym items) ready.driven.tracks;
-      stuck = subst (λ (ps : List Progress). AreStuck script ps chosen.first) (sym items) stuck;
+      stuck = subst (λ (ps : List Progress). WaitOrAreDone script ps chosen.first) (sym items) stuck;
       random = random;
       steps = steps_kept;
     };
@@ -231,7 +231,7 @@ pub ready_more : (script : ScriptState) (policy : Policy) (world next : WorldSta
     → IsReady script policy world driver → chosen.records ≡ driver.records → chosen.choices.items ≡ driver.choices.items
     → Picks script policy world.moves choice
     → generator_in chosen.random ≡ generator_at policy (words_drawn policy world.moves + words_for policy choice)
-    → HasMade script choice world chosen next new → IsReady script policy next new
+    → HasTakenStep script choice world chosen next new → IsReady script policy next new
 ready_more script policy world next driver chosen new choice ready records choices picks drawn made =
     let (move, means, moves) = made.made in
     let count : words_drawn policy next.moves ≡ words_drawn policy world.moves + words_for policy choice =
@@ -342,14 +342,14 @@ whole xs ys n e = ap (λ (k : ℕ). take k (xs ++ ys)) e ∙ prefix_of xs ys
     prefix_of (x ∷ xs) ys = ap (λ zs. x ∷ zs) (prefix_of xs ys)
 
 -- one more client is not free
-pub stuck_more : (script : ScriptState) (clients : List Progress) (place : ℕ) (e : Progress) (free : Bool) → AreStuck script clients place
-    → IsTrue free ⊎ IsStuck script (place + 1) (slice_index_or clients place e) → free ≡ false → AreStuck script clients (place + 1)
+pub stuck_more : (script : ScriptState) (clients : List Progress) (place : ℕ) (e : Progress) (free : Bool) → WaitOrAreDone script clients place
+    → IsTrue free ⊎ WaitsOrIsDone script (place + 1) (slice_index_or clients place e) → free ≡ false → WaitOrAreDone script clients (place + 1)
 stuck_more script clients place e free so_far says not = λ k d below within.
     elim (cases_eq k place) [
       | inl same ↦
           let here : slice_index_or clients place e ≡ slice_index_or clients place d =
           lists.get_or_default clients place e d (subst (λ (i : ℕ). i < length clients) same within) in
-          subst (λ (i : ℕ). IsStuck script (i + 1) (slice_index_or clients i d)) (sym same)
-          (subst (IsStuck script (place + 1)) here (elim says [ inl is_free ↦ absurd (false≢true (sym not ∙ is_free)) | inr stuck ↦ stuck ]))
+          subst (λ (i : ℕ). WaitsOrIsDone script (i + 1) (slice_index_or clients i d)) (sym same)
+          (subst (WaitsOrIsDone script (place + 1)) here (elim says [ inl is_free ↦ absurd (false≢true (sym not ∙ is_free)) | inr stuck ↦ stuck ]))
       | inr apart ↦ so_far k d (omega (arith, below, apart)) within
     ]

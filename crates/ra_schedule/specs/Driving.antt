@@ -18,7 +18,7 @@ use Rattle.ra_schedule.specs.Schedule.{StandsFor, Picks, IsBadPlace, IsNotEnable
 use Rattle.ra_schedule.specs.Listing.{AreChoicesBy}
 use Rattle.ra_schedule.specs.Shrinking.{IsStuckRun}
 use Rattle.ra_schedule.specs.Drive.{IsWholeRun}
-use Rattle.ra_schedule.specs.Progress.{Tracks, AreStuck, recorded}
+use Rattle.ra_schedule.specs.Progress.{Tracks, WaitOrAreDone, recorded}
 use Rattle.ra_schedule.specs.PolicyState.{IsRandomState, generator_at, generator_in, words_drawn, words_for}
 
 -- the cluster has come this far with the script, by whatever choices; this is the progress of its clients, and what
@@ -27,7 +27,7 @@ pub record IsDriven (script : ScriptState) (world : WorldState) (driver : Driver
   pub nodes : IsNodeNumber script.nodes
   pub run : IsRun script.nodes 0 world.moves
   pub tracks : Tracks script world driver.clients.items
-  pub stuck : AreStuck script driver.clients.items driver.first
+  pub stuck : WaitOrAreDone script driver.clients.items driver.first
   pub random : IfSome driver.random (IsRandomState script world.moves)
   pub steps : driver.steps.items ≡ recorded driver.records world.moves
 
@@ -52,7 +52,7 @@ pub record IsAtEnd (script : ScriptState) (policy : Policy) (world : WorldState)
   pub choices : KeepsChoices script policy world.moves driver
 
 -- the step of the choice was made, and the choice recorded
-pub record HasMade (script : ScriptState) (choice : Choice) (world : WorldState) (driver : Driver) (next : WorldState) (new : Driver) : Type 0 where
+pub record HasTakenStep (script : ScriptState) (choice : Choice) (world : WorldState) (driver : Driver) (next : WorldState) (new : Driver) : Type 0 where
   pub driven : IsDriven script next new
   pub drawn : generator_in new.random ≡ generator_in driver.random
   pub records : new.records ≡ driver.records

@@ -11,7 +11,7 @@ use Rattle.ra_schedule.specs.declared.driver.client_state.ClientState.TheVariant
 use Rattle.ra_schedule.specs.declared.driver.client_progress.Progress.{Progress}
 use Rattle.ra_schedule.specs.Script.{ScriptState, client_at, op_at}
 use Rattle.ra_schedule.specs.Schedule.{steps_of, steps_in, steps_by, Asks, IsWaiting, Enters}
-use Rattle.ra_schedule.specs.StateText.{WaitsSince}
+use Rattle.ra_schedule.specs.StateText.{WaitsSinceStep}
 
 -- this is the progress of a client after these moves
 pub record IsProgress (client : ℕ) (moves : List Move) (progress : Progress) : Type 0 where
@@ -55,13 +55,13 @@ AreDone script clients = (k : ℕ) (d : Progress) → k < length clients
     → option_map (λ who. length who.ops) (client_at script (k + 1)) ≡ Some (slice_index_or clients k d).done
 
 -- the client waits, or has nothing left to do
-abbrev pub IsStuck : ScriptState → ℕ → Progress → Type 0
-IsStuck script client progress = IsTrue progress.waiting ⊎ (op_at script client progress.done ≡ None)
+abbrev pub WaitsOrIsDone : ScriptState → ℕ → Progress → Type 0
+WaitsOrIsDone script client progress = IsTrue progress.waiting ⊎ (op_at script client progress.done ≡ None)
 
 -- each client before this place, counted from 0, waits or has nothing left to do
-abbrev pub AreStuck : ScriptState → List Progress → ℕ → Type 0
-AreStuck script clients first = (k : ℕ) (d : Progress) → k < first → k < length clients
-    → IsStuck script (k + 1) (slice_index_or clients k d)
+abbrev pub WaitOrAreDone : ScriptState → List Progress → ℕ → Type 0
+WaitOrAreDone script clients first = (k : ℕ) (d : Progress) → k < first → k < length clients
+    → WaitsOrIsDone script (k + 1) (slice_index_or clients k d)
 
 -- no client before this place, counted from 0, entered by these marks
 abbrev pub NoneEnters : ℕ → List Mark → Type 0
@@ -75,7 +75,7 @@ recorded false moves = []
 -- the client waits, and this says since when
 abbrev pub IsWaitingAt : ℕ → List Move → ClientState → Type 0
 IsWaitingAt client moves Done = ⊥
-IsWaitingAt client moves (Waits name mode number) = WaitsSince client moves name mode number
+IsWaitingAt client moves (Waits name mode number) = WaitsSinceStep client moves name mode number
 IsWaitingAt client moves (Next op enabled) = ⊥
 
 -- this says what a client asks for in a step with this number

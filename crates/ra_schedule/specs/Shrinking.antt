@@ -33,14 +33,14 @@ abbrev pub Waits : ScriptState → List Move → ℕ → Type 0
 Waits script moves client = (who : ScriptClient) × (client_at script client ≡ Some who) × IsWaiting client moves
 
 -- no client that has begun is enabled, and nothing is under way
-pub record IsQuiet (script : ScriptState) (moves : List Move) : Type 0 where
+pub record IsAtStandstill (script : ScriptState) (moves : List Move) : Type 0 where
   pub none_goes_on : (client : ℕ) → CanGoOn script moves client → ⊥
   pub none_under_way : LeavesUnderWay moves []
 
 -- The run is stuck: of the clients that have begun none is enabled, and nothing is under way, but some client waits. Others
 -- need not have begun.
 pub record IsStuckRun (script : ScriptState) (moves : List Move) : Type 0 where
-  pub quiet : IsQuiet script moves
+  pub quiet : IsAtStandstill script moves
   pub someone_waits : (client : ℕ) × Waits script moves client
 
 -- ---- Leaving out a step
@@ -133,7 +133,7 @@ pub record ComesOf (script : ScriptState) (steps : List Step) (limit : ℕ) (mov
   pub redone : List Move
   pub replays : Replays script [] steps redone
   pub goes_on : GoesOnOldest script redone moves
-  pub ends : (limit ≤ length moves) ⊎ IsQuiet script moves
+  pub ends : (limit ≤ length moves) ⊎ IsAtStandstill script moves
 
 -- ---- The least list
 

@@ -52,7 +52,7 @@ pub record HasOnlyNames (names : List (List ℕ)) (table : LockTable) : Type 0 w
 
 -- the client waits: it asked in the step with this number, counted from 1, for this name in this mode, and has no mark
 -- Entered since then
-pub record WaitsSince (client : ℕ) (moves : List Move) (name : List ℕ) (mode : Mode) (number : ℕ) : Type 0 where
+pub record WaitsSinceStep (client : ℕ) (moves : List Move) (name : List ℕ) (mode : Mode) (number : ℕ) : Type 0 where
   pub before : List Move
   pub ask : Move
   pub after : List Move
@@ -63,10 +63,10 @@ pub record WaitsSince (client : ℕ) (moves : List Move) (name : List ℕ) (mode
 
 -- what a client is at after these moves: it has nothing left to do, or waits since a step, or has a next operation, which
 -- is enabled or not
-abbrev pub IsAt : ScriptState → List Move → ℕ → ClientState → Type 0
-IsAt script moves client Done = (IsWaiting client moves → ⊥) × (op_at script client (steps_by client (steps_of moves)) ≡ None)
-IsAt script moves client (Waits name mode number) = WaitsSince client moves name mode number
-IsAt script moves client (Next op enabled) = (IsWaiting client moves → ⊥)
+abbrev pub IsClientState : ScriptState → List Move → ℕ → ClientState → Type 0
+IsClientState script moves client Done = (IsWaiting client moves → ⊥) × (op_at script client (steps_by client (steps_of moves)) ≡ None)
+IsClientState script moves client (Waits name mode number) = WaitsSinceStep client moves name mode number
+IsClientState script moves client (Next op enabled) = (IsWaiting client moves → ⊥)
     × (op_at script client (steps_by client (steps_of moves)) ≡ Some op) × (IsTrue enabled ↔ IsEnabled script moves client)
 
 -- an operation in words
@@ -94,7 +94,7 @@ pub record IsClientLine (script : ScriptState) (moves : List Move) (client : ℕ
   pub who : ScriptClient
   pub is_client : client_at script client ≡ Some who
   pub state : ClientState
-  pub is_at : IsAt script moves client state
+  pub is_at : IsClientState script moves client state
   pub line_is : line ≡ client_line client who.node state
 
 -- these are the lines of the clients 1 to `count`, in order

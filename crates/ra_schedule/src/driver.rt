@@ -16,7 +16,7 @@ ghost use Rattle.ra_schedule.specs.declared.choice.Choice.{Choice};
 ghost use Rattle.ra_schedule.specs.declared.error.DriveError.{DriveError};
 ghost use Rattle.ra_schedule.specs.Schedule.{StandsFor};
 ghost use Rattle.ra_schedule.specs.Progress.{recorded};
-ghost use Rattle.ra_schedule.specs.Driving.{IsDriven, IsReady, IsAtEnd, IsMeaning, HasChosen, HasMade, CannotBeMade, IsStopped, IsHeldUp};
+ghost use Rattle.ra_schedule.specs.Driving.{IsDriven, IsReady, IsAtEnd, IsMeaning, HasChosen, HasTakenStep, CannotBeMade, IsStopped, IsHeldUp};
 
 use crate::choice::picking::{Picked, pick};
 use crate::choice::random_state::{RandomState, note_step_in};
@@ -146,7 +146,7 @@ impl Driver {
         requires driven { IsDriven script.now world.old self.old }
         requires countable { length world.old.moves + 1 < 2 ^ 64 }
         requires meaning { IsMeaning script.now world.old.moves picked.now.choice picked.now.meaning }
-        ensures ok { OnOk result (HasMade script.now picked.now.choice world.old self.old world.new self.new) }
+        ensures ok { OnOk result (HasTakenStep script.now picked.now.choice world.old self.old world.new self.new) }
         ensures err { IfErr result (CannotBeMade script.now world.old.moves picked.now.choice) }
         ensures same { OnErr result (world.new ≡ world.old) }
         // If the choice can't be made, that is the answer, and not that memory ran out.

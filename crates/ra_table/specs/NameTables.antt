@@ -19,8 +19,8 @@ abbrev pub AreOn : List ℕ → List Entry → Type 0
 AreOn name entries = All (λ x. x.name ≡ name) entries
 
 -- the entry is at this place of the list, counted from 0
-abbrev pub IsAt : List Entry → ℕ → Entry → Type 0
-IsAt entries place e = (place < length entries) × (slice_index_or entries place e ≡ e)
+abbrev pub IsPlaceOfEntry : List Entry → ℕ → Entry → Type 0
+IsPlaceOfEntry entries place e = (place < length entries) × (slice_index_or entries place e ≡ e)
 
 -- the highest number of these entries, if there are any
 abbrev pub highest_of : List Entry → Option ℕ

@@ -6,7 +6,7 @@ ghost use Rattle.ra_stamp.specs.declared.entry.Mark.{Mark};
 ghost use Rattle.ra_table.specs.Table.{TableStep};
 ghost use Rattle.ra_table.specs.Refusals.{IsNotAbove};
 ghost use Rattle.ra_table.specs.Answers.{RequestTells, CheckTells, EnterTells, IsAnswered};
-ghost use Rattle.ra_table.specs.NameTables.{AreOn, IsAt, first_request};
+ghost use Rattle.ra_table.specs.NameTables.{AreOn, IsPlaceOfEntry, first_request};
 
 use crate::entry_lists::{has_earlier, has_excluding, has_node_of, place_of, push_exactly};
 use crate::error::{EnterError, LeaveError, RequestError};
@@ -153,7 +153,7 @@ impl NameTable {
     ///
     /// Those of `enter`, except for `Memory`.
     pub fn check_enter(&self, entry: &Entry) -> Result<usize, EnterError>
-        ensures place { IfOk result (λ place. IsAt self.now.waiting place entry.now) }
+        ensures place { IfOk result (λ place. IsPlaceOfEntry self.now.waiting place entry.now) }
         ensures answered { IsAnswered self.now entry.now result }
     {
         let Some(place) = place_of(&self.waiting, entry) else {

@@ -11,7 +11,7 @@ use Rattle.ra_stamp.specs.declared.entry.Entry.{Entry}
 use Rattle.ra_stamp.specs.Stamp.{IsEarlier}
 use Rattle.ra_automaton.specs.declared.phase.Phase.{Phase}
 use Rattle.ra_automaton.specs.declared.phase.Phase.TheVariants.{Idle, Waiting, Inside}
-use Rattle.ra_automaton.specs.State.{State, IsWaiting}
+use Rattle.ra_automaton.specs.State.{State, IsWaitingPhase}
 use Rattle.ra_automaton.specs.Steps.{OwnGoesFirst, GoesFirst}
 use Rattle.ra_node.specs.Resource.{Use, use_in, entry_of, ClientFits}
 use Rattle.ra_node.specs.Resource.Use.{WaitsBy, HoldsBy}
@@ -74,7 +74,7 @@ module _ (Copied : Type 0) (start n : ℕ) (nodes : ℕ → NodeState) (table : 
   awaited : (j : ℕ) × IsTrue (set.contains (s i).awaited j)
   awaited =
       let consistent = ((holds.protocol r).exchanges.each i within).consistent in
-      has_member (s i).awaited (consistent.awaits (subst IsWaiting (sym phase_is) tt))
+      has_member (s i).awaited (consistent.awaits (subst IsWaitingPhase (sym phase_is) tt))
 
   abbrev j : ℕ
   j = awaited.0

@@ -30,7 +30,7 @@ use Rattle.ra_world.specs.Traffic.{Move, TakesEach, taken_in, repeated_by}
 use Rattle.ra_world.specs.Run.{IsRun, IsFit, GoesOn, EndsWith, events_at}
 use Rattle.ra_world.specs.World.{WorldState, HasCause}
 use Rattle.ra_world.specs.Keeping.{nodes_of, Keeps, IsShort, Tries}
-use Rattle.ra_world.specs.Trying.{TakesEqual, LeavesOthers, IsRefusedAt, TriesAt}
+use Rattle.ra_world.specs.Trying.{TakesEqual, LeavesOthers, IsEventRefusal, TriesAt}
 use Rattle.ra_world.specs.Refused.{refusal_of_ask, refusal_of_leave}
 use Rattle.ra_world.proofs.StepTries.{shown, same_nodes, at_node, node_here, ask_on, leave_on, kept_by, here}
 use Rattle.ra_world.proofs.AtPlace.{number_of, kept_back, moved}
@@ -43,24 +43,24 @@ pub ask_refused : (s : NodeState) (moves : List Move) (client : ℕ) (name : Lis
     → (e ≡ ask.Busy → IsBusy (resource_at s name) client)
     → (e ≡ ask.Exhausted → (IsBusy (resource_at s name) client → ⊥) × ((resource_at s name).state.highest ≡ greatest_number))
     → (e ≡ ask.Memory → MayAsk (resource_at s name) client)
-    → IsRefusedAt s moves (AskedFor client name mode) cause
+    → IsEventRefusal s moves (AskedFor client name mode) cause
 ask_refused s moves client name mode ask.Busy cause is busy exhausted may =
-    subst (IsRefusedAt s moves (AskedFor client name mode)) (sym is) (busy refl)
+    subst (IsEventRefusal s moves (AskedFor client name mode)) (sym is) (busy refl)
 ask_refused s moves client name mode ask.Exhausted cause is busy exhausted may =
-    subst (IsRefusedAt s moves (AskedFor client name mode)) (sym is) (exhausted refl)
+    subst (IsEventRefusal s moves (AskedFor client name mode)) (sym is) (exhausted refl)
 ask_refused s moves client name mode ask.Memory cause is busy exhausted may =
-    subst (IsRefusedAt s moves (AskedFor client name mode)) (sym is) (may refl)
+    subst (IsEventRefusal s moves (AskedFor client name mode)) (sym is) (may refl)
 
 -- the refusal of a leave
 pub leave_refused : (s : NodeState) (moves : List Move) (client : ℕ) (name : List ℕ) (e : LeaveError) (cause : StepError)
     → cause ≡ refusal_of_leave e
     → (e ≡ leave.NotHeld → (entry : Entry) → Holds (resource_at s name) client entry → ⊥)
     → (e ≡ leave.Memory → (entry : Entry) × Holds (resource_at s name) client entry)
-    → IsRefusedAt s moves (GivenBack client name) cause
+    → IsEventRefusal s moves (GivenBack client name) cause
 leave_refused s moves client name leave.NotHeld cause is free may =
-    subst (IsRefusedAt s moves (GivenBack client name)) (sym is) (free refl)
+    subst (IsEventRefusal s moves (GivenBack client name)) (sym is) (free refl)
 leave_refused s moves client name leave.Memory cause is free may =
-    subst (IsRefusedAt s moves (GivenBack client name)) (sym is) (may refl)
+    subst (IsEventRefusal s moves (GivenBack client name)) (sym is) (may refl)
 
 -- ---- A step that is tried at the node of a place
 
@@ -68,7 +68,7 @@ leave_refused s moves client name leave.Memory cause is free may =
 tried_at : {keeps : ℕ} (start : ℕ) (nodes : List NodeState) (kept kept' : KeptSteps keeps) (place : ℕ) (w : WorldState) (step : Step) (event : Event)
     (old new : NodeState) (r : Result Outcome StepError)
     → shown start nodes kept.log.moves ≡ w → old ≡ get_or nodes place old
-    → ((cause : StepError) → IsRefusedAt old kept.log.moves event cause
+    → ((cause : StepError) → IsEventRefusal old kept.log.moves event cause
     → HasCause (length nodes) start kept.log.moves step cause ⊎ IsShort (shown start nodes kept.log.moves) step cause)
     → TriesAt step event old kept r new kept' → Tries w step r (shown start (set nodes place new) kept'.log.moves)
 tried_at start nodes kept kept' place w step event old new (Ok outcome) is at why tried =
@@ -120,7 +120,7 @@ module _
           kept_at (Ask i client name mode) event r (λ sends marks. number_of nodes place i number within) (here i event) (λ left all. all) tries,
         )
       where
-        why : (cause : StepError) → IsRefusedAt old kept.log.moves (AskedFor client name mode) cause
+        why : (cause : StepError) → IsEventRefusal old kept.log.moves (AskedFor client name mode) cause
             → HasCause (length nodes) start kept.log.moves (Ask i client name mode) cause
             ⊎ IsShort (shown start nodes kept.log.moves) (Ask i client name mode) cause
         why NoNode refused = absurd refused
@@ -154,7 +154,7 @@ module _
           kept_at (Leave i client name) event r (λ sends marks. number_of nodes place i number within) (here i event) (λ left all. all) tries,
         )
       where
-        why : (cause : StepError) → IsRefusedAt old kept.log.moves (GivenBack client name) cause
+        why : (cause : StepError) → IsEventRefusal old kept.log.moves (GivenBack client name) cause
             → HasCause (length nodes) start kept.log.moves (Leave i client name) cause
             ⊎ IsShort (shown start nodes kept.log.moves) (Leave i client name) cause
         why NoNode refused = absurd refused
@@ -190,7 +190,7 @@ module _
         takes : (next : List Message) → TakesEqual kept.log.moves kept.under_way.items message next → TakesFirst kept.under_way.items message next
         takes next taken = elim taken [ inl it ↦ it | inr one ↦ first next one.0 one.1 ]
 
-        why : (cause : StepError) → IsRefusedAt old kept.log.moves (Received message) cause
+        why : (cause : StepError) → IsEventRefusal old kept.log.moves (Received message) cause
             → HasCause (length nodes) start kept.log.moves (Deliver message) cause
             ⊎ IsShort (shown start nodes kept.log.moves) (Deliver message) cause
         why NoNode refused = absurd refused

@@ -10,7 +10,7 @@ use Rattle.std.proofs.lemmas.List.{take_more, flat_map_more, append-nil, get_or_
 use Rattle.ra_stamp.specs.declared.entry.Entry.{Entry}
 use Rattle.ra_stamp.specs.declared.message.Message.{Message}
 use Rattle.ra_stamp.specs.NodeId.{IsNodeNumber}
-use Rattle.ra_automaton.specs.State.{State, IsWaiting}
+use Rattle.ra_automaton.specs.State.{State, IsWaitingPhase}
 use Rattle.ra_automaton.specs.declared.phase.Phase.{Phase}
 use Rattle.ra_automaton.specs.declared.phase.Phase.TheVariants.{Idle, Waiting, Inside}
 use Rattle.ra_node.specs.Resource.{ClientFits, Use, use_in, waiting_entry, held_entry, waiter_of, holder_of}
@@ -124,7 +124,7 @@ no_others n i name node consistent not_waiting not_held =
     let r = resource_at node name in
     let fits = consistent.each name in
     let idle : r.state.phase ≡ Idle = no_request r.state r.state.phase r.client fits.client_fits not_waiting not_held in
-    let awaits : r.state.awaited ≡ set.empty = fits.state.awaits_only (subst IsWaiting idle) in
+    let awaits : r.state.awaited ≡ set.empty = fits.state.awaits_only (subst IsWaitingPhase idle) in
     let defers : r.state.deferred ≡ map.empty = fits.state.defers_only idle in
     let no_awaited : awaited_lines n i name r.state ≡ [] = none_of (awaited_line i name r.state) (range_with_len 1 n) (λ other.
     ap (λ (b : Bool). if b then awaits_line i name other else []) (ap (λ (q : set.FinSet nat_cmp). set.contains q other) awaits ∙ set.contains-empty nat_cmp other)) in

@@ -11,7 +11,7 @@ use Rattle.ra_stamp.specs.Mode.{Conflict}
 use Rattle.ra_stamp.specs.Stamp.{IsEarlier}
 use Rattle.ra_automaton.specs.declared.phase.Phase.{Phase}
 use Rattle.ra_automaton.specs.declared.phase.Phase.TheVariants.{Idle, Waiting, Inside}
-use Rattle.ra_automaton.specs.State.{State, IsWaiting, HasNumber, IsConsistent}
+use Rattle.ra_automaton.specs.State.{State, IsWaitingPhase, HasNumber, IsConsistent}
 use Rattle.ra_automaton.specs.Steps.{OwnGoesFirst}
 use Rattle.ra_node.specs.Resource.{Resource, use_in, use_of}
 use Rattle.ra_node.specs.Resource.Use.{Nobody, WaitsBy, HoldsBy}
@@ -75,7 +75,7 @@ own_inside phase k m e = subst (λ (q : Phase). HasOwn q k m) (sym e) (refl, ref
 
 awaits_nobody : (s : State) (k : ℕ) (m : Mode) → IsConsistent s → s.phase ≡ Inside k m → (j : ℕ) → IsTrue (set.contains s.awaited j) → ⊥
 awaits_nobody s k m consistent inside j awaited =
-    nobody j (subst (λ (q : set.FinSet nat_cmp). IsTrue (set.contains q j)) (consistent.awaits_only (λ w. subst IsWaiting inside w)) awaited)
+    nobody j (subst (λ (q : set.FinSet nat_cmp). IsTrue (set.contains q j)) (consistent.awaits_only (λ w. subst IsWaitingPhase inside w)) awaited)
 
 one_is_earlier : (s i t j : ℕ) → i ≢ j → IsEarlier (record { seq = s; node = i }) (record { seq = t; node = j }) ⊎ IsEarlier (record { seq = t; node = j }) (record { seq = s; node = i })
 one_is_earlier s i t j apart = elim (cases_lt s t) [

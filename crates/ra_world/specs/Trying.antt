@@ -31,24 +31,24 @@ LeavesOthers moves old (GivenBack client name) new = new ≡ old
 LeavesOthers moves old (Received message) new = TakesEqual moves old message new
 
 -- why an event does not happen at a node: the node refuses it, or it may happen but memory is short
-abbrev pub IsRefusedAt : NodeState → List Move → Event → StepError → Type 0
-IsRefusedAt s moves (AskedFor client name mode) NoNode = ⊥
-IsRefusedAt s moves (AskedFor client name mode) NotUnderWay = ⊥
-IsRefusedAt s moves (AskedFor client name mode) (Node Busy) = IsBusy (resource_at s name) client
-IsRefusedAt s moves (AskedFor client name mode) (Node Exhausted) =
+abbrev pub IsEventRefusal : NodeState → List Move → Event → StepError → Type 0
+IsEventRefusal s moves (AskedFor client name mode) NoNode = ⊥
+IsEventRefusal s moves (AskedFor client name mode) NotUnderWay = ⊥
+IsEventRefusal s moves (AskedFor client name mode) (Node Busy) = IsBusy (resource_at s name) client
+IsEventRefusal s moves (AskedFor client name mode) (Node Exhausted) =
     (IsBusy (resource_at s name) client → ⊥) × ((resource_at s name).state.highest ≡ greatest_number)
-IsRefusedAt s moves (AskedFor client name mode) (Node NotHeld) = ⊥
-IsRefusedAt s moves (AskedFor client name mode) Memory = MayAsk (resource_at s name) client
-IsRefusedAt s moves (GivenBack client name) NoNode = ⊥
-IsRefusedAt s moves (GivenBack client name) NotUnderWay = ⊥
-IsRefusedAt s moves (GivenBack client name) (Node Busy) = ⊥
-IsRefusedAt s moves (GivenBack client name) (Node Exhausted) = ⊥
-IsRefusedAt s moves (GivenBack client name) (Node NotHeld) = (entry : Entry) → Holds (resource_at s name) client entry → ⊥
-IsRefusedAt s moves (GivenBack client name) Memory = (entry : Entry) × Holds (resource_at s name) client entry
-IsRefusedAt s moves (Received message) NoNode = ⊥
-IsRefusedAt s moves (Received message) NotUnderWay = ⊥
-IsRefusedAt s moves (Received message) (Node why) = ⊥
-IsRefusedAt s moves (Received message) Memory = (BringsNothing s message → ⊥) ⊎ IsFull moves
+IsEventRefusal s moves (AskedFor client name mode) (Node NotHeld) = ⊥
+IsEventRefusal s moves (AskedFor client name mode) Memory = MayAsk (resource_at s name) client
+IsEventRefusal s moves (GivenBack client name) NoNode = ⊥
+IsEventRefusal s moves (GivenBack client name) NotUnderWay = ⊥
+IsEventRefusal s moves (GivenBack client name) (Node Busy) = ⊥
+IsEventRefusal s moves (GivenBack client name) (Node Exhausted) = ⊥
+IsEventRefusal s moves (GivenBack client name) (Node NotHeld) = (entry : Entry) → Holds (resource_at s name) client entry → ⊥
+IsEventRefusal s moves (GivenBack client name) Memory = (entry : Entry) × Holds (resource_at s name) client entry
+IsEventRefusal s moves (Received message) NoNode = ⊥
+IsEventRefusal s moves (Received message) NotUnderWay = ⊥
+IsEventRefusal s moves (Received message) (Node why) = ⊥
+IsEventRefusal s moves (Received message) Memory = (BringsNothing s message → ⊥) ⊎ IsFull moves
 
 -- what comes of a step that is tried as an event of a node: the event happens there, what it sends comes under way after
 -- the messages that it leaves there, and the step is logged; or nothing changes, for this cause
@@ -60,4 +60,4 @@ TriesAt {keeps} step event node kept (Ok outcome) node' kept' =
     × (kept'.log.moves ≡ kept.log.moves ++ record { step = step; sends = outcome.sends.items; marks = outcome.marks.items } ∷ [])
 TriesAt {keeps} step event node kept (Err cause) node' kept' =
     (node' ≡ node) × (kept'.under_way.items ≡ kept.under_way.items) × (kept'.log.moves ≡ kept.log.moves)
-    × IsRefusedAt node kept.log.moves event cause
+    × IsEventRefusal node kept.log.moves event cause

@@ -6,7 +6,7 @@ ghost use Rattle.ra_schedule.specs.declared.error.DriveError.{DriveError};
 ghost use Rattle.ra_schedule.specs.Script.{client_at, op_at};
 ghost use Rattle.ra_schedule.specs.Schedule.{Enables, IsEnabled, IsFirstEnabled, StandsFor, Picks, Ends};
 ghost use Rattle.ra_schedule.specs.Driving.{HasFault, IsMeaning};
-ghost use Rattle.ra_schedule.specs.Progress.{Tracks, IsProgress, AreStuck};
+ghost use Rattle.ra_schedule.specs.Progress.{Tracks, IsProgress, WaitOrAreDone};
 ghost use Rattle.ra_schedule.specs.PolicyState.{IsRandomState, generator_at, generator_in, words_drawn, words_for};
 
 use crate::choice::random_choice::choose;
@@ -66,7 +66,7 @@ fn first_enabled(
     first: u32,
 ) -> Option<FirstEnabled>
     requires tracked { Tracks script.now world.now clients.now }
-    requires stuck { AreStuck script.now clients.now first }
+    requires stuck { WaitOrAreDone script.now clients.now first }
     ensures first { IfSome result (λ found. IsFirstEnabled script.now world.now.moves found.client) }
     ensures step { IfSome result (λ found. Enables script.now world.now.moves found.client found.step) }
     ensures none { IsNone result → (client : ℕ) → IsEnabled script.now world.now.moves client → ⊥ }
@@ -103,7 +103,7 @@ pub fn pick(
     first: u32,
 ) -> Option<Picked>
     requires tracked { Tracks script.now world.now clients.now }
-    requires stuck { AreStuck script.now clients.now first }
+    requires stuck { WaitOrAreDone script.now clients.now first }
     requires random { IfSome random.old (IsRandomState script.now world.now.moves) }
     requires drawn { generator_in random.old ≡ generator_at policy.now (words_drawn policy.now world.now.moves) }
     ensures some { IfSome result (λ picked. Picks script.now policy.now world.now.moves picked.choice) }

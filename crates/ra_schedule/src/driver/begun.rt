@@ -1,7 +1,7 @@
 //! What is left to do for the clients that have begun, and when a run of theirs is stuck.
 ghost use Rattle.std.specs.Prelude.{◌↔◌, IsTrue, IsNone, IfSome};
 ghost use Rattle.ra_schedule.specs.Progress.{Tracks};
-ghost use Rattle.ra_schedule.specs.Shrinking.{IsOldest, IsQuiet, IsStuckRun};
+ghost use Rattle.ra_schedule.specs.Shrinking.{IsOldest, IsAtStandstill, IsStuckRun};
 
 use crate::choice::picking::enabled_step;
 use crate::driver::client_progress::Progress;
@@ -13,7 +13,7 @@ use ra_world::World;
 pub fn oldest(script: &Script, world: &World, clients: &[Progress]) -> Option<Choice>
     requires { Tracks script.now world.now clients.now }
     ensures some { IfSome result (IsOldest script.now world.now.moves) }
-    ensures none { IsNone result → IsQuiet script.now world.now.moves }
+    ensures none { IsNone result → IsAtStandstill script.now world.now.moves }
 {
     for place in 0..script.clients() {
         let client = place + 1;

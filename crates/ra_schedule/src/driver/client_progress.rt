@@ -1,7 +1,7 @@
 //! How far the clients are.
 ghost use Rattle.std.specs.Prelude.{◌≡◌, ◌≢◌, ◌+◌, ◌<◌, ◌≤◌, ◌||◌, ℕ, length, false, slice_index_or};
 ghost use Rattle.ra_world.specs.Traffic.{Move};
-ghost use Rattle.ra_schedule.specs.Progress.{IsAfterMarks, IsProgressAfter, OfEach, AreCountable, AreStuck, NoneEnters};
+ghost use Rattle.ra_schedule.specs.Progress.{IsAfterMarks, IsProgressAfter, OfEach, AreCountable, WaitOrAreDone, NoneEnters};
 
 use crate::Script;
 use ra_stamp::Mark;
@@ -20,8 +20,8 @@ pub struct Progress {
 /// none. There must be none before the place `first`.
 pub fn first_free(script: &Script, clients: &[Progress], first: u32) -> u32
     requires alike { length clients.now ≡ length script.now.clients }
-    requires stuck { AreStuck script.now clients.now first }
-    ensures { AreStuck script.now clients.now result }
+    requires stuck { WaitOrAreDone script.now clients.now first }
+    ensures { WaitOrAreDone script.now clients.now result }
 {
     for place in first..script.clients() {
         let progress = clients[place as usize];

@@ -61,7 +61,7 @@ fn state_of(
     requires start { world.now.start ≡ 0 }
     requires progress { IsProgress client world.now.moves progress }
     requires steps { steps.now ≡ steps_of world.now.moves }
-    ensures { spec.IsAt script.now world.now.moves client result }
+    ensures { spec.IsClientState script.now world.now.moves client result }
 {
     if progress.waiting {
         return waits_since(steps, client);

@@ -2,7 +2,7 @@
 ghost use Rattle.std.specs.Prelude.{◌≡◌, ◌+◌, ◌<◌, ◌≤◌, ◌^◌, ◌⊎◌, ◌↔◌, [], ℕ, length, IsTrue, IsNone, IfOk, IfSome, OnOk};
 ghost use Rattle.ra_schedule.specs.declared.choice.Choice.{Choice};
 ghost use Rattle.ra_schedule.specs.Shrinking as spec;
-ghost use Rattle.ra_schedule.specs.Shrinking.{ComesOf, GoesOnOldest, IsAlikeAt, IsFirstAlike, IsFor, IsQuiet, IsStuckRun, Replays};
+ghost use Rattle.ra_schedule.specs.Shrinking.{ComesOf, GoesOnOldest, IsAlikeAt, IsFirstAlike, IsFor, IsAtStandstill, IsStuckRun, Replays};
 ghost use Rattle.ra_schedule.specs.Replaying.{IsReplay, MadeIfPossible};
 
 use crate::choice::picking::with_meaning;
@@ -145,7 +145,7 @@ fn go_on(
     requires { IsReplay script.now world.old driver.old }
     ensures replay { OnOk result (IsReplay script.now world.new driver.new) }
     ensures goes_on { OnOk result (GoesOnOldest script.now world.old.moves world.new.moves) }
-    ensures ends { OnOk result ((limit ≤ length world.new.moves) ⊎ IsQuiet script.now world.new.moves) }
+    ensures ends { OnOk result ((limit ≤ length world.new.moves) ⊎ IsAtStandstill script.now world.new.moves) }
 {
     for _turn in world.steps()..limit {
         let Some(choice) = oldest(script, world, &driver.clients) else {

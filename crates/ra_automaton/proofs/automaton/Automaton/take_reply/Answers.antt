@@ -1,6 +1,6 @@
 use Rattle.std.proofs.Common.{◌≡◌, inl, inr, refl, subst, sym, ap, ◌∙◌}
 use Rattle.std.specs.FinSet as set
-use Rattle.ra_automaton.specs.State.{State, IsConsistent, IsWaiting, entered_phase}
+use Rattle.ra_automaton.specs.State.{State, IsConsistent, IsWaitingPhase, entered_phase}
 use Rattle.ra_automaton.specs.declared.phase.Phase.{Phase}
 use Rattle.ra_automaton.specs.View.{state_of}
 use Rattle.ra_automaton.proofs.Consistent.{consistent_waits_on, is_waiting}
@@ -11,7 +11,7 @@ invariant_of-self c =
     let old = state_of c.self.inside in
     let kept = c.self.invariant in
     let told = c.effect.ensures.wait c.in-WaitOn.is in
-    let waits = subst (λ (s : State). IsWaiting s.phase) (sym c.self.view_is) (is_waiting c.args.self.now.phase c.args.number told.0 told.1.waits) in
+    let waits = subst (λ (s : State). IsWaitingPhase s.phase) (sym c.self.view_is) (is_waiting c.args.self.now.phase c.args.number told.0 told.1.waits) in
     record {
       room = kept.room;
       consistent = subst IsConsistent (λ i. record old { awaited = sym c.remove.ensures i })

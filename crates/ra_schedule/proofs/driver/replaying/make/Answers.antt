@@ -2,7 +2,7 @@ use Rattle.std.proofs.Common.{subst, sym, refl, inr, List}
 use Rattle.ra_schedule.specs.declared.choice.Choice.{Choice}
 use Rattle.ra_schedule.specs.declared.driver.client_progress.Progress.{Progress}
 use Rattle.ra_schedule.specs.Progress.{Tracks}
-use Rattle.ra_schedule.specs.Driving.{IsMeaning, HasMade}
+use Rattle.ra_schedule.specs.Driving.{IsMeaning, HasTakenStep}
 use Rattle.ra_schedule.proofs.Replayed.{cannot, replay_more}
 use Rattle.ra_schedule.proofs.driver.replaying.make.Goals as goal
 
@@ -31,5 +31,5 @@ take_step-requires-clause-meaning c =
 pub returns-in-Ok : goal.returns-in-Ok
 returns-in-Ok c =
     replay_more c.args.script.now c.args.choice c.args.world.now c.take_step.new.world c.args.driver.now c.take_step.new.self c.requires.replay
-    (subst (λ (x : Choice). HasMade c.args.script.now x c.args.world.now c.args.driver.now c.take_step.new.world c.take_step.new.self)
+    (subst (λ (x : Choice). HasTakenStep c.args.script.now x c.args.world.now c.args.driver.now c.take_step.new.world c.take_step.new.self)
     c.with_meaning-picked.ensures.choice c.in-Ok.ensures.ok)

@@ -4,7 +4,7 @@ use Rattle.ra_stamp.specs.declared.entry.Entry.{Entry}
 use Rattle.ra_stamp.specs.Stamp.{IsEarlier}
 use Rattle.ra_table.specs.Table.{LockTable, Excludes}
 use Rattle.ra_table.specs.Refusals.{IsHeld}
-use Rattle.ra_table.specs.NameTables.{IsAt}
+use Rattle.ra_table.specs.NameTables.{IsPlaceOfEntry}
 use Rattle.ra_table.proofs.Checked.{answers_not_waiting, answers_held, answers_earlier, answers_ok}
 use Rattle.ra_table.proofs.name_table.NameTable.check_enter.Goals as goal
 
@@ -41,4 +41,4 @@ returns-clause-answered c =
 pub returns-clause-place : goal.returns-clause-place
 returns-clause-place c =
     let waiting_is : c.deref.result.now ≡ c.args.self.now.waiting = c.deref.ensures.value ∙ ap (λ (t : LockTable). t.waiting) c.self.view_is in
-    subst (λ (l : List Entry). IsAt l c.in-Some.place c.args.entry.now) waiting_is c.in-Some.ensures.found
+    subst (λ (l : List Entry). IsPlaceOfEntry l c.in-Some.place c.args.entry.now) waiting_is c.in-Some.ensures.found

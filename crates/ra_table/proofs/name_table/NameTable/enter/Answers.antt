@@ -5,7 +5,7 @@ use Rattle.ra_table.specs.declared.error.EnterError.{EnterError}
 use Rattle.ra_table.specs.declared.error.EnterError.TheVariants.{Memory}
 use Rattle.ra_table.specs.Table.{LockTable, Gains, Loses}
 use Rattle.ra_table.specs.Answers.{EnterTells}
-use Rattle.ra_table.specs.NameTables.{IsAt, highest_of}
+use Rattle.ra_table.specs.NameTables.{IsPlaceOfEntry, highest_of}
 use Rattle.ra_table.proofs.Moves.{of_parts, Gains-push, Loses-remove}
 use Rattle.ra_table.proofs.Numbers.{highest_of-push}
 use Rattle.ra_table.proofs.Refused.{same_fault, enter_refused, enter_made}
@@ -31,7 +31,7 @@ returns-in_default-clause-err c = (λ i. of_parts c.self.inside.waiting.items (c
 
 pub remove-requires : goal.remove-requires
 remove-requires c =
-    let stands = subst (λ (es : List Entry). IsAt es c.in_ok-place.place c.args.entry.now) (sym (ap (λ (t : LockTable). t.waiting) c.self.view_is)) c.in_ok-place.ensures.place in
+    let stands = subst (λ (es : List Entry). IsPlaceOfEntry es c.in_ok-place.place c.args.entry.now) (sym (ap (λ (t : LockTable). t.waiting) c.self.view_is)) c.in_ok-place.ensures.place in
     let within = stands.0 in
     search rules
 
@@ -40,7 +40,7 @@ returns-clause-told c = enter_made (Ok tt) c.args.self.now c.args.entry.now (c.i
 
 pub returns-clause-ok : goal.returns-clause-ok
 returns-clause-ok c =
-    let stands : IsAt c.self.inside.waiting.items c.in_ok-place.place c.args.entry.now = subst (λ (es : List Entry). IsAt es c.in_ok-place.place c.args.entry.now) (sym (ap (λ (t : LockTable). t.waiting) c.self.view_is)) c.in_ok-place.ensures.place in
+    let stands : IsPlaceOfEntry c.self.inside.waiting.items c.in_ok-place.place c.args.entry.now = subst (λ (es : List Entry). IsPlaceOfEntry es c.in_ok-place.place c.args.entry.now) (sym (ap (λ (t : LockTable). t.waiting) c.self.view_is)) c.in_ok-place.ensures.place in
     let loses : Loses c.self.inside.waiting.items c.args.entry.now c.remove.new.self.items = subst (Loses c.self.inside.waiting.items c.args.entry.now) (sym c.remove.ensures.items) (Loses-remove c.self.inside.waiting.items c.in_ok-place.place c.args.entry.now stands.0 stands.1) in
     let gains : Gains c.self.inside.holding.items c.args.entry.now c.push_exactly.new.list.items = subst (Gains c.self.inside.holding.items c.args.entry.now) (sym c.in-Ok.ensures.ok) (Gains-push c.self.inside.holding.items c.args.entry.now) in
     let granted_is : c.and-self-inside.result.items ≡ c.args.self.now.granted ++ c.args.entry.now ∷ [] = c.and-self-inside.ensures ∙ ap (λ (t : LockTable). t.granted ++ c.args.entry.now ∷ []) c.self.view_is in (

@@ -2,7 +2,7 @@ use Rattle.std.proofs.Common.{rules, ◌≡◌, List, Contains, refl, sym, ap, �
 use Rattle.std.proofs.lemmas.Bool.{false≢true}
 use Rattle.ra_stamp.specs.declared.entry.Entry.{Entry}
 use Rattle.ra_table.specs.Table.{LockTable, Loses}
-use Rattle.ra_table.specs.NameTables.{IsAt}
+use Rattle.ra_table.specs.NameTables.{IsPlaceOfEntry}
 use Rattle.ra_table.proofs.Moves.{Loses-remove}
 use Rattle.ra_table.proofs.name_table.NameTable.leave.Goals as goal
 
@@ -17,7 +17,7 @@ returns-in_default-clause-held c =
 
 pub remove-requires : goal.remove-requires
 remove-requires c =
-    let found = subst (λ (l : List Entry). IsAt l c.in-Some.place c.args.entry.now) c.deref.ensures.value c.in-Some.ensures.found in
+    let found = subst (λ (l : List Entry). IsPlaceOfEntry l c.in-Some.place c.args.entry.now) c.deref.ensures.value c.in-Some.ensures.found in
     let within = found.0 in
     search rules
 
@@ -29,7 +29,7 @@ returns-clause-held c =
 pub returns-clause-ok : goal.returns-clause-ok
 returns-clause-ok c =
     let holding_is : c.deref.result.now ≡ c.args.self.now.holding = c.deref.ensures.value ∙ ap (λ (t : LockTable). t.holding) c.self.view_is in
-    let found : IsAt c.self.inside.holding.items c.in-Some.place c.args.entry.now = subst (λ (l : List Entry). IsAt l c.in-Some.place c.args.entry.now) c.deref.ensures.value c.in-Some.ensures.found in
+    let found : IsPlaceOfEntry c.self.inside.holding.items c.in-Some.place c.args.entry.now = subst (λ (l : List Entry). IsPlaceOfEntry l c.in-Some.place c.args.entry.now) c.deref.ensures.value c.in-Some.ensures.found in
     let loses : Loses c.self.inside.holding.items c.args.entry.now c.remove.new.self.items = subst (Loses c.self.inside.holding.items c.args.entry.now) (sym c.remove.ensures.items) (Loses-remove c.self.inside.holding.items c.in-Some.place c.args.entry.now found.0 found.1) in (
       subst (λ (l : List Entry). Contains l c.args.entry.now) holding_is (c.in-Some.place, c.in-Some.ensures.found.0, c.in-Some.ensures.found.1),
       ap (λ (t : LockTable). t.waiting) c.self.view_is,

@@ -4,7 +4,7 @@ use Rattle.ra_node.specs.Events.Event.{Receive as Received}
 use Rattle.ra_world.specs.declared.error.StepError.TheVariants.{Memory}
 use Rattle.ra_world.specs.StepLog.{LogState, HasRoom}
 use Rattle.ra_world.specs.Traffic.{Move}
-use Rattle.ra_world.specs.Trying.{IsRefusedAt, TriesAt}
+use Rattle.ra_world.specs.Trying.{IsEventRefusal, TriesAt}
 use Rattle.ra_world.proofs.StepTries.{at_err}
 use Rattle.ra_world.proofs.AtPlace.{sends_fit_still}
 use Rattle.ra_world.proofs.EventTries.{taken_as}
@@ -20,7 +20,7 @@ returns-in_err-make_room_for g c =
       refl,
       c.make_room_for.ensures.messages,
       c.make_room_for.ensures.moves,
-      subst (IsRefusedAt old kept.log.moves (Received c.args.message.now)) (sym is) c.in_err-make_room_for.ensures.err,
+      subst (IsEventRefusal old kept.log.moves (Received c.args.message.now)) (sym is) c.in_err-make_room_for.ensures.err,
     ))
 
 pub returns-in_default : goal.returns-in_default
