@@ -8,12 +8,13 @@ use Rattle.std.proofs.lemmas.List.Concat.{flat_map-append}
 use Rattle.ra_stamp.specs.declared.entry.Mark.{Mark}
 use Rattle.ra_stamp.specs.declared.message.Message.{Message}
 use Rattle.ra_stamp.specs.Message.{to_of}
+use Rattle.ra_stamp.specs.Mark.{entry_of_mark}
 use Rattle.ra_automaton.specs.State.{IsForNode}
 use Rattle.ra_frame.specs.declared.frame.Frame.{Frame}
 use Rattle.ra_node.specs.Node.{NodeState, opening_node, IsConsistentNode}
 use Rattle.ra_node.specs.Events.{Event, Happening, name_of_event, NodeEvent, NodeEvents, IsForThisNode, AreForThisNode}
 use Rattle.ra_node.specs.Events.Event.{Ask as AskedFor, Leave as GivenBack, Receive as Received}
-use Rattle.ra_node.specs.Carried.{IsMark, entry_in}
+use Rattle.ra_node.specs.Carried.{IsMark}
 use Rattle.ra_world.specs.declared.step.Step.{Step}
 use Rattle.ra_world.specs.declared.step.Step.TheVariants.{Ask, Leave, Deliver, Lose, Repeat}
 use Rattle.ra_world.specs.Traffic.{Move, IsUnderWay}
@@ -101,7 +102,7 @@ for_next old next (Received message) me nodes h =
 module _ (keeps : (old new : NodeState) (event : Event) (sends : List Message) (marks : List Mark) → IsConsistentNode old → IsForThisNode old event → NodeEvent old event sends marks new → IsConsistentNode new)
     (makes : (old new : NodeState) (event : Event) (sends : List Message) (marks : List Mark) → IsConsistentNode old → IsForThisNode old event → NodeEvent old event sends marks new → All (IsMark old.me (name_of_event event)) marks)
     (stays : (old new : NodeState) (event : Event) (sends : List Message) (marks : List Mark) → NodeEvent old event sends marks new → (new.me ≡ old.me) × (new.nodes ≡ old.nodes) × (new.start ≡ old.start)) where
-  pub own_marks : (happened : List Happening) (old new : NodeState) → IsConsistentNode old → AreForThisNode old happened → NodeEvents old happened new → All (λ m. (entry_in m).stamp.node ≡ old.me) (marks_by happened)
+  pub own_marks : (happened : List Happening) (old new : NodeState) → IsConsistentNode old → AreForThisNode old happened → NodeEvents old happened new → All (λ m. (entry_of_mark m).stamp.node ≡ old.me) (marks_by happened)
   own_marks [] old new consistent for events = All-nil _
   own_marks (h ∷ happened) old new consistent for events =
       let next = events.0 in
@@ -112,9 +113,9 @@ module _ (keeps : (old new : NodeState) (event : Event) (sends : List Message) (
       (All-weaker (λ h. IsForThisNode old h.event) (λ h. IsForThisNode next h.event) (λ h. for_next old next h.event same.0 same.1) happened (All-tail (λ h. IsForThisNode old h.event) h happened for))
       events.2
       in
-      All-append (λ m. (entry_in m).stamp.node ≡ old.me) h.marks (marks_by happened)
-      (All-weaker (IsMark old.me (name_of_event h.event)) (λ m. (entry_in m).stamp.node ≡ old.me) (λ m is. is.node_is) h.marks (makes old next h.event h.sends h.marks consistent here events.1))
-      (subst (λ (k : ℕ). All (λ m. (entry_in m).stamp.node ≡ k) (marks_by happened)) same.0 rest)
+      All-append (λ m. (entry_of_mark m).stamp.node ≡ old.me) h.marks (marks_by happened)
+      (All-weaker (IsMark old.me (name_of_event h.event)) (λ m. (entry_of_mark m).stamp.node ≡ old.me) (λ m is. is.node_is) h.marks (makes old next h.event h.sends h.marks consistent here events.1))
+      (subst (λ (k : ℕ). All (λ m. (entry_of_mark m).stamp.node ≡ k) (marks_by happened)) same.0 rest)
 
 -- ---- What happened at a node is the history of its book
 

@@ -9,10 +9,11 @@ use Rattle.ra_stamp.specs.declared.entry.Mark.TheVariants.{Entered}
 use Rattle.ra_stamp.specs.declared.message.Message.{Message}
 use Rattle.ra_stamp.specs.Message.{from_of, to_of}
 use Rattle.ra_stamp.specs.NodeId.{IsNodeNumber}
+use Rattle.ra_stamp.specs.Mark.{entry_of_mark}
 use Rattle.ra_automaton.specs.State.{IsOtherNode}
 use Rattle.ra_node.specs.Node.{NodeState, opening_node, IsConsistentNode}
 use Rattle.ra_node.specs.Events.{Event, name_of_event, NodeEvent, NodeEvents, IsForThisNode}
-use Rattle.ra_node.specs.Carried.{IsMark, entry_in}
+use Rattle.ra_node.specs.Carried.{IsMark}
 use Rattle.ra_world.specs.Traffic.{Move, IsUnderWay}
 use Rattle.ra_world.specs.Run.{IsRun, happened_at, marks_of}
 use Rattle.ra_history.specs.declared.book.event.BookEvent.{BookEvent}
@@ -80,7 +81,7 @@ module _ (laws : GrantLaws) (books : List BookState) (moves : List Move) (entry 
         let same = laws.one_history b.me b.nodes b.start b.events b.sent _ node (settled.run.ends.0 b.me) leads other.0 ∙ other.1 in
         subst (λ (ms : List Mark). Contains ms mark) (marks_posted b.events (happened_at b.me moves) fit) (subst (λ (ps : List Posting). Contains (marks_in ps) mark) same is)
 
-    marks_own : All (λ m. (entry_in m).stamp.node ≡ b.me) (marks_by (happened_at b.me moves))
+    marks_own : All (λ m. (entry_of_mark m).stamp.node ≡ b.me) (marks_by (happened_at b.me moves))
     marks_own =
         own_marks laws.keeps laws.makes laws.stays (happened_at b.me moves) (opening_node b.me b.nodes b.start) (settled.run.ends.0 b.me)
         (laws.opens b.me b.nodes b.start history.count history.member) (happened_here b history (happened_at b.me moves) (settled.events k nobody within)) ends
@@ -95,7 +96,7 @@ module _ (laws : GrantLaws) (books : List BookState) (moves : List Move) (entry 
       let me : (book_at books k).me ≡ found.0 = number_at books cluster k nobody within ∙ omega (arith, found.1.0) in
       let here = subst (λ (i : ℕ). Contains (marks_by (happened_at i moves)) (Entered entry)) (sym me) found.2 in
       let own : entry.stamp.node ≡ (book_at books k).me =
-      All-contains (λ m. (entry_in m).stamp.node ≡ (book_at books k).me) (marks_by (happened_at (book_at books k).me moves)) (Entered entry) (marks_own k within) here
+      All-contains (λ m. (entry_of_mark m).stamp.node ≡ (book_at books k).me) (marks_by (happened_at (book_at books k).me moves)) (Entered entry) (marks_own k within) here
       in (
         k,
         book_at books k,

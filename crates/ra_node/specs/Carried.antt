@@ -1,10 +1,10 @@
 -- What a host that carries a node's messages and marks knows of them.
 use Rattle.std.specs.Prelude.{◌≡◌, ℕ, ◌*◌, ◌≤◌, List, [], ◌∷◌}
-use Rattle.ra_stamp.specs.declared.entry.Entry.{Entry}
 use Rattle.ra_stamp.specs.declared.entry.Mark.{Mark}
 use Rattle.ra_stamp.specs.declared.entry.Mark.TheVariants.{Requested, Entered, Left}
 use Rattle.ra_stamp.specs.declared.message.Message.{Message}
 use Rattle.ra_stamp.specs.declared.message.Message.TheVariants.{Request, Reply}
+use Rattle.ra_stamp.specs.Mark.{entry_of_mark}
 use Rattle.ra_stamp.specs.Message.{from_of, to_of, name_of}
 use Rattle.ra_automaton.specs.State.{IsOtherNode}
 use Rattle.ra_node.specs.Resource.{Use}
@@ -18,17 +18,11 @@ pub record IsSend (me nodes : ℕ) (name : List ℕ) (message : Message) : Type 
   pub to : IsOtherNode me nodes (to_of message)
   pub name_is : name_of message ≡ name
 
--- the request that a mark is about
-abbrev pub entry_in : Mark → Entry
-entry_in (Requested e) = e
-entry_in (Entered e) = e
-entry_in (Left e) = e
-
 -- a mark of a node about a name: its request is of this node, for this name, and has a number, 1 or more
 pub record IsMark (me : ℕ) (name : List ℕ) (mark : Mark) : Type 0 where
-  pub node_is : (entry_in mark).stamp.node ≡ me
-  pub name_is : (entry_in mark).name ≡ name
-  pub numbered : 1 ≤ (entry_in mark).stamp.seq
+  pub node_is : (entry_of_mark mark).stamp.node ≡ me
+  pub name_is : (entry_of_mark mark).name ≡ name
+  pub numbered : 1 ≤ (entry_of_mark mark).stamp.seq
 
 -- how many messages an event sends at most, in a cluster of this many nodes
 abbrev pub sends_at_most : ℕ → Event → ℕ

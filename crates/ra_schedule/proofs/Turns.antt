@@ -203,10 +203,9 @@ module _ (script : ScriptState) (world next : WorldState) (driver : Driver) (mov
   random_before laws choice means =
       IfSome_then driver.random driven.random (λ random are. record {
         node_clients = are.node_clients;
-        alike = are.flags.length_is;
         flags = flags_elsewhere laws script world.moves next.moves move choice random.enabled.flags.items driven.nodes
             (ap (λ (w : WorldState). w.moves) is) run_more means are.flags;
-        count = are.count;
+        counted = are.counted;
       })
 
   pub driven_more : (new : Driver) → Tracks script next new.clients.items → OfEach (IsProgressAfter move) driver.clients.items new.clients.items

@@ -6,6 +6,7 @@ use Rattle.ra_stamp.specs.Message.{to_of}
 use Rattle.ra_world.specs.declared.step.Step.{Step}
 use Rattle.ra_world.specs.declared.step.Step.TheVariants.{Ask, Leave, Deliver, Lose, Repeat}
 use Rattle.ra_world.specs.Traffic.{Move}
+use Rattle.ra_schedule.specs.declared.choice.enabled.Enabled.{Enabled}
 use Rattle.ra_schedule.specs.Script.{ScriptState, client_at}
 use Rattle.ra_schedule.specs.Schedule.{IsEnabled, Enters}
 
@@ -22,6 +23,11 @@ pub record AreFlags (script : ScriptState) (moves : List Move) (flags : List Boo
 abbrev pub numbers_from : ℕ → List Bool → List ℕ
 numbers_from n [] = []
 numbers_from n (flag ∷ flags) = if flag then n ∷ numbers_from (n + 1) flags else numbers_from (n + 1) flags
+
+-- there is a flag for each client of the script, and the count is that of the flags that are set
+pub record CountsFlags (script : ScriptState) (enabled : Enabled) : Type 0 where
+  pub one_each : length enabled.flags.items ≡ length script.clients
+  pub count_is : enabled.count ≡ length (numbers_from 1 enabled.flags.items)
 
 -- the node of a client of the script
 abbrev pub node_of : ScriptState → ℕ → Option ℕ

@@ -12,7 +12,7 @@ use Rattle.ra_schedule.specs.declared.choice.random_state.RandomState.{RandomSta
 use Rattle.ra_schedule.specs.Script.{ScriptState}
 use Rattle.ra_schedule.specs.Schedule.{steps_of, words_by}
 use Rattle.ra_schedule.specs.Seeds.{generator_after}
-use Rattle.ra_schedule.specs.Enabled.{AreFlags, AreFlagsElsewhere, AreNodeClients, numbers_from}
+use Rattle.ra_schedule.specs.Enabled.{AreFlags, AreFlagsElsewhere, AreNodeClients, CountsFlags}
 
 -- the generator of a policy after it has given this many words, if the policy has one
 abbrev pub generator_at : Policy → ℕ → Option Lcg
@@ -60,12 +60,11 @@ generator_in random = option_map (λ d. d.generator) random
 pub record IsRandomState (script : ScriptState) (moves : List Move) (random : RandomState) : Type 0 where
   pub node_clients : AreNodeClients script random.node_clients.items
   pub flags : AreFlags script moves random.enabled.flags.items
-  pub count : random.enabled.count ≡ length (numbers_from 1 random.enabled.flags.items)
+  pub counted : CountsFlags script random.enabled
 
 -- the same, except that chance has not looked yet at the clients at the node of a step and at those that entered by its
 -- marks
 pub record IsRandomStateElsewhere (step : Step) (marks : List Mark) (script : ScriptState) (moves : List Move) (random : RandomState) : Type 0 where
   pub node_clients : AreNodeClients script random.node_clients.items
-  pub alike : length random.enabled.flags.items ≡ length script.clients
   pub flags : AreFlagsElsewhere step marks script moves random.enabled.flags.items
-  pub count : random.enabled.count ≡ length (numbers_from 1 random.enabled.flags.items)
+  pub counted : CountsFlags script random.enabled

@@ -1,11 +1,10 @@
 -- What comes of a step that is tried, in terms of what a world keeps. No public contract speaks of it.
 use Rattle.std.specs.Prelude.{◌≡◌, ◌⊎◌, ℕ, List, [], ◌∷◌, ◌++◌, Result, Ok, Err}
-use Rattle.ra_stamp.specs.declared.entry.Entry.{Entry}
 use Rattle.ra_stamp.specs.declared.message.Message.{Message}
 use Rattle.ra_bag.specs.Bag.{TakesFirst, TakesOne}
-use Rattle.ra_automaton.specs.Steps.{greatest_number}
-use Rattle.ra_node.specs.Resource.{IsBusy, Holds}
-use Rattle.ra_node.specs.Turns.{MayAsk}
+use Rattle.ra_node.specs.declared.error.AskError.TheVariants as asking
+use Rattle.ra_node.specs.declared.error.LeaveError.TheVariants as leaving
+use Rattle.ra_node.specs.Faults.{IsAskRefusal, IsLeaveRefusal}
 use Rattle.ra_node.specs.Node.{NodeState, resource_at}
 use Rattle.ra_node.specs.Memory.{BringsNothing}
 use Rattle.ra_node.specs.Events.{Event, NodeEvent}
@@ -34,17 +33,16 @@ LeavesOthers moves old (Received message) new = TakesEqual moves old message new
 abbrev pub IsEventRefusal : NodeState → List Move → Event → StepError → Type 0
 IsEventRefusal s moves (AskedFor client name mode) NoNode = ⊥
 IsEventRefusal s moves (AskedFor client name mode) NotUnderWay = ⊥
-IsEventRefusal s moves (AskedFor client name mode) (Node Busy) = IsBusy (resource_at s name) client
-IsEventRefusal s moves (AskedFor client name mode) (Node Exhausted) =
-    (IsBusy (resource_at s name) client → ⊥) × ((resource_at s name).state.highest ≡ greatest_number)
+IsEventRefusal s moves (AskedFor client name mode) (Node Busy) = IsAskRefusal (resource_at s name) client asking.Busy
+IsEventRefusal s moves (AskedFor client name mode) (Node Exhausted) = IsAskRefusal (resource_at s name) client asking.Exhausted
 IsEventRefusal s moves (AskedFor client name mode) (Node NotHeld) = ⊥
-IsEventRefusal s moves (AskedFor client name mode) Memory = MayAsk (resource_at s name) client
+IsEventRefusal s moves (AskedFor client name mode) Memory = IsAskRefusal (resource_at s name) client asking.Memory
 IsEventRefusal s moves (GivenBack client name) NoNode = ⊥
 IsEventRefusal s moves (GivenBack client name) NotUnderWay = ⊥
 IsEventRefusal s moves (GivenBack client name) (Node Busy) = ⊥
 IsEventRefusal s moves (GivenBack client name) (Node Exhausted) = ⊥
-IsEventRefusal s moves (GivenBack client name) (Node NotHeld) = (entry : Entry) → Holds (resource_at s name) client entry → ⊥
-IsEventRefusal s moves (GivenBack client name) Memory = (entry : Entry) × Holds (resource_at s name) client entry
+IsEventRefusal s moves (GivenBack client name) (Node NotHeld) = IsLeaveRefusal (resource_at s name) client leaving.NotHeld
+IsEventRefusal s moves (GivenBack client name) Memory = IsLeaveRefusal (resource_at s name) client leaving.Memory
 IsEventRefusal s moves (Received message) NoNode = ⊥
 IsEventRefusal s moves (Received message) NotUnderWay = ⊥
 IsEventRefusal s moves (Received message) (Node why) = ⊥

@@ -1,12 +1,12 @@
 -- A world as contracts see it, why it refuses a step, and what it reports.
 use Rattle.std.specs.Prelude.{◌≡◌, ◌≢◌, ◌↔◌, ◌⊎◌, ℕ, ◌<◌, ◌≤◌, List, [], ◌∷◌, ◌++◌, length, map, Option, Some, None, Result, IfOk, IsErrOf, IsOkUnless, OnErr}
 use Rattle.ra_stamp.specs.NodeId.{IsNodeNumber}
-use Rattle.ra_stamp.specs.declared.entry.Entry.{Entry}
 use Rattle.ra_stamp.specs.declared.entry.Mark.{Mark}
 use Rattle.ra_stamp.specs.declared.message.Message.{Message}
 use Rattle.ra_stamp.specs.Message.{to_of}
-use Rattle.ra_automaton.specs.Steps.{greatest_number}
-use Rattle.ra_node.specs.Resource.{Holds, IsBusy}
+use Rattle.ra_node.specs.declared.error.AskError.TheVariants as asking
+use Rattle.ra_node.specs.declared.error.LeaveError.TheVariants as leaving
+use Rattle.ra_node.specs.Faults.{IsAskRefusal, IsLeaveRefusal}
 use Rattle.ra_node.specs.Node.{NodeState, opening_node, resource_at}
 use Rattle.ra_node.specs.Events.{NodeEvents}
 use Rattle.ra_node.specs.Memory.{BringsNothing}
@@ -52,10 +52,9 @@ pub record AtNode (n start : ℕ) (moves : List Move) (i : ℕ) (P : NodeState �
 abbrev pub HasCause : ℕ → ℕ → List Move → Step → StepError → Type 0
 HasCause n start moves (Ask node client name mode) NoNode = n < node
 HasCause n start moves (Ask node client name mode) (Node Busy) =
-    AtNode n start moves node (λ s. IsBusy (resource_at s name) client)
+    AtNode n start moves node (λ s. IsAskRefusal (resource_at s name) client asking.Busy)
 HasCause n start moves (Ask node client name mode) (Node Exhausted) =
-    AtNode n start moves node (λ s. (IsBusy (resource_at s name) client → ⊥)
-    × ((resource_at s name).state.highest ≡ greatest_number))
+    AtNode n start moves node (λ s. IsAskRefusal (resource_at s name) client asking.Exhausted)
 HasCause n start moves (Ask node client name mode) (Node NotHeld) = ⊥
 HasCause n start moves (Ask node client name mode) NotUnderWay = ⊥
 HasCause n start moves (Ask node client name mode) Memory = ⊥
@@ -63,7 +62,7 @@ HasCause n start moves (Leave node client name) NoNode = n < node
 HasCause n start moves (Leave node client name) (Node Busy) = ⊥
 HasCause n start moves (Leave node client name) (Node Exhausted) = ⊥
 HasCause n start moves (Leave node client name) (Node NotHeld) =
-    AtNode n start moves node (λ s. (entry : Entry) → Holds (resource_at s name) client entry → ⊥)
+    AtNode n start moves node (λ s. IsLeaveRefusal (resource_at s name) client leaving.NotHeld)
 HasCause n start moves (Leave node client name) NotUnderWay = ⊥
 HasCause n start moves (Leave node client name) Memory = ⊥
 HasCause n start moves (Deliver message) NoNode = ⊥

@@ -2,7 +2,7 @@
 ghost use Rattle.std.specs.Prelude.{◌≡◌, ◌≢◌, ◌⊎◌, ◌+◌, ◌<◌, ℕ, Bool, All, Contains, length, slice_get, slice_index_or, IfOk};
 ghost use Rattle.ra_schedule.specs.Schedule.{Enters};
 ghost use Rattle.ra_schedule.specs.Progress.{Tracks};
-ghost use Rattle.ra_schedule.specs.Enabled.{AreFlags, IsFlag, numbers_from};
+ghost use Rattle.ra_schedule.specs.Enabled.{CountsFlags, AreFlags, IsFlag, numbers_from};
 
 use crate::Script;
 use crate::choice::picking::enabled_step;
@@ -34,7 +34,7 @@ impl Enabled {
     ) -> Result<Enabled, Memory>
         requires { Tracks script.now world.now clients.now }
         ensures flags { IfOk result (λ enabled. AreFlags script.now world.now.moves enabled.flags.items) }
-        ensures count { IfOk result (λ enabled. enabled.count ≡ length (numbers_from 1 enabled.flags.items)) }
+        ensures counted { IfOk result (CountsFlags script.now) }
     {
         let flags = vec![in alloc; false; clients.len()]?;
         let mut enabled = Enabled { flags, count: 0 };
@@ -71,10 +71,8 @@ impl Enabled {
         members: &[u32],
     )
         requires tracked { Tracks script.now world.now clients.now }
-        requires alike { length self.old.flags.items ≡ length script.now.clients }
-        requires count { self.old.count ≡ length (numbers_from 1 self.old.flags.items) }
-        ensures alike { length self.new.flags.items ≡ length self.old.flags.items }
-        ensures count { self.new.count ≡ length (numbers_from 1 self.new.flags.items) }
+        requires counted { CountsFlags script.now self.old }
+        ensures counted { CountsFlags script.now self.new }
         ensures flags { (k : ℕ) (d : Bool) → k < length self.old.flags.items
             → IsFlag script.now world.now.moves (k + 1) (slice_index_or self.new.flags.items k d)
             ⊎ ((slice_index_or self.new.flags.items k d ≡ slice_index_or self.old.flags.items k d)
@@ -94,10 +92,8 @@ impl Enabled {
         marks: &[Mark],
     )
         requires tracked { Tracks script.now world.now clients.now }
-        requires alike { length self.old.flags.items ≡ length script.now.clients }
-        requires count { self.old.count ≡ length (numbers_from 1 self.old.flags.items) }
-        ensures alike { length self.new.flags.items ≡ length self.old.flags.items }
-        ensures count { self.new.count ≡ length (numbers_from 1 self.new.flags.items) }
+        requires counted { CountsFlags script.now self.old }
+        ensures counted { CountsFlags script.now self.new }
         ensures flags { (k : ℕ) (d : Bool) → k < length self.old.flags.items
             → IsFlag script.now world.now.moves (k + 1) (slice_index_or self.new.flags.items k d)
             ⊎ ((slice_index_or self.new.flags.items k d ≡ slice_index_or self.old.flags.items k d)
@@ -113,10 +109,8 @@ impl Enabled {
     /// Looks again whether a client is enabled, if there is such a client.
     fn look_at(&mut self, script: &Script, world: &World, clients: &[Progress], client: u32)
         requires tracked { Tracks script.now world.now clients.now }
-        requires alike { length self.old.flags.items ≡ length script.now.clients }
-        requires count { self.old.count ≡ length (numbers_from 1 self.old.flags.items) }
-        ensures alike { length self.new.flags.items ≡ length self.old.flags.items }
-        ensures count { self.new.count ≡ length (numbers_from 1 self.new.flags.items) }
+        requires counted { CountsFlags script.now self.old }
+        ensures counted { CountsFlags script.now self.new }
         ensures this { (k : ℕ) (d : Bool) → k < length self.old.flags.items → k + 1 ≡ client
             → IsFlag script.now world.now.moves (k + 1) (slice_index_or self.new.flags.items k d) }
         ensures others { (k : ℕ) (d : Bool) → k + 1 ≢ client

@@ -1,10 +1,10 @@
 //! Which choice the words of a turn make.
-ghost use Rattle.std.specs.Prelude.{◌≡◌, ◌+◌, List, [], Some, length, IsSome, IsNone, IfSome};
+ghost use Rattle.std.specs.Prelude.{◌≡◌, ◌+◌, List, [], Some, IsSome, IsNone, IfSome};
 ghost use Rattle.rand_pcg.specs.Pcg.{pcg64};
 ghost use Rattle.ra_schedule.specs.declared.choice.Choice.{Choice};
 ghost use Rattle.ra_schedule.specs.Schedule.{AreChoices, IsNamedBy, Picks, Ends};
 ghost use Rattle.ra_schedule.specs.PolicyState.{IsWithoutFault, generator_at, words_drawn, words_for};
-ghost use Rattle.ra_schedule.specs.Enabled.{AreFlags, numbers_from};
+ghost use Rattle.ra_schedule.specs.Enabled.{CountsFlags, AreFlags};
 
 use crate::choice::enabled::Enabled;
 use crate::{Choice, Policy, Script};
@@ -20,7 +20,7 @@ fn draw(
     enabled: &Enabled,
 ) -> Option<Choice>
     requires flags { AreFlags script.now world.now.moves enabled.now.flags.items }
-    requires count { enabled.now.count ≡ length (numbers_from 1 enabled.now.flags.items) }
+    requires counted { CountsFlags script.now enabled.now }
     ensures some { IfSome result (IsNamedBy (pcg64 generator.old).0 script.now world.now.moves) }
     ensures named { IfSome result IsWithoutFault }
     ensures none { IsNone result → AreChoices script.now world.now.moves [] }
@@ -51,7 +51,7 @@ pub fn choose(
     enabled: &Enabled,
 ) -> Option<Choice>
     requires flags { AreFlags script.now world.now.moves enabled.now.flags.items }
-    requires count { enabled.now.count ≡ length (numbers_from 1 enabled.now.flags.items) }
+    requires counted { CountsFlags script.now enabled.now }
     requires drawn { Some generator.old ≡ generator_at policy.now (words_drawn policy.now world.now.moves) }
     ensures some { IfSome result (Picks script.now policy.now world.now.moves) }
     ensures none { IsNone result → Ends script.now policy.now world.now.moves }

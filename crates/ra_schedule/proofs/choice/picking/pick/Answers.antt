@@ -27,7 +27,7 @@ returns-in_err-choice-2 c =
       meaning = tt;
       none = λ e. c.in_err-choice-2.ensures.none refl;
       drawn = tt;
-      random = record { node_clients = random.node_clients; flags = random.flags; count = random.count };
+      random = record { node_clients = random.node_clients; flags = random.flags; counted = random.counted };
     })
 
 pub returns-in-Some : goal.returns-in-Some
@@ -43,7 +43,7 @@ returns-in-Some c =
       none = λ e. absurd (true≢false e);
       drawn = subst (λ (x : Choice). Some c.choose.new.generator ≡ generator_at policy (words_drawn policy moves + words_for policy x))
           (sym picked.ensures.choice) c.in_ok-choice-2.ensures.drawn;
-      random = record { node_clients = random.node_clients; flags = random.flags; count = random.count };
+      random = record { node_clients = random.node_clients; flags = random.flags; counted = random.counted };
     }
 
 pub returns-then-messages-eq0 : goal.returns-then-messages-eq0
@@ -120,9 +120,9 @@ pub choose-requires-clause-flags : goal.choose-requires-clause-flags
 choose-requires-clause-flags c =
     (subst (λ (o : Option RandomState). IfSome o (IsRandomState c.args.script.now c.args.world.now.moves)) c.in-Some.is c.requires.random).flags
 
-pub choose-requires-clause-count : goal.choose-requires-clause-count
-choose-requires-clause-count c =
-    (subst (λ (o : Option RandomState). IfSome o (IsRandomState c.args.script.now c.args.world.now.moves)) c.in-Some.is c.requires.random).count
+pub choose-requires-clause-counted : goal.choose-requires-clause-counted
+choose-requires-clause-counted c =
+    (subst (λ (o : Option RandomState). IfSome o (IsRandomState c.args.script.now c.args.world.now.moves)) c.in-Some.is c.requires.random).counted
 
 pub with_meaning-requires-in-Some : goal.with_meaning-requires-in-Some
 with_meaning-requires-in-Some c = c.requires.tracked

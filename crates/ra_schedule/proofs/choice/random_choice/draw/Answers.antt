@@ -28,7 +28,7 @@ returns-then-choices-eq0-clause-none c e =
     let list = numbers_from 1 c.args.enabled.now.flags.items in
     let are = flags_name c.args.script.now c.args.world.now.moves c.args.enabled.now.flags.items c.requires.flags in
     let (left, leaves, len) = c.under_way.ensures.value in
-    let clients : c.from-count.result ≡ length list = c.from-count.ensures ∙ c.requires.count in
+    let clients : c.from-count.result ≡ length list = c.from-count.ensures ∙ c.requires.counted.count_is in
     let messages : c.from.result ≡ length left = c.from.ensures ∙ len in (
       [],
       [],
@@ -52,14 +52,14 @@ returns-in_ok-client-clause-none c e = absurd (true≢false e)
 pub returns-in_err-client-clause-none : goal.returns-in_err-client-clause-none
 returns-in_err-client-clause-none c e =
     let list = numbers_from 1 c.args.enabled.now.flags.items in
-    let is = c.requires.count in
+    let is = c.requires.counted.count_is in
     absurd (there_is_one list (c.from-2.result % (c.from-count.result + c.from.result))
     (let same = c.from-count.ensures in let less = c.if-number-count.true in omega arith) c.in_err-client.ensures)
 
 pub returns-in_err-client-clause-kept : goal.returns-in_err-client-clause-kept
 returns-in_err-client-clause-kept c e =
     let list = numbers_from 1 c.args.enabled.now.flags.items in
-    let is = c.requires.count in
+    let is = c.requires.counted.count_is in
     absurd (there_is_one list (c.from-2.result % (c.from-count.result + c.from.result))
     (let same = c.from-count.ensures in let less = c.if-number-count.true in omega arith) c.in_err-client.ensures)
 
@@ -67,7 +67,7 @@ pub returns-in_ok-client-clause-some : goal.returns-in_ok-client-clause-some
 returns-in_ok-client-clause-some c =
     let list = numbers_from 1 c.args.enabled.now.flags.items in
     let are = flags_name c.args.script.now c.args.world.now.moves c.args.enabled.now.flags.items c.requires.flags in
-    let is = c.requires.count in
+    let is = c.requires.counted.count_is in
     let (left, leaves, len) = c.under_way.ensures.value in
     let word = (pcg64 c.args.generator.now).0 in
     let drawn : c.from-2.result ≡ word = c.from-2.ensures ∙ ap (λ (p : ℕ × Lcg). p.0) c.next_word.ensures in
@@ -79,7 +79,7 @@ pub returns-else-number-count-clause-some : goal.returns-else-number-count-claus
 returns-else-number-count-clause-some c =
     let list = numbers_from 1 c.args.enabled.now.flags.items in
     let are = flags_name c.args.script.now c.args.world.now.moves c.args.enabled.now.flags.items c.requires.flags in
-    let is = c.requires.count in
+    let is = c.requires.counted.count_is in
     let (left, leaves, len) = c.under_way.ensures.value in
     let word = (pcg64 c.args.generator.now).0 in
     let number = c.from-2.result % (c.from-count.result + c.from.result) in

@@ -13,11 +13,8 @@ known c =
     subst (λ (o : Option RandomState). IfSome o (IsRandomStateElsewhere c.args.step.now c.args.marks.now c.args.script.now c.args.world.now.moves)) c.in-Some.is
     c.requires.random
 
-pub look_at_all-requires-clause-alike : goal.look_at_all-requires-clause-alike
-look_at_all-requires-clause-alike c = (known (goal.at.look_at_all-requires-clause-alike c).In-Some).alike
-
-pub look_at_all-requires-clause-count : goal.look_at_all-requires-clause-count
-look_at_all-requires-clause-count c = (known (goal.at.look_at_all-requires-clause-count c).In-Some).count
+pub look_at_all-requires-clause-counted : goal.look_at_all-requires-clause-counted
+look_at_all-requires-clause-counted c = (known (goal.at.look_at_all-requires-clause-counted c).In-Some).counted
 
 pub returns-clause-random : goal.returns-clause-random
 returns-clause-random c =
@@ -29,14 +26,15 @@ returns-clause-random c =
     let new = c.look_at_entered.new.self.flags.items in
     let members = c.members_at-members.result.now in
     let node_clients : AreNodeClients script c.deref.result.now = subst (AreNodeClients script) (sym c.deref.ensures.value) before.node_clients in
-    let len : length new ≡ length old = c.look_at_entered.ensures.alike ∙ c.look_at_all.ensures.alike in
+    let first = c.look_at_all.ensures.counted in
+    let last = c.look_at_entered.ensures.counted in
     record {
       node_clients = before.node_clients;
       flags = record {
-        length_is = len ∙ before.alike;
+        length_is = last.one_each;
         each = λ k d within.
-            let had : k < length old = omega (arith, within, len) in
-            elim (c.look_at_entered.ensures.flags k d (omega (arith, within, c.look_at_entered.ensures.alike))) [
+            let had : k < length old = omega (arith, within, last.one_each, before.counted.one_each) in
+            elim (c.look_at_entered.ensures.flags k d (omega (arith, within, last.one_each, first.one_each))) [
               | inl right ↦ right
               | inr silent ↦
                   subst (IsFlag script moves (k + 1)) (sym silent.0)
@@ -46,11 +44,11 @@ returns-clause-random c =
                         subst (IsFlag script moves (k + 1)) (sym absent.0)
                         (before.flags k d had
                         (λ here.
-                        let (node, is) = has_node script k (omega (arith, had, before.alike)) in
+                        let (node, is) = has_node script k (omega (arith, had, before.counted.one_each)) in
                         absent.1 (c.members_at-members.ensures (k + 1) node (sym here ∙ is) (node_clients (k + 1) node [] is)))
                         silent.1)
                   ])
             ];
       };
-      count = c.look_at_entered.ensures.count;
+      counted = last;
     }

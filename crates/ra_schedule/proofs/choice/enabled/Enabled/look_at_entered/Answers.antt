@@ -31,8 +31,8 @@ loop-mark-preserved c =
           let entry = w.in-Entered.entry in
           subst (λ (e : Enabled). SoFar script moves old e.flags.items e.count (IsSilent (take (i + 1) marks))) (sym w.self-is)
           (record {
-            alike = w.look_at.ensures.alike ∙ so_far.alike;
-            count_is = w.look_at.ensures.count;
+            alike = w.look_at.ensures.counted.one_each ∙ sym c.requires.counted.one_each;
+            count_is = w.look_at.ensures.counted.count_is;
             each = one_more script moves old c.loop-mark.self.flags.items w.look_at.new.self.flags.items entry.client (IsSilent (take i marks)) (IsSilent (take (i + 1) marks))
                 so_far.alike so_far.each w.look_at.ensures.this w.look_at.ensures.others
                 (λ other apart all. silent other (λ h. apart (sym (subst (λ (m : Mark). Enters other m) w.in-Entered.is h))) all);
@@ -46,6 +46,14 @@ loop-mark-preserved c =
                 (λ other all. silent other (no_entry other mark w.in_default.not-Entered) all);
           })
     ]
+
+pub look_at-requires-clause-counted : goal.look_at-requires-clause-counted
+look_at-requires-clause-counted c =
+    record { one_each = c.loop-mark.invariant.alike ∙ c.requires.counted.one_each; count_is = c.loop-mark.invariant.count_is }
+
+pub returns-clause-counted : goal.returns-clause-counted
+returns-clause-counted c =
+    record { one_each = c.loop-mark.invariant.alike ∙ c.requires.counted.one_each; count_is = c.loop-mark.invariant.count_is }
 
 pub returns-clause-flags : goal.returns-clause-flags
 returns-clause-flags c k d within =

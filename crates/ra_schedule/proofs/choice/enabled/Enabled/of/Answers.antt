@@ -13,24 +13,23 @@ pub loop-place-init : goal.loop-place-init
 loop-place-init c =
     let clear = c.in_ok-flags.ensures.items_if_clones_equal (λ y same. same) in
     record {
-      alike = ap length clear ∙ length-replicate _ _ ∙ c.requires.length_is;
+      counted = record {
+        one_each = ap length clear ∙ length-replicate _ _ ∙ c.requires.length_is;
+        count_is = none_set 1 (length c.args.clients.now) ∙ sym (ap (λ (flags : List Bool). length (numbers_from 1 flags)) clear);
+      };
       each = λ k d less. absurd (omega (arith, less));
-      count_is = none_set 1 (length c.args.clients.now) ∙ sym (ap (λ (flags : List Bool). length (numbers_from 1 flags)) clear);
     }
 
-pub look_at-requires-clause-alike : goal.look_at-requires-clause-alike
-look_at-requires-clause-alike c = c.loop-place.invariant.alike
-
-pub look_at-requires-clause-count : goal.look_at-requires-clause-count
-look_at-requires-clause-count c = c.loop-place.invariant.count_is
+pub look_at-requires-clause-counted : goal.look_at-requires-clause-counted
+look_at-requires-clause-counted c = c.loop-place.invariant.counted
 
 pub loop-place-preserved : goal.loop-place-preserved
 loop-place-preserved c =
     let so_far = c.loop-place.invariant in
     let old = c.loop-place.enabled.flags.items in
-    let within : c.loop-place.place < length old = omega (arith, so_far.alike, c.loop-place-test.true, c.clients-place-end.ensures.value) in
+    let within : c.loop-place.place < length old = omega (arith, so_far.counted.one_each, c.loop-place-test.true, c.clients-place-end.ensures.value) in
     record {
-      alike = c.look_at.ensures.alike ∙ so_far.alike;
+      counted = c.look_at.ensures.counted;
       each = λ k d less.
           elim (cases_eq k c.loop-place.place) [
             | inl last ↦ c.look_at.ensures.this k d (omega (arith, last, within)) (ap (λ (n : ℕ). n + 1) last)
@@ -39,7 +38,6 @@ loop-place-preserved c =
                 subst (IsFlag c.args.script.now c.args.world.now.moves (k + 1)) (sym (c.look_at.ensures.others k d apart))
                 (so_far.each k d (omega (arith, less, before)))
           ];
-      count_is = c.look_at.ensures.count;
     }
 
 pub returns-clause-flags : goal.returns-clause-flags
@@ -47,7 +45,7 @@ returns-clause-flags c =
     let so_far = c.loop-place.invariant in
     let past = c.loop-place-test.false in
     let end = c.clients-place-end.ensures.value in
-    record { length_is = so_far.alike; each = λ k d within. so_far.each k d (omega (arith, within, so_far.alike, past, end)) }
+    record { length_is = so_far.counted.one_each; each = λ k d within. so_far.each k d (omega (arith, within, so_far.counted.one_each, past, end)) }
 
-pub returns-clause-count : goal.returns-clause-count
-returns-clause-count c = c.loop-place.invariant.count_is
+pub returns-clause-counted : goal.returns-clause-counted
+returns-clause-counted c = c.loop-place.invariant.counted
