@@ -50,6 +50,10 @@ mod StepAnswers
 mod Worlds
 pub mod Refusing
 mod RunEnds
+mod Overtaking
+mod Arriving
+mod RequestsSent
+pub mod Fairness
 mod Written
 mod StateTexts
 pub mod Drafts

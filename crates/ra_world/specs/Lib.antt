@@ -3,6 +3,7 @@ pub mod Numbers
 pub mod Run
 pub mod Fitting
 pub mod Quiet
+pub mod Fairness
 pub mod Asked
 pub mod Below
 pub mod AtNodes

@@ -1,4 +1,5 @@
 //! What is true of every run of a world, for the crates above. Each function does nothing, and its contract is the law.
+pub mod fairness;
 pub mod fitting;
 
 ghost use Rattle.std.specs.Prelude.{◌≡◌, ◌≢◌, ◌+◌, ◌-◌, ◌*◌, ◌≤◌, ◌++◌, ◌∷◌, ◌↔◌, [], ℕ, List, Some, All, AllPairs, Contains, length, map};
