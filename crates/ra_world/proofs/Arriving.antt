@@ -1,5 +1,5 @@
 -- What a REQUEST raises that arrives at a node: from then on the node's own requests have greater numbers.
-use Rattle.std.proofs.Common.{◌≡◌, ◌≢◌, ◌⊎◌, ℕ, zero, suc, ◌+◌, ◌<◌, ◌≤◌, Bool, true, false, List, [], ◌∷◌, ◌++◌, All, Contains, map, sym, ap, ◌∙◌, subst, arith, inl, inr}
+use Rattle.std.proofs.Common.{◌≡◌, ℕ, zero, suc, ◌≤◌, Bool, true, false, List, [], ◌∷◌, All, Contains, map, sym, ap, ◌∙◌, subst, arith, inl, inr}
 use Rattle.std.proofs.lemmas.List.Elements.{All-nil, All-cons, All-same}
 use Rattle.ra_stamp.specs.declared.entry.Entry.{Entry}
 use Rattle.ra_stamp.specs.declared.entry.Mark.{Mark}
@@ -20,7 +20,6 @@ use Rattle.ra_node.proofs.Lookups.{same_or_apart}
 use Rattle.ra_node.proofs.Updates.{updated_here, received_turn}
 use Rattle.ra_node.proofs.EventLemmas.{other_resource}
 use Rattle.ra_node.proofs.Chains.{events_split}
-use Rattle.ra_world.specs.declared.step.Step.{Step}
 use Rattle.ra_world.specs.declared.step.Step.TheVariants.{Deliver}
 use Rattle.ra_world.specs.Traffic.{Move}
 use Rattle.ra_world.specs.Run.{events_at, happened_at}
@@ -113,44 +112,46 @@ arrived from to name mode seq (m ∷ ms) old new events (suc k, lt, is) =
 
 -- ---- Requests after that have greater numbers
 
-next_above : (e : Entry) (r : Resource) (client : ℕ) (mode : Mode) (entered : Bool) → (r.state.name ≡ e.name → e.stamp.seq ≤ r.state.highest) → All (IsAbove e) (request_marks entered (next_entry r client mode))
-next_above e r client mode false low =
-    All-cons (IsAbove e) (Requested (next_entry r client mode)) [] (λ same. omega (arith, low same)) (All-nil (IsAbove e))
-next_above e r client mode true low =
-    All-cons (IsAbove e) (Requested (next_entry r client mode)) (Entered (next_entry r client mode) ∷ []) (λ same. omega (arith, low same))
-    (All-cons (IsAbove e) (Entered (next_entry r client mode)) [] tt (All-nil (IsAbove e)))
+module _ (At : ℕ → Type 0) (e : Entry) where
+  next_above : (r : Resource) (client : ℕ) (mode : Mode) (entered : Bool) → (At r.state.me → r.state.name ≡ e.name → e.stamp.seq ≤ r.state.highest)
+      → All (IsAbove At e) (request_marks entered (next_entry r client mode))
+  next_above r client mode false low =
+      All-cons (IsAbove At e) (Requested (next_entry r client mode)) [] (λ here same. omega (arith, low here same)) (All-nil (IsAbove At e))
+  next_above r client mode true low =
+      All-cons (IsAbove At e) (Requested (next_entry r client mode)) (Entered (next_entry r client mode) ∷ []) (λ here same. omega (arith, low here same))
+      (All-cons (IsAbove At e) (Entered (next_entry r client mode)) [] tt (All-nil (IsAbove At e)))
 
-module _ (e : Entry) (before after : Resource) (sends : List Message) (marks : List Mark) (low : before.state.name ≡ e.name → e.stamp.seq ≤ before.state.highest) where
-  ask_above : (client : ℕ) (mode : Mode) → AskTurn before client mode sends marks after → All (IsAbove e) marks
-  ask_above client mode turn = elim turn.1 [
-    | inl asks ↦ All-same (IsAbove e) marks (request_marks asks.entered (next_entry before client mode)) asks.marks_are (next_above e before client mode asks.entered low)
-    | inr queues ↦ All-same (IsAbove e) marks [] queues.marks_are (All-nil (IsAbove e))
-  ]
+  module _ (before after : Resource) (sends : List Message) (marks : List Mark) (low : At before.state.me → before.state.name ≡ e.name → e.stamp.seq ≤ before.state.highest) where
+    ask_above : (client : ℕ) (mode : Mode) → AskTurn before client mode sends marks after → All (IsAbove At e) marks
+    ask_above client mode turn = elim turn.1 [
+      | inl asks ↦ All-same (IsAbove At e) marks (request_marks asks.entered (next_entry before client mode)) asks.marks_are (next_above before client mode asks.entered low)
+      | inr queues ↦ All-same (IsAbove At e) marks [] queues.marks_are (All-nil (IsAbove At e))
+    ]
 
-  leave_above : (client : ℕ) → LeaveTurn before client sends marks after → All (IsAbove e) marks
-  leave_above client turn = elim turn [
-    | inl leaves ↦ All-same (IsAbove e) marks (Left leaves.entry ∷ []) leaves.marks_are (All-cons (IsAbove e) (Left leaves.entry) [] tt (All-nil (IsAbove e)))
-    | inr hands ↦
-        let asked = request_marks hands.asks.entered (next_entry before hands.next.client hands.next.mode) in
-        All-same (IsAbove e) marks (Left hands.entry ∷ asked) (handed_marks before client sends marks after hands)
-        (All-cons (IsAbove e) (Left hands.entry) asked tt (next_above e before hands.next.client hands.next.mode hands.asks.entered low))
-  ]
+    leave_above : (client : ℕ) → LeaveTurn before client sends marks after → All (IsAbove At e) marks
+    leave_above client turn = elim turn [
+      | inl leaves ↦ All-same (IsAbove At e) marks (Left leaves.entry ∷ []) leaves.marks_are (All-cons (IsAbove At e) (Left leaves.entry) [] tt (All-nil (IsAbove At e)))
+      | inr hands ↦
+          let asked = request_marks hands.asks.entered (next_entry before hands.next.client hands.next.mode) in
+          All-same (IsAbove At e) marks (Left hands.entry ∷ asked) (handed_marks before client sends marks after hands)
+          (All-cons (IsAbove At e) (Left hands.entry) asked tt (next_above before hands.next.client hands.next.mode hands.asks.entered low))
+    ]
 
-  receive_above : (m : Message) → ReceiveTurn before m sends marks after → All (IsAbove e) marks
-  receive_above m turn = entered_above turn.entered turn.enters
-    where
-      entered_above : (entered : Bool) → EntersBy entered after marks → All (IsAbove e) marks
-      entered_above false enters = All-same (IsAbove e) marks [] enters (All-nil (IsAbove e))
-      entered_above true enters = All-same (IsAbove e) marks (Entered enters.0 ∷ []) enters.2 (All-cons (IsAbove e) (Entered enters.0) [] tt (All-nil (IsAbove e)))
+    receive_above : (m : Message) → ReceiveTurn before m sends marks after → All (IsAbove At e) marks
+    receive_above m turn = entered_above turn.entered turn.enters
+      where
+        entered_above : (entered : Bool) → EntersBy entered after marks → All (IsAbove At e) marks
+        entered_above false enters = All-same (IsAbove At e) marks [] enters (All-nil (IsAbove At e))
+        entered_above true enters = All-same (IsAbove At e) marks (Entered enters.0 ∷ []) enters.2 (All-cons (IsAbove At e) (Entered enters.0) [] tt (All-nil (IsAbove At e)))
 
-pub event_above : (e : Entry) (old new : NodeState) (event : Event) (sends : List Message) (marks : List Mark) → IsConsistentNode old → NodeEvent old event sends marks new
-    → e.stamp.seq ≤ (resource_at old e.name).state.highest → All (IsAbove e) marks
-event_above e old new event sends marks consistent happened met = by event happened
-  where
-    low : (name : List ℕ) → (resource_at old name).state.name ≡ e.name → e.stamp.seq ≤ (resource_at old name).state.highest
-    low name same = subst (λ (r : List ℕ). e.stamp.seq ≤ (resource_at old r).state.highest) (sym same ∙ (consistent.each name).name_is) met
+  -- the requests of an event, if its node has met the entry's number
+  module _ (old new : NodeState) (sends : List Message) (marks : List Mark) (consistent : IsConsistentNode old) (met : At old.me → e.stamp.seq ≤ (resource_at old e.name).state.highest) where
+    low : (name : List ℕ) → At (resource_at old name).state.me → (resource_at old name).state.name ≡ e.name → e.stamp.seq ≤ (resource_at old name).state.highest
+    low name here same =
+        let there = consistent.each name in
+        subst (λ (r : List ℕ). e.stamp.seq ≤ (resource_at old r).state.highest) (sym same ∙ there.name_is) (met (subst At there.me_is here))
 
-    by : (event : Event) → NodeEvent old event sends marks new → All (IsAbove e) marks
-    by (AskedFor client name mode) asked = ask_above e (resource_at old name) asked.resource sends marks (low name) client mode asked.turn
-    by (GivenBack client name) left = leave_above e (resource_at old name) left.resource sends marks (low name) client left.turn
-    by (Received message) received = receive_above e (resource_at old (name_of message)) received.resource sends marks (low (name_of message)) message received.turn
+    pub event_above : (event : Event) → NodeEvent old event sends marks new → All (IsAbove At e) marks
+    event_above (AskedFor client name mode) asked = ask_above (resource_at old name) asked.resource sends marks (low name) client mode asked.turn
+    event_above (GivenBack client name) left = leave_above (resource_at old name) left.resource sends marks (low name) client left.turn
+    event_above (Received message) received = receive_above (resource_at old (name_of message)) received.resource sends marks (low (name_of message)) message received.turn

@@ -29,7 +29,12 @@ pub mod Runs
 pub mod RequestCounts
 pub mod GoingOn
 pub mod Outcomes
+mod MoveByMove
 mod Numbered
+mod Overtaking
+mod Arriving
+mod RequestsSent
+mod Fairness
 pub mod QuietRuns
 pub mod TableNodes
 mod DifferentLists
@@ -50,10 +55,6 @@ mod StepAnswers
 mod Worlds
 pub mod Refusing
 mod RunEnds
-mod Overtaking
-mod Arriving
-mod RequestsSent
-pub mod Fairness
 mod Written
 mod StateTexts
 pub mod Drafts

@@ -1,4 +1,4 @@
--- Who overtakes a waiting entry in steps of the lock table, if each request that is made meanwhile has a greater number.
+-- Who overtakes a waiting entry in steps of the lock table, if the requests that are made meanwhile have greater numbers.
 use Rattle.std.proofs.Common.{◌≡◌, ◌≢◌, ◌⊎◌, ℕ, zero, suc, ◌<◌, List, [], ◌∷◌, ◌++◌, All, Contains, Some, sym, ap, ◌∙◌, subst, arith, inl, inr}
 use Rattle.std.proofs.lemmas.Option.{same_Some}
 use Rattle.std.proofs.lemmas.Bool.{cases_lt}
@@ -14,13 +14,13 @@ use Rattle.ra_table.specs.Table.{LockTable, Excludes, MayEnter, TableStep, Table
 use Rattle.ra_table.specs.Refusals.{SharesNodeAndName}
 use Rattle.ra_table.proofs.Apart.{Apart, All-apart, Contains-put, Contains-cases, Contains-cons_cases}
 use Rattle.ra_table.proofs.Sound.{NotOfOneNode, NotOfOneNode-flip, IsSoundTable, step_sound}
-use Rattle.ra_world.specs.Fairness.{Overtakes, IsOvertakenOnce}
+use Rattle.ra_world.specs.Fairness.{Overtakes}
 
--- a request on the entry's name has a greater number
-abbrev pub IsAbove : Entry → Mark → Type 0
-IsAbove e (Requested f) = f.name ≡ e.name → e.stamp.seq < f.stamp.seq
-IsAbove e (Entered f) = Unit {0}
-IsAbove e (Left f) = Unit {0}
+-- a request of a node that is At, on the entry's name, has a greater number
+abbrev pub IsAbove : (ℕ → Type 0) → Entry → Mark → Type 0
+IsAbove At e (Requested f) = At f.stamp.node → f.name ≡ e.name → e.stamp.seq < f.stamp.seq
+IsAbove At e (Entered f) = Unit {0}
+IsAbove At e (Left f) = Unit {0}
 
 pub steps_sound : (marks : List Mark) (old new : LockTable) → TableSteps old marks new → IsSoundTable old → IsSoundTable new
 steps_sound [] old new steps sound = subst IsSoundTable (sym steps) sound
@@ -87,61 +87,58 @@ module _ (flips : (a b : Mode) → Conflict a b → Conflict b a) (e : Entry) wh
   still_waits : (m : Mark) (ms : List Mark) (t next : LockTable) (place : ℕ) (f : Entry) → TableStep t m next → Contains t.waiting e → Overtakes (m ∷ ms) (suc place) f e → Contains next.waiting e
   still_waits m ms t next place f step waits over = waits_on e t next m step (λ is. over.not_yet 0 (omega arith) (ap (λ (x : Mark). Some x) is)) waits
 
+  -- whoever overtakes is earlier, and of another node
   pub overtakes_earlier : (marks : List Mark) (t new : LockTable) → TableSteps t marks new → IsSoundTable t → Contains t.waiting e
-      → (place : ℕ) (f : Entry) → Overtakes marks place f e → IsEarlier f.stamp e.stamp
+      → (place : ℕ) (f : Entry) → Overtakes marks place f e → IsEarlier f.stamp e.stamp × (f.stamp.node ≢ e.stamp.node)
   overtakes_earlier [] t new steps sound waits place f over = let at = over.enters in absurd cc
   overtakes_earlier (m ∷ ms) t new steps sound waits zero f over =
       let step : TableStep t (Entered f) steps.0 = subst (λ (x : Mark). TableStep t x steps.0) (same_Some m (Entered f) over.enters) steps.1 in
-      enters_earlier t f sound waits step.0 over.other over.excludes
+      (enters_earlier t f sound waits step.0 over.other over.excludes, of_another_node t f sound waits step.0.waits over.other over.excludes)
   overtakes_earlier (m ∷ ms) t new steps sound waits (suc place) f over =
       overtakes_earlier ms steps.0 new steps.2 (step_sound t steps.0 m steps.1 sound) (still_waits m ms t steps.0 place f steps.1 waits over) place f (later_on m ms place f e over)
 
-  -- if each request on the name has a greater number
-  overtakes_waiting : (marks : List Mark) (t new : LockTable) → TableSteps t marks new → IsSoundTable t → Contains t.waiting e → All (IsAbove e) marks
-      → (place : ℕ) (f : Entry) → Overtakes marks place f e → Contains t.waiting f
-  overtakes_waiting [] t new steps sound waits above place f over = let at = over.enters in absurd cc
-  overtakes_waiting (m ∷ ms) t new steps sound waits above zero f over =
-      let step : TableStep t (Entered f) steps.0 = subst (λ (x : Mark). TableStep t x steps.0) (same_Some m (Entered f) over.enters) steps.1 in
-      step.0.waits
-  overtakes_waiting (m ∷ ms) t new steps sound waits above (suc place) f over =
-      let waits' = still_waits m ms t steps.0 place f steps.1 waits over in
-      let sound' = step_sound t steps.0 m steps.1 sound in
-      let over' = later_on m ms place f e over in
-      let earlier = overtakes_earlier ms steps.0 new steps.2 sound' waits' place f over' in
-      elim (waited_before f t steps.0 m steps.1 (overtakes_waiting ms steps.0 new steps.2 sound' waits' (All-tail (IsAbove e) m ms above) place f over')) [
-        | inr waited ↦ waited
-        | inl is ↦
-            let greater : IsAbove e (Requested f) = subst (IsAbove e) is (All-head (IsAbove e) m ms above) in
-            absurd (never_earlier f e earlier (greater over.excludes.0))
+  module _ (At : ℕ → Type 0) where
+    -- if the requests of its node have greater numbers, it waited
+    pub overtakes_waiting : (marks : List Mark) (t new : LockTable) → TableSteps t marks new → IsSoundTable t → Contains t.waiting e → All (IsAbove At e) marks
+        → (place : ℕ) (f : Entry) → Overtakes marks place f e → At f.stamp.node → Contains t.waiting f
+    overtakes_waiting [] t new steps sound waits above place f over here = let at = over.enters in absurd cc
+    overtakes_waiting (m ∷ ms) t new steps sound waits above zero f over here =
+        let step : TableStep t (Entered f) steps.0 = subst (λ (x : Mark). TableStep t x steps.0) (same_Some m (Entered f) over.enters) steps.1 in
+        step.0.waits
+    overtakes_waiting (m ∷ ms) t new steps sound waits above (suc place) f over here =
+        let waits' = still_waits m ms t steps.0 place f steps.1 waits over in
+        let sound' = step_sound t steps.0 m steps.1 sound in
+        let over' = later_on m ms place f e over in
+        let earlier = (overtakes_earlier ms steps.0 new steps.2 sound' waits' place f over').0 in
+        elim (waited_before f t steps.0 m steps.1 (overtakes_waiting ms steps.0 new steps.2 sound' waits' (All-tail (IsAbove At e) m ms above) place f over' here)) [
+          | inr waited ↦ waited
+          | inl is ↦
+              let greater : IsAbove At e (Requested f) = subst (IsAbove At e) is (All-head (IsAbove At e) m ms above) in
+              absurd (never_earlier f e earlier (greater here over.excludes.0))
+        ]
+
+    -- and its node does not overtake again
+    never_again : (marks : List Mark) (t new : LockTable) → TableSteps t marks new → IsSoundTable t → Contains t.waiting e → All (IsAbove At e) marks
+        → (i j : ℕ) (f g : Entry) → Overtakes marks i f e → Overtakes marks j g e → f.stamp.node ≡ g.stamp.node → At g.stamp.node → i < j → ⊥
+    never_again [] t new steps sound waits above i j f g first second node here lt = let at = first.enters in absurd cc
+    never_again (m ∷ ms) t new steps sound waits above i zero f g first second node here lt = omega (arith, lt)
+    never_again (m ∷ ms) t new steps sound waits above zero (suc j) f g first second node here lt =
+        let step : TableStep t (Entered f) steps.0 = subst (λ (x : Mark). TableStep t x steps.0) (same_Some m (Entered f) first.enters) steps.1 in
+        let waits' = still_waits m ms t steps.0 j g steps.1 waits second in
+        let after = overtakes_waiting ms steps.0 new steps.2 (step_sound t steps.0 m steps.1 sound) waits' (All-tail (IsAbove At e) m ms above) j g (later_on m ms j g e second) here in
+        let rest : Contains (step.1.0 ++ step.1.1) g = subst (λ (w : List Entry). Contains w g) step.1.2 after in
+        let others : All (NotOfOneNode f) (step.1.0 ++ step.1.1) = All-apart NotOfOneNode NotOfOneNode-flip step.1.0 step.1.1 f (rw (← step.1.3) sound.apart_waiting) in
+        All-contains (NotOfOneNode f) (step.1.0 ++ step.1.1) g others rest (first.excludes.0 ∙ sym second.excludes.0, node)
+    never_again (m ∷ ms) t new steps sound waits above (suc i) (suc j) f g first second node here lt =
+        never_again ms steps.0 new steps.2 (step_sound t steps.0 m steps.1 sound) (still_waits m ms t steps.0 i f steps.1 waits first) (All-tail (IsAbove At e) m ms above)
+        i j f g (later_on m ms i f e first) (later_on m ms j g e second) node here (omega (arith, lt))
+
+    pub overtakes_once : (marks : List Mark) (t new : LockTable) → TableSteps t marks new → IsSoundTable t → Contains t.waiting e → All (IsAbove At e) marks
+        → (i j : ℕ) (f g : Entry) → Overtakes marks i f e → Overtakes marks j g e → f.stamp.node ≡ g.stamp.node → At f.stamp.node → i ≡ j
+    overtakes_once marks t new steps sound waits above i j f g first second node here = elim (cases_lt i j) [
+      | inl below ↦ absurd (never_again marks t new steps sound waits above i j f g first second node (subst At node here) below)
+      | inr not_below ↦ elim (cases_lt j i) [
+        | inl beyond ↦ absurd (never_again marks t new steps sound waits above j i g f second first (sym node) here beyond)
+        | inr not_beyond ↦ omega (arith, not_below, not_beyond)
       ]
-
-  -- no node overtakes twice
-  never_again : (marks : List Mark) (t new : LockTable) → TableSteps t marks new → IsSoundTable t → Contains t.waiting e → All (IsAbove e) marks
-      → (i j : ℕ) (f g : Entry) → Overtakes marks i f e → Overtakes marks j g e → f.stamp.node ≡ g.stamp.node → i < j → ⊥
-  never_again [] t new steps sound waits above i j f g first second node lt = let at = first.enters in absurd cc
-  never_again (m ∷ ms) t new steps sound waits above i zero f g first second node lt = omega (arith, lt)
-  never_again (m ∷ ms) t new steps sound waits above zero (suc j) f g first second node lt =
-      let step : TableStep t (Entered f) steps.0 = subst (λ (x : Mark). TableStep t x steps.0) (same_Some m (Entered f) first.enters) steps.1 in
-      let waits' = still_waits m ms t steps.0 j g steps.1 waits second in
-      let after = overtakes_waiting ms steps.0 new steps.2 (step_sound t steps.0 m steps.1 sound) waits' (All-tail (IsAbove e) m ms above) j g (later_on m ms j g e second) in
-      let rest : Contains (step.1.0 ++ step.1.1) g = subst (λ (w : List Entry). Contains w g) step.1.2 after in
-      let others : All (NotOfOneNode f) (step.1.0 ++ step.1.1) = All-apart NotOfOneNode NotOfOneNode-flip step.1.0 step.1.1 f (rw (← step.1.3) sound.apart_waiting) in
-      All-contains (NotOfOneNode f) (step.1.0 ++ step.1.1) g others rest (first.excludes.0 ∙ sym second.excludes.0, node)
-  never_again (m ∷ ms) t new steps sound waits above (suc i) (suc j) f g first second node lt =
-      never_again ms steps.0 new steps.2 (step_sound t steps.0 m steps.1 sound) (still_waits m ms t steps.0 i f steps.1 waits first) (All-tail (IsAbove e) m ms above)
-      i j f g (later_on m ms i f e first) (later_on m ms j g e second) node (omega (arith, lt))
-
-  pub overtaken_once : (marks : List Mark) (t new : LockTable) → TableSteps t marks new → IsSoundTable t → Contains t.waiting e → All (IsAbove e) marks → IsOvertakenOnce t marks e
-  overtaken_once marks t new steps sound waits above =
-      record {
-        waited = overtakes_waiting marks t new steps sound waits above;
-        elsewhere = λ place f over. of_another_node t f sound waits (overtakes_waiting marks t new steps sound waits above place f over) over.other over.excludes;
-        earlier = overtakes_earlier marks t new steps sound waits;
-        once = λ i j f g first second node. elim (cases_lt i j) [
-          | inl below ↦ absurd (never_again marks t new steps sound waits above i j f g first second node below)
-          | inr not_below ↦ elim (cases_lt j i) [
-            | inl above' ↦ absurd (never_again marks t new steps sound waits above j i g f second first (sym node) above')
-            | inr not_above ↦ omega (arith, not_below, not_above)
-          ]
-        ];
-      }
+    ]

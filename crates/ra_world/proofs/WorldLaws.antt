@@ -24,13 +24,14 @@ use Rattle.ra_node.proofs.EventsKept.{event_kept, event_sends, event_numbers, ev
 use Rattle.ra_node.proofs.Determined.{event_one, events_one}
 use Rattle.ra_node.proofs.Possible.{ask_is_possible, ask_was_allowed, leave_is_possible, leave_was_allowed, receive_is_possible}
 use Rattle.ra_node.proofs.Chains.{events_join, events_split}
-use Rattle.ra_table.proofs.History.{same_entries}
+use Rattle.ra_table.proofs.History.{run_waits, same_entries}
 use Rattle.ra_table.proofs.Runs.{steps_join, holders_do_not_conflict, grants_by_stamp}
 use Rattle.ra_world.specs.declared.error.StepError.{StepError}
 use Rattle.ra_world.specs.declared.step.Step.{Step}
 use Rattle.ra_world.specs.declared.step.Step.TheVariants.{Ask, Leave, Deliver, Lose, Repeat}
 use Rattle.ra_world.specs.declared.text.report.Report.{Report}
 use Rattle.ra_world.specs.Below.{LawsBelow}
+use Rattle.ra_world.specs.Fairness.{IsFair}
 use Rattle.ra_world.specs.Fitting.{FitWithCopies}
 use Rattle.ra_world.specs.Keeping.{nodes_of, Keeps}
 use Rattle.ra_world.specs.MainTheorem.{MainTheorem}
@@ -41,6 +42,7 @@ use Rattle.ra_world.proofs.Causes as causes
 use Rattle.ra_world.proofs.Deciding.{decided}
 use Rattle.ra_world.proofs.DifferentRuns.{messages_differ}
 use Rattle.ra_world.proofs.Elsewhere.{stays}
+use Rattle.ra_world.proofs.Fairness.{is_fair}
 use Rattle.ra_world.proofs.FittingRuns.{fit_is_run}
 use Rattle.ra_world.proofs.GoingOn.{consistent_at, event_goes_on, loss_goes_on, copy_goes_on, ask_goes_on, leave_goes_on, deliver_goes_on, lose_goes_on, repeat_goes_on}
 use Rattle.ra_world.proofs.KeptRuns as kept
@@ -134,6 +136,12 @@ one_cause = causes.one_cause laws_below.one_end
 pub between_nodes : (n start : ℕ) (moves : List Move) (message : Message) → IsNodeNumber n → IsRun n start moves → IsUnderWay moves message
     → ((1 ≤ to_of message) × (to_of message ≤ n)) × IsOtherNode (to_of message) n (from_of message)
 between_nodes n start moves message count run was = let traffic = is_traffic laws_below n start moves count run message was in (traffic.to, traffic.from)
+
+-- ---- Who overtakes
+
+pub runs_are_fair : (n start : ℕ) (moves : List Move) → IsNodeNumber n → IsRun n start moves → IsFair n moves
+runs_are_fair n start moves count =
+    is_fair laws_below marks_kept (record { same = same_entries; waits = λ marks table e run. (run_waits marks table e run).0 }) n start count moves
 
 -- ---- What a world keeps
 
