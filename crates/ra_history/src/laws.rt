@@ -1,4 +1,5 @@
 //! What is true of histories, for the crates above. Each function does nothing, and its contract is the law.
+pub mod settled_fairness;
 pub mod settling_with_copies;
 
 ghost use Rattle.std.specs.Prelude.{◌≡◌, ◌≤◌, ◌^◌, ◌++◌, ◌∷◌, [], ℕ, List, map};

@@ -21,6 +21,7 @@ pub use book::kept_events::clock_after;
 pub use book::sent::{Frames, Sent};
 pub use book::stop::Stop;
 pub use error::{BookError, MarkLostError, SettleError};
+pub use laws::settled_fairness::settled_runs_are_fair;
 pub use laws::settling_with_copies::books_settle_with_copies;
 pub use laws::{histories_are_determined, histories_go_on};
 pub use ra_node::NewError;
