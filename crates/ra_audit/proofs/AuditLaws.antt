@@ -15,14 +15,14 @@ use Rattle.ra_world.proofs.Outcomes.{has_table, something_under_way, among_them}
 use Rattle.ra_world.proofs.QuietRuns.{is_blocked, meets_count, blocked_may_not_enter}
 use Rattle.ra_world.proofs.Reached.{under_way_more}
 use Rattle.ra_world.proofs.Runs.{prefixes}
-use Rattle.ra_world.proofs.WorldLaws.{laws_below, stays_consistent, between_nodes}
+use Rattle.ra_world.proofs.WorldLaws.{laws_below, stays_consistent, between_nodes, runs_are_fair}
 use Rattle.ra_audit.specs.Audit.{RunTheorem}
 use Rattle.ra_audit.specs.AuditKeeping.{MessagesAreKnown}
 use Rattle.ra_audit.proofs.OwnMessages.{own}
 use Rattle.ra_audit.proofs.RunTheorems.{run_theorem}
 use Rattle.ra_audit.proofs.UnderWay.{go_on}
 
--- each run meets the main theorem
+-- each run meets the main theorem, and is fair
 pub runs_meet_the_theorem : (n start : ℕ) (moves : List Move) → IsNodeNumber n → IsRun n start moves → RunTheorem n moves
 runs_meet_the_theorem =
     run_theorem (has_table laws_below)
@@ -30,7 +30,7 @@ runs_meet_the_theorem =
     (λ n start moves table e count run quiet table_run may.
     blocked_may_not_enter table e (is_blocked laws_below n start moves count run quiet (same_entries (marks_of moves)) table e table_run may.waits) may)
     (λ n start moves table count run quiet unrepeated. meets_count laws_below n start moves count run quiet (same_entries (marks_of moves)) unrepeated table)
-    (holders_do_not_conflict conflict_flips) (grants_by_stamp conflict_flips one_is_earlier)
+    (holders_do_not_conflict conflict_flips) (grants_by_stamp conflict_flips one_is_earlier) runs_are_fair
 
 -- messages of runs without repeats are all different, come from the nodes that sent them, and are under way until they are taken
 pub messages_are_known : MessagesAreKnown

@@ -1,4 +1,4 @@
--- Each run meets the main theorem.
+-- Each run meets the main theorem, and is fair.
 use Rattle.std.proofs.Common.{◌≡◌, ℕ, ◌<◌, List, [], get_or, All, Contains}
 use Rattle.std.proofs.lemmas.List.{get_or_default}
 use Rattle.ra_stamp.specs.declared.entry.Entry.{Entry}
@@ -11,6 +11,7 @@ use Rattle.ra_table.specs.Laws.{IsConflictFree, IsAt}
 use Rattle.ra_world.specs.Traffic.{Move, repeated_by}
 use Rattle.ra_world.specs.Run.{IsRun, marks_of}
 use Rattle.ra_world.specs.Quiet.{IsQuiet, IsBlocked, MeetsMessageCount}
+use Rattle.ra_world.specs.Fairness.{IsFair}
 use Rattle.ra_audit.specs.Audit.{RunTheorem}
 
 each : (P : Entry → Type 0) (xs : List Entry) → ((x : Entry) → Contains xs x → P x) → All P xs
@@ -30,6 +31,7 @@ module _
     (exclusive : (marks : List Mark) (table : LockTable) → TableRun marks table → IsConflictFree table.holding)
     (in_order : (marks : List Mark) (table : LockTable) (e f : Entry) (i j : ℕ) → TableRun marks table → i < j
     → IsAt marks i (Entered e) → IsAt marks j (Entered f) → Excludes e f → IsEarlier e.stamp f.stamp)
+    (fair : (n start : ℕ) (moves : List Move) → IsNodeNumber n → IsRun n start moves → IsFair n moves)
   where
     pub run_theorem : (n start : ℕ) (moves : List Move) → IsNodeNumber n → IsRun n start moves → RunTheorem n moves
     run_theorem n start moves count run =
@@ -41,4 +43,5 @@ module _
           blocked = λ table is quiet. each (IsBlocked table) table.waiting (λ e at. blocked n start moves table e count run quiet is at);
           none_may_enter = λ table is quiet. each (λ e. MayEnter table e → ⊥) table.waiting (λ e _. no_entry n start moves table e count run quiet is);
           count = λ table is quiet unrepeated none. count_of n start moves table count run quiet unrepeated is none;
+          fair = fair n start moves count run;
         }

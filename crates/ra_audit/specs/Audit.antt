@@ -11,6 +11,7 @@ use Rattle.ra_table.specs.Laws.{IsConflictFree}
 use Rattle.ra_world.specs.Traffic.{Move, IsUnderWay, lost_by, repeated_by}
 use Rattle.ra_world.specs.Run.{IsRun, GoesOn, happened_at, marks_of}
 use Rattle.ra_world.specs.Quiet.{IsQuiet, IsBlocked, MeetsMessageCount}
+use Rattle.ra_world.specs.Fairness.{IsFair}
 use Rattle.ra_world.specs.World.{WorldState}
 use Rattle.ra_world.specs.MainTheorem.{AreGrantedInOrder}
 use Rattle.ra_frame.specs.declared.frame.Frame.{Frame}
@@ -260,7 +261,8 @@ pub record Audits (old : AuditState) (told : List Mark) (new : AuditState) (told
 
 -- ---- What holds of the run
 
--- What the main theorem says of a run of n nodes. A table is any table to which the marks of the run lead.
+-- What the main theorem says of a run of n nodes, and that it is fair. A table is any table to which the marks of the run
+-- lead.
 pub record RunTheorem (n : ℕ) (moves : List Move) : Type 0 where
   -- the marks are a run of the lock table
   pub table_run : (table : LockTable) × TableRun (marks_of moves) table
@@ -276,6 +278,8 @@ pub record RunTheorem (n : ℕ) (moves : List Move) : Type 0 where
   -- and if none waits and nothing was repeated, exactly two messages were sent for each request and other node
   pub count : (table : LockTable) → TableRun (marks_of moves) table → IsQuiet moves → repeated_by moves ≡ []
       → table.waiting ≡ [] → MeetsMessageCount n moves
+  -- each other node overtakes a waiting request at most once after its REQUEST has arrived there
+  pub fair : IsFair n moves
 
 -- ---- Taking events
 
