@@ -35,6 +35,7 @@ mod Overtaking
 mod Arriving
 mod RequestsSent
 mod Fairness
+mod OneOvertakes
 pub mod QuietRuns
 pub mod TableNodes
 mod DifferentLists

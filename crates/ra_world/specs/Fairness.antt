@@ -33,7 +33,7 @@ pub record Overtakes (marks : List Mark) (place : ℕ) (f e : Entry) : Type 0 wh
   pub enters : IsAt marks place (Entered f)
   pub not_yet : (earlier : ℕ) → earlier < place → IsAt marks earlier (Entered e) → ⊥
 
--- What is fair to an entry that waits in the table after the first moves: what the later ones may do until it enters.
+-- The later moves are fair to an entry that waits in the table to which the first moves lead.
 pub record IsFairTo (n : ℕ) (before : List Move) (table : LockTable) (e : Entry) (later : List Move) : Type 0 where
   -- whoever overtakes it is of another node, and has an earlier stamp
   pub elsewhere : (place : ℕ) (f : Entry) → Overtakes (marks_of later) place f e → IsOtherNode e.stamp.node n f.stamp.node

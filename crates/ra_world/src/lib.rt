@@ -14,7 +14,7 @@ pub use error::{NewError, NodeRefusal, ReadFault, RunError, StepError, WriteFaul
 pub use io::limited_input::read_up_to;
 pub use io::one_byte::next_byte;
 pub use io::whole_output::write_out;
-pub use laws::fairness::each_other_node_overtakes_at_most_once;
+pub use laws::fairness::{each_other_node_overtakes_at_most_once, one_request_may_overtake};
 pub use laws::fitting::{steps_that_fit_together_are_runs, steps_that_fit_with_copies_are_runs};
 pub use laws::{
     asks_make_requests_or_are_queued, marks_of_runs_are_numbered, marks_of_runs_are_table_runs,
