@@ -8,7 +8,10 @@ import tomllib
 import unittest
 
 FOLDER = os.path.dirname(os.path.realpath(__file__))
+# The command, and the program that it runs. Both are another program if the first word is --ra or --unproved.
 RA = f"{FOLDER}/../ra"
+PROGRAM = os.path.abspath(f"{FOLDER}/../crates/ra/out/ra")
+KEEP = (f"{FOLDER}/../tools/unproved", "--keep")
 # The most seconds that one run may take.
 LIMIT = 100
 STREAMS = {"output": "standard output", "note": "standard error"}
@@ -162,10 +165,29 @@ def run_tests(is_chosen):
     return result.testsRun - failed - len(result.skipped), failed
 
 
+def take_program(words):
+    """Takes the program that the first words name, if they do, and returns the other words, or `None` if there is none."""
+    global RA, PROGRAM
+    if words[:1] == ["--unproved"]:
+        kept = subprocess.run(KEEP, stdin=subprocess.DEVNULL, stdout=subprocess.PIPE, check=False)
+        if kept.returncode != 0:
+            return None
+        words = ["--ra", os.fsdecode(kept.stdout).rstrip("\n"), *words[1:]]
+    if words[:1] != ["--ra"]:
+        return words
+    if len(words) < 2 or not os.access(words[1], os.X_OK):
+        print("cases/check: --ra: expected the path of a program", file=sys.stderr)
+        return None
+    RA = PROGRAM = os.path.abspath(words[1])
+    print(f"cases/check: this is about {RA}, and not about the program that ./ra proves", file=sys.stderr)
+    return words[2:]
+
+
 def main(words):
     """Runs the cases and tests with one of these words in their names, or all, and returns the status."""
+    words = take_program(words)
     # If the program is to be built, that is done once, before several runs at a time.
-    if subprocess.run([RA, "--version"], stdout=subprocess.DEVNULL, check=False).returncode != 0:
+    if words is None or subprocess.run([RA, "--version"], stdout=subprocess.DEVNULL, check=False).returncode != 0:
         print("cases/check: the program cannot be run", file=sys.stderr)
         return 1
 

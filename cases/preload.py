@@ -12,10 +12,9 @@ import subprocess
 import tempfile
 import unittest
 
-from cases import FOLDER, LIMIT, RaTest, shown, text
+# The program itself, not RA: the libraries would also be loaded before the script `ra`, and before what that runs.
+from cases import FOLDER, LIMIT, PROGRAM, RaTest, shown, text
 
-# The program itself: the libraries would also be loaded before the script `ra`, and before what that runs.
-PROGRAM = os.path.abspath(f"{FOLDER}/../crates/ra/out/ra")
 TOOLS = f"{FOLDER}/../tools"
 LIBRARIES = ("fail-streams", "refuse-growth")
 COMPILER = shlex.split(os.environ.get("CC") or "cc")
