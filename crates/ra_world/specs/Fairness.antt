@@ -35,15 +35,15 @@ pub record Overtakes (marks : List Mark) (place : ℕ) (f e : Entry) : Type 0 wh
 
 -- The later moves are fair to an entry that waits in the table to which the first moves lead.
 pub record IsFairTo (n : ℕ) (before : List Move) (table : LockTable) (e : Entry) (later : List Move) : Type 0 where
-  -- whoever overtakes it is of another node, and has an earlier stamp
+  -- whoever overtakes e is of another node, and has an earlier stamp
   pub elsewhere : (place : ℕ) (f : Entry) → Overtakes (marks_of later) place f e → IsOtherNode e.stamp.node n f.stamp.node
   pub earlier : (place : ℕ) (f : Entry) → Overtakes (marks_of later) place f e → IsEarlier f.stamp e.stamp
-  -- if its REQUEST has arrived there, it waits in the table, too, and no other entry of its node overtakes
+  -- if e's REQUEST has arrived at that node, whoever overtakes waits in the table, too, and the node does so once at most
   pub waits : (place : ℕ) (f : Entry) → Overtakes (marks_of later) place f e → HasArrivedAt f.stamp.node before e
       → Contains table.waiting f
   pub once : (i j : ℕ) (f g : Entry) → Overtakes (marks_of later) i f e → Overtakes (marks_of later) j g e
       → f.stamp.node ≡ g.stamp.node → HasArrivedAt f.stamp.node before e → i ≡ j
-  -- and its REQUEST has arrived at each other node if none is missing
+  -- and e's REQUEST has arrived at each other node if none is missing
   pub arrived : NoneIsMissing before e → (node : ℕ) → IsOtherNode e.stamp.node n node → HasArrivedAt node before e
 
 -- a run of n nodes is fair to each entry that waits, wherever it is cut in two
