@@ -1,3 +1,4 @@
 pub mod Bag
 pub mod Places
 pub mod Filled
+pub mod Removing

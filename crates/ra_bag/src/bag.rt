@@ -1,10 +1,10 @@
 ghost use Rattle.std.specs.Prelude.{◌≡◌, ◌≢◌, ◌+◌, ◌*◌, ◌≤◌, ◌↔◌, [], ◌∷◌, ◌++◌, take, drop, suc, length, slice_get, Contains, IsNone, IsSome, IsOk, IfOk, IfSome, OnOk, OnErr, IsTrue, IsFalse, ℕ};
-ghost use Rattle.std.specs.VecDeque.{deque_len, deque_capacity};
 ghost use Rattle.ra_stamp.specs.declared.message.Message.{Message};
 ghost use Rattle.ra_bag.specs.Bag.{TakesFirst, TakesOne, TakesAt, StandsIn, IsSlotAt, messages_in, HasEmpty, FewEmpty};
 ghost use Rattle.ra_bag.specs.declared.found.Found.{Found};
 ghost use Rattle.ra_bag.specs.Filled.{KeepsShown};
 ghost use Rattle.ra_bag.specs.Places.{IsFirstSlot, IsTold};
+ghost use Rattle.ra_bag.specs.Removing.{AreKept, AreLeft};
 
 use crate::filled::Filled;
 use crate::found::Found;
@@ -377,18 +377,12 @@ fn remove(
     slot: usize,
     message: &Message,
 )
-    requires count { HasEmpty slots.old.items empty.old }
-    requires told { IsTold ⟦<Message as PartialEq>⟧.eq places.old slots.old.items }
-    requires shown { KeepsShown filled.old slots.old.items }
+    requires kept { AreKept ⟦<Message as PartialEq>⟧.eq slots.old.items empty.old places.old filled.old }
     requires there { StandsIn slots.old.items message.now slot }
-    ensures count { HasEmpty slots.new.items empty.new }
-    ensures told { IsTold ⟦<Message as PartialEq>⟧.eq places.new slots.new.items }
-    ensures shown { KeepsShown filled.new slots.new.items }
+    ensures kept { AreKept ⟦<Message as PartialEq>⟧.eq slots.new.items empty.new places.new filled.new }
     ensures few { FewEmpty slots.new.items empty.new }
-    ensures items { messages_in slots.new.items
-        ≡ messages_in (take slot slots.old.items) ++ messages_in (drop (suc slot) slots.old.items) }
-    ensures len { deque_len slots.new ≤ deque_len slots.old }
-    ensures capacity { deque_capacity slots.new ≡ deque_capacity slots.old }
+    ensures left { AreLeft slots.old slots.new
+        (messages_in (take slot slots.old.items) ++ messages_in (drop (suc slot) slots.old.items)) }
 {
     remove_slot(slots, empty, places, filled, slot, message);
     if *empty > most_empty(slots.len() as u64, places.are_known()) {
@@ -418,17 +412,11 @@ fn remove_slot(
     slot: usize,
     message: &Message,
 )
-    requires count { HasEmpty slots.old.items empty.old }
-    requires told { IsTold ⟦<Message as PartialEq>⟧.eq places.old slots.old.items }
-    requires shown { KeepsShown filled.old slots.old.items }
+    requires kept { AreKept ⟦<Message as PartialEq>⟧.eq slots.old.items empty.old places.old filled.old }
     requires there { StandsIn slots.old.items message.now slot }
-    ensures count { HasEmpty slots.new.items empty.new }
-    ensures told { IsTold ⟦<Message as PartialEq>⟧.eq places.new slots.new.items }
-    ensures shown { KeepsShown filled.new slots.new.items }
-    ensures items { messages_in slots.new.items
-        ≡ messages_in (take slot slots.old.items) ++ messages_in (drop (suc slot) slots.old.items) }
-    ensures len { deque_len slots.new ≤ deque_len slots.old }
-    ensures capacity { deque_capacity slots.new ≡ deque_capacity slots.old }
+    ensures kept { AreKept ⟦<Message as PartialEq>⟧.eq slots.new.items empty.new places.new filled.new }
+    ensures left { AreLeft slots.old slots.new
+        (messages_in (take slot slots.old.items) ++ messages_in (drop (suc slot) slots.old.items)) }
 {
     let len = slots.len();
     places.take(slot, message);
@@ -460,15 +448,9 @@ fn drop_leading(
     places: &mut Places,
     filled: &mut Filled,
 )
-    requires count { HasEmpty slots.old.items empty.old }
-    requires told { IsTold ⟦<Message as PartialEq>⟧.eq places.old slots.old.items }
-    requires shown { KeepsShown filled.old slots.old.items }
-    ensures count { HasEmpty slots.new.items empty.new }
-    ensures told { IsTold ⟦<Message as PartialEq>⟧.eq places.new slots.new.items }
-    ensures shown { KeepsShown filled.new slots.new.items }
-    ensures items { messages_in slots.new.items ≡ messages_in slots.old.items }
-    ensures len { deque_len slots.new ≤ deque_len slots.old }
-    ensures capacity { deque_capacity slots.new ≡ deque_capacity slots.old }
+    requires kept { AreKept ⟦<Message as PartialEq>⟧.eq slots.old.items empty.old places.old filled.old }
+    ensures kept { AreKept ⟦<Message as PartialEq>⟧.eq slots.new.items empty.new places.new filled.new }
+    ensures left { AreLeft slots.old slots.new (messages_in slots.old.items) }
 {
     for _ in 0..*empty {
         if !starts_empty(slots) {

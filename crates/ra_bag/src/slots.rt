@@ -170,6 +170,7 @@ pub fn take_last(slots: &mut VecDeque<Option<Message>>)
 pub fn clear(slots: &mut VecDeque<Option<Message>>, slot: usize)
     requires { slot < length slots.old.items }
     ensures items { slots.new.items ≡ slice_set slots.old.items slot None }
+    ensures len { deque_len slots.new ≤ deque_len slots.old }
     ensures capacity { deque_capacity slots.new ≡ deque_capacity slots.old }
 {
     slots[slot] = None;

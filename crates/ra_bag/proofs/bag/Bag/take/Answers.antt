@@ -12,7 +12,7 @@ returns-clause-taken c =
     let first = c.in_ok-first.ensures.first in (
       refl,
       subst (λ (old : List Message). TakesFirst old message (messages_in c.remove.new.slots.items)) (ap (λ (b : Listed Message). b.items) c.self.view_is)
-          (takes_first slots c.in_ok-first.first message (messages_in c.remove.new.slots.items) first.0.0 first.0.1 first.1 c.remove.ensures.items),
+          (takes_first slots c.in_ok-first.first message (messages_in c.remove.new.slots.items) first.0.0 first.0.1 first.1 c.remove.ensures.left.items),
     )
 
 pub returns-clause-none : goal.returns-clause-none
@@ -25,7 +25,7 @@ pub returns-clause-left : goal.returns-clause-left
 returns-clause-left c = λ none. absurd (true≢false none)
 
 pub returns-clause-spare : goal.returns-clause-spare
-returns-clause-spare c = more_spare _ _ _ _ _ (ap (λ (b : Listed Message). b.spare) c.self.view_is) c.remove.ensures.capacity c.remove.ensures.len
+returns-clause-spare c = more_spare _ _ _ _ _ (ap (λ (b : Listed Message). b.spare) c.self.view_is) c.remove.ensures.left.capacity c.remove.ensures.left.len
 
 -- ---- There is no such message
 
@@ -52,14 +52,8 @@ first_of-requires-clause-told c = c.self.invariant.2
 pub first_of-requires-clause-shown : goal.first_of-requires-clause-shown
 first_of-requires-clause-shown c = c.self.invariant.3
 
-pub remove-requires-clause-count : goal.remove-requires-clause-count
-remove-requires-clause-count c = c.self.invariant.0
-
-pub remove-requires-clause-told : goal.remove-requires-clause-told
-remove-requires-clause-told c = c.first_of.ensures.told
-
-pub remove-requires-clause-shown : goal.remove-requires-clause-shown
-remove-requires-clause-shown c = c.first_of.ensures.shown
+pub remove-requires-clause-kept : goal.remove-requires-clause-kept
+remove-requires-clause-kept c = record { count = c.self.invariant.0; told = c.first_of.ensures.told; shown = c.first_of.ensures.shown }
 
 pub remove-requires-clause-there : goal.remove-requires-clause-there
 remove-requires-clause-there c = c.in_ok-first.ensures.first.0
@@ -68,4 +62,4 @@ pub invariant_of-self : goal.invariant_of-self
 invariant_of-self c = (c.self.invariant.0, c.self.invariant.1, c.first_of.ensures.told, c.first_of.ensures.shown)
 
 pub invariant_of-self-2 : goal.invariant_of-self-2
-invariant_of-self-2 c = (c.remove.ensures.count, c.remove.ensures.few, c.remove.ensures.told, c.remove.ensures.shown)
+invariant_of-self-2 c = (c.remove.ensures.kept.count, c.remove.ensures.few, c.remove.ensures.kept.told, c.remove.ensures.kept.shown)

@@ -12,14 +12,14 @@ returns-then-has-clause-taken c =
     let message = c.args.message.now in
     let there = c.if-has.ensures.value.0 refl in
     subst (λ (old : List Message). TakesOne old message (messages_in c.remove.new.slots.items)) (ap (λ (b : Listed Message). b.items) c.self.view_is)
-    (takes_one slots c.slot_found-slot.result message (messages_in c.remove.new.slots.items) there.0 there.1 c.remove.ensures.items)
+    (takes_one slots c.slot_found-slot.result message (messages_in c.remove.new.slots.items) there.0 there.1 c.remove.ensures.left.items)
 
 pub returns-then-has-clause-at : goal.returns-then-has-clause-at
 returns-then-has-clause-at c = λ place is _.
     let slots = c.self.inside.slots.items in
     let there = c.if-has.ensures.value.0 refl in
     subst (λ (old : List Message). TakesAt old place (messages_in c.remove.new.slots.items)) (ap (λ (b : Listed Message). b.items) c.self.view_is)
-    (takes_at slots c.slot_found-slot.result c.args.message.now (messages_in c.remove.new.slots.items) place there.0 there.1 c.remove.ensures.items
+    (takes_at slots c.slot_found-slot.result c.args.message.now (messages_in c.remove.new.slots.items) place there.0 there.1 c.remove.ensures.left.items
     ((c.slot_found-slot.ensures place is).1 there.0))
 
 pub returns-else-has-clause-taken : goal.returns-else-has-clause-taken
@@ -45,7 +45,7 @@ returns-else-has-clause-at c = λ place is at.
     (subst (λ (old : List Message). slice_get old place ≡ Some m) (sym (ap (λ (b : Listed Message). b.items) c.self.view_is)) at)))))
 
 pub returns-then-has-clause-spare : goal.returns-then-has-clause-spare
-returns-then-has-clause-spare c = more_spare _ _ _ _ _ (ap (λ (b : Listed Message). b.spare) c.self.view_is) c.remove.ensures.capacity c.remove.ensures.len
+returns-then-has-clause-spare c = more_spare _ _ _ _ _ (ap (λ (b : Listed Message). b.spare) c.self.view_is) c.remove.ensures.left.capacity c.remove.ensures.left.len
 
 pub returns-else-has-clause-spare : goal.returns-else-has-clause-spare
 returns-else-has-clause-spare c = c.take.ensures.spare
@@ -58,17 +58,11 @@ slot_found-slot-requires-clause-count c = c.self.invariant.0
 pub slot_found-slot-requires-clause-shown : goal.slot_found-slot-requires-clause-shown
 slot_found-slot-requires-clause-shown c = c.self.invariant.3
 
-pub remove-requires-clause-count : goal.remove-requires-clause-count
-remove-requires-clause-count c = c.self.invariant.0
-
-pub remove-requires-clause-told : goal.remove-requires-clause-told
-remove-requires-clause-told c = c.self.invariant.2
-
-pub remove-requires-clause-shown : goal.remove-requires-clause-shown
-remove-requires-clause-shown c = c.self.invariant.3
+pub remove-requires-clause-kept : goal.remove-requires-clause-kept
+remove-requires-clause-kept c = record { count = c.self.invariant.0; told = c.self.invariant.2; shown = c.self.invariant.3 }
 
 pub remove-requires-clause-there : goal.remove-requires-clause-there
 remove-requires-clause-there c = c.if-has.ensures.value.0 refl
 
 pub invariant_of-self : goal.invariant_of-self
-invariant_of-self c = (c.remove.ensures.count, c.remove.ensures.few, c.remove.ensures.told, c.remove.ensures.shown)
+invariant_of-self c = (c.remove.ensures.kept.count, c.remove.ensures.few, c.remove.ensures.kept.told, c.remove.ensures.kept.shown)
