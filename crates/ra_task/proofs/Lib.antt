@@ -1,4 +1,13 @@
 mod Options
 mod Helping
-mod Faithful
 mod Settling
+mod SettleArguments
+mod Places
+mod Parsing
+mod Commands
+mod Reading
+mod Dots
+mod Asking
+mod Sorts
+mod Examples
+mod OneCommand

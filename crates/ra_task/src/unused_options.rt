@@ -1,6 +1,6 @@
 //! Options of `sim` that are given but have no effect.
+use crate::argument_text::{text_of, text_or};
 use crate::command_line::option_rows::DEFAULT_POLICY;
-use crate::command_line::{text_of, text_or};
 use crate::notice::write_line;
 use std::io::Write;
 

@@ -1,4 +1,9 @@
 //! The commands of `ra`, each a row of a table, so that the same few lines make them all.
+ghost use Rattle.std.specs.Prelude.{◌≡◌, map, IfOk, string_bytes};
+ghost use Rattle.clap.specs.Words.{app_of};
+ghost use Rattle.ra_task.specs.Asked.{IsParsed};
+ghost use Rattle.ra_task.specs.OptionTable.{IsOfRow, all_labels, label_of_row};
+
 use crate::command_line::helps::{STATUS_HELP, help_on};
 use crate::command_line::option_rows::{option_of, options_of};
 use clap::{ArgMatches, Command, Error as ParseError};
@@ -80,12 +85,21 @@ pub fn command_named(arguments: &[String]) -> Option<&str> {
     None
 }
 
+/// Returns the commands, in the order of help.
+fn all_rows() -> &'static [CommandRow<'static>]
+    ensures { map label_of_row result.now ≡ all_labels }
+{
+    COMMANDS
+}
+
 /// Makes a command with its options, and with the whole of its help or its summary.
 fn command_of<'a>(
     alloc: Global,
     row: &CommandRow<'a>,
     is_summary: bool,
-) -> Result<Command<'a>, AllocError> {
+) -> Result<Command<'a>, AllocError>
+    ensures { IfOk result (λ made. IsOfRow row.now (app_of made)) }
+{
     let mut command = Command::new(alloc, row.name)
         .about(row.about)
         .after_help(help_on(row.kind, is_summary))
@@ -106,14 +120,16 @@ pub fn matches_of<'a>(
     alloc: Global,
     arguments: &'a [String],
     is_summary: bool,
-) -> Result<Result<ArgMatches<'a>, ParseError>, AllocError> {
+) -> Result<Result<ArgMatches<'a>, ParseError>, AllocError>
+    ensures { IfOk result (IsParsed (map string_bytes arguments.now)) }
+{
     let mut program = Command::new(alloc, "ra")
         .version(VERSION)
         .about("Simulate, run, check and draw a lock cluster that works by messages alone")
         .after_help(STATUS_HELP)
         .disable_help_subcommand(true)
         .subcommand_required(true);
-    for row in COMMANDS {
+    for row in all_rows() {
         let command = command_of(alloc, row, is_summary)?;
         program = program.subcommand(command)?;
     }

@@ -1,4 +1,8 @@
 //! The options of the commands, each a row of a table, so that the same few lines make them all.
+ghost use Rattle.std.specs.Prelude.{◌≡◌, map, false};
+ghost use Rattle.clap.specs.Words.{rule_of};
+ghost use Rattle.ra_task.specs.OptionTable.{AreOfCommand, rule_of_row};
+
 use crate::command_line::command_rows::CommandKind;
 use clap::builder::ValueParser;
 use clap::{Arg, ArgAction};
@@ -219,7 +223,9 @@ const DRAW_OPTIONS: &[OptionRow] = &[
 const NODE_OPTIONS: &[OptionRow] = &[HELP];
 
 /// Returns the options of a command, in their order.
-pub fn options_of(kind: CommandKind) -> &'static [OptionRow<'static>] {
+pub fn options_of(kind: CommandKind) -> &'static [OptionRow<'static>]
+    ensures { AreOfCommand kind (map rule_of_row result.now) }
+{
     match kind {
         CommandKind::Answer => ANSWER_OPTIONS,
         CommandKind::Sim => SIM_OPTIONS,
@@ -233,7 +239,10 @@ pub fn options_of(kind: CommandKind) -> &'static [OptionRow<'static>] {
 
 /// Makes an option. If it takes one of several words, the text below the options lists them, and its own help leaves
 /// them out.
-pub fn option_of<'a>(alloc: Global, row: &OptionRow<'a>) -> Arg<'a> {
+pub fn option_of<'a>(alloc: Global, row: &OptionRow<'a>) -> Arg<'a>
+    ensures rule { rule_of result ≡ rule_of_row row.now }
+    ensures local { result.global ≡ false }
+{
     let option = Arg::new(alloc, row.name)
         .long(row.name)
         .help(row.help)

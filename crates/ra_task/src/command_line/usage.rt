@@ -1,6 +1,6 @@
 //! What the parser says about arguments that are not a command line, on one line.
 use crate::command_line::command_rows::{command_named, matches_of};
-use crate::command_line::{PolicyName, format_of, policy_name};
+use crate::command_line::{PolicyName, format_of, has_flag, policy_name};
 use crate::notice::{NO_MEMORY, Notice};
 use crate::policy::is_choice;
 use crate::unused_options::is_given;
@@ -253,16 +253,16 @@ fn push_seeds(note: &mut Note, seeds: &str) {
 
 /// Returns what is wrong with arguments of the command `sim` in which the parser finds nothing wrong, or `None` if it is
 /// the seeds. The causes are tried in the order in which a task is made from the arguments.
-fn sim_fault(arguments: &[String], sim: &ArgMatches) -> Option<&'static str> {
-    let Some(policy) = policy_name(arguments, sim) else {
+fn sim_fault(sim: &ArgMatches) -> Option<&'static str> {
+    let Some(policy) = policy_name(sim) else {
         return Some(
             "--repeat must be at most 400, and --lose and --repeat together at most 1000; see ra sim --help",
         );
     };
-    let Some(format) = format_of(&policy, arguments, sim) else {
-        return Some(if sim.get_flag("state") {
+    let Some(format) = format_of(&policy, sim) else {
+        return Some(if has_flag(sim, "state") {
             STATE_TEXT
-        } else if sim.get_flag("shrink") {
+        } else if has_flag(sim, "shrink") {
             "--shrink cannot be used with --trace, --as-choices or --state, nor with --policy faulty unless --repeat is 0; see ra sim --help"
         } else {
             "--as-choices cannot be used with --trace, nor with --policy faulty unless --repeat is 0; see ra sim --help"
@@ -302,7 +302,7 @@ fn push_unseen(note: &mut Note, arguments: &[String], matches: &ArgMatches) {
         "settle" => Some(
             "settle takes no arguments but --repeats and --trace; see ra settle --help",
         ),
-        _ => sim_fault(arguments, given),
+        _ => sim_fault(given),
     };
     match fault {
         Some(text) => note.push(text),

@@ -15,7 +15,7 @@ returns-in-Ok c = (
     no_node = λ are. false≢true (sym c.if-is_command_alone.false ∙ c.is_command_alone.ensures.1 are);
     no_books = none_asked (map string_bytes c.args.arguments.now) c.settle_arguments.result c.settle_arguments.ensures c.in_default.not-Some;
   },
-  c.in-Ok.ensures.asked,
+  c.in-Ok.ensures,
 )
 
 pub returns-in-Err : goal.returns-in-Err
@@ -24,5 +24,5 @@ returns-in-Err c = (
     no_node = λ are. false≢true (sym c.if-is_command_alone.false ∙ c.is_command_alone.ensures.1 are);
     no_books = none_asked (map string_bytes c.args.arguments.now) c.settle_arguments.result c.settle_arguments.ensures c.in_default.not-Some;
   },
-  λ are. false≢true (c.in-Err.ensures.plain are),
+  c.in-Err.ensures,
 )

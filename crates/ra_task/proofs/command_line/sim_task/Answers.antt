@@ -1,44 +1,34 @@
-use Rattle.std.proofs.Common.{◌≡◌, ◌⊎◌, List, ℕ, [], map, codes, string_bytes, inl, inr}
-use Rattle.ra_task.specs.Finishing.{IsFaithful, RunsFaithfully}
-use Rattle.ra_task.specs.Arguments.{GivesNoChoices, GivesText, NamesFaithfully}
-use Rattle.ra_task.proofs.Faithful.{of_these, under}
+use Rattle.std.proofs.Common.{◌∙◌, codes, refl, sym}
+use Rattle.clap.specs.Words.{found_of}
+use Rattle.ra_task.proofs.Reading.{none_given, run_refused, run_taken, text_given}
 use Rattle.ra_task.proofs.command_line.sim_task.Goals as goal
 
-pub returns-in-Some-get_str-clause-faithful : goal.returns-in-Some-get_str-clause-faithful
-returns-in-Some-get_str-clause-faithful c =
-    under RunsFaithfully (NamesFaithfully (map string_bytes c.args.arguments.now)) (IsFaithful c.in-Some.policy) c.in-Some.ensures c.survey_task.result c.survey_task.ensures.faithful
+pub returns-in_default-survey_task : goal.returns-in_default-survey_task
+returns-in_default-survey_task c =
+    let seeds = text_given (found_of c.args.sim.now) (codes "seeds") c.in-Some-get_str.seeds.now c.in-Some-get_str.ensures in
+    rw (← c.in-Some.ensures, ← c.in-Some-format_of.ensures, seeds, ← c.ending_of-ending.ensures, ← c.survey_task.ensures, c.in_default-survey_task.is) refl
 
-pub returns-in-Some-get_str-clause-asked : goal.returns-in-Some-get_str-clause-asked
-returns-in-Some-get_str-clause-asked c = of_these (map string_bytes c.args.arguments.now) c.survey_task.result c.survey_task.ensures.asked
+pub returns-in-Some-get_str : goal.returns-in-Some-get_str
+returns-in-Some-get_str c =
+    let seeds = text_given (found_of c.args.sim.now) (codes "seeds") c.in-Some-get_str.seeds.now c.in-Some-get_str.ensures in
+    rw (← c.in-Some.ensures, ← c.in-Some-format_of.ensures, seeds, ← c.ending_of-ending.ensures, ← c.in-Some-survey_task.ensures) refl
 
--- no choices are given
-none : (arguments : List (List ℕ)) (text : List ℕ) → GivesNoChoices arguments → (text ≡ []) ⊎ GivesText arguments (codes "--choices") text → text ≡ []
-none arguments text gives_none (inl is) = is
-none arguments text gives_none (inr given) = absurd (gives_none text given)
+pub returns-in_default-get_str-2 : goal.returns-in_default-get_str-2
+returns-in_default-get_str-2 c =
+    let seeds = none_given (found_of c.args.sim.now) (codes "seeds") c.in_default-get_str.ensures in
+    let choices = none_given (found_of c.args.sim.now) (codes "choices") c.in_default-get_str-2.ensures in
+    rw (← c.in-Some.ensures, ← c.in-Some-format_of.ensures, seeds, choices) refl
 
-pub returns-clause-asked : goal.returns-clause-asked
-returns-clause-asked c =
-    let arguments = map string_bytes c.args.arguments.now in record {
-      help = tt;
-      numbers = tt;
-      marks = tt;
-      choices = λ gives_none. none arguments c.text_or-choices.result.now gives_none c.text_or-choices.ensures;
-    }
+pub returns-then-is_some : goal.returns-then-is_some
+returns-then-is_some c =
+    let seeds = none_given (found_of c.args.sim.now) (codes "seeds") c.in_default-get_str.ensures in
+    let choices = text_given (found_of c.args.sim.now) (codes "choices") c.in-Some-get_str-2.choices.now c.in-Some-get_str-2.ensures in
+    rw (← c.in-Some.ensures, ← c.in-Some-format_of.ensures, seeds, choices, ← c.ending_of-ending.ensures)
+    (run_refused c.in-Some.policy c.in-Some-get_str-2.choices.now c.in-Some-format_of.format c.ending_of-ending.result (sym c.is_some.ensures ∙ c.if-is_some.true))
 
-pub returns-in_default-clause-asked : goal.returns-in_default-clause-asked
-returns-in_default-clause-asked c = tt
-
-pub returns-in_default-clause-faithful : goal.returns-in_default-clause-faithful
-returns-in_default-clause-faithful c = tt
-
-pub returns-in_default-format_of-clause-asked : goal.returns-in_default-format_of-clause-asked
-returns-in_default-format_of-clause-asked c = tt
-
-pub returns-in_default-format_of-clause-faithful : goal.returns-in_default-format_of-clause-faithful
-returns-in_default-format_of-clause-faithful c = tt
-
-pub returns-then-is_some-clause-asked : goal.returns-then-is_some-clause-asked
-returns-then-is_some-clause-asked c = tt
-
-pub returns-then-is_some-clause-faithful : goal.returns-then-is_some-clause-faithful
-returns-then-is_some-clause-faithful c = tt
+pub returns : goal.returns
+returns c =
+    let seeds = none_given (found_of c.args.sim.now) (codes "seeds") c.in_default-get_str.ensures in
+    let choices = text_given (found_of c.args.sim.now) (codes "choices") c.in-Some-get_str-2.choices.now c.in-Some-get_str-2.ensures in
+    rw (← c.in-Some.ensures, ← c.in-Some-format_of.ensures, seeds, choices, ← c.ending_of-ending.ensures)
+    (run_taken c.in-Some.policy c.in-Some-get_str-2.choices.now c.in-Some-format_of.format c.ending_of-ending.result (sym c.is_some.ensures ∙ c.if-is_some.false))
