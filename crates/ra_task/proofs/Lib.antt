@@ -11,3 +11,4 @@ mod Asking
 mod Sorts
 mod Examples
 mod OneCommand
+mod SeedOrder

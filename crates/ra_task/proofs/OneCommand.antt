@@ -6,7 +6,6 @@ use Rattle.clap.specs.Words.{Text}
 use Rattle.ra_schedule.specs.declared.driver.output_kind.OutputKind.TheVariants as prints
 use Rattle.ra_task.specs.declared.command.Command.{Command}
 use Rattle.ra_task.specs.declared.command.Command.TheVariants as command
-use Rattle.ra_task.specs.declared.command_line.CommandFault.{CommandFault}
 use Rattle.ra_task.specs.declared.command_line.CommandFault.TheVariants.{Memory, Usage}
 use Rattle.ra_task.specs.declared.command_line.PolicyName.TheVariants.{Oldest}
 use Rattle.ra_task.specs.declared.command_line.Task.{Task}
@@ -81,21 +80,12 @@ module _ (arguments : List Text) where
   one_command (command.Task a) command.Node first second = absurd (first.0.no_node second)
   one_command (command.Task a) (command.Settle b) first second = absurd (first.0.no_books (b, second))
   one_command (command.Task a) (command.Task b) first second = one_task_asked a b first.1 second.1
-  one_command (command.Task a) (command.Unknown Usage) first second = absurd (something a first.1 second.1)
+  one_command (command.Task a) (command.Unknown Usage) first second = absurd (something a first.1 second.2)
   one_command (command.Unknown Usage) command.Node first second = absurd (first.0.no_node second)
   one_command (command.Unknown Usage) (command.Settle b) first second = absurd (first.0.no_books (b, second))
-  one_command (command.Unknown Usage) (command.Task b) first second = absurd (something b second.1 first.1)
+  one_command (command.Unknown Usage) (command.Task b) first second = absurd (something b second.1 first.2)
   one_command (command.Unknown Usage) (command.Unknown Usage) first second = tt
 
--- the program's name and `sim` ask for something
-pub sim_alone_is_taken : (arguments : List Text) (fault : CommandFault) → AreSimArguments arguments → Asks arguments (command.Unknown fault) → fault ≡ Memory
-sim_alone_is_taken arguments Memory (name, is) asks = refl
-sim_alone_is_taken arguments Usage (name, is) asks =
-    let none : refusals arguments ≡ [] = rw is (sim_alone name) in
-    let means : meaning_of arguments ≡ Some (sim Oldest [] prints.Lines) = rw is (sim_alone_means name) in
-    absurd (go none means asks.1)
-  where
-    go : refusals arguments ≡ [] → meaning_of arguments ≡ Some (sim Oldest [] prints.Lines) → AsksForNothing arguments → ⊥
-    go none means (inl (none', nothing)) = let clash : Some (sim Oldest [] prints.Lines) ≡ None = sym means ∙ nothing in cc
-    go none means (inr (inl other)) = not_refused_otherwise arguments none other
-    go none means (inr (inr (some, no_help))) = some none
+-- the program's name and `sim` ask for one run by the policy oldest
+pub sim_alone_asks : (arguments : List Text) → AreSimArguments arguments → (refusals arguments ≡ []) × (meaning_of arguments ≡ Some (sim Oldest [] prints.Lines))
+sim_alone_asks arguments (name, is) = (rw is (sim_alone name), rw is (sim_alone_means name))

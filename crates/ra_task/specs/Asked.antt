@@ -14,7 +14,7 @@ use Rattle.ra_task.specs.declared.command_line.Task.{Task as AskedTask}
 use Rattle.ra_task.specs.declared.command_line.Task.TheVariants as task
 use Rattle.ra_task.specs.declared.command_line.input_kind.InputKind.TheVariants as reads
 use Rattle.ra_task.specs.Application.{ra_app}
-use Rattle.ra_task.specs.Arguments.{AreNodeArguments, IsHelpArgument}
+use Rattle.ra_task.specs.Arguments.{AreNodeArguments, AreSimArguments, IsHelpArgument}
 use Rattle.ra_task.specs.Meanings.{Meaning, answer, check, cluster, draw, meaning_in, sim, survey}
 use Rattle.ra_task.specs.SettleArguments.{AreSettleArguments, AsksToSettle}
 
@@ -85,12 +85,13 @@ pub record AreOtherArguments (arguments : List Text) : Type 0 where
   pub no_node : AreNodeArguments arguments → ⊥
   pub no_books : AreSettleArguments arguments → ⊥
 
--- The arguments ask for this command, and for no other, unless memory runs out.
+-- The arguments ask for this command, and for no other, unless memory runs out. The program's name and `sim` alone always
+-- ask for something.
 abbrev pub Asks : (arguments : List (List ℕ)) → Command → Type 0
 Asks arguments Node = AreNodeArguments arguments
 Asks arguments (Settle asked) = AsksToSettle arguments asked
 Asks arguments (Task asked) = AreOtherArguments arguments × AsksForTask arguments asked
-Asks arguments (Unknown fault) = AreOtherArguments arguments × IsFaultOf arguments fault
+Asks arguments (Unknown fault) = AreOtherArguments arguments × (AreSimArguments arguments → ⊥) × IsFaultOf arguments fault
 
 -- ---- one command
 

@@ -3,7 +3,7 @@ ghost use Rattle.std.specs.Prelude.{map, string_bytes};
 ghost use Rattle.ra_task.specs.Asked.{Asks};
 
 use crate::command_line::search::{Search, SurveyTask};
-use crate::command_line::{CommandFault, Task, parse};
+use crate::command_line::{CommandFault, PolicyName, Task, parse};
 use crate::lone_command::is_command_alone;
 use crate::settle_arguments::{SettleTask, settle_arguments};
 use ra_schedule::OutputKind;
@@ -73,6 +73,14 @@ pub fn command_of<'a>(alloc: Global, arguments: &'a [String]) -> Command<'a>
     }
     if let Some(asked) = settle_arguments(arguments) {
         return Command::Settle(asked);
+    }
+    // It is asked for most often, and needs neither the parser nor memory.
+    if is_command_alone(arguments, "sim") {
+        return Command::Task(Task::Sim {
+            policy: PolicyName::Oldest,
+            choices: "",
+            format: OutputKind::Lines,
+        });
     }
     match parse(alloc, arguments) {
         Ok(task) => Command::Task(task),

@@ -21,7 +21,7 @@ pub use command_line::input_kind::InputKind;
 pub use command_line::search::{Search, SurveyTask};
 pub use command_line::usage::usage_note;
 pub use command_line::{CommandFault, PolicyName, Task};
-pub use laws::{arguments_ask_for_one_command, sim_alone_is_taken};
+pub use laws::{arguments_ask_for_one_command, surveyed_seeds_are_in_order};
 pub use notice::{NO_MEMORY, Notice, write_line};
 pub use policy::{is_choice, policy_of};
 pub use settle_arguments::{SettleOutput, SettleTask};
