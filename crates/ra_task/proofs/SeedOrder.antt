@@ -1,5 +1,5 @@
 -- The seeds of a survey are in order.
-use Rattle.std.proofs.Common.{◌≡◌, ◌≤◌, ◌∙◌, ℕ, Bool, true, false, List, [], Option, Some, None, codes, refl, sym, subst, arith}
+use Rattle.std.proofs.Common.{◌≡◌, ◌≤◌, ℕ, Bool, true, false, List, Option, Some, None, codes, refl, sym, subst}
 use Rattle.std.specs.Prelude.{⊤, if◌then◌else◌, nat_le, option_and_then, option_map}
 use Rattle.std.specs.Str.{bytes_eq}
 use Rattle.std.proofs.lemmas.Bool.{leb-true}
@@ -12,7 +12,7 @@ use Rattle.ra_task.specs.declared.command_line.PolicyName.{PolicyName}
 use Rattle.ra_task.specs.declared.command_line.input_kind.InputKind.{InputKind}
 use Rattle.ra_task.specs.declared.command_line.search.SurveyTask.{SurveyTask}
 use Rattle.ra_task.specs.Application.{ra_app}
-use Rattle.ra_task.specs.Asked.{AsksForTask, meaning_given, meaning_of}
+use Rattle.ra_task.specs.Asked.{AsksForTask, meaning_given}
 use Rattle.ra_task.specs.declared.command_line.Task.TheVariants as task
 use Rattle.ra_task.specs.Meanings.{Meaning, answer, answer_in, chance_of, check, cluster, cluster_by, cluster_in, cut_at_dots, draw, draw_in, ending_in, flag_in, kind_in, meaning_in, number_in, numeral, part_between, plain_number_in, policy_in, printed_in, run_by, search_by, seeds_between, seeds_in, seeds_of, sim, sim_by, sim_in, survey, survey_by}
 
