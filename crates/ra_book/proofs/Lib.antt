@@ -6,6 +6,8 @@ pub mod Pieces
 pub mod Faults
 pub mod Served
 pub mod Told
+pub mod Replay
+pub mod NodeBooks
 pub mod WrittenLines
 mod Last
 mod Lines

@@ -74,7 +74,7 @@ events_more (e ∷ es) (f ∷ fs) xs ys kind g is =
     (rest.0, λ i. first i ∷ rest.1 i)
 
 module _ (laws : HistoryLaws) where
-  books_once : (vs bs : List BookState) → All IsRead vs → All IsRead bs → all_said_by vs ≡ all_said_by bs → vs ≡ bs
+  pub books_once : (vs bs : List BookState) → All IsRead vs → All IsRead bs → all_said_by vs ≡ all_said_by bs → vs ≡ bs
   books_once [] [] g h is = refl
   books_once [] (b ∷ bs) g h is = absurd cc
   books_once (a ∷ vs) [] g h is = absurd cc

@@ -77,7 +77,7 @@ clocked_at clock (x ∷ es) e more h =
     let rest = clocked_at x.clock es e more h.2 in
     ((h.0, h.1, rest.0), rest.1, rest.2)
 
-frames_as_sent : (frames : List Frame) → map (λ (s : Sent). s.frame) (as_sent frames) ≡ frames
+pub frames_as_sent : (frames : List Frame) → map (λ (s : Sent). s.frame) (as_sent frames) ≡ frames
 frames_as_sent [] = refl
 frames_as_sent (f ∷ fs) = ap (λ (xs : List Frame). f ∷ xs) (frames_as_sent fs)
 

@@ -27,7 +27,7 @@ no_feed_in : (part line rest : List ℕ) → HasNoFeed part → part ≡ line ++
 no_feed_in part line rest free is =
     All-contains (λ byte. byte ≢ 10) (line ++ 10 ∷ rest) 10 (subst HasNoFeed is free) (Contains-append_right line (10 ∷ rest) 10 (0, omega arith, refl)) refl
 
-feed_once : (a b x y : List ℕ) → HasNoFeed a → HasNoFeed b → a ++ 10 ∷ x ≡ b ++ 10 ∷ y → (a ≡ b) × (x ≡ y)
+pub feed_once : (a b x y : List ℕ) → HasNoFeed a → HasNoFeed b → a ++ 10 ∷ x ≡ b ++ 10 ∷ y → (a ≡ b) × (x ≡ y)
 feed_once [] [] x y f g is = (refl, tail_of is)
 feed_once [] (b ∷ bs) x y f g is = absurd (All-head (λ byte. byte ≢ 10) b bs g (sym (head_of is)))
 feed_once (a ∷ vs) [] x y f g is = absurd (All-head (λ byte. byte ≢ 10) a vs f (head_of is))

@@ -1,6 +1,6 @@
 -- Lines that were read and answered, one after the other.
 use Rattle.std.proofs.Common.{◌≡◌, ◌≢◌, ℕ, ◌+◌, ◌≤◌, ◌^◌, Bool, false, List, [], ◌∷◌, ◌++◌, Option, Result, Ok, Err, inl, inr, codes, refl, sym, ap, subst, ◌∙◌, append_assoc, length, length-append, arith}
-use Rattle.std.proofs.lemmas.List.{append-nil}
+use Rattle.std.proofs.lemmas.List.{append-nil, flat_map_more, map_push}
 use Rattle.std.proofs.lemmas.List.Elements.{All-nil, All-cons, All-push}
 use Rattle.std.specs.Io.KnownBytes.{Appends, Consumes, IsAtEnd}
 use Rattle.ra_book.specs.declared.answering.waiting_output.Output.{Output}
@@ -10,7 +10,8 @@ use Rattle.ra_book.specs.declared.error.BookFault.{BookFault}
 use Rattle.ra_book.specs.declared.error.BookFault.TheVariants.{Line, Read, Write}
 use Rattle.ra_book.specs.declared.answering.line_refusal.Refusal.TheVariants as refusal
 use Rattle.ra_book.specs.Timed.{Timed, opening}
-use Rattle.ra_book.specs.Answers.{Answers, AnswersAll, refused_line}
+use Rattle.ra_book.specs.Answers.{Answered, Answers, AnswersAll, AnswersEach, answer_of, line_of, lines_of, refused_line, text_of}
+use Rattle.ra_book.specs.Answers.Answered.{Accepted, Refused}
 use Rattle.ra_book.specs.declared.next_line.kept_line.KeptLine.{KeptLine}
 use Rattle.ra_book.specs.Input.{HasNoFeed, TakesOpen, TakesMost, HasEnded}
 use Rattle.ra_book.specs.NextLine.{ReadsLine}
@@ -61,12 +62,28 @@ read_on old mid new line lines part first others = record {
 }
 
 -- one more answer
+each_more : (a b c : Timed) (all : List Answered) (one : Answered) → AnswersEach a all b → AnswersEach b (one ∷ []) c → AnswersEach a (all ++ one ∷ []) c
+each_more a b c [] one h answer = subst (λ (at : Timed). AnswersEach at (one ∷ []) c) h answer
+each_more a b c (Accepted line answer ∷ all) one h more = (h.0, h.1, each_more h.0 b c all one h.2 more)
+each_more a b c (Refused line answer ∷ all) one h more = (h.0, each_more a b c all one h.1 more)
+
+-- it is that of a line which was accepted or refused
+its_answer : (b c : Timed) (line text : List ℕ) → Answers b line text c
+    → (one : Answered) × (line_of one ≡ line) × (answer_of one ≡ text) × AnswersEach b (one ∷ []) c
+its_answer b c line text (inl accepts) = (Accepted line text, refl, refl, (c, accepts, refl))
+its_answer b c line text (inr denies) =
+    (Refused line text, refl, refl, (record { why = denies.why; stays = record { cause = denies.stays.cause; new_is = refl }; text_is = denies.text_is }, denies.stays.new_is))
+
 pub answers_more : (a b c : Timed) (lines : List (List ℕ)) (line text more : List ℕ) → AnswersAll a lines text b → Answers b line more c
     → AnswersAll a (lines ++ line ∷ []) (text ++ more) c
-answers_more a b c [] line text more h answer =
-    (c, more, [], subst (λ (at : Timed). Answers at line more c) h.1 answer, (ap (λ (t : List ℕ). t ++ more) h.0 ∙ sym (append-nil more)), (refl, refl))
-answers_more a b c (first ∷ lines) line text more h answer =
-    (h.0, h.1, h.2 ++ more, h.3, (ap (λ (t : List ℕ). t ++ more) h.4 ∙ append_assoc h.1 h.2 more), answers_more h.0 b c lines line h.2 more h.5 answer)
+answers_more a b c lines line text more h answer =
+    let (all, lines_are, text_is, each) = h in
+    let (one, line_is, answer_is, then) = its_answer b c line more answer in (
+      all ++ one ∷ [],
+      ap (λ (ls : List (List ℕ)). ls ++ line ∷ []) lines_are ∙ ap (λ (l : List ℕ). lines_of all ++ l ∷ []) (sym line_is) ∙ sym (map_push line_of all one),
+      ap (λ (t : List ℕ). t ++ more) text_is ∙ ap (λ (t : List ℕ). text_of all ++ t) (sym answer_is) ∙ flat_map_more answer_of [] all one,
+      each_more a b c all one each then,
+    )
 
 -- a book whose first line was read, and then these lines
 answered : (old mid new : Option (List ℕ)) (first : FirstLine) (made after : Timed) (text : List ℕ) (line : List ℕ) → HasRead old mid (line ∷ []) [] → SaysFirst line first
@@ -128,7 +145,7 @@ HasAnswered old now before text after turns =
     (lines : List (List ℕ)) × HasRead old now lines [] × AnswersAll before lines text after × (turns ≤ length lines)
 
 pub none_answered : (old : Option (List ℕ)) (node : Timed) → HasAnswered old old node [] node 0
-none_answered old node = ([], nothing old, (refl, refl), omega arith)
+none_answered old node = ([], nothing old, ([], refl, refl, refl), omega arith)
 
 pub one_answered : (old mid new : Option (List ℕ)) (a b c : Timed) (text line more : List ℕ) (turns : ℕ) → HasAnswered old mid a text b turns
     → Consumes mid new (line ++ 10 ∷ []) → HasNoFeed line → Answers b line more c → HasAnswered old new a (text ++ more) c (turns + 1)

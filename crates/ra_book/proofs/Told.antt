@@ -1,6 +1,5 @@
--- What the lines of a book determine.
-use Rattle.std.proofs.Common.{◌≡◌, ℕ, ◌≤◌, ◌^◌, List, [], ◌∷◌, ◌++◌, map, Some, None, Ok, inl, inr, refl, sym, ap, subst, ◌∙◌, flat_map, codes, append_assoc}
-use Rattle.std.proofs.lemmas.List.{append-nil}
+-- What a line says, and how it is answered if it is accepted.
+use Rattle.std.proofs.Common.{◌≡◌, ℕ, List, [], ◌∷◌, ◌++◌, Some, None, Ok, sym, ap, subst, ◌∙◌, flat_map, codes}
 use Rattle.hex.specs.Hex.{decode_of}
 use Rattle.ra_stamp.specs.Message.{to_of}
 use Rattle.ra_stamp.specs.declared.entry.Mark.{Mark}
@@ -11,22 +10,17 @@ use Rattle.ra_frame.specs.declared.format.Format.TheVariants.{V2}
 use Rattle.ra_frame.specs.FrameText.{IsFrameText, IsFrameTextOf}
 use Rattle.ra_frame.specs.Faults.{first_fault}
 use Rattle.ra_world.specs.Lines.{mark_line}
-use Rattle.ra_node.specs.Node.{NodeState, opening_node}
-use Rattle.ra_node.specs.Events.{Event, NodeEvent, IsForThisNode}
-use Rattle.ra_history.specs.declared.book.event.BookEvent.{BookEvent}
+use Rattle.ra_node.specs.Node.{NodeState}
+use Rattle.ra_node.specs.Events.{Event, NodeEvent}
 use Rattle.ra_history.specs.declared.book.event.BookKind.{BookKind}
 use Rattle.ra_history.specs.declared.book.event.BookKind.TheVariants.{Asked, Gave, Got}
-use Rattle.ra_history.specs.declared.book.sent.Sent.{Sent}
-use Rattle.ra_automaton.specs.State.{IsForNode}
-use Rattle.ra_history.specs.History.{IsHistory, node_event, clock_after, clock_from, clock_of, frames_at}
-use Rattle.ra_history.specs.Book.{as_sent}
+use Rattle.ra_history.specs.History.{node_event, clock_after}
 use Rattle.ra_book.specs.declared.answering.line_refusal.Refusal.{Refusal}
 use Rattle.ra_book.specs.declared.answering.line_refusal.Refusal.TheVariants as refusal
 use Rattle.ra_book.specs.BookText.{Form, HasForm, IsEvent, IsFrameOf, IsUnread}
 use Rattle.ra_book.specs.BookText.Form.{Ask, Release, Receive}
-use Rattle.ra_book.specs.Answers.{AreSends, Accepts, AnswersAll, send_line}
-use Rattle.ra_book.specs.Laws.{AcceptsAll, IsPart, AreEvents}
-use Rattle.ra_book.specs.Timed.{Timed, opening}
+use Rattle.ra_book.specs.Answers.{AreSends, Accepts, send_line}
+use Rattle.ra_book.specs.Timed.{Timed}
 use Rattle.ra_book.proofs.Forms.{ask_once, release_once, receive_once, ask_no_release, ask_no_receive, release_no_receive}
 
 abbrev pub OneFrame : Type 0
@@ -94,7 +88,7 @@ module _
     same_timed : (a b : Timed) → a.node ≡ b.node → a.clock ≡ b.clock → a ≡ b
     same_timed a b n c = λ i. record { node = n i; clock = c i }
 
-    one_answer : (old a b : Timed) (line text other : List ℕ) → Accepts old line text a → Accepts old line other b → (text ≡ other) × (a ≡ b)
+    pub one_answer : (old a b : Timed) (line text other : List ℕ) → Accepts old line text a → Accepts old line other b → (text ≡ other) × (a ≡ b)
     one_answer old a b line text other g h =
         let kind = one_event frames line g.reacts.kind h.reacts.kind g.reacts.is_event h.reacts.is_event in
         let event = events old.node a.node b.node (node_event h.reacts.kind) g.sends h.sends g.marks h.marks
@@ -106,86 +100,3 @@ module _
               ∙ (ap (λ (ms : List Mark). h.posted.sent ++ flat_map mark_line ms ++ codes "ok\n") event.1 ∙ sym h.posted.text_is)),
           same_timed a b event.2 clock,
         )
-
-    pub determined : (old a b : Timed) (lines : List (List ℕ)) (text other : List ℕ) → AcceptsAll old lines text a → AcceptsAll old lines other b → (text ≡ other) × (a ≡ b)
-    determined old a b [] text other g h = (g.0 ∙ sym h.0, g.1 ∙ sym h.1)
-    determined old a b (line ∷ lines) text other g h =
-        let first = one_answer old g.0 h.0 line g.1 h.1 g.3 h.3 in
-        let rest = determined h.0 a b lines g.2 h.2 (subst (λ (at : Timed). AcceptsAll at lines g.2 a) first.1 g.5) h.5 in
-        (g.4 ∙ (ap (λ (t : List ℕ). t ++ g.2) first.0 ∙ (ap (λ (t : List ℕ). h.1 ++ t) rest.0 ∙ sym h.4)), rest.1)
-
--- what was refused is left out
-left_out : (kept lines : List (List ℕ)) (line : List ℕ) → IsPart kept lines → IsPart kept (line ∷ lines)
-left_out [] lines line part = part
-left_out (k ∷ ks) lines line part = inr part
-
-pub kept : (old new : Timed) (lines : List (List ℕ)) (text : List ℕ) → AnswersAll old lines text new
-    → (kept : List (List ℕ)) × (told : List ℕ) × IsPart kept lines × AcceptsAll old kept told new
-kept old new [] text h = ([], [], tt, (refl, h.1))
-kept old new (line ∷ lines) text h =
-    let others = kept h.0 new lines h.2 h.5 in
-    elim h.3 [
-      | inl accepts ↦ (line ∷ others.0, h.1 ++ others.1, inl (refl, others.2), (h.0, h.1, others.1, accepts, refl, others.3))
-      | inr denies ↦
-          (others.0, others.1, left_out others.0 lines line others.2, subst (λ (at : Timed). AcceptsAll at others.0 others.1 new) denies.stays.new_is others.3)
-    ]
-
--- ---- Accepted lines are a history
-
-clock_push : (clock : ℕ) (events : List BookEvent) (event : BookEvent) → clock_from clock (events ++ event ∷ []) ≡ event.clock
-clock_push clock [] event = refl
-clock_push clock (e ∷ es) event = clock_push e.clock es event
-
--- an event for the node is one for the node that it was at first
-for_it : (me n start : ℕ) (node : NodeState) (kind : BookKind) → node.me ≡ me → node.nodes ≡ n → IsForThisNode node (node_event kind)
-    → IsForThisNode (opening_node me n start) (node_event kind)
-for_it me n start node (Asked client name mode) a b h = tt
-for_it me n start node (Gave client name) a b h = tt
-for_it me n start node (Got frame) a b h =
-    subst (λ (k : ℕ). IsForNode k n frame.message) a (subst (λ (k : ℕ). IsForNode node.me k frame.message) b h)
-
-module _
-    (opens : (me n start : ℕ) → IsHistory me n start [] [] (opening_node me n start))
-    (goes_on : (me n start : ℕ) (events : List BookEvent) (sent : List Sent) (old new : NodeState)
-    (kind : BookKind) (sends : List Message) (marks : List Mark)
-    → IsHistory me n start events sent old → IsForThisNode (opening_node me n start) (node_event kind)
-    → NodeEvent old (node_event kind) sends marks new → clock_after (clock_of events) kind ≤ 2 ^ 62
-    → IsHistory me n start (events ++ record { clock = clock_after (clock_of events) kind; kind = kind } ∷ [])
-    (sent ++ as_sent (frames_at (clock_after (clock_of events) kind) sends)) new)
-    (keeps : (old new : NodeState) (event : Event) (sends : List Message) (marks : List Mark)
-    → NodeEvent old event sends marks new → (new.me ≡ old.me) × (new.nodes ≡ old.nodes) × (new.start ≡ old.start))
-  where
-    history_on : (me n start : ℕ) (events : List BookEvent) (sent : List Sent) (at new : Timed) (lines : List (List ℕ)) (text : List ℕ)
-        → IsHistory me n start events sent at.node → clock_of events ≡ at.clock → at.node.me ≡ me → at.node.nodes ≡ n → AcceptsAll at lines text new
-        → (more : List BookEvent) × (all : List Sent) × IsHistory me n start (events ++ more) all new.node
-        × AreEvents lines (map (λ (e : BookEvent). e.kind) more) × (clock_of (events ++ more) ≡ new.clock)
-    history_on me n start events sent at new [] text h clock is_me is_n (none, same) = (
-      [],
-      sent,
-      subst (λ (es : List BookEvent). IsHistory me n start es sent new.node) (sym (append-nil events))
-          (subst (λ (s : Timed). IsHistory me n start events sent s.node) (sym same) h),
-      tt,
-      ap clock_of (append-nil events) ∙ (clock ∙ ap (λ (s : Timed). s.clock) (sym same)),
-    )
-    history_on me n start events sent at new (line ∷ lines) text h clock is_me is_n (next, first, rest, accepts, cut, others) =
-        let kind = accepts.reacts.kind in
-        let takes = accepts.reacts.takes in
-        let event : BookEvent = record { clock = clock_after (clock_of events) kind; kind = kind } in
-        let is_clock : event.clock ≡ next.clock = ap (λ (c : ℕ). clock_after c kind) clock ∙ sym takes.clock_is in
-        let low : event.clock ≤ 2 ^ 62 = subst (λ (c : ℕ). c ≤ 2 ^ 62) (sym is_clock) takes.has_clock in
-        let here = goes_on me n start events sent at.node next.node kind accepts.sends accepts.marks h (for_it me n start at.node kind is_me is_n takes.for_this_node) takes.event low in
-        let same = keeps at.node next.node (node_event kind) accepts.sends accepts.marks takes.event in
-        let (more, all, history, are, is) = history_on me n start (events ++ event ∷ []) _ next new lines rest here (clock_push 0 events event ∙ is_clock)
-        (same.0 ∙ is_me) (same.1 ∙ is_n) others in
-        let joined = append_assoc events (event ∷ []) more in (
-          event ∷ more,
-          all,
-          subst (λ (es : List BookEvent). IsHistory me n start es all new.node) joined history,
-          (accepts.reacts.is_event, are),
-          sym (ap clock_of joined) ∙ is,
-        )
-
-    pub history : (me n start : ℕ) (new : Timed) (lines : List (List ℕ)) (text : List ℕ) → AcceptsAll (opening me n start) lines text new
-        → (events : List BookEvent) × (sent : List Sent) × IsHistory me n start events sent new.node
-        × AreEvents lines (map (λ (e : BookEvent). e.kind) events) × (clock_of events ≡ new.clock)
-    history me n start new lines text accepts = history_on me n start [] [] (opening me n start) new lines text (opens me n start) refl refl refl accepts

@@ -70,7 +70,7 @@ encoded_free table (b ∷ rest) h =
 both : (xs ys : List ℕ) → HasNoFeed xs → HasNoFeed ys → HasNoFeed (xs ++ ys)
 both = All-append (λ c. c ≢ 10)
 
-word : (bytes : List ℕ) → list_all (nat_lt 10) bytes ≡ true → HasNoFeed bytes
+pub word : (bytes : List ℕ) → list_all (nat_lt 10) bytes ≡ true → HasNoFeed bytes
 word bytes h = high bytes (AllPass-from_list_all (nat_lt 10) bytes h)
 
 -- ---- Digits

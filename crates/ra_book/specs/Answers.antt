@@ -1,5 +1,5 @@
 -- The answers to the lines of a book after the first.
-use Rattle.std.specs.Prelude.{◌≡◌, ◌⊎◌, ℕ, List, [], ◌∷◌, ◌++◌, codes, decimal, flat_map}
+use Rattle.std.specs.Prelude.{◌≡◌, ◌⊎◌, ℕ, List, [], ◌∷◌, ◌++◌, codes, decimal, flat_map, map}
 use Rattle.hex.specs.Hex.{encode_lower}
 use Rattle.ra_stamp.specs.Message.{to_of}
 use Rattle.ra_stamp.specs.declared.entry.Mark.{Mark}
@@ -83,9 +83,40 @@ pub record Denies (old : Timed) (line text : List ℕ) (new : Timed) : Type 0 wh
 abbrev pub Answers : Timed → List ℕ → List ℕ → Timed → Type 0
 Answers old line text new = Accepts old line text new ⊎ Denies old line text new
 
--- the answers to these lines, in order, and what the node is after them
+-- a line that a node was handed, and its answer: the node accepted the line, or refused it
+pub data Answered : Type 0 where
+  Accepted : (line : List ℕ) → (answer : List ℕ) → Answered
+  Refused : (line : List ℕ) → (answer : List ℕ) → Answered
+
+abbrev pub line_of : Answered → List ℕ
+line_of (Accepted line answer) = line
+line_of (Refused line answer) = line
+
+abbrev pub answer_of : Answered → List ℕ
+answer_of (Accepted line answer) = answer
+answer_of (Refused line answer) = answer
+
+-- the lines, and the text of their answers, both in order
+abbrev pub lines_of : List Answered → List (List ℕ)
+lines_of all = map line_of all
+
+abbrev pub text_of : List Answered → List ℕ
+text_of all = flat_map answer_of all
+
+-- The node is handed these lines, one after the other, answers each of them so, and is then this one. A line that it
+-- refuses leaves it as it was.
+abbrev pub AnswersEach : Timed → List Answered → Timed → Type 0
+AnswersEach old [] new = new ≡ old
+AnswersEach old (Accepted line answer ∷ all) new = (next : Timed) × Accepts old line answer next × AnswersEach next all new
+AnswersEach old (Refused line answer ∷ all) new = Denies old line answer old × AnswersEach old all new
+
+-- the book that is kept: the lines that the node accepted, each with its very answer, in order; none that it refused
+abbrev pub kept_of : List Answered → List Answered
+kept_of [] = []
+kept_of (Accepted line answer ∷ all) = Accepted line answer ∷ kept_of all
+kept_of (Refused line answer ∷ all) = kept_of all
+
+-- this text is the answers to these lines, in order, and the node is this one after them
 abbrev pub AnswersAll : Timed → List (List ℕ) → List ℕ → Timed → Type 0
-AnswersAll old [] text new = (text ≡ []) × (new ≡ old)
-AnswersAll old (line ∷ lines) text new =
-    (next : Timed) × (first : List ℕ) × (rest : List ℕ) × Answers old line first next × (text ≡ first ++ rest)
-    × AnswersAll next lines rest new
+AnswersAll old lines text new =
+    (all : List Answered) × (lines ≡ lines_of all) × (text ≡ text_of all) × AnswersEach old all new

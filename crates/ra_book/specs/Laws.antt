@@ -1,27 +1,63 @@
--- What the law of books speaks of.
-use Rattle.std.specs.Prelude.{◌≡◌, ◌⊎◌, ℕ, List, [], ◌∷◌, ◌++◌}
-use Rattle.ra_history.specs.declared.book.event.BookKind.{BookKind}
-use Rattle.ra_book.specs.Timed.{Timed}
-use Rattle.ra_book.specs.BookText.{IsEvent}
-use Rattle.ra_book.specs.Answers.{Accepts}
+-- What the laws of books speak of.
+use Rattle.std.specs.Prelude.{◌≡◌, ℕ, List, ◌∷◌, ◌++◌, flat_map}
+use Rattle.std.specs.List.{AllZip}
+use Rattle.ra_history.specs.Book.{BookState, LeadsTo}
+use Rattle.ra_history.specs.History.{Posting, clock_of}
+use Rattle.ra_history.specs.declared.error.BookError.TheVariants as error
+use Rattle.ra_book.specs.declared.answering.line_refusal.Refusal.TheVariants as refusal
+use Rattle.ra_book.specs.BookText.{IsEvent, IsFirst}
+use Rattle.ra_book.specs.Timed.{Timed, opening}
+use Rattle.ra_book.specs.Answers.{Answered, AnswersEach, IsPosted, kept_of, lines_of, refused_line}
+use Rattle.ra_book.specs.Answers.Answered.{Accepted, Refused}
+use Rattle.ra_book.specs.Texts.{IsRead, Says, said_by}
 
--- these lines are all accepted, in order, with these answers
-abbrev pub AcceptsAll : Timed → List (List ℕ) → List ℕ → Timed → Type 0
-AcceptsAll old [] text new = (text ≡ []) × (new ≡ old)
-AcceptsAll old (line ∷ lines) text new =
-    (next : Timed) × (first : List ℕ) × (rest : List ℕ) × Accepts old line first next × (text ≡ first ++ rest)
-    × AcceptsAll next lines rest new
+-- ---- A book that is handed to a node again
 
--- these are some of the lines, in their order
-abbrev pub IsPart : List (List ℕ) → List (List ℕ) → Type 0
-IsPart [] [] = Unit {0}
-IsPart (kept ∷ others) [] = ⊥
-IsPart [] (line ∷ lines) = IsPart [] lines
-IsPart (kept ∷ others) (line ∷ lines) = ((kept ≡ line) × IsPart others lines) ⊎ IsPart (kept ∷ others) lines
+-- The lines were answered as before up to one that is now refused, and only for lack of memory. What comes after it may
+-- differ.
+pub record IsCutShort (kept again : List Answered) : Type 0 where
+  pub before : List Answered
+  pub line : List ℕ
+  pub answer : List ℕ
+  pub left : List Answered
+  pub others : List Answered
+  pub kept_is : kept ≡ before ++ Accepted line answer ∷ left
+  pub again_is : again ≡ before ++ Refused line (refused_line (refusal.Event error.Memory)) ∷ others
 
--- the lines are these events, in order
-abbrev pub AreEvents : List (List ℕ) → List BookKind → Type 0
-AreEvents [] [] = Unit {0}
-AreEvents [] (kind ∷ kinds) = ⊥
-AreEvents (line ∷ lines) [] = ⊥
-AreEvents (line ∷ lines) (kind ∷ kinds) = IsEvent line kind × AreEvents lines kinds
+-- ---- The book as settling reads it
+
+-- a node that was driven: the first line of its book, the lines after it with their answers, and the node after them
+pub record Driven : Type 0 where
+  pub first : List ℕ
+  pub answered : List Answered
+  pub end : Timed
+
+-- the first line made the node, and it answered the others so
+abbrev pub IsDriven : Driven → Type 0
+IsDriven driven = (node : ℕ) × (nodes : ℕ) × (start : ℕ) × IsFirst driven.first node nodes start
+    × AnswersEach (opening node nodes start) driven.answered driven.end
+
+-- the book that is kept of it: the first line, and the lines that were accepted
+abbrev pub book_lines : Driven → List (List ℕ)
+book_lines driven = driven.first ∷ lines_of (kept_of driven.answered)
+
+-- the books of several, one after the other
+abbrev pub all_book_lines : List Driven → List (List ℕ)
+all_book_lines driven = flat_map book_lines driven
+
+-- The line is the event, and its answer is what came of it: a line `send` for each frame, with the clock of the event, the
+-- lines of the marks, and `ok`.
+abbrev pub IsAnswerTo : Posting → Answered → Type 0
+IsAnswerTo posting (Accepted line answer) =
+    IsEvent line posting.event.kind × IsPosted posting.event.clock posting.sends posting.marks answer
+IsAnswerTo posting (Refused line answer) = ⊥
+
+-- This book is read from the lines that were kept. Its events lead to the node as it was in the end, and its clock is the
+-- node's. The answers to the lines are, in order, those to its events: so the frames in them are the frames that the book
+-- sent, and the marks in them are its marks.
+pub record IsBookOf (driven : Driven) (book : BookState) : Type 0 where
+  pub said : AllZip Says (book_lines driven) (said_by book)
+  pub is_read : IsRead book
+  pub leads : LeadsTo book driven.end.node
+  pub clock_is : clock_of book.events ≡ driven.end.clock
+  pub answers : AllZip IsAnswerTo leads.postings (kept_of driven.answered)

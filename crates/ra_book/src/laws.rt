@@ -1,39 +1,38 @@
 //! What is true of books, for hosts. Each function does nothing, and its contract is the law.
+pub mod node_books;
 pub mod text_verdicts;
 
-ghost use Rattle.std.specs.Prelude.{◌≡◌, ℕ, List, map};
+ghost use Rattle.std.specs.Prelude.{◌≡◌, ◌⊎◌, ℕ, List};
 ghost use Rattle.ra_history.specs.declared.book.event.BookKind.{BookKind};
-ghost use Rattle.ra_history.specs.declared.book.event.BookEvent.{BookEvent};
-ghost use Rattle.ra_history.specs.declared.book.sent.Sent.{Sent};
-ghost use Rattle.ra_history.specs.History.{IsHistory, clock_of};
-ghost use Rattle.ra_book.specs.Answers.{AnswersAll};
+ghost use Rattle.ra_book.specs.Answers.{Answered, AnswersEach, kept_of, lines_of, text_of};
 ghost use Rattle.ra_book.specs.BookText.{Form, HasForm, IsEvent, IsFirst, IsUnread};
 ghost use Rattle.ra_book.specs.declared.answering.line_refusal.Refusal.{Refusal};
-ghost use Rattle.ra_book.specs.Laws.{AcceptsAll, IsPart, AreEvents};
-ghost use Rattle.ra_book.specs.Timed.{Timed, opening};
+ghost use Rattle.ra_book.specs.Laws.{IsCutShort};
+ghost use Rattle.ra_book.specs.Timed.{Timed};
 
 use ra_frame::{one_spelling, round_trip};
-use ra_history::histories_go_on;
-use ra_node::{events_are_determined, events_leave_other_names};
+use ra_node::events_are_determined;
 
-/// A book determines its node, the node's clock and each answer: the lines that were accepted do. So a node comes back when
-/// it is handed its book again, with the same answers as before.
+/// The lines that a node accepted are its book. So a node comes back when it is handed its book again, with the same answers as
+/// before.
 pub fn books_determine_nodes()
-    // Lines that are all accepted have one answer.
-    ensures determined { (old a b : Timed) (lines : List (List ℕ)) (text other : List ℕ)
-        → AcceptsAll old lines text a → AcceptsAll old lines other b → (text ≡ other) × (a ≡ b) }
-    // A line that was refused can be left out: the node is the same without it.
-    ensures kept { (old new : Timed) (lines : List (List ℕ)) (text : List ℕ) → AnswersAll old lines text new
-        → (kept : List (List ℕ)) × (told : List ℕ) × IsPart kept lines × AcceptsAll old kept told new }
-    // The accepted lines are the events of a history.
-    ensures history { (me n start : ℕ) (new : Timed) (lines : List (List ℕ)) (text : List ℕ)
-        → AcceptsAll (opening me n start) lines text new
-        → (events : List BookEvent) × (sent : List Sent) × IsHistory me n start events sent new.node
-        × AreEvents lines (map (λ e. e.kind) events) × (clock_of events ≡ new.clock) }
+    // The answers to lines tell which of them were accepted, and what the node is after them.
+    ensures told { (old a b : Timed) (all others : List Answered) → AnswersEach old all a → AnswersEach old others b
+        → lines_of all ≡ lines_of others → text_of all ≡ text_of others → (all ≡ others) × (a ≡ b) }
+    // The lines that were accepted are accepted without the others, with the very same answers, and lead to the same node with the
+    // same clock.
+    ensures kept { (old new : Timed) (all : List Answered) → AnswersEach old all new → AnswersEach old (kept_of all) new }
+    // If the same lines were accepted, the answers to them are the same, and so are the node and its clock, whatever was refused.
+    ensures determined { (old a b : Timed) (all others : List Answered) → AnswersEach old all a → AnswersEach old others b
+        → lines_of (kept_of all) ≡ lines_of (kept_of others) → (kept_of all ≡ kept_of others) × (a ≡ b) }
+    // A node that is handed the book again answers each line as before, and is the same then; or memory runs out, and the first
+    // line with another answer is refused for that.
+    ensures again { (old a b : Timed) (all others : List Answered) → AnswersEach old all a → AnswersEach old others b
+        → lines_of others ≡ lines_of (kept_of all)
+        → ((others ≡ kept_of all) × (b ≡ a)) ⊎ IsCutShort (kept_of all) others }
 {
+    lines_are_read_in_one_way();
     events_are_determined();
-    events_leave_other_names();
-    histories_go_on();
     one_spelling();
     round_trip();
 }

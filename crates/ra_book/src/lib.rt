@@ -16,6 +16,7 @@ pub use answering::line_refusal::Refusal;
 pub use answering::timed_node::TimedNode;
 pub use book_writing::{WriteBookError, push_book};
 pub use error::BookFault;
+pub use laws::node_books::books_say_what_nodes_answered;
 pub use laws::text_verdicts::{
     each_text_of_books_has_one_verdict, texts_of_books_are_read_in_one_way,
 };

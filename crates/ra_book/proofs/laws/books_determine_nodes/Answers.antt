@@ -1,11 +1,19 @@
-use Rattle.ra_book.proofs.Told.{determined, kept, history}
+use Rattle.ra_book.proofs.Replay.{again, kept_again, same_kept, told}
+use Rattle.ra_book.proofs.Told.{one_answer}
 use Rattle.ra_book.proofs.laws.books_determine_nodes.Goals as goal
 
-pub returns-clause-determined : goal.returns-clause-determined
-returns-clause-determined c = determined c.round_trip.ensures.one_frame c.one_spelling.ensures c.events_are_determined.ensures.event
+pub returns-clause-told : goal.returns-clause-told
+returns-clause-told c =
+    told (one_answer c.round_trip.ensures.one_frame c.one_spelling.ensures c.events_are_determined.ensures.event)
 
 pub returns-clause-kept : goal.returns-clause-kept
-returns-clause-kept c = kept
+returns-clause-kept c = kept_again
 
-pub returns-clause-history : goal.returns-clause-history
-returns-clause-history c = history c.histories_go_on.ensures.opening c.histories_go_on.ensures.event c.events_leave_other_names.ensures.node
+pub returns-clause-determined : goal.returns-clause-determined
+returns-clause-determined c =
+    same_kept (one_answer c.round_trip.ensures.one_frame c.one_spelling.ensures c.events_are_determined.ensures.event)
+
+pub returns-clause-again : goal.returns-clause-again
+returns-clause-again c =
+    again c.lines_are_read_in_one_way.ensures.event c.lines_are_read_in_one_way.ensures.is_read
+    (one_answer c.round_trip.ensures.one_frame c.one_spelling.ensures c.events_are_determined.ensures.event)

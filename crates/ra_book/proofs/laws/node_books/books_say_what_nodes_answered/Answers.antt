@@ -1,0 +1,34 @@
+use Rattle.ra_book.proofs.NodeBooks.{are_right, book_of, read_as, settles_as}
+use Rattle.ra_book.proofs.laws.node_books.books_say_what_nodes_answered.Goals as goal
+
+pub returns-clause-book : goal.returns-clause-book
+returns-clause-book c = book_of c.events_leave_other_names.ensures.node
+
+pub returns-clause-right : goal.returns-clause-right
+returns-clause-right c = are_right
+
+pub returns-clause-read : goal.returns-clause-read
+returns-clause-read c =
+    read_as c.events_leave_other_names.ensures.node (record {
+      first = c.lines_are_read_in_one_way.ensures.first;
+      event = c.lines_are_read_in_one_way.ensures.event;
+      apart = c.lines_are_read_in_one_way.ensures.apart;
+      is_read = c.lines_are_read_in_one_way.ensures.is_read;
+    }) (record {
+      node = c.histories_are_determined.ensures.node;
+      frames = c.histories_are_determined.ensures.frames;
+      splits = c.events_go_on.ensures.splits;
+    })
+
+pub returns-clause-settled : goal.returns-clause-settled
+returns-clause-settled c =
+    settles_as c.events_leave_other_names.ensures.node (record {
+      first = c.lines_are_read_in_one_way.ensures.first;
+      event = c.lines_are_read_in_one_way.ensures.event;
+      apart = c.lines_are_read_in_one_way.ensures.apart;
+      is_read = c.lines_are_read_in_one_way.ensures.is_read;
+    }) (record {
+      node = c.histories_are_determined.ensures.node;
+      frames = c.histories_are_determined.ensures.frames;
+      splits = c.events_go_on.ensures.splits;
+    })
