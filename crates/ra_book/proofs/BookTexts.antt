@@ -107,4 +107,4 @@ too_long books line long = (λ node nodes start is. omega (arith, long, is.short
 pub takes_first : (old new : Gathered) (number : ℕ) (line : List ℕ) (r : Result (Unit {0}) LineFault) → TakesFirst old line new r → TakesLine old number line new r
 takes_first old new number line (Ok done) h = inl h
 takes_first old new number line (Err (line_fault.Wrong why)) h = h
-takes_first old new number line (Err line_fault.Memory) h = tt
+takes_first old new number line (Err line_fault.Memory) h = inl h

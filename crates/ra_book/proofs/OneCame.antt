@@ -6,7 +6,7 @@ use Rattle.std.specs.List.Sorted.{IsPermutation}
 use Rattle.std.proofs.lemmas.Bool.{cases_lt, cases_eq}
 use Rattle.std.proofs.lemmas.List.{map-append}
 use Rattle.std.proofs.lemmas.List.Edits.{Swapped, length-swap, swapped_from_swap}
-use Rattle.std.proofs.lemmas.List.Elements.{All-cons, All-contains_itself, All-head, All-nil, All-tail}
+use Rattle.std.proofs.lemmas.List.Elements.{All-cons, All-contains_itself, All-head, All-map, All-nil, All-tail}
 use Rattle.std.proofs.lemmas.List.Kept.{AllPairs-cons}
 use Rattle.std.proofs.lemmas.List.Sorted.{All-permutation, IsPermutation-keeps, IsPermutation-sym}
 use Rattle.ra_stamp.specs.declared.message.Message.{Message}
@@ -15,10 +15,11 @@ use Rattle.ra_history.specs.declared.book.event.BookEvent.{BookEvent}
 use Rattle.ra_history.specs.declared.book.event.BookKind.{BookKind}
 use Rattle.ra_history.specs.declared.book.event.BookKind.TheVariants.{Asked, Gave, Got}
 use Rattle.ra_history.specs.Book.{BookState}
-use Rattle.ra_history.specs.Settled.{HasTwice, HasUnsent, all_received, frames_in, received_among}
+use Rattle.ra_history.specs.Settled.{HasTwice, HasUnsent, WasSent, all_received, frames_in, received_among}
 use Rattle.ra_book.specs.declared.text_settling.came_frames.Came.{Came}
 use Rattle.ra_book.specs.Texts.{Said, came_by, came_from, came_in, said_by}
 use Rattle.ra_book.specs.Texts.Said.{Opens, Happens}
+use Rattle.ra_book.specs.Gathering.{HasAllCome}
 use Rattle.ra_book.specs.Verdicts.{IsFirstAgain, IsFirstUnsent, messages_of}
 use Rattle.ra_book.proofs.Last.{pairs_at_last}
 use Rattle.ra_book.proofs.ListPieces.{AreDifferent, all_in_each, all_of_each, all_right, never_twice, pairs_first, pairs_joined, pairs_left, pairs_rest, pairs_right}
@@ -67,6 +68,21 @@ all_came_sent books ordered same sent number h =
     (subst (All (Contains (all_received ordered))) (map-append (λ (one : Came). one.frame) h.before (h.this ∷ h.after)) frames) in
     let (k, low, at) = All-head (Contains (all_received ordered)) h.this.frame (map (λ (one : Came). one.frame) h.after) here in
     sent (k, h.this.frame, low, at, h.unsent)
+
+-- what came by the lines is all that came to the books
+pub all_came : (books ordered : List BookState) → IsPermutation books ordered → HasAllCome ordered (came_in books)
+all_came books ordered same =
+    let each = All-permutation (λ (b : BookState). All (Contains (all_received books)) (received_among b.events)) books ordered same
+    (all_in_each (Contains (all_received books)) (λ (b : BookState). received_among b.events) books (All-contains_itself (all_received books))) in
+    let all = all_of_each (Contains (all_received books)) (λ (b : BookState). received_among b.events) ordered each in
+    subst (λ (fs : List Frame). All (Contains fs) (all_received ordered)) (sym (all_come books)) all
+
+-- if all that came was sent, no book has a frame that was not sent
+pub none_unsent : (books : List BookState) (came : List Came) → HasAllCome books came → All (λ one. WasSent books one.frame) came → HasUnsent books → ⊥
+none_unsent books came all sent (k, frame, low, at, unsent) =
+    let (j, within, is) = subst (Contains (map (λ (one : Came). one.frame) came)) at (all k frame low) in
+    let each = All-map (WasSent books) (λ (one : Came). one.frame) came sent in
+    unsent (subst (WasSent books) is (each j frame within))
 
 -- ---- Pairs, when places change
 

@@ -8,7 +8,8 @@ use Rattle.std.proofs.lemmas.List.Elements.{All-append, All-push, All-weaker}
 use Rattle.std.proofs.lemmas.List.FromFn.{length-range_with_len, get_or-range_with_len}
 use Rattle.std.proofs.lemmas.List.Quantifiers.{Any-push}
 use Rattle.std.proofs.lemmas.List.Sorted.{All-permutation, IsPermutation-more, IsPermutation-refl, IsPermutation-sym, length_permutation}
-use Rattle.ra_history.specs.Book.{BookState, IsWhole}
+use Rattle.ra_history.specs.Book.{BookState, IsWhole, opening_book}
+use Rattle.ra_book.specs.declared.text_settling.arranging.Unarranged.TheVariants.{Missing, Memory}
 use Rattle.ra_history.specs.Settled.{start_of}
 use Rattle.ra_book.specs.Texts.{AreBeside, AreRight, AreWhole, IsBeside, IsRead}
 use Rattle.ra_book.specs.Gathering.{IsAllArranged, IsArranged, LacksNode, LacksSome}
@@ -85,6 +86,27 @@ all_of books ordered nodes many h =
       same = subst (IsPermutation books) (ap (λ (ls : List BookState). ordered ++ ls) none ∙ append-nil ordered) h.same;
       numbers = h.numbers;
     }
+
+-- if all books are in order, no node lacks one
+in_order : (ordered : List BookState) (nodes node : ℕ) → map (λ book. book.me) ordered ≡ range_with_len 1 nodes → 1 ≤ node → node ≤ nodes
+    → All (λ book. book.me ≢ node) ordered → ⊥
+in_order ordered nodes zero numbers low high none = absurd (omega (arith, low))
+in_order ordered nodes (suc k) numbers low high none =
+    let long : length ordered ≡ nodes = sym (length-map ordered me_of) ∙ ap length numbers ∙ length-range_with_len 1 nodes in
+    let within : k < length ordered = omega (arith, long, high) in
+    let number : (get_or ordered k (opening_book 0 0 0)).me ≡ 1 + k =
+    sym (get_or-map me_of ordered k (opening_book 0 0 0) 0 within) ∙ ap (λ (ns : List ℕ). get_or ns k 0) numbers ∙ get_or-range_with_len 1 nodes k 0 (omega (arith, high))
+    in
+    none k (opening_book 0 0 0) within (number ∙ omega arith)
+
+pub none_lacks : (books ordered : List BookState) (nodes : ℕ) → IsAllArranged books nodes ordered → LacksSome books nodes → ⊥
+none_lacks books ordered nodes h (inl few) =
+    few (sym (length-range_with_len 1 nodes) ∙ sym (ap length h.numbers) ∙ length-map ordered me_of ∙ length_permutation books ordered h.same)
+none_lacks books ordered nodes h (inr (node, low, high, none)) =
+    in_order ordered nodes node h.numbers low high (All-permutation (λ book. book.me ≢ node) books ordered h.same none)
+
+pub not_missing : Memory ≡ Missing → ⊥
+not_missing is = cc
 
 -- ---- A cluster
 

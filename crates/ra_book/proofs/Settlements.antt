@@ -1,5 +1,5 @@
 -- Into what books settle, with copies and without, and why they are refused.
-use Rattle.std.proofs.Common.{◌≡◌, Bool, true, false, cond, List, [], ◌∷◌, ◌++◌, map, length, refl, ap, ◌∙◌}
+use Rattle.std.proofs.Common.{◌≡◌, Bool, true, false, cond, List, [], ◌∷◌, ◌++◌, map, length, refl, sym, ap, ◌∙◌}
 use Rattle.std.specs.Prelude.{◌↔◌, All, IfOk, OnOk, IsErrOf, IsOkUnless, MatchResult, Result, Ok, Err}
 use Rattle.std.specs.List.{filter}
 use Rattle.std.proofs.lemmas.List.Elements.{All-head, All-tail}
@@ -7,13 +7,13 @@ use Rattle.ra_world.specs.MainTheorem.{MainTheorem}
 use Rattle.ra_world.specs.Traffic.{Move}
 use Rattle.ra_world.specs.World.{Reports}
 use Rattle.ra_history.specs.declared.error.SettleError.{SettleError}
-use Rattle.ra_history.specs.declared.error.SettleError.TheVariants.{NotSent, Twice, GrantMissing, GrantTwice, Memory}
+use Rattle.ra_history.specs.declared.error.SettleError.TheVariants.{NotSent, Twice, Memory}
 use Rattle.ra_history.specs.declared.book.sent.Sent.{Sent}
 use Rattle.ra_history.specs.declared.settle_books.settled.Settled.{Settled}
 use Rattle.ra_history.specs.Book.{BookState}
 use Rattle.ra_history.specs.Repeats.{IsSettledRunWithCopies}
-use Rattle.ra_history.specs.Settled.{BooksFit, HasTwice, HasUnsent, IsSettledOrder, IsSettledRun, Placed, all_lost, lost_among, settled_steps, start_of}
-use Rattle.ra_book.specs.Gathering.{IsTwiceBy}
+use Rattle.ra_history.specs.Settled.{BooksFit, HasUnsent, IsSettledOrder, IsSettledRun, Placed, all_lost, lost_among, settled_steps, start_of}
+use Rattle.ra_book.specs.Gathering.{IsRefusedBy}
 use Rattle.ra_book.specs.Texts.{IsRead}
 use Rattle.ra_book.specs.Verdicts.{IsRunBy}
 
@@ -34,8 +34,11 @@ lossless (b ∷ books) each = (λ i. none_lost b.sent (All-head IsRead b books e
 is_ok : (r : Result Settled SettleError) (settled : Settled) → r ≡ Ok settled → r ≡ Err NotSent → ⊥
 is_ok r settled ok err = cc
 
-is_twice : (r : Result Settled SettleError) → r ≡ Err Twice → r ≡ Err NotSent → ⊥
-is_twice r twice not_sent = cc
+same_err : (r : Result Settled SettleError) (why other : SettleError) → r ≡ Err why → r ≡ Err other → why ≡ other
+same_err r why other is also = cc
+
+pub not_both : Twice ≡ NotSent → ⊥
+not_both is = cc
 
 not_memory : Twice ≡ Memory → ⊥
 not_memory e = cc
@@ -46,7 +49,7 @@ module _ (books : List BookState) where
       × IsSettledRunWithCopies books moves × Reports (length books) (start_of books) moves settled.report)
       → IfOk r (λ settled. MainTheorem (length books) settled.report)
       → HasUnsent books ↔ IsErrOf r NotSent → ((HasUnsent books → ⊥) → IsOkUnless r Memory)
-      → MatchResult r (IsRunBy true books) (IsTwiceBy true books)
+      → MatchResult r (IsRunBy true books) (IsRefusedBy true books)
   by_copies (Ok settled) (moves, steps_are, run, reports) main not_sent settles =
       record {
         sent = λ unsent. is_ok (Ok settled) settled refl (not_sent.0 unsent);
@@ -56,20 +59,19 @@ module _ (books : List BookState) where
         reports = reports;
         main = main;
       }
-  by_copies (Err NotSent) run main not_sent settles = λ is. absurd cc
-  by_copies (Err Twice) run main not_sent settles = λ is. absurd (not_memory (settles (λ unsent. is_twice (Err Twice) refl (not_sent.0 unsent))))
-  by_copies (Err GrantMissing) run main not_sent settles = λ is. absurd cc
-  by_copies (Err GrantTwice) run main not_sent settles = λ is. absurd cc
-  by_copies (Err Memory) run main not_sent settles = λ is. absurd cc
+  by_copies (Err why) run main not_sent settles = (
+    ((λ is. not_sent.1 (ap Err is)), (λ unsent. same_err (Err why) why NotSent refl (not_sent.0 unsent))),
+    (λ is. absurd (not_memory (sym is ∙ settles (λ unsent. not_both (sym is ∙ same_err (Err why) why NotSent refl (not_sent.0 unsent)))))),
+  )
 
   pub by_plain : (r : Result Settled SettleError)
       → IfOk r (λ settled. (moves : List Move) × (map (λ move. move.step) moves ≡ settled.steps.items)
       × IsSettledRun books moves × Reports (length books) (start_of books) moves settled.report)
       → IfOk r (λ settled. MainTheorem (length books) settled.report)
       → IfOk r (λ settled. (placed : List Placed) × IsSettledOrder books placed × (settled.steps.items ≡ settled_steps books placed))
-      → OnOk r (BooksFit books) → (IsErrOf r Twice → HasTwice books × (HasUnsent books → ⊥))
-      → MatchResult r (IsRunBy false books) (IsTwiceBy false books)
-  by_plain (Ok settled) (moves, steps_are, run, reports) main (placed, order, in_order) fit twice =
+      → OnOk r (BooksFit books) → (IsErrOf r NotSent → HasUnsent books) → (HasUnsent books → IsErrOf r NotSent)
+      → MatchResult r (IsRunBy false books) (IsRefusedBy false books)
+  by_plain (Ok settled) (moves, steps_are, run, reports) main (placed, order, in_order) fit not_sent found =
       record {
         fit = fit;
         moves = moves;
@@ -81,4 +83,4 @@ module _ (books : List BookState) where
         order = order;
         in_order = in_order;
       }
-  by_plain (Err e) run main steps fit twice = λ is. (refl, (twice (ap Err is)).1)
+  by_plain (Err why) run main steps fit not_sent found = (((λ is. not_sent (ap Err is)), (λ unsent. same_err (Err why) why NotSent refl (found unsent))), (λ is. refl))

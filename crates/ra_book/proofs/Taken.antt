@@ -6,8 +6,17 @@ use Rattle.ra_frame.specs.FrameText.{IsFrameText}
 use Rattle.ra_history.specs.declared.error.BookError.{BookError}
 use Rattle.ra_history.specs.declared.book.event.BookKind.TheVariants.{Got}
 use Rattle.ra_history.specs.declared.book.event_effect.Posted.{Posted}
-use Rattle.ra_history.specs.Book.{BookState, Adds, HasHistory}
+use Rattle.ra_automaton.specs.State.{IsForNode}
+use Rattle.ra_history.specs.Book.{BookState, Adds, HasClock, HasHistory, ReadsFrame}
 use Rattle.ra_book.specs.Gathering.{HasTaken}
+use Rattle.ra_book.specs.Texts.{CanTake}
+
+-- the frame that a book can read is the one that was written
+pub can_read : (old : BookState) (frame : Frame) (bytes : List ℕ) → ((bytes : List ℕ) (a b : Frame) → IsFrameText bytes a → IsFrameText bytes b → a ≡ b)
+    → IsFrameText bytes frame → ReadsFrame old bytes (λ f. IsForNode old.me old.nodes f.message × HasClock old (Got f)) → CanTake old (Got frame)
+can_read old frame bytes one text h =
+    let same : h.frame ≡ frame = one bytes h.frame frame h.text text in
+    (h.no_fault, subst (λ (f : Frame). IsForNode old.me old.nodes f.message) same h.holds.0, subst (λ (f : Frame). HasClock old (Got f)) same h.holds.1)
 
 -- the frame that a book reads is the one that was written
 pub received : (old new : BookState) (frame : Frame) (bytes : List ℕ) (r : Result Posted BookError)

@@ -7,8 +7,8 @@ use Rattle.std.proofs.lemmas.List.{append-nil, length-append, map-append}
 use Rattle.std.proofs.lemmas.List.Sums.{AllPass-from_list_all}
 use Rattle.std.proofs.lemmas.Str.{IsUtf8-from_ascii}
 use Rattle.std.proofs.lemmas.Str.Ascii.{IsAscii-from_all}
-use Rattle.std.specs.Prelude.{nat_lt, slice_index}
-use Rattle.std.specs.List.{AllPass, AllZip, list_all}
+use Rattle.std.specs.Prelude.{All, nat_lt, slice_index}
+use Rattle.std.specs.List.{AllPass, AllZip, Any, list_all}
 use Rattle.std.specs.Str.{IsAscii, IsUtf8}
 use Rattle.hex.specs.Hex.{IsBytes, encode_lower, encode_with, lower_digits}
 use Rattle.hex.proofs.HexLemmas.{IsAscii-encode_with, decode_of-encode_lower, length-encode_with}
@@ -16,7 +16,10 @@ use Rattle.ra_stamp.specs.Name.{IsName}
 use Rattle.ra_stamp.specs.NodeId.{IsNodeNumber}
 use Rattle.ra_stamp.specs.declared.mode.Mode.{Mode}
 use Rattle.ra_stamp.specs.declared.mode.Mode.TheVariants.{Shared, Exclusive, IntentShared, IntentExclusive, SharedIntentExclusive}
-use Rattle.ra_frame.specs.FrameText.{IsWrittenText}
+use Rattle.ra_stamp.specs.declared.message.Message.{Message}
+use Rattle.ra_stamp.specs.declared.message.Message.TheVariants.{Request, Reply}
+use Rattle.ra_frame.specs.Fits.{Fits}
+use Rattle.ra_frame.specs.FrameText.{IsMessageText, IsWrittenText}
 use Rattle.ra_frame.specs.declared.format.Format.TheVariants.{V2}
 use Rattle.ra_frame.specs.declared.frame.Frame.{Frame}
 use Rattle.ra_stamp.specs.Mode.{mode_word}
@@ -34,7 +37,7 @@ use Rattle.ra_book.specs.Book.{lines_text}
 use Rattle.ra_book.specs.BookText.{IsFirst, first_text, form_text}
 use Rattle.ra_book.specs.BookText.Form.{Ask, Release, Receive}
 use Rattle.ra_book.specs.Input.{HasNoFeed}
-use Rattle.ra_book.specs.Written.{AddsEvent, AddsLines, IsWrittenBook, IsWrittenEvent, SaysEvents}
+use Rattle.ra_book.specs.Written.{AddsEvent, AddsLines, IsUnfit, IsWrittenBook, IsWrittenEvent, SaysEvents}
 
 -- ---- No line feed
 
@@ -230,3 +233,26 @@ whole_book book text lines kept below are is =
       },
       is,
     )
+
+-- ---- A book that is written has no frame without a text
+
+frame_fits : (bytes : List ℕ) (clock : ℕ) (message : Message) → IsMessageText V2 bytes clock message → Fits (record { clock = clock; message = message })
+frame_fits bytes clock (Request from to name mode seq) h = record { clock = h.clock_range; seq = h.seq_range.0; apart = h.apart }
+frame_fits bytes clock (Reply from to name seq) h = record { clock = h.clock_range; seq = h.seq_range.0; apart = h.apart }
+
+event_fits : (line : List ℕ) (kind : BookKind) → IsWrittenEvent line kind → IsUnfit kind → ⊥
+event_fits line (Asked client name mode) h unfit = unfit
+event_fits line (Gave client name) h unfit = unfit
+event_fits line (Got frame) h unfit = let (bytes, text, is) = h.spelled in unfit (frame_fits bytes frame.clock frame.message text)
+
+all_fit : (lines : List (List ℕ)) (events : List BookEvent) → AllZip IsWrittenEvent lines (map (λ event. event.kind) events)
+    → All (λ event. IsUnfit event.kind → ⊥) events
+all_fit [] [] h = All-nil (λ event. IsUnfit event.kind → ⊥)
+all_fit [] (e ∷ events) h = absurd h
+all_fit (l ∷ lines) [] h = absurd h
+all_fit (l ∷ lines) (e ∷ events) h =
+    All-cons (λ event. IsUnfit event.kind → ⊥) e events (event_fits l e.kind h.0) (all_fit lines events h.1)
+
+pub none_unfit : (lines : List (List ℕ)) (events : List BookEvent) → AllZip IsWrittenEvent lines (map (λ event. event.kind) events)
+    → Any (λ event. IsUnfit event.kind) events → ⊥
+none_unfit lines events h (k, event, low, at, unfit) = all_fit lines events h k event low (subst (λ (e : BookEvent). IsUnfit e.kind) (sym at) unfit)

@@ -1,5 +1,5 @@
 //! The text of a book.
-ghost use Rattle.std.specs.Prelude.{◌≡◌, ◌≤◌, ◌++◌, [], ℕ, List, decimal, length, string_bytes, IfOk, IsErrOf, MatchBool, OnOk, OnErr};
+ghost use Rattle.std.specs.Prelude.{◌≡◌, ◌≤◌, ◌↔◌, ◌++◌, [], ℕ, List, decimal, length, string_bytes, IfOk, IsErrOf, MatchBool, OnOk, OnErr};
 ghost use Rattle.std.specs.List.{Any};
 ghost use Rattle.hex.specs.Hex.{IsBytes, encode_lower};
 ghost use Rattle.ra_stamp.specs.Name.{IsName};
@@ -121,7 +121,7 @@ fn push_event(text: &mut Draft, kind: &BookKind) -> bool
 fn book_text(alloc: Global, book: &Book) -> Result<String, WriteBookError>
     ensures ok { IfOk result (λ text. (lines : List (List ℕ)) × IsWrittenBook lines book.now
         × AddsLines [] (string_bytes text) lines) }
-    ensures unfit { IsErrOf result WriteBookError.Unfit → Any (λ event. IsUnfit event.kind) book.now.events }
+    ensures unfit { IsErrOf result WriteBookError.Unfit ↔ Any (λ event. IsUnfit event.kind) book.now.events }
 {
     let mut text = Draft::new(alloc);
     text.push("book 1");
@@ -147,12 +147,12 @@ fn book_text(alloc: Global, book: &Book) -> Result<String, WriteBookError>
 /// The text is as before.
 ///
 /// 1. `Unfit`: a frame that came does not fit. No frame that [`Book::receive`] took is one.
-/// 2. `Memory`, which may come before it.
+/// 2. `Memory`: memory ran out, and no such frame came.
 pub fn push_book(text: &mut String, book: &Book) -> Result<(), WriteBookError>
     ensures ok { OnOk result ((lines : List (List ℕ)) × IsWrittenBook lines book.now
         × AddsLines (string_bytes text.old) (string_bytes text.new) lines) }
     ensures err { OnErr result (string_bytes text.new ≡ string_bytes text.old) }
-    ensures unfit { IsErrOf result WriteBookError.Unfit → Any (λ event. IsUnfit event.kind) book.now.events }
+    ensures unfit { IsErrOf result WriteBookError.Unfit ↔ Any (λ event. IsUnfit event.kind) book.now.events }
 {
     let written = book_text(*text.allocator(), book)?;
     text.push_str(written.as_str())?;

@@ -9,7 +9,7 @@ pub mod settle_error;
 ghost use Rattle.std.specs.Prelude.{◌⊎◌, ℕ, List, All, IfErr, IfOk, IsErrOf, IsOkUnless, MatchResult, OnOk};
 ghost use Rattle.ra_history.specs.Settled.{IsCluster};
 ghost use Rattle.ra_book.specs.Texts.{IsRead};
-ghost use Rattle.ra_book.specs.Gathering.{HasGathered, IsGathered, IsMadeOf, IsTwiceBy, IsUnfit};
+ghost use Rattle.ra_book.specs.Gathering.{HasAllCome, HasGathered, IsGathered, IsMadeOf, IsRefusedBy, IsUnfit, LacksSome};
 ghost use Rattle.ra_book.specs.Verdicts.{HasFittingBooks, IsRunBy, IsSettledBy, IsSettledText, IsUnsettled, IsWrong};
 ghost use Rattle.ra_book.specs.declared.text_settling.settle_error.TextCause.{TextCause};
 
@@ -42,7 +42,7 @@ pub struct SettledText {
 fn settle_by(alloc: Global, books: &[Book], repeats: bool) -> Result<Settled, SettleError>
     requires cluster { IsCluster books.now }
     requires each { All IsRead books.now }
-    ensures { MatchResult result (IsRunBy repeats books.now) (IsTwiceBy repeats books.now) }
+    ensures { MatchResult result (IsRunBy repeats books.now) (IsRefusedBy repeats books.now) }
 {
     if repeats {
         settle_with_copies(alloc, books)
@@ -55,7 +55,7 @@ fn settle_by(alloc: Global, books: &[Book], repeats: bool) -> Result<Settled, Se
 ///
 /// # Errors
 ///
-/// `Invalid` with `NotSent` or `Twice`, at the first such line. `Memory`.
+/// `Invalid` with `NotSent` or `Twice`, at the first such line. `Memory`, but not if a frame came that was not sent.
 fn settle_ordered(
     alloc: Global,
     books: &[Book],
@@ -64,6 +64,7 @@ fn settle_ordered(
 ) -> Result<SettledText, SettleTextError>
     requires cluster { IsCluster books.now }
     requires each { All IsRead books.now }
+    requires came { HasAllCome books.now came.now }
     ensures { MatchResult result (IsSettledBy repeats books.now) (IsUnfit repeats books.now came.now) }
 {
     match settle_by(alloc, books, repeats) {
@@ -100,7 +101,7 @@ fn settle_ordered(
 ///
 /// # Errors
 ///
-/// Those of `settle_gathered`.
+/// Those of `settle_gathered`. `Memory` comes only if no book is missing.
 fn settle_books(
     alloc: Global,
     books: &mut Vec<Book>,
@@ -111,8 +112,9 @@ fn settle_books(
 ) -> Result<SettledText, SettleTextError>
     requires { (gathered : Gathered) × IsMadeOf gathered books.old.items nodes came.now
         × ((lines : List (List ℕ)) × IsGathered lines gathered) }
-    ensures { (text : List ℕ) (gathered : Gathered) → IsMadeOf gathered books.old.items nodes came.now
+    ensures verdict { (text : List ℕ) (gathered : Gathered) → IsMadeOf gathered books.old.items nodes came.now
         → HasGathered text gathered next → MatchResult result (IsSettledText repeats text) (IsUnsettled repeats text) }
+    ensures memory { IsErrOf result SettleTextError.Memory → LacksSome books.old.items nodes → ⊥ }
 {
     match arranged(alloc, books, nodes) {
         Ok(ordered) => settle_ordered(alloc, ordered.as_slice(), came, repeats),

@@ -1,7 +1,7 @@
 //! Books in the order of their nodes.
-ghost use Rattle.std.specs.Prelude.{◌≡◌, ◌≢◌, ◌+◌, ◌<◌, All, length, slice_index_or, MatchOption, MatchResult};
+ghost use Rattle.std.specs.Prelude.{◌≡◌, ◌≢◌, ◌↔◌, ◌+◌, ◌<◌, All, length, slice_index_or, MatchOption, MatchResult};
 ghost use Rattle.ra_history.specs.Book.{BookState};
-ghost use Rattle.ra_book.specs.Gathering.{IsAllArranged, LacksSome};
+ghost use Rattle.ra_book.specs.Gathering.{IsAllArranged, LacksNode, LacksSome};
 
 use ra_history::Book;
 use std::alloc::Global;
@@ -29,22 +29,35 @@ fn place_of(books: &[Book], node_place: usize) -> Option<usize>
     None
 }
 
+/// Returns why books are not put in order if there is no memory for it, and they are as many as the nodes: that one of the nodes has
+/// none comes first. It does not allocate.
+fn missing_or_memory(books: &[Book], nodes: usize) -> Unarranged
+    ensures { (result ≡ Unarranged.Missing) ↔ LacksNode books.now nodes }
+{
+    for before in 0..nodes {
+        let Some(_place) = place_of(books, before) else {
+            return Unarranged::Missing;
+        };
+    }
+    Unarranged::Memory
+}
+
 /// Takes the books out of these, and returns them in the order of their nodes, 1 to `nodes`. There are at most 64, so that they
 /// are looked through for each.
 ///
 /// # Errors
 ///
-/// `Missing`: they are not as many, or one of the nodes has none. `Memory`.
+/// `Missing`: they are not as many, or one of the nodes has none. Otherwise `Memory`.
 pub fn arranged(alloc: Global, books: &mut Vec<Book>, nodes: usize) -> Result<Vec<Book>, Unarranged>
     ensures { MatchResult result (λ ordered. IsAllArranged books.old.items nodes ordered.items)
-        (λ why. why ≡ Unarranged.Missing → LacksSome books.old.items nodes) }
+        (λ why. (why ≡ Unarranged.Missing) ↔ LacksSome books.old.items nodes) }
 {
     if books.len() != nodes {
         return Err(Unarranged::Missing);
     }
     let mut ordered = Vec::new(alloc);
     if ordered.reserve(nodes).is_err() {
-        return Err(Unarranged::Memory);
+        return Err(missing_or_memory(books, nodes));
     }
     for before in 0..nodes {
         let Some(place) = place_of(books, before) else {

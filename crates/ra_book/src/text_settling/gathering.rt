@@ -59,7 +59,7 @@ impl Gathered {
     ///
     /// # Errors
     ///
-    /// `Wrong` with `Books`: its node has a book already, or the number of nodes or the start is another one. `Memory`.
+    /// `Wrong` with `Books`: its node has a book already, or the number of nodes or the start is another one. Otherwise `Memory`.
     fn open(&mut self, alloc: Global, first: &FirstLine) -> Result<(), LineFault>
         ensures { (line : List ℕ) → IsFirst line first.now.member.node first.now.member.nodes first.now.start
             → TakesFirst self.old line self.new result }
@@ -84,7 +84,7 @@ impl Gathered {
     /// # Errors
     ///
     /// `Wrong` with `Line`: it has none of the forms of lines. `Wrong` with `Refused`: its digits are no frame, or the node of
-    /// the last book does not take the event. `Memory`.
+    /// the last book does not take the event. Otherwise `Memory`.
     fn take_event(&mut self, alloc: Global, number: u64, line: &[u8]) -> Result<(), LineFault>
         ensures { ((node nodes start : ℕ) → IsFirst line.now node nodes start → ⊥)
             → TakesEvent self.old number line.now self.new result }
@@ -109,7 +109,7 @@ impl Gathered {
     ///
     /// # Errors
     ///
-    /// `Wrong`: the line is wrong, with the cause. `Memory`.
+    /// `Wrong`: the line is wrong, with the cause. Otherwise `Memory`.
     pub fn take_line(&mut self, alloc: Global, number: u64, line: &[u8]) -> Result<(), LineFault>
         ensures { TakesLine self.old number line.now self.new result }
     {

@@ -1,4 +1,4 @@
-use Rattle.std.proofs.Common.{◌≡◌, ◌+◌, ◌<◌, ◌^◌, ◌++◌, ◌∷◌, List, ℕ, [], ap, string_bytes, codes, decimal, get_or, length, subst, sym, take, ◌∙◌, arith}
+use Rattle.std.proofs.Common.{◌≡◌, ◌+◌, refl, ◌<◌, ◌^◌, ◌++◌, ◌∷◌, List, ℕ, [], ap, string_bytes, codes, decimal, get_or, length, subst, sym, take, ◌∙◌, arith, rules}
 use Rattle.std.proofs.lemmas.List.{take_more, take_all}
 use Rattle.std.specs.Prelude.{map}
 use Rattle.std.specs.List.{AllZip}
@@ -7,7 +7,7 @@ use Rattle.ra_world.proofs.Drafts.{adds_as, adds_both}
 use Rattle.ra_history.specs.declared.book.event.BookEvent.{BookEvent}
 use Rattle.ra_book.specs.BookText.{first_text}
 use Rattle.ra_book.specs.Written.{IsWrittenEvent, SaysEvents}
-use Rattle.ra_book.proofs.WrittenLines.{none_yet, one_more, whole_book}
+use Rattle.ra_book.proofs.WrittenLines.{none_unfit, none_yet, one_more, whole_book}
 use Rattle.ra_book.proofs.book_writing.book_text.Goals as goal
 
 pub loop-event-init : goal.loop-event-init
@@ -34,14 +34,42 @@ loop-event-preserved c =
     (one_more c.loop-event.text c.push_event.new.text first (take i events) event c.loop-event.invariant (rw c.if-not-push_event.false at c.push_event.ensures))
 
 pub returns-then-not-push_event-clause-unfit : goal.returns-then-not-push_event-clause-unfit
-returns-then-not-push_event-clause-unfit c _ =
+returns-then-not-push_event-clause-unfit c =
     let events = c.args.book.now.events in
     let i = c.loop-event.event-index in
     let event = c.event-item.result in
     let all : c.as_slice-event-items.result.now ≡ events = c.as_slice-event-items.ensures ∙ c.events.ensures.value in
     let item : event ≡ get_or events i event = c.event-item.is ∙ ap (λ (es : List BookEvent). get_or es i event) all in
     let more : i < length events = subst (λ (es : List BookEvent). i < length es) all c.loop-event-test.true in
-    (i, event, more, sym item, rw c.if-not-push_event.true at c.push_event.ensures)
+    ((λ _. (i, event, more, sym item, rw c.if-not-push_event.true at c.push_event.ensures)), (λ _. refl))
+
+pub returns-in_err-finish-clause-unfit : goal.returns-in_err-finish-clause-unfit
+returns-in_err-finish-clause-unfit c =
+    let book = c.args.book.now in
+    let i = c.loop-event.event-index in
+    let all : c.as_slice-event-items.result.now ≡ book.events = c.as_slice-event-items.ensures ∙ c.events.ensures.value in
+    let whole : take i book.events ≡ book.events =
+    subst (λ (es : List BookEvent). take i es ≡ es) all (take_all i c.as_slice-event-items.result.now c.loop-event-test.false)
+    in
+    let (lines, are, says) = c.loop-event.invariant in (
+      first_of (search rules, grind arith),
+      (λ unfit. absurd (none_unfit lines book.events
+          (subst (λ (es : List BookEvent). AllZip IsWrittenEvent lines (map (λ (e : BookEvent). e.kind) es)) whole are) unfit)),
+    )
+
+pub returns-clause-unfit : goal.returns-clause-unfit
+returns-clause-unfit c =
+    let book = c.args.book.now in
+    let i = c.loop-event.event-index in
+    let all : c.as_slice-event-items.result.now ≡ book.events = c.as_slice-event-items.ensures ∙ c.events.ensures.value in
+    let whole : take i book.events ≡ book.events =
+    subst (λ (es : List BookEvent). take i es ≡ es) all (take_all i c.as_slice-event-items.result.now c.loop-event-test.false)
+    in
+    let (lines, are, says) = c.loop-event.invariant in (
+      (λ is. absurd cc),
+      (λ unfit. absurd (none_unfit lines book.events
+          (subst (λ (es : List BookEvent). AllZip IsWrittenEvent lines (map (λ (e : BookEvent). e.kind) es)) whole are) unfit)),
+    )
 
 pub returns-clause-ok : goal.returns-clause-ok
 returns-clause-ok c =

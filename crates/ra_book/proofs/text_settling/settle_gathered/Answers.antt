@@ -25,4 +25,4 @@ returns c text h =
       count = c.from-nodes.ensures ∙ c.nodes.ensures.value;
       came_are = c.as_slice.ensures;
     } in
-    c.settle_books.ensures text g made h
+    c.settle_books.ensures.verdict text g made h

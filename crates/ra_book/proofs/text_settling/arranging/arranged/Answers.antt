@@ -1,4 +1,4 @@
-use Rattle.std.proofs.Common.{ℕ, ◌+◌, ap, sym, ◌∙◌, inr, arith}
+use Rattle.std.proofs.Common.{ℕ, ◌+◌, ap, sym, ◌∙◌, inl, inr, refl, arith}
 use Rattle.ra_history.specs.Book.{BookState}
 use Rattle.ra_book.proofs.Last.{room_for_all}
 use Rattle.ra_book.proofs.Order.{all_of, arranged_of, lacks_next, none_arranged, one_arranged}
@@ -12,16 +12,29 @@ loop-before-init c = record {
 }
 
 pub returns-in_default : goal.returns-in_default
-returns-in_default c _ =
-    inr (lacks_next c.args.books.now.items c.loop-before.ordered.items c.loop-before.books.items c.loop-before.before c.args.nodes c.loop-before.invariant.some c.loop-before-test.true
-    (rw c.deref.ensures.value at c.in_default.ensures))
+returns-in_default c = (
+  (λ _.
+      inr (lacks_next c.args.books.now.items c.loop-before.ordered.items c.loop-before.books.items c.loop-before.before c.args.nodes c.loop-before.invariant.some c.loop-before-test.true
+      (rw c.deref-in-loop-before.ensures.value at c.in_default.ensures))),
+  (λ _. refl),
+)
+
+pub returns-then-is_err : goal.returns-then-is_err
+returns-then-is_err c =
+    let why = rw c.deref.ensures.value at c.missing_or_memory.ensures in (
+      (λ is. inr (why.0 is)),
+      (λ lacks. elim lacks [
+        | inl few ↦ absurd (few (omega arith))
+        | inr node ↦ why.1 node
+      ]),
+    )
 
 pub push_reserved-requires : goal.push_reserved-requires
 push_reserved-requires c = omega (arith, c.loop-before.invariant.len, c.loop-before.invariant.room, c.loop-before-test.true)
 
 pub loop-before-preserved : goal.loop-before-preserved
 loop-before-preserved c =
-    let found = rw c.deref.ensures.value at c.in-Some.ensures in
+    let found = rw c.deref-in-loop-before.ensures.value at c.in-Some.ensures in
     let book = c.remove.result in
     record {
       some =

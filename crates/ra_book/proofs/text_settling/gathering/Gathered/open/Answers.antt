@@ -24,6 +24,18 @@ returns-then-not-are_beside c line is =
     (c.is_beside.ensures.0 c.if-not-is_beside.false) (rw c.deref.ensures.value at c.are_beside.ensures) in
     (first.member.node, first.member.nodes, first.start, is, rw c.if-not-are_beside.true at each)
 
+pub returns-then-is_err : goal.returns-then-is_err
+returns-then-is_err c line is = record {
+  node = c.args.first.now.member.node;
+  nodes = c.args.first.now.member.nodes;
+  start = c.args.first.now.start;
+  is_first = is;
+  beside =
+      rw c.if-not-are_beside.false at (with_last (IsBeside c.args.first.now.member.node c.args.first.now.member.nodes c.args.first.now.start)
+      c.args.self.now.earlier.items c.args.self.now.last c.are_beside.result (c.is_beside.ensures.0 c.if-not-is_beside.false)
+      (rw c.deref.ensures.value at c.are_beside.ensures));
+}
+
 pub push_reserved-requires : goal.push_reserved-requires
 push_reserved-requires c = room_for_one c.reserve.result _ _ (sym c.is_err.ensures.value ∙ c.if-is_err.false) c.reserve.ensures.ok
 
