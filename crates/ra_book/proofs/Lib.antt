@@ -8,6 +8,7 @@ pub mod Served
 pub mod Told
 pub mod Replay
 pub mod NodeBooks
+pub mod ToldLines
 pub mod WrittenLines
 mod Last
 mod Lines

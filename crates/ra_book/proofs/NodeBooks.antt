@@ -1,5 +1,5 @@
 -- The lines that a node accepted are its book, as settling reads it, with what the node answered.
-use Rattle.std.proofs.Common.{◌≡◌, ℕ, Bool, false, List, [], ◌∷◌, ◌++◌, map, refl, sym, ap, subst, ◌∙◌}
+use Rattle.std.proofs.Common.{codes, ◌≡◌, ℕ, Bool, false, List, [], ◌∷◌, ◌++◌, map, refl, sym, ap, subst, ◌∙◌}
 use Rattle.std.specs.Prelude.{All, None, flat_map}
 use Rattle.std.specs.List.{AllZip}
 use Rattle.std.proofs.lemmas.List.Elements.{All-cons, All-head, All-map, All-nil, All-tail}
@@ -15,7 +15,8 @@ use Rattle.ra_history.specs.History.{AreClocked, IsHistory, Posting, clock_from,
 use Rattle.ra_history.specs.Book.{BookState, HasHistory, as_sent, nothing_taken}
 use Rattle.ra_book.specs.declared.text_settling.SettledText.{SettledText}
 use Rattle.ra_book.specs.Timed.{Timed, opening}
-use Rattle.ra_book.specs.Answers.{Answered, AnswersEach, kept_of, lines_of}
+use Rattle.ra_book.specs.Answers.{Answered, AnswersEach, kept_of, lines_of, text_of}
+use Rattle.ra_book.specs.Book.{AnswersBook}
 use Rattle.ra_book.specs.Answers.Answered.{Accepted, Refused}
 use Rattle.ra_book.specs.Laws.{Driven, IsAnswerTo, IsBookOf, IsDriven, all_book_lines, book_lines}
 use Rattle.ra_book.specs.Texts.{AreBeside, AreRight, IsRead, IsText, Said, Says, said_by}
@@ -24,6 +25,17 @@ use Rattle.ra_book.specs.Verdicts.{IsSettledText}
 use Rattle.ra_book.proofs.OneHistory.{HistoryLaws, frames_as_sent}
 use Rattle.ra_book.proofs.OneBooks.{books_once}
 use Rattle.ra_book.proofs.OneReading.{LineLaws, all_said, one_text}
+
+-- what was answered to a book is that of a node which was driven
+pub driven_by : (first : List ℕ) (lines : List (List ℕ)) (text : List ℕ) → AnswersBook (first ∷ lines) text
+    → (driven : Driven) × IsDriven driven × (driven.first ≡ first) × (lines_of driven.answered ≡ lines) × (text ≡ codes "ok\n" ++ text_of driven.answered)
+driven_by first lines text (node, nodes, start, end, rest, is_first, text_is, (all, lines_are, rest_is, each)) = (
+  record { first = first; answered = all; end = end },
+  (node, nodes, start, is_first, each),
+  refl,
+  sym lines_are,
+  text_is ∙ ap (λ (t : List ℕ). codes "ok\n" ++ t) rest_is,
+)
 
 -- an event for the node is one for the node that it was at first
 for_it : (me n start : ℕ) (node : NodeState) (kind : BookKind) → node.me ≡ me → node.nodes ≡ n → IsForThisNode node (node_event kind)

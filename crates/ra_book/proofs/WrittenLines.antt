@@ -70,7 +70,7 @@ encoded_free table (b ∷ rest) h =
     All-cons (λ c. c ≢ 10) (slice_index table (b / 16)) (slice_index table (b % 16) ∷ encode_with table rest) (h (b / 16))
     (All-cons (λ c. c ≢ 10) (slice_index table (b % 16)) (encode_with table rest) (h (b % 16)) (encoded_free table rest h))
 
-both : (xs ys : List ℕ) → HasNoFeed xs → HasNoFeed ys → HasNoFeed (xs ++ ys)
+pub both : (xs ys : List ℕ) → HasNoFeed xs → HasNoFeed ys → HasNoFeed (xs ++ ys)
 both = All-append (λ c. c ≢ 10)
 
 pub word : (bytes : List ℕ) → list_all (nat_lt 10) bytes ≡ true → HasNoFeed bytes
@@ -98,16 +98,16 @@ short_mode SharedIntentExclusive = omega arith
 short_client : (client : ℕ) → IsClientNumber client → length (decimal client) ≤ 10
 short_client client small = length-decimal-le 10 client (omega arith) (omega (arith, small)) (omega (arith, small))
 
-mode_free : (mode : Mode) → HasNoFeed (mode_word mode)
+pub mode_free : (mode : Mode) → HasNoFeed (mode_word mode)
 mode_free mode = free (mode_word mode) (reads_mode.reads.no_feed mode tt)
 
-client_free : (client : ℕ) → IsClientNumber client → HasNoFeed (decimal client)
+pub client_free : (client : ℕ) → IsClientNumber client → HasNoFeed (decimal client)
 client_free client fits = free (decimal client) (reads_client.reads.no_feed client fits)
 
-name_free : (name : List ℕ) → IsName name → HasNoFeed name
+pub name_free : (name : List ℕ) → IsName name → HasNoFeed name
 name_free name is = free name (reads_name.reads.no_feed name is)
 
-field_free : (text : List ℕ) → HasNoFeed text → HasNoFeed (field text)
+pub field_free : (text : List ℕ) → HasNoFeed text → HasNoFeed (field text)
 field_free text h = both (codes " ") text (word (codes " ") refl) h
 
 ask_length : (client name mode : List ℕ) → length (codes "ask" ++ field client ++ field name ++ field mode) ≡ 6 + length client + length name + length mode
@@ -155,6 +155,13 @@ got_line frame bytes text fits short = record {
   spelled = (bytes, text, refl);
   no_feed = both (codes "receive") (field (encode_lower bytes)) (word (codes "receive") refl) (field_free (encode_lower bytes) (encoded_free lower_digits bytes plain_digits));
 }
+
+-- the digits of bytes, and of a number
+pub digits_free : (bytes : List ℕ) → HasNoFeed (encode_lower bytes)
+digits_free bytes = encoded_free lower_digits bytes plain_digits
+
+pub number_free : (number : ℕ) → number < 2 ^ 64 → HasNoFeed (decimal number)
+number_free number small = free (decimal number) (reads_start.reads.no_feed number small)
 
 -- the first line
 short_node : (node : ℕ) → IsNodeNumber node → length (decimal node) ≤ 2

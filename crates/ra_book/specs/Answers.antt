@@ -1,11 +1,16 @@
 -- The answers to the lines of a book after the first.
-use Rattle.std.specs.Prelude.{◌≡◌, ◌⊎◌, ℕ, List, [], ◌∷◌, ◌++◌, codes, decimal, flat_map, map}
+use Rattle.std.specs.Prelude.{◌≡◌, ◌⊎◌, ◌<◌, ◌^◌, ℕ, All, List, [], ◌∷◌, ◌++◌, codes, decimal, flat_map, map}
 use Rattle.hex.specs.Hex.{encode_lower}
+use Rattle.ra_stamp.specs.Mark.{entry_of_mark}
 use Rattle.ra_stamp.specs.Message.{to_of}
+use Rattle.ra_stamp.specs.Name.{IsName}
+use Rattle.ra_stamp.specs.NodeId.{IsNodeNumber}
+use Rattle.ra_stamp.specs.declared.entry.Entry.{Entry}
 use Rattle.ra_stamp.specs.declared.entry.Mark.{Mark}
 use Rattle.ra_stamp.specs.declared.message.Message.{Message}
 use Rattle.ra_frame.specs.FrameText.{IsWrittenText}
 use Rattle.ra_frame.specs.Words as frame
+use Rattle.ra_trace.specs.TraceText.{IsClientNumber}
 use Rattle.ra_world.specs.Lines.{field, mark_line}
 use Rattle.ra_history.specs.declared.book.event.BookKind.{BookKind}
 use Rattle.ra_history.specs.declared.error.BookError.{BookError}
@@ -49,10 +54,21 @@ AreSends clock (message ∷ messages) text =
     (bytes : List ℕ) × (rest : List ℕ) × IsWrittenText bytes (record { clock = clock; message = message })
     × (text ≡ send_line (to_of message) bytes ++ rest) × AreSends clock messages rest
 
+-- the fields of a request are in their ranges, so that the line of a mark is one line
+pub record IsShown (entry : Entry) : Type 0 where
+  pub node : IsNodeNumber entry.stamp.node
+  pub client : IsClientNumber entry.client
+  pub name : IsName entry.name
+  pub number : entry.stamp.seq < 2 ^ 64
+
+abbrev pub AreShown : List Mark → Type 0
+AreShown marks = All (λ mark. IsShown (entry_of_mark mark)) marks
+
 -- the answer to an event: its frames, its marks, and `ok`
 pub record IsPosted (clock : ℕ) (sends : List Message) (marks : List Mark) (text : List ℕ) : Type 0 where
   pub sent : List ℕ
   pub sends_are : AreSends clock sends sent
+  pub marks_are : AreShown marks
   pub text_is : text ≡ sent ++ flat_map mark_line marks ++ codes "ok\n"
 
 -- the line is an event that the node takes, and it sends and marks this

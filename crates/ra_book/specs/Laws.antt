@@ -1,13 +1,21 @@
 -- What the laws of books speak of.
-use Rattle.std.specs.Prelude.{◌≡◌, ℕ, List, ◌∷◌, ◌++◌, flat_map}
+use Rattle.std.specs.Prelude.{◌≡◌, ℕ, All, List, [], ◌∷◌, ◌++◌, codes, flat_map, map}
 use Rattle.std.specs.List.{AllZip}
+use Rattle.ra_stamp.specs.Message.{to_of}
+use Rattle.ra_stamp.specs.declared.entry.Mark.{Mark}
+use Rattle.ra_frame.specs.FrameText.{IsWrittenText}
+use Rattle.ra_frame.specs.declared.frame.Frame.{Frame}
+use Rattle.ra_world.specs.Lines.{mark_line}
 use Rattle.ra_history.specs.Book.{BookState, LeadsTo}
+use Rattle.ra_history.specs.Settled.{marks_in}
+use Rattle.ra_book.specs.Book.{lines_text}
+use Rattle.ra_book.specs.Input.{HasNoFeed}
 use Rattle.ra_history.specs.History.{Posting, clock_of}
 use Rattle.ra_history.specs.declared.error.BookError.TheVariants as error
 use Rattle.ra_book.specs.declared.answering.line_refusal.Refusal.TheVariants as refusal
 use Rattle.ra_book.specs.BookText.{IsEvent, IsFirst}
 use Rattle.ra_book.specs.Timed.{Timed, opening}
-use Rattle.ra_book.specs.Answers.{Answered, AnswersEach, IsPosted, kept_of, lines_of, refused_line}
+use Rattle.ra_book.specs.Answers.{Answered, AnswersEach, IsPosted, kept_of, lines_of, refused_line, send_line, text_of}
 use Rattle.ra_book.specs.Answers.Answered.{Accepted, Refused}
 use Rattle.ra_book.specs.Texts.{IsRead, Says, said_by}
 
@@ -52,6 +60,31 @@ IsAnswerTo posting (Accepted line answer) =
     IsEvent line posting.event.kind × IsPosted posting.event.clock posting.sends posting.marks answer
 IsAnswerTo posting (Refused line answer) = ⊥
 
+-- what a line of the answers tells: a frame is sent, a mark is made, or the answer is over
+pub data Told : Type 0 where
+  Sends : (frame : Frame) → Told
+  Marks : (mark : Mark) → Told
+  IsDone : Told
+
+-- the line of a frame begins with `send`, that of a mark with its word, and the last one is `ok`
+abbrev pub Tells : List ℕ → Told → Type 0
+Tells line (Sends frame) = (bytes : List ℕ) × IsWrittenText bytes frame × (line ++ codes "\n" ≡ send_line (to_of frame.message) bytes)
+Tells line (Marks mark) = line ++ codes "\n" ≡ mark_line mark
+Tells line IsDone = line ≡ codes "ok"
+
+-- the frames that are sent, and the marks, both in order
+abbrev pub frames_told : List Told → List Frame
+frames_told [] = []
+frames_told (Sends frame ∷ told) = frame ∷ frames_told told
+frames_told (Marks mark ∷ told) = frames_told told
+frames_told (IsDone ∷ told) = frames_told told
+
+abbrev pub marks_told : List Told → List Mark
+marks_told [] = []
+marks_told (Sends frame ∷ told) = marks_told told
+marks_told (Marks mark ∷ told) = mark ∷ marks_told told
+marks_told (IsDone ∷ told) = marks_told told
+
 -- This book is read from the lines that were kept. Its events lead to the node as it was in the end, and its clock is the
 -- node's. The answers to the lines are, in order, those to its events: so the frames in them are the frames that the book
 -- sent, and the marks in them are its marks.
@@ -61,3 +94,14 @@ pub record IsBookOf (driven : Driven) (book : BookState) : Type 0 where
   pub leads : LeadsTo book driven.end.node
   pub clock_is : clock_of book.events ≡ driven.end.clock
   pub answers : AllZip IsAnswerTo leads.postings (kept_of driven.answered)
+
+-- The text of the answers has these lines, which tell this: in order, exactly the frames that the book sent, each with its
+-- clock, and exactly its marks.
+pub record AreLinesTold (driven : Driven) (book : BookState) (is : IsBookOf driven book) : Type 0 where
+  pub lines : List (List ℕ)
+  pub told : List Told
+  pub each : All HasNoFeed lines
+  pub text_is : text_of (kept_of driven.answered) ≡ lines_text lines
+  pub tell : AllZip Tells lines told
+  pub frames_are : frames_told told ≡ map (λ sent. sent.frame) book.sent
+  pub marks_are : marks_told told ≡ marks_in is.leads.postings

@@ -2,10 +2,11 @@
 ghost use Rattle.std.specs.Prelude.{◌≤◌, ℕ, List, length, flat_map};
 ghost use Rattle.ra_frame.specs.Fits.{Fits};
 ghost use Rattle.ra_frame.specs.FrameText.{IsWrittenText};
+ghost use Rattle.ra_stamp.specs.Mark.{entry_of_mark};
 ghost use Rattle.ra_stamp.specs.Message.{to_of};
 ghost use Rattle.ra_world.specs.Lines.{field};
 ghost use Rattle.ra_world.specs.Lines as lines;
-ghost use Rattle.ra_book.specs.Answers.{AreSends, IsPosted, send_line};
+ghost use Rattle.ra_book.specs.Answers.{AreSends, AreShown, IsPosted, IsShown, send_line};
 ghost use Rattle.ra_book.specs.Output.{Puts};
 ghost use Rattle.ra_book.specs.Timed.{FitAt};
 
@@ -61,7 +62,8 @@ fn put_frames<W: Write>(writer: &mut W, out: &mut Output, clock: u64, sends: &[M
 
 /// Puts out the line of a mark: its word, and the fields of the request.
 fn put_mark<W: Write>(writer: &mut W, out: &mut Output, mark: &Mark)
-    ensures { Puts (W.contents writer.old) (W.contents writer.new) out.old out.new (lines.mark_line mark.now) }
+    ensures puts { Puts (W.contents writer.old) (W.contents writer.new) out.old out.new (lines.mark_line mark.now) }
+    ensures shown { IsShown (entry_of_mark mark.now) }
 {
     let entry = mark.entry();
     put(writer, out, mark.word().as_bytes());
@@ -75,7 +77,8 @@ fn put_mark<W: Write>(writer: &mut W, out: &mut Output, mark: &Mark)
 
 /// Puts out the lines of marks.
 fn put_marks<W: Write>(writer: &mut W, out: &mut Output, marks: &[Mark])
-    ensures { Puts (W.contents writer.old) (W.contents writer.new) out.old out.new (flat_map lines.mark_line marks.now) }
+    ensures puts { Puts (W.contents writer.old) (W.contents writer.new) out.old out.new (flat_map lines.mark_line marks.now) }
+    ensures shown { AreShown marks.now }
 {
     for mark in marks {
         put_mark(writer, out, mark);

@@ -1,11 +1,14 @@
-use Rattle.std.proofs.Common.{◌≡◌, ◌++◌, ℕ, codes, decimal, ap, ◌∙◌}
+use Rattle.std.proofs.Common.{arith, subst, ◌≡◌, ◌++◌, ℕ, codes, decimal, ap, ◌∙◌}
+use Rattle.ra_stamp.specs.Name.{IsName}
+use Rattle.ra_stamp.specs.NodeId.{IsNodeNumber}
+use Rattle.ra_book.specs.Answers.{IsShown}
 use Rattle.ra_world.specs.Lines.{entry_fields, field, mark_line}
 use Rattle.ra_book.proofs.Put.{both, renamed}
 use Rattle.ra_book.proofs.Sends.{mark_text}
 use Rattle.ra_book.proofs.answering.answer_texts.put_mark.Goals as goal
 
-pub returns : goal.returns
-returns g c =
+pub returns-clause-puts : goal.returns-clause-puts
+returns-clause-puts g c =
     let entry = c.entry-entry.result.now in
     let word = c.as_bytes.result.now in
     let node = renamed _ _ _ _ _ _ (ap (λ (n : ℕ). field (decimal n)) c.get.ensures.value) c.put_number.ensures in
@@ -16,3 +19,12 @@ returns g c =
     let same : word ++ entry_fields entry ++ codes "\n" ≡ mark_line c.args.mark.now =
     mark_text c.args.mark.now word entry c.entry-entry.ensures (c.as_bytes.ensures.value ∙ c.word.ensures) in
     renamed _ _ _ _ _ _ same (both _ _ _ _ _ _ _ _ (both _ _ _ _ _ _ _ _ c.put.ensures fields) c.put-2.ensures)
+
+pub returns-clause-shown : goal.returns-clause-shown
+returns-clause-shown g c =
+    subst IsShown c.entry-entry.ensures (record {
+      node = subst IsNodeNumber c.get.ensures.value c.get.ensures.valid;
+      client = omega arith;
+      name = subst IsName c.bytes.ensures.value c.bytes.ensures.valid;
+      number = omega arith;
+    })

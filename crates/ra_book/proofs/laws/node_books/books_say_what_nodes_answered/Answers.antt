@@ -1,8 +1,15 @@
-use Rattle.ra_book.proofs.NodeBooks.{are_right, book_of, read_as, settles_as}
+use Rattle.ra_book.proofs.NodeBooks.{are_right, book_of, driven_by, read_as, settles_as}
+use Rattle.ra_book.proofs.ToldLines.{told_lines}
 use Rattle.ra_book.proofs.laws.node_books.books_say_what_nodes_answered.Goals as goal
+
+pub returns-clause-driven : goal.returns-clause-driven
+returns-clause-driven c = driven_by
 
 pub returns-clause-book : goal.returns-clause-book
 returns-clause-book c = book_of c.events_leave_other_names.ensures.node
+
+pub returns-clause-lines : goal.returns-clause-lines
+returns-clause-lines c = told_lines
 
 pub returns-clause-right : goal.returns-clause-right
 returns-clause-right c = are_right
