@@ -11,9 +11,11 @@ use Rattle.ra_node.specs.Events.{Event, Happening, IsForThisNode, NodeEvent, Nod
 use Rattle.ra_history.specs.declared.book.event.BookEvent.{BookEvent}
 use Rattle.ra_history.specs.declared.book.event.BookKind.{BookKind}
 use Rattle.ra_history.specs.declared.book.event.BookKind.TheVariants.{Asked, Gave, Got}
-use Rattle.ra_history.specs.History.{AreClocked, IsHistory, Posting, clock_from, frames_of, happening_of, node_event}
+use Rattle.ra_history.specs.History.{AreClocked, clock_of, IsHistory, Posting, clock_from, frames_of, happening_of, node_event}
 use Rattle.ra_history.specs.Book.{BookState, HasHistory, as_sent, nothing_taken}
 use Rattle.ra_book.specs.declared.text_settling.SettledText.{SettledText}
+use Rattle.ra_history.specs.declared.book.sent.Sent.{Sent}
+use Rattle.ra_book.specs.BookText.{IsEvent}
 use Rattle.ra_book.specs.Timed.{Timed, opening}
 use Rattle.ra_book.specs.Answers.{Answered, AnswersEach, kept_of, lines_of, text_of}
 use Rattle.ra_book.specs.Book.{AnswersBook}
@@ -86,6 +88,36 @@ module _
           clock_is = rest.clock_is;
           answers = ((accepts.reacts.is_event, accepts.posted), rest.answers);
         }
+
+    -- ---- The history
+
+    events_each : (postings : List Posting) (kept : List Answered) → AllZip IsAnswerTo postings kept
+        → AllZip IsEvent (lines_of kept) (map (λ event. event.kind) (map (λ p. p.event) postings))
+    events_each [] [] h = tt
+    events_each [] (one ∷ kept) h = absurd h
+    events_each (p ∷ postings) [] h = absurd h
+    events_each (p ∷ postings) (Accepted line answer ∷ kept) h = (h.0.0, events_each postings kept h.1)
+    events_each (p ∷ postings) (Refused line answer ∷ kept) h = absurd h.0
+
+    -- the lines that were accepted are the events of a history
+    pub history : (me n start : ℕ) (new : Timed) (all : List Answered) → AnswersEach (opening me n start) all new
+        → (events : List BookEvent) × (sent : List Sent) × IsHistory me n start events sent new.node
+        × AllZip IsEvent (lines_of (kept_of all)) (map (λ event. event.kind) events) × (clock_of events ≡ new.clock)
+    history me n start new all each =
+        let h = happened me n start (opening me n start) new all refl refl each in (
+          map (λ (p : Posting). p.event) h.postings,
+          as_sent (frames_of h.postings),
+          record {
+            clocked = h.clocked;
+            postings = h.postings;
+            events_are = refl;
+            for_this_node = h.for_this_node;
+            leads = h.leads;
+            sent_are = frames_as_sent (frames_of h.postings);
+          },
+          events_each h.postings (kept_of all) h.answers,
+          h.clock_is,
+        )
 
     -- ---- The book
 

@@ -2,16 +2,20 @@
 pub mod node_books;
 pub mod text_verdicts;
 
-ghost use Rattle.std.specs.Prelude.{◌≡◌, ◌⊎◌, ℕ, List};
+ghost use Rattle.std.specs.Prelude.{◌≡◌, ◌⊎◌, ℕ, List, map};
+ghost use Rattle.std.specs.List.{AllZip};
+ghost use Rattle.ra_history.specs.declared.book.event.BookEvent.{BookEvent};
+ghost use Rattle.ra_history.specs.declared.book.sent.Sent.{Sent};
+ghost use Rattle.ra_history.specs.History.{IsHistory, clock_of};
 ghost use Rattle.ra_history.specs.declared.book.event.BookKind.{BookKind};
 ghost use Rattle.ra_book.specs.Answers.{Answered, AnswersEach, kept_of, lines_of, text_of};
 ghost use Rattle.ra_book.specs.BookText.{Form, HasForm, IsEvent, IsFirst, IsUnread};
 ghost use Rattle.ra_book.specs.declared.answering.line_refusal.Refusal.{Refusal};
 ghost use Rattle.ra_book.specs.Laws.{IsCutShort};
-ghost use Rattle.ra_book.specs.Timed.{Timed};
+ghost use Rattle.ra_book.specs.Timed.{Timed, opening};
 
 use ra_frame::{one_spelling, round_trip};
-use ra_node::events_are_determined;
+use ra_node::{events_are_determined, events_leave_other_names};
 
 /// The lines that a node accepted are its book. So a node comes back when it is handed its book again, with the same answers as
 /// before.
@@ -30,9 +34,14 @@ pub fn books_determine_nodes()
     ensures again { (old a b : Timed) (all others : List Answered) → AnswersEach old all a → AnswersEach old others b
         → lines_of others ≡ lines_of (kept_of all)
         → ((others ≡ kept_of all) × (b ≡ a)) ⊎ IsCutShort (kept_of all) others }
+    // The lines that were accepted are the events of a history.
+    ensures history { (me n start : ℕ) (new : Timed) (all : List Answered) → AnswersEach (opening me n start) all new
+        → (events : List BookEvent) × (sent : List Sent) × IsHistory me n start events sent new.node
+        × AllZip IsEvent (lines_of (kept_of all)) (map (λ e. e.kind) events) × (clock_of events ≡ new.clock) }
 {
     lines_are_read_in_one_way();
     events_are_determined();
+    events_leave_other_names();
     one_spelling();
     round_trip();
 }

@@ -1,3 +1,4 @@
+use Rattle.ra_book.proofs.NodeBooks.{history}
 use Rattle.ra_book.proofs.Replay.{again, kept_again, same_kept, told}
 use Rattle.ra_book.proofs.Told.{one_answer}
 use Rattle.ra_book.proofs.laws.books_determine_nodes.Goals as goal
@@ -17,3 +18,6 @@ pub returns-clause-again : goal.returns-clause-again
 returns-clause-again c =
     again c.lines_are_read_in_one_way.ensures.event c.lines_are_read_in_one_way.ensures.is_read
     (one_answer c.round_trip.ensures.one_frame c.one_spelling.ensures c.events_are_determined.ensures.event)
+
+pub returns-clause-history : goal.returns-clause-history
+returns-clause-history c = history c.events_leave_other_names.ensures.node
