@@ -1,14 +1,15 @@
 //! What `ra` does, with notes for a person.
 ghost use Rattle.std.specs.Prelude.{◌≡◌, map, string_bytes};
+ghost use Rattle.ra_cli.specs.Commands.{Serves};
 ghost use Rattle.ra_cli.specs.Refusals.{command_word, refused_line};
-ghost use Rattle.ra_cli.specs.Statuses.{Serves, Writes};
+ghost use Rattle.ra_cli.specs.Statuses.{Writes};
 
 use crate::user_notes::{NoteSource, write_notes};
-use ra_cli::{CommandFault, do_command, refuse_arguments};
+use ra_cli::{CommandFault, do_alone, refuse_arguments, run_by_threads};
 use ra_notes::{
     RecordingReader, RecordingWriter, SeedProgress, write_arguments_note, write_output_note,
 };
-use ra_task::{command_of, write_waiting_note};
+use ra_task::{Command, Task, command_of, write_waiting_note};
 use std::alloc::Global;
 use std::io::{BufRead, Write};
 use std::sync::Wait;
@@ -63,7 +64,11 @@ pub fn serve_with_notes<T: Threads + Wait + Sync, R: BufRead, W: Write, N: Write
     }
     let mut progress = SeedProgress::new(alloc, notes);
     let mut text = Vec::new(alloc);
-    let outcome = do_command(rt, alloc, &asked, reader, writer, &mut text, &mut progress);
+    let outcome = if let Command::Task(Task::Cluster(printed)) = asked {
+        run_by_threads(rt, alloc, printed, reader, writer)
+    } else {
+        do_alone(alloc, &asked, reader, writer, &mut text, &mut progress)
+    };
     let source = NoteSource {
         arguments,
         asked: &asked,

@@ -11,12 +11,10 @@ mod BookTexts
 mod Surveys
 mod NodeRuns
 mod Statuses
-mod SettleArguments
 mod SettleRuns
 mod Helping
 mod PictureLemmas
 mod TaskLemmas
 mod Orderly
 mod TaskStatuses
-mod Helped
-mod TaskServed
+mod KnownStatuses

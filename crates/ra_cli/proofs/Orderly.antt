@@ -1,7 +1,7 @@
 -- An orderly script is finished by `ra sim`.
 use Rattle.std.proofs.Common.{◌≡◌, ◌≢◌, ℕ, ◌≤◌, Bool, true, false, Option, Some, None, Result, Ok, inl, inr, List, [], refl, sym, ap, ◌∙◌, subst, arith}
 use Rattle.std.proofs.lemmas.Bool.{false≢true}
-use Rattle.std.specs.Prelude.{IfSome, IsTrue, MatchOption, codes}
+use Rattle.std.specs.Prelude.{IsTrue, MatchOption, codes}
 use Rattle.std.specs.Io.KnownBytes.{Appends}
 use Rattle.ra_schedule.specs.declared.choice.Policy.{Policy}
 use Rattle.ra_schedule.specs.declared.error.DriveError.{DriveError}
@@ -38,7 +38,7 @@ use Rattle.ra_task.specs.Finishing.{HasNoChoices, IsFaithful, RunsFaithfully}
 use Rattle.ra_task.specs.Named.{IsNamed}
 use Rattle.ra_cli.specs.Refusals.{IsOfReader, IsOfWriter, choices_word, perform_word, refused_line, run_word, word_of}
 use Rattle.ra_cli.specs.Surveyed.{IsFound, IsSurveyed, RefusesSurvey, none_found_is_success}
-use Rattle.ra_cli.specs.Tasks.{IsCauseFor, IsLeftBy, IsRefusedBy}
+use Rattle.ra_cli.specs.Tasks.{Does, IsCauseFor, IsLeftBy}
 use Rattle.ra_cli.specs.declared.error.RunScriptError.{RunScriptError}
 use Rattle.ra_cli.specs.declared.error.RunScriptError.TheVariants as run
 
@@ -123,10 +123,10 @@ module _ (laws : FinishingLaws) (asked : SurveyTask) (input : List ℕ) (orderly
 
 -- ---- Every task
 
-pub never_left : FinishingLaws → (asked : Task) (input : List ℕ) (new before after : Option (List ℕ)) → IsOrderly input → RunsFaithfully asked
+never_left : FinishingLaws → (asked : Task) (input : List ℕ) (new before after : Option (List ℕ)) → IsOrderly input → RunsFaithfully asked
     → IsLeftBy asked (Some input) new before after → ⊥
 never_left laws (task.Answer node nodes) input new before after orderly faithful left = faithful
-never_left laws (task.Sim name choices format) input new before after orderly faithful (policy, named, by) =
+never_left laws (task.Sim name choices format) input new before after orderly faithful (listed, policy, named, by) =
     let chosen = willing name choices.now policy faithful named in
     let (output, performed, consumes, appends) = by.0 in
     false≢true (ends_finished format policy input output false performed chosen.unlost chosen.itself orderly)
@@ -139,19 +139,20 @@ never_left laws (task.Draw kind part) input new before after orderly faithful le
 never_left laws (task.Cluster printed) input new before after orderly faithful left = faithful
 never_left laws (task.Help text) input new before after orderly faithful left = faithful
 
-pub always_driven : FinishingLaws → (asked : Task) (input : List ℕ) (cause : DriveError) → RunsFaithfully asked → IsCauseFor asked input (refusal.Perform (Drive cause)) → ⊥
-always_driven laws (task.Answer node nodes) input cause faithful refuses = faithful
-always_driven laws (task.Sim name choices format) input cause faithful (inl (fault, is, why)) = cc
-always_driven laws (task.Sim name choices format) input cause faithful (inr (fault, is, policy, named, refuses)) =
+pub always_driven : FinishingLaws → (asked : Task) (old new : Option (List ℕ)) (cause : DriveError) → RunsFaithfully asked
+    → IsCauseFor asked old new (refusal.Perform (Drive cause)) → ⊥
+always_driven laws (task.Answer node nodes) old new cause faithful refuses = faithful
+always_driven laws (task.Sim name choices format) old new cause faithful (inl (fault, is, why)) = cc
+always_driven laws (task.Sim name choices format) old new cause faithful (inr (fault, is, failed, policy, named, (known, (input, refuses)))) =
     let chosen = willing name choices.now policy faithful named in
     let same : fault ≡ Drive cause = cc in
     laws.never_refused format policy input cause chosen.unrepeated chosen.itself (subst (RefusesAs format policy input) same refuses)
-always_driven laws (task.Survey survey) input cause faithful (fault, is, refuses) = cc
-always_driven laws task.Check input cause faithful refuses = faithful
-always_driven laws task.CheckMarks input cause faithful refuses = faithful
-always_driven laws (task.Draw kind part) input cause faithful refuses = faithful
-always_driven laws (task.Cluster printed) input cause faithful refuses = faithful
-always_driven laws (task.Help text) input cause faithful refuses = faithful
+always_driven laws (task.Survey survey) old new cause faithful (fault, is, failed, refuses) = cc
+always_driven laws task.Check old new cause faithful refuses = faithful
+always_driven laws task.CheckMarks old new cause faithful refuses = faithful
+always_driven laws (task.Draw kind part) old new cause faithful refuses = faithful
+always_driven laws (task.Cluster printed) old new cause faithful refuses = faithful
+always_driven laws (task.Help text) old new cause faithful refuses = faithful
 
 -- what is looked for has words
 none_wordless : FinishingLaws → (asked : SurveyTask) (find : Option Search) (input : List ℕ) → NoneIsLost asked.faults → NoneIsRepeated asked.faults
@@ -161,16 +162,16 @@ none_wordless laws asked (Some search) input lost repeated h =
     laws.worded search.format (chance asked.faults h.seed) input (by_chance asked.faults h.seed lost repeated).unrepeated h.unwritten
 
 -- it is refused for want of memory only
-pub refused_for_memory : FinishingLaws → (asked : Task) (input : List ℕ) (why : CommandRefusal) → IsOrderly input → RunsFaithfully asked → HasNoChoices asked
-    → (IsOfReader why → ⊥) → (IsOfWriter why → ⊥) → IsCauseFor asked input why → word_of why ≡ codes "Memory"
-refused_for_memory laws (task.Answer node nodes) input why orderly faithful plain reader writer cause = absurd faithful
-refused_for_memory laws (task.Sim name choices format) input why orderly faithful plain reader writer (inl (fault, is, cause)) =
+refused_for_memory : FinishingLaws → (asked : Task) (input : List ℕ) (new : Option (List ℕ)) (why : CommandRefusal) → IsOrderly input → RunsFaithfully asked → HasNoChoices asked
+    → (IsOfReader why → ⊥) → (IsOfWriter why → ⊥) → IsCauseFor asked (Some input) new why → word_of why ≡ codes "Memory"
+refused_for_memory laws (task.Answer node nodes) input new why orderly faithful plain reader writer cause = absurd faithful
+refused_for_memory laws (task.Sim name choices format) input new why orderly faithful plain reader writer (inl (fault, is, cause)) =
     ap word_of is ∙ of_choices fault cause
   where
     of_choices : (fault : ChoicesError) → (fault ≡ Choice → choices_of choices.now ≡ None) → choices_word fault ≡ codes "Memory"
     of_choices Choice none = let bad : choices_of [] ≡ None = subst (λ (text : List ℕ). choices_of text ≡ None) plain (none refl) in cc
     of_choices Memory none = refl
-refused_for_memory laws (task.Sim name choices format) input why orderly faithful plain reader writer (inr (fault, is, policy, named, cause)) =
+refused_for_memory laws (task.Sim name choices format) input new why orderly faithful plain reader writer (inr (fault, is, failed, policy, named, (cause, some))) =
     ap word_of is ∙ of_run fault is cause
   where
     of_run : (fault : PerformError) → why ≡ refusal.Perform fault → RefusesAs format policy input fault → perform_word fault ≡ codes "Memory"
@@ -182,7 +183,7 @@ refused_for_memory laws (task.Sim name choices format) input why orderly faithfu
     of_run perform.Choice is h = absurd (laws.worded format policy input (willing name choices.now policy faithful named).unrepeated h)
     of_run perform.Memory is h = refl
     of_run perform.Write is h = absurd (writer (inr (inl is)))
-refused_for_memory laws (task.Survey survey) input why orderly faithful plain reader writer (fault, is, cause) =
+refused_for_memory laws (task.Survey survey) input new why orderly faithful plain reader writer (fault, is, failed, cause) =
     ap word_of is ∙ of_survey fault is cause
   where
     of_survey : (fault : RunScriptError) → why ≡ refusal.Cluster fault → RefusesSurvey survey input fault → run_word fault ≡ codes "Memory"
@@ -191,25 +192,23 @@ refused_for_memory laws (task.Survey survey) input why orderly faithful plain re
     of_survey (run.Cluster wrong) is h = absurd h
     of_survey run.Choice is h = absurd (none_wordless laws survey survey.find input faithful.0 faithful.1 h)
     of_survey run.Memory is h = refl
-refused_for_memory laws task.Check input why orderly faithful plain reader writer cause = absurd faithful
-refused_for_memory laws task.CheckMarks input why orderly faithful plain reader writer cause = absurd faithful
-refused_for_memory laws (task.Draw kind part) input why orderly faithful plain reader writer cause = absurd faithful
-refused_for_memory laws (task.Cluster printed) input why orderly faithful plain reader writer cause = absurd faithful
-refused_for_memory laws (task.Help text) input why orderly faithful plain reader writer cause = absurd faithful
+refused_for_memory laws task.Check input new why orderly faithful plain reader writer cause = absurd faithful
+refused_for_memory laws task.CheckMarks input new why orderly faithful plain reader writer cause = absurd faithful
+refused_for_memory laws (task.Draw kind part) input new why orderly faithful plain reader writer cause = absurd faithful
+refused_for_memory laws (task.Cluster printed) input new why orderly faithful plain reader writer cause = absurd faithful
+refused_for_memory laws (task.Help text) input new why orderly faithful plain reader writer cause = absurd faithful
 
--- so a status that would say that the task was left is not 3
-pub never_three : ((asked : Task) (input : List ℕ) (new before after : Option (List ℕ)) → IsOrderly input → RunsFaithfully asked → IsLeftBy asked (Some input) new before after → ⊥)
-    → (asked : Task) (known new before after : Option (List ℕ)) (status : ℕ) → (status ≡ 3 → IsLeftBy asked known new before after)
-    → IfSome known (λ input. IsOrderly input → RunsFaithfully asked → status ≢ 3)
-never_three law asked None new before after status left = tt
-never_three law asked (Some input) new before after status left = λ orderly faithful is. law asked input new before after orderly faithful (left is)
+-- ---- By the status
 
--- and status 2 comes only with the line for want of memory
-pub only_memory : ((asked : Task) (input : List ℕ) (why : CommandRefusal) → IsOrderly input → RunsFaithfully asked → HasNoChoices asked
-    → (IsOfReader why → ⊥) → (IsOfWriter why → ⊥) → IsCauseFor asked input why → word_of why ≡ codes "Memory")
-    → (asked : Task) (known before after : Option (List ℕ)) (status : ℕ) → (status ≡ 2 → IsRefusedBy asked known before after)
-    → IfSome known (λ input. IsOrderly input → RunsFaithfully asked → HasNoChoices asked → status ≡ 2 → Appends before after (refused_line (codes "Memory")))
-only_memory law asked None before after status refused = tt
-only_memory law asked (Some input) before after status refused = λ orderly faithful plain is.
-    let (why, reader, writer, out, cause) = refused is in
-    subst (λ (word : List ℕ). Appends before after (refused_line word)) (law asked input why orderly faithful plain reader writer cause) out
+-- 3 does not come
+pub finishes : FinishingLaws → (asked : Task) (input : List ℕ) (new before after : Option (List ℕ)) (status : ℕ) → RunsFaithfully asked → IsOrderly input
+    → Does asked (Some input) new before after status → status ≢ 3
+finishes laws asked input new before after status faithful orderly did three =
+    never_left laws asked input new before after orderly faithful (did.unfinished three)
+
+-- and 2 comes only with the line for want of memory
+pub only_memory : FinishingLaws → (asked : Task) (input : List ℕ) (new before after : Option (List ℕ)) (status : ℕ) → RunsFaithfully asked → HasNoChoices asked
+    → IsOrderly input → Does asked (Some input) new before after status → status ≡ 2 → Appends before after (refused_line (codes "Memory"))
+only_memory laws asked input new before after status faithful plain orderly did two =
+    let (why, reader, writer, out, cause) = did.refused two in
+    subst (λ (word : List ℕ). Appends before after (refused_line word)) (refused_for_memory laws asked input new why orderly faithful plain reader writer cause) out

@@ -1,15 +1,16 @@
--- What `ra draw` prints, as the statuses tell it: what was read to its end is all of the input.
-use Rattle.std.proofs.Common.{◌≡◌, ◌≢◌, ℕ, List, [], ◌++◌, Option, Some, None, Result, Ok, Err, String, Global, string_bytes, sym, ap, subst, ◌∙◌, inl, inr, arith}
+-- What `ra draw` prints, told of the input: what was read to its end is all of it.
+use Rattle.std.proofs.Common.{◌≡◌, ◌≢◌, ◌≤◌, ℕ, List, [], ◌++◌, length, Option, Some, None, Result, Ok, Err, String, Global, string_bytes, refl, sym, ap, subst, ◌∙◌, inl, inr, arith}
 use Rattle.std.specs.Prelude.{IfSome, IfOk, IfErr, MatchOption}
-use Rattle.std.specs.Io.KnownBytes.{Appends}
+use Rattle.std.specs.Io.KnownBytes.{Appends, Consumes}
 use Rattle.std.proofs.lemmas.List.{append-nil}
 use Rattle.ra_draw.specs.declared.error.DrawError.{DrawError}
-use Rattle.ra_draw.specs.declared.error.DrawError.TheVariants.{Memory, NoLines, TooLong, Write}
+use Rattle.ra_draw.specs.declared.error.DrawError.TheVariants.{Limit, Memory, NoLines, Read, TooLong, Write}
 use Rattle.ra_world.specs.declared.text.drawn_part.Part.{Part}
 use Rattle.ra_draw.specs.Drawing.{IsInput, IsOfPart, IsPicture, IsUnfit}
 use Rattle.ra_cli.specs.Pictures.{Attempts, IsOfKind, SaysWhyNot, Shows}
-use Rattle.ra_cli.specs.Statuses.{IsPrinted, BreaksOff}
-use Rattle.ra_task.specs.Arguments.{ReadsBy}
+use Rattle.ra_cli.specs.InputOutput.{StopsBefore}
+use Rattle.ra_cli.specs.Tasks.{IsCutBy, IsPrintedBy}
+use Rattle.ra_task.specs.declared.command_line.Task.TheVariants as task
 use Rattle.ra_cli.specs.declared.commands.draw_command.Denial.{Denial}
 use Rattle.ra_task.specs.declared.command_line.input_kind.InputKind.{InputKind}
 
@@ -24,22 +25,25 @@ pub of_input : (P : List ℕ → Type 0) (input taken : List ℕ) (new : Option 
 of_input P input taken new read = subst P (sym (same_input input taken new read))
 
 -- a picture of which the writer took a prefix
-pub of_picture : (arguments : List (List ℕ)) (kind : InputKind) (old new before after : Option (List ℕ)) → ReadsBy arguments kind
+pub of_picture : (kind : InputKind) (part : Part) (old new before after : Option (List ℕ))
     → ((input prefix rest : List ℕ) × IsInput old new input × IsOfKind kind input × IsPicture (prefix ++ rest) × (rest ≢ [])
     × Appends before after prefix)
-    → IfSome old (λ input. BreaksOff arguments input before after)
-of_picture arguments kind None new before after by h = tt
-of_picture arguments kind (Some input) new before after by (taken, prefix, rest, read, is, picture, left, some) =
+    → IfSome old (λ input. IsCutBy (task.Draw kind part) input before after)
+of_picture kind part None new before after h = tt
+of_picture kind part (Some input) new before after (taken, prefix, rest, read, is, picture, left, some) =
     let whole = of_input (IsOfKind kind) input taken new read is in
-    (prefix, rest, inr (inr (inr (inr (inr (inr (inl (kind, by, inl (whole, picture)))))))), left, some)
+    (prefix ++ rest, inl (whole, picture), (prefix, rest, refl, left, some))
 
 -- the line that says why there is none
-pub of_denied : (arguments : List (List ℕ)) (kind : InputKind) (old new : Option (List ℕ)) (text taken : List ℕ) → ReadsBy arguments kind
-    → IsInput old new taken → SaysWhyNot kind taken text → IfSome old (λ input. IsPrinted arguments input text)
-of_denied arguments kind None new text taken by read is = tt
-of_denied arguments kind (Some input) new text taken by read is =
-    let why = of_input (λ (xs : List ℕ). SaysWhyNot kind xs text) input taken new read is in
-    inr (inr (inr (inr (inr (inr (inl (kind, by, inr why)))))))
+pub of_denied : (kind : InputKind) (part : Part) (old new : Option (List ℕ)) (text taken : List ℕ)
+    → IsInput old new taken → SaysWhyNot kind taken text → IfSome old (λ input. IsPrintedBy (task.Draw kind part) input text)
+of_denied kind part None new text taken read is = tt
+of_denied kind part (Some input) new text taken read is =
+    inr (of_input (λ (xs : List ℕ). SaysWhyNot kind xs text) input taken new read is)
+
+-- how much was read before the reader failed
+pub fewer : (old new : Option (List ℕ)) → ((taken : List ℕ) × (length taken ≤ 16777216) × Consumes old new taken) → StopsBefore 16777217 old new
+fewer old new (taken, few, takes) = (taken, omega (arith, few), takes)
 
 -- a lack of memory is not about the part
 memory_apart : (fault : DrawError) → fault ≡ Memory → IsOfPart fault → ⊥
@@ -57,12 +61,16 @@ denies kind part old new before after Untouched text line input (Ok (Some denial
     record {
       ok = (input, read, (subst (SaysWhyNot kind input) (sym is) why, same));
       unwritten = tt;
+      failed = λ e. absurd cc;
+      limit = λ e. absurd cc;
       unfit = tt;
       prefix = λ e. absurd cc;
     }
 denies kind part old new before after Untouched text line input (Err fault) says made lacking read why same = record {
   ok = tt;
   unwritten = λ other. same;
+  failed = λ e. absurd cc;
+  limit = λ e. absurd cc;
   unfit = λ of. absurd (memory_apart fault lacking of);
   prefix = λ e. absurd cc;
 }
@@ -73,6 +81,8 @@ pub shows : (kind : InputKind) (part : Part) (old new before after : Option (Lis
 shows kind part old new before after Untouched input read drawn = record {
   ok = (input, read, drawn);
   unwritten = tt;
+  failed = λ e. absurd cc;
+  limit = λ e. absurd cc;
   unfit = tt;
   prefix = λ e. absurd cc;
 }
@@ -80,13 +90,16 @@ shows kind part old new before after Untouched input read drawn = record {
 -- an attempt that is refused
 pub refuses : (kind : InputKind) (part : Part) (old new before after : Option (List ℕ)) (Untouched : Type 0) (fault : DrawError)
     → (fault ≢ Write → Untouched)
+    → (fault ≡ Read → StopsBefore 16777217 old new) → (fault ≡ Limit → (taken : List ℕ) × (length taken ≡ 16777217) × Consumes old new taken)
     → (IsOfPart fault → (input : List ℕ) × IsInput old new input × IsOfKind kind input × IsUnfit part input fault)
     → (fault ≡ Write → (input prefix rest : List ℕ) × IsInput old new input × IsOfKind kind input
     × IsPicture (prefix ++ rest) × (rest ≢ []) × Appends before after prefix)
     → Attempts kind part old new before after Untouched (Err fault)
-refuses kind part old new before after Untouched fault unwritten unfit broken = record {
+refuses kind part old new before after Untouched fault unwritten failed limit unfit broken = record {
   ok = tt;
   unwritten = unwritten;
+  failed = λ e. failed cc;
+  limit = λ e. limit cc;
   unfit = unfit;
   prefix = λ e. broken cc;
 }

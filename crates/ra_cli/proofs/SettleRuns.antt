@@ -7,8 +7,8 @@ use Rattle.ra_trace.specs.declared.error.TraceError.TheVariants as fault
 use Rattle.ra_task.specs.declared.settle_arguments.SettleTask.{SettleTask}
 use Rattle.ra_cli.specs.declared.refusal_lines.CommandRefusal.TheVariants.{Check}
 use Rattle.ra_cli.specs.Refusals.{IsOfReader, IsOfWriter, refused_line, trace_word}
-use Rattle.ra_cli.specs.SettleRun.{Contradicts, ReadsBooks, ServesSettle, Settles, TellsSettled}
-use Rattle.ra_cli.specs.Statuses.{IsRefused, IsSaid, PrintsRefusal, Writes}
+use Rattle.ra_cli.specs.SettleRun.{Contradicts, ReadsBooks, RefusesBooks, ServesSettle, Settles, TellsSettled}
+use Rattle.ra_cli.specs.Statuses.{IsSaid, PrintsRefusal, Writes}
 use Rattle.ra_cli.proofs.Statuses.{none_of_check}
 
 -- what comes of an input that was not read to its end: the status is 1 if the reader failed, and otherwise 2, or 1 if
@@ -19,19 +19,12 @@ pub record RefusesInput (why : TraceError) (before after : Option (List ℕ)) (s
   pub broken : status ≡ 1 → ((why ≡ fault.Read) × Appends before after (codes "refused Read\n"))
       ⊎ ((prefix : List ℕ) × (rest : List ℕ) × (rest ≢ []) × Appends before after prefix × (prefix ++ rest ≡ refused_line (trace_word why)))
 
-of_reader : (why : TraceError) → IsOfReader (Check why) → why ≡ fault.Read
+pub of_reader : (why : TraceError) → IsOfReader (Check why) → why ≡ fault.Read
 of_reader why (inl is) = absurd cc
 of_reader why (inr (inl is)) = absurd cc
 of_reader why (inr (inr (inl is))) = cc
 of_reader why (inr (inr (inr (inl is)))) = absurd cc
 of_reader why (inr (inr (inr (inr is)))) = absurd cc
-
--- a text that was not read to its end is not too long
-pub read_no_limit : fault.Read ≡ fault.Limit → ⊥
-read_no_limit is = cc
-
-pub memory_no_limit : fault.Memory ≡ fault.Limit → ⊥
-memory_no_limit is = cc
 
 -- what `refuse` says of a refusal of the input
 module _ (why : TraceError) (before after : Option (List ℕ)) (Unwritten : Type 0) (status : ℕ)
@@ -80,7 +73,7 @@ shown asked input output before after status is (inl (zero, all)) = record {
   refused = λ two. absurd (omega (arith, zero, two));
   broken = λ one. absurd (omega (arith, zero, one));
 }
-shown asked input output before after status is (inr (one, prefix, rest, parts, left, some)) = record {
+shown asked input output before after status is (inr (one, (prefix, rest, parts, left, some))) = record {
   range = omega (arith, one);
   done = λ zero. absurd (omega (arith, zero, one));
   unfinished = λ three. absurd (omega (arith, one, three));
@@ -97,7 +90,7 @@ contradicted asked input output before after status is (inl (three, all)) = reco
   refused = λ two. absurd (omega (arith, three, two));
   broken = λ one. absurd (omega (arith, three, one));
 }
-contradicted asked input output before after status is (inr (one, prefix, rest, parts, left, some)) = record {
+contradicted asked input output before after status is (inr (one, (prefix, rest, parts, left, some))) = record {
   range = omega (arith, one);
   done = λ zero. absurd (omega (arith, zero, one));
   unfinished = λ three. absurd (omega (arith, one, three));
@@ -124,49 +117,33 @@ served asked input old new before after status reads short h = record {
         × (Settles asked input (prefix ++ rest) ⊎ Contradicts asked input (prefix ++ rest) ⊎ (prefix ++ rest ≡ refused_line (codes "Memory")))
         → (prefix : List ℕ) × (rest : List ℕ) × (rest ≢ []) × Appends before after prefix
         × (((text : List ℕ) × ReadsBooks old new text × (Settles asked text (prefix ++ rest) ⊎ Contradicts asked text (prefix ++ rest)))
-        ⊎ ((w : TraceError) × (prefix ++ rest ≡ refused_line (trace_word w))))
+        ⊎ ((w : TraceError) × RefusesBooks old new w × (prefix ++ rest ≡ refused_line (trace_word w))))
     of_broken (prefix, rest, left, some, inl settles) = (prefix, rest, left, some, inl (input, read, inl settles))
     of_broken (prefix, rest, left, some, inr (inl wrong)) = (prefix, rest, left, some, inl (input, read, inr wrong))
-    of_broken (prefix, rest, left, some, inr (inr is)) = (prefix, rest, left, some, inr (fault.Memory, is))
+    of_broken (prefix, rest, left, some, inr (inr is)) = (prefix, rest, left, some, inr (fault.Memory, tt, is))
 
 -- or without: it was not all read
 pub unread : (asked : SettleTask) (why : TraceError) (old new before after : Option (List ℕ)) (status : ℕ) → RefusesInput why before after status
-    → (why ≡ fault.Limit → (input : List ℕ) × Consumes old new input × (2 ^ 30 < length input)) → ServesSettle asked old new before after status
-unread asked why old new before after status h too_long = record {
+    → RefusesBooks old new why → ServesSettle asked old new before after status
+unread asked why old new before after status h cause = record {
   range = omega (arith, h.range.1);
   done = λ is. absurd (omega (arith, is, h.range.0));
   unfinished = λ is. absurd (omega (arith, is, h.range.1));
-  refused = λ is. by_fault why (h.refused is) too_long;
+  refused = λ is. by_fault why (h.refused is) cause;
   broken = λ is. of_broken (h.broken is);
 }
   where
-    by_fault : (w : TraceError) → (w ≢ fault.Read) × Appends before after (refused_line (trace_word w))
-        → (w ≡ fault.Limit → (input : List ℕ) × Consumes old new input × (2 ^ 30 < length input))
-        → Appends before after (refused_line (codes "Memory"))
-        ⊎ (Appends before after (refused_line (codes "Limit")) × ((input : List ℕ) × Consumes old new input × (2 ^ 30 < length input)))
+    by_fault : (w : TraceError) → (w ≢ fault.Read) × Appends before after (refused_line (trace_word w)) → RefusesBooks old new w
+        → Appends before after (refused_line (codes "Memory")) ⊎ (Appends before after (refused_line (codes "Limit")) × RefusesBooks old new fault.Limit)
     by_fault fault.Read (other, all) long = absurd (other refl)
-    by_fault fault.Limit (other, all) long = inr (all, long refl)
+    by_fault fault.Limit (other, all) long = inr (all, long)
     by_fault fault.Memory (other, all) long = inl all
 
     of_broken : ((why ≡ fault.Read) × Appends before after (codes "refused Read\n"))
         ⊎ ((prefix : List ℕ) × (rest : List ℕ) × (rest ≢ []) × Appends before after prefix × (prefix ++ rest ≡ refused_line (trace_word why)))
-        → Appends before after (codes "refused Read\n")
+        → (RefusesBooks old new fault.Read × Appends before after (codes "refused Read\n"))
         ⊎ ((prefix : List ℕ) × (rest : List ℕ) × (rest ≢ []) × Appends before after prefix
         × (((input : List ℕ) × ReadsBooks old new input × (Settles asked input (prefix ++ rest) ⊎ Contradicts asked input (prefix ++ rest)))
-        ⊎ ((w : TraceError) × (prefix ++ rest ≡ refused_line (trace_word w)))))
-    of_broken (inl (is, all)) = inl all
-    of_broken (inr (prefix, rest, left, some, is)) = inr (prefix, rest, left, some, inr (why, is))
-
--- ---- As the statuses tell it
-
-pub two_refuses : (asked : SettleTask) (old new before after : Option (List ℕ)) (status : ℕ) → ServesSettle asked old new before after status → status ≡ 2
-    → IsRefused before after
-two_refuses asked old new before after status h two = by_word (h.refused two)
-  where
-    not_reader : (why : TraceError) → (why ≢ fault.Read) → IsOfReader (Check why) → ⊥
-    not_reader why other is = other (of_reader why is)
-
-    by_word : Appends before after (refused_line (codes "Memory"))
-        ⊎ (Appends before after (refused_line (codes "Limit")) × ((input : List ℕ) × Consumes old new input × (2 ^ 30 < length input))) → IsRefused before after
-    by_word (inl all) = (Check fault.Memory, not_reader fault.Memory (λ is. cc), none_of_check fault.Memory, all)
-    by_word (inr (all, long)) = (Check fault.Limit, not_reader fault.Limit (λ is. cc), none_of_check fault.Limit, all)
+        ⊎ ((w : TraceError) × RefusesBooks old new w × (prefix ++ rest ≡ refused_line (trace_word w)))))
+    of_broken (inl (is, all)) = inl (subst (RefusesBooks old new) is cause, all)
+    of_broken (inr (prefix, rest, left, some, is)) = inr (prefix, rest, left, some, inr (why, cause, is))

@@ -1,5 +1,5 @@
 -- What `ra check` does.
-use Rattle.std.specs.Prelude.{◌≡◌, ◌⊎◌, ℕ, List, ◌++◌, Bool, true, false, Option, IfSome, codes, decimal}
+use Rattle.std.specs.Prelude.{◌≡◌, ℕ, List, ◌++◌, Bool, true, false, Option, IfSome, codes, decimal}
 use Rattle.std.specs.Io.KnownBytes.{Consumes, Appends}
 use Rattle.ra_world.specs.Lines.{field, total_line}
 use Rattle.ra_trace.specs.declared.checker.verdict.Cause.{Cause}
@@ -12,7 +12,10 @@ use Rattle.ra_trace.specs.declared.mark_log.marks_verdict.MarkCause.TheVariants 
 use Rattle.ra_trace.specs.declared.mark_log.marks_verdict.MarksVerdict.{MarksVerdict}
 use Rattle.ra_trace.specs.declared.mark_log.marks_verdict.MarksVerdict.TheVariants as marks
 use Rattle.ra_trace.specs.Marks.{IsMarksVerdict}
-use Rattle.ra_task.specs.Arguments.{HasMarksOption}
+use Rattle.ra_trace.specs.Reading.{PassesLimit, ReadsOn}
+use Rattle.ra_trace.specs.MarksReading.{PassesMarksLimit, ReadsOnMarks}
+use Rattle.ra_trace.specs.declared.error.TraceError.{TraceError}
+use Rattle.ra_trace.specs.declared.error.TraceError.TheVariants as fault
 
 -- the word for the cause of an invalid trace
 abbrev pub cause_word : Cause → List ℕ
@@ -76,13 +79,17 @@ ChecksMarks old new before after valid =
     × ((input : List ℕ) × (verdict : MarksVerdict) × IsMarksVerdict input verdict × (is_run verdict ≡ valid)
     × Appends before after (marks_verdict_text verdict))
 
--- the input was checked as the arguments say: as a mark log if one of them is `--marks`, and otherwise as a trace
-abbrev pub Judges : (arguments : List (List ℕ)) → (old new before after : Option (List ℕ)) → Bool → Type 0
-Judges arguments old new before after valid =
-    ((HasMarksOption arguments → ⊥) × Checks old new before after valid) ⊎ (HasMarksOption arguments × ChecksMarks old new before after valid)
+-- ---- Refusals
 
--- the text is the lines of the verdict on the input, checked as the arguments say
-abbrev pub IsJudged : (arguments : List (List ℕ)) → (input text : List ℕ) → Type 0
-IsJudged arguments input text =
-    ((HasMarksOption arguments → ⊥) × (verdict : Verdict) × IsVerdict input verdict × (text ≡ verdict_text verdict))
-    ⊎ (HasMarksOption arguments × (verdict : MarksVerdict) × IsMarksVerdict input verdict × (text ≡ marks_verdict_text verdict))
+-- Why a check of a trace is refused. Of a reader that failed, what was read shows no verdict. Of a text that is too long,
+-- 16,777,216 bytes of it show none, and one more came.
+abbrev pub RefusesCheck : (old new : Option (List ℕ)) → TraceError → Type 0
+RefusesCheck old new fault.Read = ReadsOn 16777216 old new
+RefusesCheck old new fault.Limit = PassesLimit 16777216 old new
+RefusesCheck old new fault.Memory = Unit {0}
+
+-- the same, of a mark log
+abbrev pub RefusesCheckOfMarks : (old new : Option (List ℕ)) → TraceError → Type 0
+RefusesCheckOfMarks old new fault.Read = ReadsOnMarks 16777216 old new
+RefusesCheckOfMarks old new fault.Limit = PassesMarksLimit 16777216 old new
+RefusesCheckOfMarks old new fault.Memory = Unit {0}

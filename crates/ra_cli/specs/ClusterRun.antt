@@ -22,7 +22,6 @@ use Rattle.ra_history.specs.declared.settle_books.settled.Settled.{Settled}
 use Rattle.ra_history.specs.Book.{BookState}
 use Rattle.ra_book.specs.Book.{lines_text}
 use Rattle.ra_book.specs.Written.{IsWrittenBook}
-use Rattle.ra_task.specs.Arguments.{PrintsBy}
 use Rattle.ra_task.specs.declared.cluster_output.ClusterOutput.{ClusterOutput}
 use Rattle.ra_task.specs.declared.cluster_output.ClusterOutput.TheVariants.{Lines, Trace, Books}
 use Rattle.ra_cli.specs.declared.error.RunScriptError.{RunScriptError}
@@ -59,10 +58,6 @@ abbrev pub RunsCluster : ClusterOutput → (old new before after : Option (List 
 RunsCluster printed old new before after =
     IfSome old (λ input. (output : List ℕ) × IsClusterRun printed input output × Consumes old new input × Appends before after output)
     × ((input output : List ℕ) × IsClusterRun printed input output × Appends before after output)
-
--- the same, and what is printed is what the arguments ask for
-abbrev pub RunsBy : (arguments : List (List ℕ)) → (old new before after : Option (List ℕ)) → Type 0
-RunsBy arguments old new before after = (printed : ClusterOutput) × PrintsBy arguments printed × RunsCluster printed old new before after
 
 -- ---- Refusals
 

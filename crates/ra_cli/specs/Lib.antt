@@ -12,3 +12,4 @@ pub mod NodeRun
 pub mod SettleRun
 pub mod Statuses
 pub mod Tasks
+pub mod Commands

@@ -12,8 +12,3 @@ PerformsBy policy format old new before after finished =
     IfSome old (λ input. (output : List ℕ) × IsPerformedAs format policy input output finished
     × Consumes old new input × Appends before after output)
     × ((input output : List ℕ) × IsPerformedAs format policy input output finished × Appends before after output)
-
--- it was performed under some policy and written in some format
-abbrev pub Performs : (old new before after : Option (List ℕ)) → Bool → Type 0
-Performs old new before after finished =
-    (policy : Policy) × (format : OutputKind) × PerformsBy policy format old new before after finished

@@ -1,6 +1,6 @@
 -- What `ra draw` does.
-use Rattle.std.specs.Prelude.{◌≡◌, ◌≢◌, ◌⊎◌, ℕ, List, [], ◌++◌, Option, Some, None, Result, IfOk, IfErr, IsErrOf, string_bytes}
-use Rattle.std.specs.Io.KnownBytes.{Appends}
+use Rattle.std.specs.Prelude.{◌≡◌, ◌≢◌, ◌⊎◌, ℕ, List, [], ◌++◌, length, Option, Some, None, Result, IfOk, IfErr, IsErrOf, string_bytes}
+use Rattle.std.specs.Io.KnownBytes.{Appends, Consumes}
 use Rattle.ra_trace.specs.declared.mark_log.marks_verdict.MarkCause.{MarkCause}
 use Rattle.ra_trace.specs.declared.mark_log.marks_verdict.MarksVerdict.TheVariants as log
 use Rattle.ra_trace.specs.declared.checker.verdict.Cause.{Cause}
@@ -8,11 +8,11 @@ use Rattle.ra_trace.specs.declared.checker.verdict.Verdict.TheVariants.{Valid, I
 use Rattle.ra_trace.specs.Marks.{IsMarksVerdict}
 use Rattle.ra_trace.specs.Verdict.{IsVerdict}
 use Rattle.ra_draw.specs.declared.error.DrawError.{DrawError}
-use Rattle.ra_draw.specs.declared.error.DrawError.TheVariants.{Write}
+use Rattle.ra_draw.specs.declared.error.DrawError.TheVariants.{Read, Limit, NoLines, TooLong, Memory, Write}
 use Rattle.ra_world.specs.declared.text.drawn_part.Part.{Part}
 use Rattle.ra_draw.specs.Drawing.{IsDrawable, IsInput, IsOfPart, IsPicture, IsUnfit}
 use Rattle.ra_cli.specs.Checks.{verdict_text, marks_verdict_text}
-use Rattle.ra_task.specs.Arguments.{ReadsBy}
+use Rattle.ra_cli.specs.InputOutput.{StopsBefore}
 use Rattle.ra_cli.specs.declared.commands.draw_command.Denial.{Denial}
 use Rattle.ra_task.specs.declared.command_line.input_kind.InputKind.{InputKind}
 use Rattle.ra_task.specs.declared.command_line.input_kind.InputKind.TheVariants.{Trace, Marks}
@@ -31,24 +31,25 @@ SaysWhyNot Marks input text =
 
 -- ---- What is read and written
 
--- the input is of the kind that the arguments say and was read to its end, and a picture was written and nothing else
-abbrev pub IsDrawn : (arguments : List (List ℕ)) → (old new before after : Option (List ℕ)) → Type 0
-IsDrawn arguments old new before after = (kind : InputKind) × (input picture : List ℕ) × ReadsBy arguments kind × IsInput old new input
-    × IsOfKind kind input × IsPicture picture × Appends before after picture
-
 -- the input is not of this kind and was read to its end, and the line that says why was written and nothing else
 abbrev pub IsNotDrawn : InputKind → (old new before after : Option (List ℕ)) → Type 0
 IsNotDrawn kind old new before after = (input text : List ℕ) × IsInput old new input × SaysWhyNot kind input text
     × Appends before after text
 
--- the same, and the kind is the one that the arguments say
-abbrev pub IsDenied : (arguments : List (List ℕ)) → (old new before after : Option (List ℕ)) → Type 0
-IsDenied arguments old new before after = (kind : InputKind) × ReadsBy arguments kind × IsNotDrawn kind old new before after
+-- the text is what is printed of the input: a picture if it is of this kind, and otherwise the line that says why it is
+-- not
+abbrev pub IsDrawing : InputKind → (input text : List ℕ) → Type 0
+IsDrawing kind input text = (IsOfKind kind input × IsPicture text) ⊎ SaysWhyNot kind input text
 
--- the text is what is printed of the input: a picture if it is of the kind that the arguments say, and otherwise the
--- line that says why it is not
-abbrev pub IsDrawing : (arguments : List (List ℕ)) → (input text : List ℕ) → Type 0
-IsDrawing arguments input text = (kind : InputKind) × ReadsBy arguments kind × ((IsOfKind kind input × IsPicture text) ⊎ SaysWhyNot kind input text)
+-- Why a part is not drawn. Before it is judged, the whole input is read, of which fewer bytes came than may be drawn, or
+-- more. If the part is the cause, the input is of this kind, and none of its lines is in the part, or more than 4,096 are.
+abbrev pub RefusesPart : InputKind → Part → (old new : Option (List ℕ)) → DrawError → Type 0
+RefusesPart kind part old new Read = StopsBefore 16777217 old new
+RefusesPart kind part old new Limit = (taken : List ℕ) × (length taken ≡ 16777217) × Consumes old new taken
+RefusesPart kind part old new (NoLines lines) = (input : List ℕ) × IsInput old new input × IsOfKind kind input × IsUnfit part input (NoLines lines)
+RefusesPart kind part old new TooLong = (input : List ℕ) × IsInput old new input × IsOfKind kind input × IsUnfit part input TooLong
+RefusesPart kind part old new Memory = Unit {0}
+RefusesPart kind part old new Write = Unit {0}
 
 -- ---- One attempt
 
@@ -68,6 +69,8 @@ pub record Attempts (kind : InputKind) (part : Part) (old new before after : Opt
     (result : Result (Option Denial) DrawError) : Type 0 where
   pub ok : IfOk result (λ denial. (input : List ℕ) × IsInput old new input × ShowsOrDenies kind part input before after Untouched denial)
   pub unwritten : IfErr result (λ fault. fault ≢ Write → Untouched)
+  pub failed : IsErrOf result Read → StopsBefore 16777217 old new
+  pub limit : IsErrOf result Limit → (taken : List ℕ) × (length taken ≡ 16777217) × Consumes old new taken
   pub unfit : IfErr result (λ fault. IsOfPart fault → (input : List ℕ) × IsInput old new input × IsOfKind kind input
       × IsUnfit part input fault)
   pub prefix : IsErrOf result Write → (input prefix rest : List ℕ) × IsInput old new input × IsOfKind kind input

@@ -9,9 +9,11 @@ use Rattle.ra_book.specs.declared.text_settling.settle_error.TextCause.TheVarian
 use Rattle.ra_book.specs.declared.text_settling.SettledText.{SettledText}
 use Rattle.ra_book.specs.Verdicts.{IsSettledText, IsWrong}
 use Rattle.ra_trace.specs.declared.error.TraceError.{TraceError}
+use Rattle.ra_trace.specs.declared.error.TraceError.TheVariants as fault
 use Rattle.ra_task.specs.declared.settle_arguments.SettleOutput.{SettleOutput}
 use Rattle.ra_task.specs.declared.settle_arguments.SettleOutput.TheVariants.{Lines, Trace}
 use Rattle.ra_task.specs.declared.settle_arguments.SettleTask.{SettleTask}
+use Rattle.ra_cli.specs.InputOutput.{StopsBefore}
 use Rattle.ra_cli.specs.Refusals.{refused_line, trace_word}
 
 -- what is printed of the settled run: the lines of its report, or its trace
@@ -58,6 +60,13 @@ pub record ReadsBooks (old new : Option (List ℕ)) (input : List ℕ) : Type 0 
   pub ended : IsAtEnd new
   pub short : length input ≤ 2 ^ 30
 
+-- why books are not settled: a text is too long if it has more than 1,073,741,824 bytes, and the reader fails only before
+-- it gave more than that
+abbrev pub RefusesBooks : (old new : Option (List ℕ)) → TraceError → Type 0
+RefusesBooks old new fault.Read = StopsBefore 1073741825 old new
+RefusesBooks old new fault.Limit = (input : List ℕ) × Consumes old new input × (2 ^ 30 < length input)
+RefusesBooks old new fault.Memory = Unit {0}
+
 -- Status 0: the input is a text of books that settle, and exactly the report or the trace of their run was written.
 -- Status 3: it is no such text, and exactly the line that says where and why was written. Status 2: it is too long, or
 -- memory ran out, and the line that says so was written. Status 1: the reader failed, and the line that says so was
@@ -69,8 +78,8 @@ pub record ServesSettle (asked : SettleTask) (old new before after : Option (Lis
   pub unfinished : status ≡ 3
       → (input : List ℕ) × (output : List ℕ) × ReadsBooks old new input × Contradicts asked input output × Appends before after output
   pub refused : status ≡ 2 → Appends before after (refused_line (codes "Memory"))
-      ⊎ (Appends before after (refused_line (codes "Limit")) × ((input : List ℕ) × Consumes old new input × (2 ^ 30 < length input)))
-  pub broken : status ≡ 1 → Appends before after (codes "refused Read\n")
+      ⊎ (Appends before after (refused_line (codes "Limit")) × RefusesBooks old new fault.Limit)
+  pub broken : status ≡ 1 → (RefusesBooks old new fault.Read × Appends before after (codes "refused Read\n"))
       ⊎ ((prefix : List ℕ) × (rest : List ℕ) × (rest ≢ []) × Appends before after prefix
       × (((input : List ℕ) × ReadsBooks old new input × (Settles asked input (prefix ++ rest) ⊎ Contradicts asked input (prefix ++ rest)))
-      ⊎ ((fault : TraceError) × (prefix ++ rest ≡ refused_line (trace_word fault)))))
+      ⊎ ((why : TraceError) × RefusesBooks old new why × (prefix ++ rest ≡ refused_line (trace_word why)))))

@@ -86,10 +86,6 @@ SurveysBy asked old new before after finished =
     IfSome old (λ input. (output : List ℕ) × IsTold asked input output finished × Consumes old new input × Appends before after output)
     × ((input output : List ℕ) × IsTold asked input output finished × Appends before after output)
 
--- `SurveysBy` holds for some faults, some end and some seeds
-abbrev pub Surveys : (old new before after : Option (List ℕ)) → Bool → Type 0
-Surveys old new before after finished = (asked : SurveyTask) × SurveysBy asked old new before after finished
-
 -- when each refusal may come: its cause applies. `Cluster` may not come, since no threads are used.
 abbrev pub RefusesSurvey : SurveyTask → List ℕ → RunScriptError → Type 0
 RefusesSurvey asked input fault.Read = Unit {0}

@@ -1,9 +1,10 @@
-ghost use Rattle.std.specs.Prelude.{None, true, false, ◌↔◌, IsTrue, ◌≡◌, ◌≤◌, ◌⊎◌, List, ℕ, map, string_bytes};
-ghost use Rattle.ra_task.specs.declared.command_line.Task.{Task};
-ghost use Rattle.ra_cli.specs.Statuses.{PrintsRefusal, Serves, Writes};
-ghost use Rattle.ra_cli.specs.Tasks.{Does};
-ghost use Rattle.ra_task.specs.Asked.{Asks};
+ghost use Rattle.std.specs.Prelude.{None, true, false, ◌↔◌, IsTrue, ◌≡◌, ◌⊎◌, map, string_bytes};
+ghost use Rattle.ra_stamp.specs.Member.{IsMember};
 ghost use Rattle.ra_schedule.specs.ChoicesText.{choices_of};
+ghost use Rattle.ra_task.specs.declared.command_line.Task.{Task};
+ghost use Rattle.ra_cli.specs.Commands.{DoesCommand, NeedsNoThreads, ReadsNothing, Serves};
+ghost use Rattle.ra_cli.specs.Statuses.{PrintsRefusal, Writes};
+ghost use Rattle.ra_cli.specs.Tasks.{Does};
 ghost use Rattle.ra_cli.specs.Refusals.{IsOfReader, IsOfWriter, command_word, refused_line};
 
 use crate::command_outcome::{
@@ -17,7 +18,6 @@ use crate::commands::settle_task::settle_books;
 use crate::commands::survey_command::survey_script;
 use crate::commands::verdict_lines::verdict_text;
 use crate::error::RunScriptError;
-use crate::laws::orderly_scripts_are_finished;
 use crate::refusal_lines::{CommandRefusal, line_of};
 use crate::{AnswerError, answer};
 use ra_draw::{DrawError, Part};
@@ -128,8 +128,10 @@ fn respond<R: Read, W: Write>(
     reader: &mut R,
     writer: &mut W,
 ) -> CommandOutcome
-    ensures { Does (Task.Answer node nodes) (R.remaining reader.old) (R.remaining reader.new)
-        (W.contents writer.old) (W.contents writer.new) (reader.new ≡ reader.old) result.status }
+    ensures does { Does (Task.Answer node nodes) (R.remaining reader.old) (R.remaining reader.new)
+        (W.contents writer.old) (W.contents writer.new) result.status }
+    // Numbers that are those of no node are refused before anything is read.
+    ensures unread { ¬ IsMember node nodes → reader.new ≡ reader.old }
 {
     match answer(alloc, node, nodes, reader, writer) {
         Ok(()) => ALL_DONE,
@@ -147,9 +149,9 @@ fn simulate<R: Read, W: Write>(
     writer: &mut W,
 ) -> CommandOutcome
     ensures does { Does (Task.Sim name choices.entry format) (R.remaining reader.old) (R.remaining reader.new)
-        (W.contents writer.old) (W.contents writer.new) (reader.new ≡ reader.old) result.status }
+        (W.contents writer.old) (W.contents writer.new) result.status }
     // A text that is not a list of choices is refused before anything is read.
-    ensures choices_first { choices_of choices.now ≡ None → (1 ≤ result.status) × (reader.new ≡ reader.old) }
+    ensures unread { choices_of choices.now ≡ None → reader.new ≡ reader.old }
 {
     let policy = match policy_of(alloc, name, choices) {
         Ok(policy) => policy,
@@ -196,7 +198,7 @@ fn survey_seeds<R: Read, W: Write, O: Observer>(
     observer: &mut O,
 ) -> CommandOutcome
     ensures { Does (Task.Survey asked.now) (R.remaining reader.old) (R.remaining reader.new)
-        (W.contents writer.old) (W.contents writer.new) (reader.new ≡ reader.old) result.status }
+        (W.contents writer.old) (W.contents writer.new) result.status }
 {
     match survey_script(alloc, asked, reader, observer) {
         Ok(told) => {
@@ -210,7 +212,7 @@ fn survey_seeds<R: Read, W: Write, O: Observer>(
 /// Checks the text of the reader, and writes the lines of its verdict.
 fn judge<R: BufRead, W: Write>(alloc: Global, reader: &mut R, writer: &mut W) -> CommandOutcome
     ensures { Does Task.Check (R.remaining reader.old) (R.remaining reader.new)
-        (W.contents writer.old) (W.contents writer.new) (reader.new ≡ reader.old) result.status }
+        (W.contents writer.old) (W.contents writer.new) result.status }
 {
     let mut due = None;
     let verdict = match check_buffered_with_due(alloc, reader, &mut due) {
@@ -230,7 +232,7 @@ fn judge_marks<R: BufRead, W: Write>(
     writer: &mut W,
 ) -> CommandOutcome
     ensures { Does Task.CheckMarks (R.remaining reader.old) (R.remaining reader.new)
-        (W.contents writer.old) (W.contents writer.new) (reader.new ≡ reader.old) result.status }
+        (W.contents writer.old) (W.contents writer.new) result.status }
 {
     let verdict = match check_marks_buffered(alloc, reader) {
         Ok(verdict) => verdict,
@@ -253,7 +255,7 @@ fn draw_part<R: Read, W: Write>(
     text: &mut Vec<u8>,
 ) -> CommandOutcome
     ensures { Does (Task.Draw kind part) (R.remaining reader.old) (R.remaining reader.new)
-        (W.contents writer.old) (W.contents writer.new) (reader.new ≡ reader.old) result.status }
+        (W.contents writer.old) (W.contents writer.new) result.status }
 {
     match draw_input(alloc, kind, part, reader, writer, text) {
         Ok(None) => ALL_DONE,
@@ -269,8 +271,9 @@ fn draw_part<R: Read, W: Write>(
     }
 }
 
-/// Runs the script of the reader by threads, and writes what is to be printed of the run.
-fn run_by_threads<T: Threads + Wait + Sync, R: Read, W: Write>(
+/// Does the command `cluster`: runs the script of the reader by threads, and writes what is to be printed of the run. It
+/// waits for the threads that it starts.
+pub fn run_by_threads<T: Threads + Wait + Sync, R: Read, W: Write>(
     rt: &T,
     alloc: Global,
     printed: ClusterOutput,
@@ -278,7 +281,7 @@ fn run_by_threads<T: Threads + Wait + Sync, R: Read, W: Write>(
     writer: &mut W,
 ) -> CommandOutcome
     ensures { Does (Task.Cluster printed) (R.remaining reader.old) (R.remaining reader.new)
-        (W.contents writer.old) (W.contents writer.new) (reader.new ≡ reader.old) result.status }
+        (W.contents writer.old) (W.contents writer.new) result.status }
 {
     match run_script(rt, alloc, printed, reader) {
         Ok(text) => print_text(writer, text.as_bytes(), ALL_DONE),
@@ -286,10 +289,10 @@ fn run_by_threads<T: Threads + Wait + Sync, R: Read, W: Write>(
     }
 }
 
-/// Does what arguments ask for, and returns what came of it. The observer is told of each seed. A text that is to be
-/// drawn or settled is left in `text`, unless that is refused.
-pub fn do_command<T: Threads + Wait + Sync, R: BufRead, W: Write, O: Observer>(
-    rt: &T,
+/// Does a command other than `cluster`, which [`run_by_threads`] does, and returns what came of it. It starts no thread, and
+/// waits for nobody but the reader and the writer. The observer is told of each seed. A text that is to be drawn or settled
+/// is left in `text`, unless that is refused.
+pub fn do_alone<R: BufRead, W: Write, O: Observer>(
     alloc: Global,
     asked: &Command<'_>,
     reader: &mut R,
@@ -297,11 +300,11 @@ pub fn do_command<T: Threads + Wait + Sync, R: BufRead, W: Write, O: Observer>(
     text: &mut Vec<u8>,
     observer: &mut O,
 ) -> CommandOutcome
-    ensures { (arguments : List (List ℕ)) → Asks arguments asked.now → Serves arguments (R.remaining reader.old) (R.remaining reader.new)
-        (W.contents writer.old) (W.contents writer.new) (reader.new ≡ reader.old) result.status }
+    requires { NeedsNoThreads asked.now }
+    ensures does { DoesCommand asked.now (R.remaining reader.old) (R.remaining reader.new)
+        (W.contents writer.old) (W.contents writer.new) result.status }
+    ensures unread { ReadsNothing asked.now → reader.new ≡ reader.old }
 {
-    // For the proof: an orderly script is finished if no message is lost or repeated.
-    orderly_scripts_are_finished();
     match *asked {
         Command::Node => be_a_node(alloc, reader, writer),
         Command::Settle(books) => settle_books(alloc, books, reader, writer, text),
@@ -321,7 +324,7 @@ pub fn do_command<T: Threads + Wait + Sync, R: BufRead, W: Write, O: Observer>(
         Command::Task(Task::Draw { kind, part }) => {
             draw_part(alloc, kind, part, reader, writer, text)
         }
-        Command::Task(Task::Cluster(printed)) => run_by_threads(rt, alloc, printed, reader, writer),
+        Command::Task(Task::Cluster(_)) => unreachable!(),
         Command::Task(Task::Help(ref help)) => print_text(writer, help.as_bytes(), ALL_DONE),
         Command::Unknown(fault) => refuse(writer, CommandRefusal::Command(fault)),
     }
@@ -349,6 +352,9 @@ pub fn serve<T: Threads + Wait + Sync, R: BufRead, W: Write>(
         (W.contents writer.old) (W.contents writer.new) (reader.new ≡ reader.old) result }
 {
     let asked = command_of(alloc, arguments);
+    if let Command::Task(Task::Cluster(printed)) = asked {
+        return run_by_threads(rt, alloc, printed, reader, writer).status;
+    }
     let mut text = Vec::new(alloc);
-    do_command(rt, alloc, &asked, reader, writer, &mut text, &mut ()).status
+    do_alone(alloc, &asked, reader, writer, &mut text, &mut ()).status
 }

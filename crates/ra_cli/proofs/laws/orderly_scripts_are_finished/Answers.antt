@@ -1,4 +1,4 @@
-use Rattle.ra_cli.proofs.Orderly.{FinishingLaws, never_left, refused_for_memory, always_driven}
+use Rattle.ra_cli.proofs.Orderly.{FinishingLaws, finishes, only_memory, always_driven}
 use Rattle.ra_cli.proofs.laws.orderly_scripts_are_finished.Goals as goal
 
 pub returns : goal.returns
@@ -14,7 +14,7 @@ returns c =
       surveys = seeds.surveys;
     } in
     record {
-      finished = never_left laws;
-      only_memory = refused_for_memory laws;
+      finished = finishes laws;
+      only_memory = only_memory laws;
       driven = always_driven laws;
     }

@@ -1,5 +1,9 @@
-use Rattle.std.proofs.Common.{map, string_bytes}
 use Rattle.ra_cli.proofs.serving.serve.Goals as goal
 
 pub returns : goal.returns
-returns g c = c.do_command.ensures (map string_bytes c.args.arguments.now) c.command_of-asked.ensures
+returns g c = record {
+  asked = c.command_of-asked.result;
+  asks = c.command_of-asked.ensures;
+  does = c.do_alone.ensures.does;
+  unread = c.do_alone.ensures.unread;
+}

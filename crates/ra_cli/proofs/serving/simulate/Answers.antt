@@ -2,8 +2,8 @@ use Rattle.std.proofs.Common.{◌≡◌, Err, ap, inl, inr, refl}
 use Rattle.std.proofs.lemmas.Bool.{false≢true}
 use Rattle.ra_task.specs.declared.command_line.Task.TheVariants as task
 use Rattle.ra_cli.specs.declared.refusal_lines.CommandRefusal.TheVariants.{Choices, Perform}
-use Rattle.ra_cli.proofs.Statuses.{none_of_choices, of_perform, of_performed}
-use Rattle.ra_cli.proofs.TaskLemmas.{of_choices, of_named}
+use Rattle.ra_cli.proofs.Statuses.{none_of_choices, of_perform}
+use Rattle.ra_cli.proofs.TaskLemmas.{choices_cause, is_some, of_performed}
 use Rattle.ra_cli.proofs.TaskStatuses.{if_done, if_left, if_refused, if_refused_at_once}
 use Rattle.ra_cli.proofs.serving.simulate.Goals as goal
 
@@ -11,42 +11,43 @@ pub returns-in-Ok-true-clause-does : goal.returns-in-Ok-true-clause-does
 returns-in-Ok-true-clause-does g c =
     let known = rw c.in-Ok-true.field-0-test at c.in-Ok-true.ensures.ok in
     let some = rw c.in-Ok-true.field-0-test at c.in-Ok-true.ensures.performed in
-    if_done (task.Sim c.args.name c.args.choices c.args.format) _ _ _ _ _ _ refl (c.in-Ok.policy, c.in-Ok.ensures.ok, (known, some))
+    let listed = is_some _ (λ none. false≢true (c.in-Ok.ensures.choices none)) in
+    if_done (task.Sim c.args.name c.args.choices c.args.format) _ _ _ _ _ refl (listed, c.in-Ok.policy, c.in-Ok.ensures.ok, (known, some))
 
 pub returns-in-Ok-false-clause-does : goal.returns-in-Ok-false-clause-does
 returns-in-Ok-false-clause-does g c =
     let known = rw c.in-Ok-false.field-0-test at c.in-Ok-false.ensures.ok in
     let some = rw c.in-Ok-false.field-0-test at c.in-Ok-false.ensures.performed in
-    if_left (task.Sim c.args.name c.args.choices c.args.format) _ _ _ _ _ _ refl (c.in-Ok.policy, c.in-Ok.ensures.ok, (known, some))
+    let listed = is_some _ (λ none. false≢true (c.in-Ok.ensures.choices none)) in
+    if_left (task.Sim c.args.name c.args.choices c.args.format) _ _ _ _ _ refl (listed, c.in-Ok.policy, c.in-Ok.ensures.ok, (known, some))
 
 pub returns-in-Err-clause-does : goal.returns-in-Err-clause-does
 returns-in-Err-clause-does g c =
     let fault = c.in-Err.fault in
-    let old = g.R.Read.remaining c.args.reader.now in
-    if_refused_at_once (task.Sim c.args.name c.args.choices c.args.format) old _ _ _ _ _ (Choices fault) _ c.refuse.ensures (none_of_choices fault)
-    (of_choices c.args.name c.args.choices.now c.args.format old fault c.in-Err.ensures.err)
+    if_refused_at_once (task.Sim c.args.name c.args.choices c.args.format) _ _ _ _ _ (Choices fault) _ c.refuse.ensures (none_of_choices fault)
+    (inl (fault, refl, choices_cause c.args.choices.now fault c.in-Err.ensures.err))
 
 pub returns-clause-does : goal.returns-clause-does
 returns-clause-does g c =
     let fault = c.in-Err-perform_as.fault in
+    let known = c.in-Err-perform_as.ensures in
     let old = g.R.Read.remaining c.args.reader.now in
     let before = g.W.Write.contents c.args.writer.now in
     let between = g.W.Write.contents c.perform_as.new.writer in
     let new = g.R.Read.remaining c.perform_as.new.reader in
     let after = g.W.Write.contents c.refuse-in-Err-perform_as.new.writer in
     let policy = c.in-Ok.policy in
-    if_refused (task.Sim c.args.name c.args.choices c.args.format) old new before after (c.perform_as.new.reader ≡ c.args.reader.now)
-    c.refuse-in-Err-perform_as.result.status between (Perform fault) (c.refuse-in-Err-perform_as.new.writer ≡ c.perform_as.new.writer)
-    c.refuse-in-Err-perform_as.ensures
-    (ap g.W.Write.contents) (λ other. ap g.W.Write.contents (c.in-Err-perform_as.ensures.unwritten (λ e. other (inr (inl (ap Perform e))))))
-    (λ is arguments fits. of_performed arguments policy c.args.format old before between (c.in-Err-perform_as.ensures.prefix (ap Err (of_perform fault is))))
-    (of_named c.args.name c.args.choices.now c.args.format old policy fault c.in-Ok.ensures.ok c.in-Err-perform_as.ensures.refused)
+    if_refused (task.Sim c.args.name c.args.choices c.args.format) old new before after c.refuse-in-Err-perform_as.result.status between (Perform fault)
+    (c.refuse-in-Err-perform_as.new.writer ≡ c.perform_as.new.writer) c.refuse-in-Err-perform_as.ensures
+    (ap g.W.Write.contents) (λ other. ap g.W.Write.contents (known.unwritten (λ e. other (inr (inl (ap Perform e))))))
+    (λ is. of_performed c.args.name c.args.choices c.args.format policy old before between c.in-Ok.ensures.ok (known.prefix (ap Err (of_perform fault is))))
+    (inr (fault, refl, (λ is. known.failed (ap Err is)), policy, c.in-Ok.ensures.ok, (known.refused, known.cause)))
 
-pub returns-in-Ok-true-clause-choices_first : goal.returns-in-Ok-true-clause-choices_first
-returns-in-Ok-true-clause-choices_first g c none = absurd (false≢true (c.in-Ok.ensures.choices none))
+pub returns-in-Ok-true-clause-unread : goal.returns-in-Ok-true-clause-unread
+returns-in-Ok-true-clause-unread g c none = absurd (false≢true (c.in-Ok.ensures.choices none))
 
-pub returns-in-Ok-false-clause-choices_first : goal.returns-in-Ok-false-clause-choices_first
-returns-in-Ok-false-clause-choices_first g c none = absurd (false≢true (c.in-Ok.ensures.choices none))
+pub returns-in-Ok-false-clause-unread : goal.returns-in-Ok-false-clause-unread
+returns-in-Ok-false-clause-unread g c none = absurd (false≢true (c.in-Ok.ensures.choices none))
 
-pub returns-clause-choices_first : goal.returns-clause-choices_first
-returns-clause-choices_first g c none = absurd (false≢true (c.in-Ok.ensures.choices none))
+pub returns-clause-unread : goal.returns-clause-unread
+returns-clause-unread g c none = absurd (false≢true (c.in-Ok.ensures.choices none))

@@ -2,7 +2,7 @@ use Rattle.std.proofs.Common.{Ok, Err, ap, refl}
 use Rattle.ra_trace.specs.declared.checker.verdict.Verdict.TheVariants.{Invalid}
 use Rattle.ra_cli.specs.Checks.{verdict_text as line_of}
 use Rattle.ra_task.specs.declared.command_line.input_kind.InputKind.TheVariants.{Trace}
-use Rattle.ra_cli.proofs.PictureLemmas.{denies, shows, refuses}
+use Rattle.ra_cli.proofs.PictureLemmas.{denies, fewer, shows, refuses}
 use Rattle.ra_cli.proofs.commands.draw_command.draw_trace.Goals as goal
 
 pub returns-in-Ok-Valid : goal.returns-in-Ok-Valid
@@ -24,6 +24,7 @@ pub returns-in-Err : goal.returns-in-Err
 returns-in-Err g c =
     refuses Trace c.args.part
     (g.R.Read.remaining c.args.reader.now) (g.R.Read.remaining c.draw.new.reader) (g.W.Write.contents c.args.writer.now) (g.W.Write.contents c.draw.new.writer) _ c.in-Err.fault c.in-Err.ensures.unwritten
+    (λ same. fewer _ _ (c.in-Err.ensures.failed (ap Err same))) (λ same. c.in-Err.ensures.limit (ap Err same))
     (λ of. let (input, a, b, read, verdict, why) = c.in-Err.ensures.unfit of in (input, read, (a, b, verdict), why))
     (λ same.
     let (input, a, b, prefix, rest, read, verdict, picture, left, appends) = c.in-Err.ensures.prefix (ap Err same) in

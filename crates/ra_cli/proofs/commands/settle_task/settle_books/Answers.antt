@@ -1,7 +1,7 @@
-use Rattle.std.proofs.Common.{ℕ, List, subst, arith}
+use Rattle.std.proofs.Common.{ℕ, List, Err, ap, subst, arith}
 use Rattle.ra_trace.specs.declared.error.TraceError.TheVariants.{Limit, Memory, Read}
 use Rattle.ra_cli.specs.SettleRun.{TellsSettled}
-use Rattle.ra_cli.proofs.SettleRuns.{memory_no_limit, read_no_limit, refuses, served, unread}
+use Rattle.ra_cli.proofs.SettleRuns.{refuses, served, unread}
 use Rattle.ra_cli.proofs.commands.settle_task.settle_books.Goals as goal
 
 pub returns : goal.returns
@@ -16,15 +16,15 @@ returns g c =
 pub returns-in-Err-Read : goal.returns-in-Err-Read
 returns-in-Err-Read g c =
     let status = c.refuse.result.status in
-    unread c.args.asked Read _ _ _ _ status (refuses Read _ _ _ status c.refuse.ensures) (λ is. absurd (read_no_limit is))
+    unread c.args.asked Read _ _ _ _ status (refuses Read _ _ _ status c.refuse.ensures) (c.in-Err-Read.ensures.failed (ap Err c.in-Err-Read.field-0-is))
 
 pub returns-in-Err-Memory : goal.returns-in-Err-Memory
 returns-in-Err-Memory g c =
     let status = c.refuse-in-Err-Memory.result.status in
-    unread c.args.asked Memory _ _ _ _ status (refuses Memory _ _ _ status c.refuse-in-Err-Memory.ensures) (λ is. absurd (memory_no_limit is))
+    unread c.args.asked Memory _ _ _ _ status (refuses Memory _ _ _ status c.refuse-in-Err-Memory.ensures) tt
 
 pub returns-then-len-gt-MAX_TEXT : goal.returns-then-len-gt-MAX_TEXT
 returns-then-len-gt-MAX_TEXT g c =
     let status = c.refuse-then-len-gt-MAX_TEXT.result.status in
     unread c.args.asked Limit _ _ _ _ status (refuses Limit _ _ _ status c.refuse-then-len-gt-MAX_TEXT.ensures)
-    (λ is. (c.in-Ok.input.items, c.in-Ok.ensures.bytes.taken, omega (arith, c.if-len-gt-MAX_TEXT.true, c.len.ensures)))
+    (c.in-Ok.input.items, c.in-Ok.ensures.bytes.taken, omega (arith, c.if-len-gt-MAX_TEXT.true, c.len.ensures))
