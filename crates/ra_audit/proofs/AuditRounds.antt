@@ -18,8 +18,8 @@ use Rattle.ra_cluster.specs.declared.site.take_error.TakeError.TheVariants.{NoNo
 use Rattle.ra_frame.specs.declared.frame.Frame.{Frame}
 use Rattle.ra_history.specs.declared.book.event.BookEvent.{BookEvent}
 use Rattle.ra_history.specs.History.{clock_of}
-use Rattle.ra_audit.specs.Audit.{ProgressState, AuditState, NoneIsReady, NoneIsReached, MayBePut, IsAudited, HasLost, AllWereSent, Advances, PutsLosses, Audits, TakenGoOn, HandsOver, AllHandOver, TakesMore, TakesMoreAt, AtNumber, TakesHanded, TakesOver, TakesAllAt, NotTakenAt, IsNotTaken, IsCauseAt, KeptAreNext, AreNextAt, NoneIsKept, GoesOnFrom, taken_of, handed_over}
-use Rattle.ra_cluster.specs.Handing.{IsHandedOver}
+use Rattle.ra_audit.specs.Audit.{ProgressState, AuditState, NoneIsReady, NoneIsReached, MayBePut, IsAudited, HasLost, AllWereSent, Advances, PutsLosses, Audits, TakenGoOn, HandsOver, HandsNothing, MayHandOver, AllHandOver, TakesMore, TakesMoreAt, AuditsByAnswer, AtNumber, TakesHanded, TakesOver, TakesAllAt, NotTakenAt, IsNotTaken, IsCauseAt, KeptAreNext, AreNextAt, NoneIsKept, GoesOnFrom, taken_of, handed_over}
+use Rattle.ra_cluster.specs.Handing.{IsLeftOfBook}
 use Rattle.ra_world.specs.World.{WorldState}
 use Rattle.ra_audit.proofs.AuditLosses.{puts_none}
 
@@ -81,17 +81,26 @@ accepted p q r events (Err e) none is ok err =
 -- ---- What the site of a node hands over
 
 -- nothing
-nothing_over : (p q : ProgressState) → handed_over q ≡ handed_over p → HandsOver p q []
-nothing_over p q same = ([], same ∙ sym (append-nil (handed_over p)), inl (refl, refl))
+nothing_over : (p q : ProgressState) → handed_over q ≡ handed_over p → MayHandOver p q []
+nothing_over p q same = inl (same, refl)
 
 -- the book had handed over the same before
 over_from : (p q r : ProgressState) (lost : List Frame) → q.node ≡ p.node → handed_over q ≡ handed_over p → HandsOver q r lost → HandsOver p r lost
 over_from p q r lost node same over = (
   over.0,
   over.1 ∙ ap (λ (es : List BookEvent). es ++ over.0) same,
-  subst (λ (es : List BookEvent). IsHandedOver p.node (clock_of es) over.0 lost) same
-      (subst (λ (n : ℕ). IsHandedOver n (clock_of (handed_over q)) over.0 lost) node over.2),
+  subst (λ (es : List BookEvent). IsLeftOfBook p.node (clock_of es) over.0 lost) same
+      (subst (λ (n : ℕ). IsLeftOfBook n (clock_of (handed_over q)) over.0 lost) node over.2),
 )
+
+may_from : (p q r : ProgressState) (lost : List Frame) → q.node ≡ p.node → handed_over q ≡ handed_over p → MayHandOver q r lost → MayHandOver p r lost
+may_from p q r lost node same (inl none) = inl (none.0 ∙ same, none.1)
+may_from p q r lost node same (inr over) = inr (over_from p q r lost node same over)
+
+all_from : {E : Type 0} (p q r : ProgressState) (lost : List Frame) (answer : Result (Unit {0}) E) → q.node ≡ p.node → handed_over q ≡ handed_over p → OnOk answer (HandsOver q r lost)
+    → OnOk answer (HandsOver p r lost)
+all_from p q r lost (Ok x) node same over = over_from p q r lost node same over
+all_from p q r lost (Err e) node same over = tt
 
 -- and the same by now
 over_to : (p q r : ProgressState) (lost : List Frame) → handed_over r ≡ handed_over q → HandsOver p q lost → HandsOver p r lost
@@ -100,10 +109,12 @@ over_to p q r lost same over = (over.0, same ∙ over.1, over.2)
 module _ (p q : ProgressState) (answer : Result (Unit {0}) TakeError) (next : IsErrOf answer NotNext ↔ (KeptAreNext q → ⊥)) (memory : IsErrOf answer Memory → KeptAreNext q)
     (others : (IsErrOf answer NoNode → ⊥) × (IsErrOf answer OutOfTurn → ⊥))
   where
-    pub takes_over : (handed : List Frame) → GoesOnFrom p q → HandsOver p q handed → q.settled ≡ p.settled → OnOk answer (q.kept ≡ []) → TakesOver p q handed answer
-    takes_over handed from hands settled ok = record {
+    pub takes_over : (handed : List Frame) → GoesOnFrom p q → MayHandOver p q handed → OnOk answer (HandsOver p q handed) → q.settled ≡ p.settled → OnOk answer (q.kept ≡ [])
+        → TakesOver p q handed answer
+    takes_over handed from hands all settled ok = record {
       goes_on = from;
       hands = hands;
+      all = all;
       settled = settled;
       ok = ok;
       no_node = others.0;
@@ -112,11 +123,16 @@ module _ (p q : ProgressState) (answer : Result (Unit {0}) TakeError) (next : Is
       memory = memory;
     }
 
+-- what holds in any case
+pub in_any_case : {E : Type 0} (A : Type 0) (answer : Result (Unit {0}) E) → A → OnOk answer A
+in_any_case A (Ok x) h = h
+in_any_case A (Err e) h = tt
+
 -- what was kept was not taken, so the site was not asked
 pub refuses_kept : (p q : ProgressState) (e : TakeError) → q ≡ p → IsErrOf {T = Unit {0}} (Err e) NotNext ↔ (KeptAreNext q → ⊥) → (IsErrOf {T = Unit {0}} (Err e) Memory → KeptAreNext q)
     → (IsErrOf {T = Unit {0}} (Err e) NoNode → ⊥) × (IsErrOf {T = Unit {0}} (Err e) OutOfTurn → ⊥) → TakesOver p q [] (Err e)
 refuses_kept p q e same next memory others =
-    takes_over p q (Err e) next memory others [] (subst (GoesOnFrom p) (sym same) (from_same p p refl refl)) (nothing_over p q (ap handed_over same))
+    takes_over p q (Err e) next memory others [] (subst (GoesOnFrom p) (sym same) (from_same p p refl refl)) (nothing_over p q (ap handed_over same)) tt
     (ap (λ (x : ProgressState). x.settled) same) tt
 
 module _ (p q : ProgressState) (is : q ≡ record p { waiting = p.waiting ++ p.kept; kept = [] }) where
@@ -130,7 +146,8 @@ module _ (p q : ProgressState) (is : q ≡ record p { waiting = p.waiting ++ p.k
   pub took_kept : (r : ProgressState) (handed : List Frame) (answer : Result (Unit {0}) TakeError) → TakesOver q r handed answer → TakesOver p r handed answer
   took_kept r handed answer t = record {
     goes_on = from_further p q r (from_kept p q is) t.goes_on;
-    hands = over_from p q r handed (ap (λ (x : ProgressState). x.node) is) handed_as t.hands;
+    hands = may_from p q r handed (ap (λ (x : ProgressState). x.node) is) handed_as t.hands;
+    all = all_from p q r handed answer (ap (λ (x : ProgressState). x.node) is) handed_as t.all;
     settled = t.settled ∙ settled_as;
     ok = t.ok;
     no_node = t.no_node;
@@ -154,6 +171,7 @@ module _ (p q : ProgressState) (is : q ≡ record p { waiting = p.waiting ++ p.k
   took_no_more e why = record {
     goes_on = from_kept p q is;
     hands = nothing_over p q handed_as;
+    all = tt;
     settled = settled_as;
     ok = tt;
     no_node = λ none. never e why none;
@@ -209,7 +227,7 @@ go_as_before (p ∷ ps) (q ∷ qs) numbers taken = (
 -- no site handed over anything
 over_nowhere : (nodes : List ProgressState) → AllHandOver nodes nodes []
 over_nowhere [] = tt
-over_nowhere (p ∷ ps) = (nothing_over p p refl, over_nowhere ps)
+over_nowhere (p ∷ ps) = (refl, over_nowhere ps)
 
 -- the site of the next node handed over these frames
 over_more : (a b : List ProgressState) (handed : List (List Frame)) (place : ℕ) (p r : ProgressState) (lost : List Frame) → AllHandOver a b handed → length handed ≡ place
@@ -231,6 +249,22 @@ over_more (x ∷ xs) (q ∷ qs) (l ∷ ls) (suc place) p r lost all long left at
     let rest = over_more xs qs ls place p r lost all.1 (omega (arith, long)) left at over in
     ((all.0, rest.0), rest.1)
 
+-- and the site of the one after it nothing
+over_none : (a b : List ProgressState) (handed : List (List Frame)) (place : ℕ) (p r : ProgressState) → AllHandOver a b handed → length handed ≡ place → slice_get b place ≡ Some p
+    → HandsNothing p r → AllHandOver a (set b place r) handed
+over_none [] [] handed place p r all long at none = absurd (none-some p at)
+over_none [] (q ∷ qs) [] place p r all long at none = absurd all
+over_none [] (q ∷ qs) (l ∷ ls) place p r all long at none = absurd all
+over_none (x ∷ xs) [] [] place p r all long at none = absurd all
+over_none (x ∷ xs) [] (l ∷ ls) place p r all long at none = absurd all
+over_none (x ∷ xs) (q ∷ qs) [] zero p r all long at none = (none ∙ ap handed_over (sym (same_Some q p at)) ∙ all.0, all.1)
+over_none (x ∷ xs) (q ∷ qs) [] (suc place) p r all long at none = absurd (omega (arith, long))
+over_none (x ∷ xs) (q ∷ qs) (l ∷ ls) zero p r all long at none = absurd (omega (arith, long))
+over_none (x ∷ xs) (q ∷ qs) (l ∷ ls) (suc place) p r all long at none = (all.0, over_none xs qs ls place p r all.1 (omega (arith, long)) at none)
+
+same_handed : (q r : ProgressState) → taken_of r ≡ taken_of q → r.kept ≡ q.kept → handed_over r ≡ handed_over q
+same_handed q r first last = λ j. first j ++ last j
+
 -- the books have handed over the same by now
 over_as : (a b c : List ProgressState) (handed : List (List Frame)) → map taken_of c ≡ map taken_of b → map (λ p. p.kept) c ≡ map (λ p. p.kept) b → AllHandOver a b handed → AllHandOver a c handed
 over_as [] [] [] handed taken kept all = all
@@ -243,7 +277,7 @@ over_as (p ∷ ps) (q ∷ qs) [] handed taken kept all = absurd (cc)
 over_as (p ∷ ps) (q ∷ qs) (r ∷ rs) [] taken kept all =
     let first : taken_of r ≡ taken_of q = ap (λ (es : List (List BookEvent)). get_or es 0 []) taken in
     let last : r.kept ≡ q.kept = ap (λ (es : List (List BookEvent)). get_or es 0 []) kept in (
-      over_to p q r [] (λ j. first j ++ last j) all.0,
+      same_handed q r first last ∙ all.0,
       over_as ps qs rs [] (ap (λ (es : List (List BookEvent)). drop 1 es) taken) (ap (λ (es : List (List BookEvent)). drop 1 es) kept) all.1,
     )
 over_as (p ∷ ps) (q ∷ qs) (r ∷ rs) (l ∷ ls) taken kept all =
@@ -272,33 +306,63 @@ took_nothing old audited = record {
   left = refl;
 }
 
--- one node more
-pub took_further : (a b c : AuditState) (place : ℕ) → place < length b.nodes → TakesUpTo a place b → TakesMoreAt b (place + 1) c → TakesUpTo a (place + 1) c
-took_further a b c place within first second =
-    let at = second.at_node (omega (arith, within)) in
-    let here : place + 1 - 1 ≡ place = omega arith in
-    let next : suc place ≡ place + 1 = omega arith in
-    let handed = first.more.handed in
-    let found : slice_get b.nodes place ≡ Some at.0 = ap (slice_get b.nodes) (sym here) ∙ at.1 in
-    let q = at.2.0 in
-    let is : c.nodes ≡ set b.nodes place q = at.2.2 ∙ ap (λ (i : ℕ). set b.nodes i q) here in
-    let over = over_more a.nodes b.nodes handed place at.0 q second.handed first.more.hands first.long first.left found at.2.1 in
-    record {
-      more = record {
+module _ (a b c : AuditState) (place : ℕ) (within : place < length b.nodes) (first : TakesUpTo a place b) (second : TakesMoreAt b (place + 1) c) where
+  here : place + 1 - 1 ≡ place
+  here = omega arith
+
+  -- the site of one node more handed over these frames
+  further : (p q : ProgressState) (lost : List Frame) → slice_get b.nodes (place + 1 - 1) ≡ Some p → c.nodes ≡ set b.nodes (place + 1 - 1) q → HandsOver p q lost
+      → c.losing ≡ b.losing ++ lost → TakesUpTo a (place + 1) c
+  further p q lost at is_at over losing =
+      let next : suc place ≡ place + 1 = omega arith in
+      let handed = first.more.handed in
+      let found : slice_get b.nodes place ≡ Some p = ap (slice_get b.nodes) (sym here) ∙ at in
+      let is : c.nodes ≡ set b.nodes place q = is_at ∙ ap (λ (i : ℕ). set b.nodes i q) here in
+      let all = over_more a.nodes b.nodes handed place p q lost first.more.hands first.long first.left found over in
+      record {
+        more = record {
+          taken = go_further a.nodes b.nodes c.nodes first.more.taken second.taken;
+          handed = handed ++ lost ∷ [];
+          hands = subst (λ (ns : List ProgressState). AllHandOver a.nodes ns (handed ++ lost ∷ [])) (sym is) all.0;
+          losing = losing ∙ ap (λ (fs : List Frame). fs ++ lost) first.more.losing ∙ append_assoc a.losing (together handed) lost
+              ∙ ap (λ (fs : List Frame). a.losing ++ fs)
+              (ap (λ (fs : List Frame). together handed ++ fs) (sym (append-nil lost)) ∙ sym (flat_map-append (λ (fs : List Frame). fs) handed (lost ∷ [])));
+          rest = second.rest ∙ (λ i. record (first.more.rest i) { nodes = c.nodes; losing = c.losing });
+          audited = second.audited;
+        };
+        long = omega (arith, length-append handed (lost ∷ []), first.long);
+        left =
+            subst (λ (n : ℕ). drop n c.nodes ≡ drop n a.nodes) next
+            (subst (λ (ns : List ProgressState). drop (suc place) ns ≡ drop (suc place) a.nodes) (sym is) all.1);
+      }
+
+  -- one node more
+  pub took_further : TakesAllAt b.nodes b.losing (place + 1) c.nodes c.losing → TakesUpTo a (place + 1) c
+  took_further at = further at.0 at.2.0 at.2.3 at.1 at.2.2 at.2.4 at.2.5
+
+  -- it handed over nothing
+  nothing_further : (p q : ProgressState) → slice_get b.nodes (place + 1 - 1) ≡ Some p → c.nodes ≡ set b.nodes (place + 1 - 1) q → HandsNothing p q → c.losing ≡ b.losing → TakesMore a c
+  nothing_further p q at is_at none losing =
+      let handed = first.more.handed in
+      let found : slice_get b.nodes place ≡ Some p = ap (slice_get b.nodes) (sym here) ∙ at in
+      let is : c.nodes ≡ set b.nodes place q = is_at ∙ ap (λ (i : ℕ). set b.nodes i q) here in
+      record {
         taken = go_further a.nodes b.nodes c.nodes first.more.taken second.taken;
-        handed = handed ++ second.handed ∷ [];
-        hands = subst (λ (ns : List ProgressState). AllHandOver a.nodes ns (handed ++ second.handed ∷ [])) (sym is) over.0;
-        losing = second.losing ∙ ap (λ (fs : List Frame). fs ++ second.handed) first.more.losing ∙ append_assoc a.losing (together handed) second.handed
-            ∙ ap (λ (fs : List Frame). a.losing ++ fs)
-            (ap (λ (fs : List Frame). together handed ++ fs) (sym (append-nil second.handed)) ∙ sym (flat_map-append (λ (lost : List Frame). lost) handed (second.handed ∷ [])));
+        handed = handed;
+        hands = subst (λ (ns : List ProgressState). AllHandOver a.nodes ns handed) (sym is) (over_none a.nodes b.nodes handed place p q first.more.hands first.long found none);
+        losing = losing ∙ first.more.losing;
         rest = second.rest ∙ (λ i. record (first.more.rest i) { nodes = c.nodes; losing = c.losing });
         audited = second.audited;
-      };
-      long = omega (arith, length-append handed (second.handed ∷ []), first.long);
-      left =
-          subst (λ (n : ℕ). drop n c.nodes ≡ drop n a.nodes) next
-          (subst (λ (ns : List ProgressState). drop (suc place) ns ≡ drop (suc place) a.nodes) (sym is) over.1);
-    }
+      }
+
+  -- the last node of which something was taken, or nothing
+  pub took_last : TakesMore a c
+  took_last =
+      let at = second.at_node (omega (arith, within)) in
+      elim (at.2.1) [
+        | inl none ↦ nothing_further at.0 at.2.0 at.1 at.2.2 none.0 (second.losing ∙ ap (λ (fs : List Frame). b.losing ++ fs) none.1 ∙ append-nil b.losing)
+        | inr over ↦ (further at.0 at.2.0 second.handed at.1 at.2.2 over second.losing).more
+      ]
 
 pub handed_at : (nodes nodes' : List ProgressState) (losing losing' : List Frame) (node place : ℕ) (p q : ProgressState) (answer : Result (Unit {0}) TakeError)
     → place + 1 ≡ node → place < length nodes → p ≡ get_or nodes place p → nodes' ≡ set nodes place q
@@ -322,7 +386,7 @@ took_by_handing old new node number answer same (inr some) rest audited = record
   taken = subst (TakenGoOn old.nodes) (sym some.2.3) (go_on_at old.nodes (node - 1) some.0 some.2.0 some.1 some.2.2.goes_on);
   handed = some.2.1;
   at_node = λ within.
-      subst (λ (n : ℕ). AtNumber old.nodes n (λ p. (q : ProgressState) × HandsOver p q some.2.1 × (new.nodes ≡ set old.nodes (n - 1) q))) same
+      subst (λ (n : ℕ). AtNumber old.nodes n (λ p. (q : ProgressState) × MayHandOver p q some.2.1 × (new.nodes ≡ set old.nodes (n - 1) q))) same
       (some.0, some.1, (some.2.0, some.2.2.hands, some.2.3));
   losing = some.2.4;
   rest = rest;
@@ -332,19 +396,19 @@ took_by_handing old new node number answer same (inr some) rest audited = record
 -- ---- What is kept
 
 pub takes_all_at : (nodes nodes' : List ProgressState) (losing losing' : List Frame) (node number : ℕ) (x : Unit {0}) → node ≡ number → TakesHanded nodes losing node (Ok x) nodes' losing'
-    → TakesAllAt nodes number nodes'
+    → TakesAllAt nodes losing number nodes' losing'
 takes_all_at nodes nodes' losing losing' node number x same (inl none) =
     let is : Ok x ≡ Err NoNode = none.1 in
     absurd (cc)
 takes_all_at nodes nodes' losing losing' node number x same (inr some) =
-    subst (λ (n : ℕ). TakesAllAt nodes n nodes') same (some.2.0, some.2.2.ok, some.2.3)
+    subst (λ (n : ℕ). TakesAllAt nodes losing n nodes' losing') same (some.0, some.1, (some.2.0, some.2.2.ok, some.2.3, some.2.1, some.2.2.all, some.2.4))
 
-pub none_kept_more : (nodes nodes' : List ProgressState) (place : ℕ) → place < length nodes → AllWithin (λ p. p.kept ≡ []) nodes 0 place → TakesAllAt nodes (place + 1) nodes'
-    → AllWithin (λ p. p.kept ≡ []) nodes' 0 (place + 1)
-none_kept_more nodes nodes' place within so_far at =
-    let q = at.0 in
-    let none = at.1 in
-    let is = at.2 in
+pub none_kept_more : (nodes nodes' : List ProgressState) (losing losing' : List Frame) (place : ℕ) → place < length nodes → AllWithin (λ p. p.kept ≡ []) nodes 0 place
+    → TakesAllAt nodes losing (place + 1) nodes' losing' → AllWithin (λ p. p.kept ≡ []) nodes' 0 (place + 1)
+none_kept_more nodes nodes' losing losing' place within so_far at =
+    let q = at.2.0 in
+    let none = at.2.1 in
+    let is = at.2.2 in
     let here : place + 1 - 1 ≡ place = omega arith in
     subst (λ (ns : List ProgressState). AllWithin (λ p. p.kept ≡ []) ns 0 (place + 1)) (sym (is ∙ ap (λ (i : ℕ). set nodes i q) here))
     (AllWithin-more_set nodes place q within (λ p. p.kept ≡ []) so_far none)
@@ -491,6 +555,20 @@ audits_all old mid new told told' takes advances losses lost sent = record {
   sent = sent;
 }
 
+-- of as many nodes
+as_many : (mid new : List ProgressState) → map taken_of new ≡ map taken_of mid → length new ≡ length mid
+as_many mid new taken = sym (length-map new taken_of) ∙ ap (λ (es : List (List BookEvent)). length es) taken ∙ length-map mid taken_of
+
+-- whose sites handed over all that was left
+pub asks_all : (old mid new : AuditState) (told told' : List Mark) (x : Unit {0}) (takes : TakesMore old mid) → length takes.handed ≡ length mid.nodes
+    → Advances mid.world mid.nodes told new.world new.nodes told' → PutsLosses new.nodes mid.losing mid.lost new.losing new.lost → HasLost new.world.moves new.lost
+    → AllWereSent new.nodes new.world.moves new.lost → AuditsByAnswer {E = RoundError} old told new told' (Ok x)
+unfolding audits_all
+asks_all old mid new told told' x takes all advances losses lost sent = record {
+  audits = audits_all old mid new told told' takes advances losses lost sent;
+  asked = all ∙ sym (as_many mid.nodes new.nodes advances.taken);
+}
+
 -- what holds if all that can be put was put
 pub if_done : (A : Type 0) (r : Result (Unit {0}) AuditError) → IsOk r → OnOk r A → A
 if_done A (Ok x) done h = h
@@ -517,8 +595,9 @@ audits_noted old new noted told told' fault same a = subst (λ (x : AuditState).
 
 -- ---- With none
 
-pub audits_as : (old new noted : AuditState) (told told' : List Mark) → noted ≡ new → Audits old told new told' → Audits old told noted told'
-audits_as old new noted told told' same = subst (λ (x : AuditState). Audits old told x told') (sym same)
+pub audits_as : (old new noted : AuditState) (told told' : List Mark) (x : Unit {0}) → noted ≡ new → AuditsByAnswer {E = RoundError} old told new told' (Ok x)
+    → AuditsByAnswer {E = RoundError} old told noted told' (Ok x)
+audits_as old new noted told told' x same = subst (λ (s : AuditState). AuditsByAnswer {E = RoundError} old told s told' (Ok x)) (sym same)
 
 pub none_ready_as : (new noted : AuditState) → noted ≡ new → NoneIsReady new.nodes → NoneIsReady noted.nodes
 none_ready_as new noted same = subst (λ (a : AuditState). NoneIsReady a.nodes) (sym same)

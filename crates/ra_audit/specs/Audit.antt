@@ -29,7 +29,7 @@ use Rattle.ra_history.specs.History.{clock_after, clock_of, frames_at, node_even
 use Rattle.ra_history.specs.Book.{BookState, whole_events}
 use Rattle.ra_history.specs.Settled.{step_at, frames_in, received_among}
 use Rattle.ra_cluster.specs.Cluster.{ClusterState}
-use Rattle.ra_cluster.specs.Handing.{IsHandedOver}
+use Rattle.ra_cluster.specs.Handing.{IsLeftOfBook}
 
 -- ---- What an auditor knows
 
@@ -205,19 +205,24 @@ TakenGoOn [] (new ∷ news) = ⊥
 TakenGoOn (old ∷ olds) [] = ⊥
 TakenGoOn (old ∷ olds) (new ∷ news) = GoesOnFrom old new × TakenGoOn olds news
 
--- What the node's book has handed over are the same events as before, and then further ones. With these, its site handed over
--- these frames as lost: all that the book had by then, or nothing.
+-- The node's site handed over all that a book of the node had left after the events that it had handed over before: further events
+-- and, as lost, these frames.
 abbrev pub HandsOver : ProgressState → ProgressState → List Frame → Type 0
 HandsOver old new lost = (more : List BookEvent) × (handed_over new ≡ handed_over old ++ more)
-    × IsHandedOver old.node (clock_of (handed_over old)) more lost
+    × IsLeftOfBook old.node (clock_of (handed_over old)) more lost
 
--- each node's site handed over the frames of its list as lost, in the order of the nodes; those of the nodes after these, none
+-- the node's site handed over nothing, since it was not asked or refused
+abbrev pub HandsNothing : ProgressState → ProgressState → Type 0
+HandsNothing old new = handed_over new ≡ handed_over old
+
+-- The sites of the first nodes handed over all that was left, as many as there are lists: of each, in the order of the nodes, its list
+-- has the frames that it handed over as lost. Those of the nodes after these handed over nothing.
 abbrev pub AllHandOver : List ProgressState → List ProgressState → List (List Frame) → Type 0
 AllHandOver [] [] [] = Unit {0}
 AllHandOver [] [] (lost ∷ handed) = ⊥
 AllHandOver [] (new ∷ news) handed = ⊥
 AllHandOver (old ∷ olds) [] handed = ⊥
-AllHandOver (old ∷ olds) (new ∷ news) [] = HandsOver old new [] × AllHandOver olds news []
+AllHandOver (old ∷ olds) (new ∷ news) [] = HandsNothing old new × AllHandOver olds news []
 AllHandOver (old ∷ olds) (new ∷ news) (lost ∷ handed) = HandsOver old new lost × AllHandOver olds news handed
 
 -- all that books have handed over is taken
@@ -233,6 +238,11 @@ pub record TakesMore (old new : AuditState) : Type 0 where
   pub losing : new.losing ≡ old.losing ++ flat_map (λ lost. lost) handed
   pub rest : new ≡ record old { nodes = new.nodes; losing = new.losing }
   pub audited : IsAudited new.world new.nodes
+
+-- The same; and if all was taken, each node's site handed over all that was left.
+pub record TakesByAnswer {E : Type 0} (old new : AuditState) (answer : Result (Unit {0}) E) : Type 0 where
+  pub more : TakesMore old new
+  pub asked : OnOk answer (length more.handed ≡ length new.nodes)
 
 -- Some of the losses that were still to be put are in the run now, or none more: each only after the run has come to its
 -- frame. The others are still to be put, in any order. So no frame is forgotten, and none is lost more often than noted.
@@ -258,6 +268,11 @@ pub record Audits (old : AuditState) (told : List Mark) (new : AuditState) (told
   pub losses : PutsLosses new.nodes (old.losing ++ flat_map (λ lost. lost) handed) old.lost new.losing new.lost
   pub lost : HasLost new.world.moves new.lost
   pub sent : AllWereSent new.nodes new.world.moves new.lost
+
+-- The same; and if the round is Ok, each node's site handed over all that was left.
+pub record AuditsByAnswer {E : Type 0} (old : AuditState) (told : List Mark) (new : AuditState) (told' : List Mark) (answer : Result (Unit {0}) E) : Type 0 where
+  pub audits : Audits old told new told'
+  pub asked : OnOk answer (length audits.handed ≡ length new.nodes)
 
 -- ---- What holds of the run
 
@@ -306,13 +321,18 @@ pub record Takes (nodes : List ProgressState) (node after : ℕ) (events : List 
 abbrev pub KeptAreNext : ProgressState → Type 0
 KeptAreNext p = AreNextAt p.node (clock_of (taken_of p)) p.kept
 
+-- the node's site handed over nothing, or these frames with all that was left
+abbrev pub MayHandOver : ProgressState → ProgressState → List Frame → Type 0
+MayHandOver p q handed = (HandsNothing p q × (handed ≡ [])) ⊎ HandsOver p q handed
+
 -- What is known of a node after its site handed over what has happened and these frames, which were lost, or nothing. It goes on
--- from before, with the same events in the run. If the answer is Ok, nothing is kept. If it is OutOfTurn, nothing is kept
--- either, and nothing was handed over. It is NotNext exactly if what is kept can't be the node's next events. Memory is the
--- only other error, after which what is kept can be.
+-- from before, with the same events in the run. If the answer is Ok, the site handed over all that was left, and nothing is kept. If
+-- it is OutOfTurn, nothing is kept either, and nothing was handed over. It is NotNext exactly if what is kept can't be the node's next
+-- events. Memory is the only other error, after which what is kept can be.
 pub record TakesOver (p q : ProgressState) (handed : List Frame) (answer : Result (Unit {0}) TakeError) : Type 0 where
   pub goes_on : GoesOnFrom p q
-  pub hands : HandsOver p q handed
+  pub hands : MayHandOver p q handed
+  pub all : OnOk answer (HandsOver p q handed)
   pub settled : q.settled ≡ p.settled
   pub ok : OnOk answer (q.kept ≡ [])
   pub no_node : IsErrOf answer NoNode → ⊥
@@ -334,15 +354,17 @@ TakesHanded nodes losing node answer nodes' losing' =
 pub record TakesMoreAt (old : AuditState) (number : ℕ) (new : AuditState) : Type 0 where
   pub taken : TakenGoOn old.nodes new.nodes
   pub handed : List Frame
-  pub at_node : number ≤ length old.nodes → AtNumber old.nodes number (λ p. (q : ProgressState) × HandsOver p q handed
+  pub at_node : number ≤ length old.nodes → AtNumber old.nodes number (λ p. (q : ProgressState) × MayHandOver p q handed
       × (new.nodes ≡ slice_set old.nodes (number - 1) q))
   pub losing : new.losing ≡ old.losing ++ handed
   pub rest : new ≡ record old { nodes = new.nodes; losing = new.losing }
   pub audited : IsAudited new.world new.nodes
 
--- nothing is kept of the node any more, and the other nodes are as before
-abbrev pub TakesAllAt : List ProgressState → ℕ → List ProgressState → Type 0
-TakesAllAt nodes node nodes' = (q : ProgressState) × (q.kept ≡ []) × (nodes' ≡ slice_set nodes (node - 1) q)
+-- Nothing is kept of the node any more, and the other nodes are as before. The node's site handed over all that was left: the
+-- frames that are still to be lost, after the others, and further events.
+abbrev pub TakesAllAt : List ProgressState → List Frame → ℕ → List ProgressState → List Frame → Type 0
+TakesAllAt nodes losing node nodes' losing' = AtNumber nodes node (λ p. (q : ProgressState) × (q.kept ≡ [])
+    × (nodes' ≡ slice_set nodes (node - 1) q) × (handed : List Frame) × HandsOver p q handed × (losing' ≡ losing ++ handed))
 
 -- Why the events of a node were not taken, by what is known of it now. OutOfTurn: nothing is kept. NotNext: what is kept can't
 -- be its next events. Memory: what is kept can be.
@@ -427,6 +449,8 @@ pub record AnswersRound (cluster : ClusterState) (old : AuditState) (told : List
   pub ok : OnOk answer (NoneIsReady new.nodes)
   pub none_reached : OnOk answer (NoneIsReached new.nodes new.losing)
   pub kept : OnOk answer (NoneIsKept new.nodes)
+  -- each site handed over all that was left
+  pub asked : OnOk answer (length audits.handed ≡ length new.nodes)
   pub may_be_put : OnOk answer (All (MayBePut (clocks_taken old.nodes) new.nodes) new.nodes)
   pub not_audited : IsErrOf answer NotAudited ↔ (cluster.audited ≡ false)
   pub other_cluster : IsErrOf answer OtherCluster ↔ ((cluster.audited ≡ true) × (IsAuditorOf cluster old → ⊥))

@@ -8,7 +8,7 @@ pub mod put_events;
 pub mod put_losses;
 pub mod unsettled;
 
-ghost use Rattle.std.specs.Prelude.{◌≡◌, ◌≢◌, ◌↔◌, ◌++◌, [], ℕ, List, Some, None, All, length, map, sum_by, IsErrOf, IfOk, IfSome, IsNone, IsTrue, OnOk, OnErr, MatchOption};
+ghost use Rattle.std.specs.Prelude.{◌≡◌, ◌≢◌, ◌↔◌, ◌++◌, true, [], ℕ, List, Some, None, All, length, map, sum_by, IsErrOf, IfOk, IfSome, IsNone, IsTrue, OnOk, OnErr, MatchOption};
 ghost use Rattle.std.specs.List.{range_with_len};
 ghost use Rattle.ra_stamp.specs.NodeId.{IsNodeNumber};
 ghost use Rattle.ra_world.specs.Traffic.{LeavesUnderWay, sent_by};
@@ -168,7 +168,7 @@ impl Auditor {
         self.count == nodes && self.start == start
     }
 
-    /// Has a site hand over what has happened since the last time, and takes it and notes the lost frames, as
+    /// Has an audited site hand over what has happened since the last time, and takes it and notes the lost frames, as
     /// [`NodeProgress::take_handed`] does.
     ///
     /// # Errors
@@ -180,7 +180,8 @@ impl Auditor {
         alloc: Global,
         site: &Site,
     ) -> Result<(), TakeError>
-        ensures handed { TakesHanded self.old.nodes self.old.losing site.now result self.new.nodes self.new.losing }
+        requires { site.now.audited ≡ true }
+        ensures handed { TakesHanded self.old.nodes self.old.losing site.now.node result self.new.nodes self.new.losing }
         ensures rest { self.new ≡ record self.old { nodes = self.new.nodes; losing = self.new.losing } }
         ensures audited { IsAudited self.new.world self.new.nodes }
         ensures sent { AllWereSent self.new.nodes self.new.world.moves self.new.lost }
@@ -429,7 +430,7 @@ fn take_into(
     progress.take(after, events)
 }
 
-/// Has a site hand over what has happened since the last time, and one of these takes it, as `take_handed` does.
+/// Has an audited site hand over what has happened since the last time, and one of these takes it, as `take_handed` does.
 fn take_handed_into<R: Wait>(
     rt: &R,
     alloc: Global,
@@ -437,8 +438,9 @@ fn take_handed_into<R: Wait>(
     losses: &mut Losses,
     site: &Site,
 ) -> Result<(), TakeError>
-    requires { (count : ℕ) × (map (λ p. p.node) nodes.old ≡ range_with_len 1 count) }
-    ensures handed { TakesHanded nodes.old losses.old.losing site.now result nodes.new losses.new.losing }
+    requires numbers { (count : ℕ) × (map (λ p. p.node) nodes.old ≡ range_with_len 1 count) }
+    requires audited { site.now.audited ≡ true }
+    ensures handed { TakesHanded nodes.old losses.old.losing site.now.node result nodes.new losses.new.losing }
     ensures lost { losses.new.lost ≡ losses.old.lost }
 {
     let place = site.node().place();

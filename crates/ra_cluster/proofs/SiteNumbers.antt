@@ -1,15 +1,16 @@
 -- The sites of a cluster are in the order of their numbers, and so are the books that they give when they are closed.
-use Rattle.std.proofs.Common.{◌≡◌, ℕ, Bool, zero, suc, ◌+◌, ◌<◌, ◌≤◌, List, [], ◌∷◌, ◌++◌, map, length, get_or, Bor, Option, Some, None, is_some, IfSome, ltb, sym, ap, ◌∙◌, arith}
+use Rattle.std.proofs.Common.{◌≡◌, ℕ, Bool, zero, suc, ◌+◌, ◌<◌, ◌≤◌, List, [], ◌∷◌, ◌++◌, map, length, get_or, Bor, Option, Some, None, is_some, IfSome, ltb, refl, sym, ap, ◌∙◌, false, arith}
 use Rattle.std.specs.Prelude.{All}
 use Rattle.std.specs.List.{range_with_len}
 use Rattle.std.proofs.Math.Seq.{get_or-append_seam}
-use Rattle.std.proofs.lemmas.List.{nil_from_length, length-append, map-append, length-map, append-nil, append_assoc, same_lists}
+use Rattle.std.proofs.lemmas.List.{nil_from_length, length-append, map-append, length-map, get_or-map, append-nil, append_assoc, same_lists}
 use Rattle.std.proofs.lemmas.List.Elements.{All-append, All-nil, All-cons}
 use Rattle.std.proofs.lemmas.List.FromFn.{length-range_with_len, get_or-range_with_len}
 use borrow.Author.Tests.{ltb-true}
 use Rattle.ra_history.specs.Book.{BookState, IsWhole, HasHistory}
 use Rattle.ra_history.specs.Settled.{IsCluster, start_of}
 use Rattle.ra_cluster.specs.Cluster.{ClusterState}
+use Rattle.ra_cluster.specs.Sites.{SiteState, site_at, sites_to}
 
 abbrev state_of : ℕ → Bool → ℕ → ClusterState
 state_of start audited nodes = record { nodes = nodes; start = start; audited = audited }
@@ -19,18 +20,38 @@ pub made_of : (n start : ℕ) (audited : Bool) (sites : ℕ) → sites ≡ n
     → ◌≡◌ {A = ClusterState} (record { nodes = sites; start = start; audited = audited }) (record { nodes = n; start = start; audited = audited })
 made_of n start audited sites is = ap (state_of start audited) is
 
+-- the numbers of the sites' nodes
+abbrev pub nodes_at : List SiteState → List ℕ
+nodes_at sites = map (λ (site : SiteState). site.node) sites
+
 -- there are as many sites as numbers
-pub count_of : (n : ℕ) (sites : List ℕ) → sites ≡ range_with_len 1 n → length sites ≡ n
-count_of n sites are = ap length are ∙ length-range_with_len 1 n
+pub count_of : (n : ℕ) (audited : Bool) (sites : List SiteState) → sites ≡ sites_to n audited → length sites ≡ n
+count_of n audited sites are = ap length are ∙ length-map (range_with_len 1 n) (site_at audited) ∙ length-range_with_len 1 n
+
+same_numbers : (audited : Bool) (numbers : List ℕ) → map (λ (site : SiteState). site.node) (map (site_at audited) numbers) ≡ numbers
+same_numbers audited [] = refl
+same_numbers audited (x ∷ xs) = ap (λ (ys : List ℕ). x ∷ ys) (same_numbers audited xs)
+
+-- they have these numbers
+pub numbered : (n : ℕ) (audited : Bool) (sites : List SiteState) → sites ≡ sites_to n audited → nodes_at sites ≡ range_with_len 1 n
+numbered n audited sites are = ap (map (λ (site : SiteState). site.node)) are ∙ same_numbers audited (range_with_len 1 n)
+
+-- and in as many there is each node
+pub in_order : (n : ℕ) (audited : Bool) (sites : List SiteState) → sites ≡ sites_to n audited → nodes_at sites ≡ range_with_len 1 (length sites)
+in_order n audited sites are = numbered n audited sites are ∙ ap (λ (k : ℕ). range_with_len 1 k) (sym (count_of n audited sites are))
 
 -- the site that is found at a place has the number after it
-pub found_at : (n node place : ℕ) (sites : List ℕ) (found : Option (Bor ℕ)) → sites ≡ range_with_len 1 n → place + 1 ≡ node
-    → is_some found ≡ ltb place (length sites) → IfSome found (λ s. s.now ≡ get_or sites place s.now) → IfSome found (λ s. s.now ≡ node)
-found_at n node place sites None are is within at = tt
-found_at n node place sites (Some s) are is within at =
-    let low : place < n = omega (arith, ltb-true place (length sites) (sym within), count_of n sites are) in
+pub found_at : (n node place : ℕ) (audited : Bool) (sites : List SiteState) (found : Option (Bor SiteState)) → sites ≡ sites_to n audited → place + 1 ≡ node
+    → is_some found ≡ ltb place (length sites) → IfSome found (λ s. s.now ≡ get_or sites place s.now) → IfSome found (λ s. s.now ≡ site_at audited node)
+found_at n node place audited sites None are is within at = tt
+found_at n node place audited sites (Some s) are is within at =
+    let low : place < n = omega (arith, ltb-true place (length sites) (sym within), count_of n audited sites are) in
+    let low' : place < length (range_with_len 1 n) = omega (arith, low, length-range_with_len 1 n) in
     let e : 1 + place ≡ node = omega arith in
-    at ∙ ap (λ (xs : List ℕ). get_or xs place s.now) are ∙ get_or-range_with_len 1 n place s.now low ∙ e
+    at
+    ∙ ap (λ (xs : List SiteState). get_or xs place s.now) are
+    ∙ get_or-map (site_at audited) (range_with_len 1 n) place 0 s.now low'
+    ∙ ap (site_at audited) (get_or-range_with_len 1 n place 0 low ∙ e)
 
 -- one more number comes after those that there are
 numbers_from : (a n : ℕ) → range_with_len a (suc n) ≡ range_with_len a n ++ (a + n) ∷ []
@@ -39,13 +60,21 @@ numbers_from a (suc n) =
     let e : (a + 1) + n ≡ a + suc n = omega arith in
     ap (λ (xs : List ℕ). a ∷ xs) (numbers_from (a + 1) n ∙ ap (λ (x : ℕ). range_with_len (a + 1) n ++ x ∷ []) e)
 
-pub numbers_more : (n : ℕ) (sites new : List ℕ) → sites ≡ range_with_len 1 n → new ≡ sites ++ (n + 1) ∷ [] → new ≡ range_with_len 1 (n + 1)
+numbers_more : (n : ℕ) (sites new : List ℕ) → sites ≡ range_with_len 1 n → new ≡ sites ++ (n + 1) ∷ [] → new ≡ range_with_len 1 (n + 1)
 numbers_more n sites new are is =
     is
     ∙ ap (λ (xs : List ℕ). xs ++ (n + 1) ∷ []) are
     ∙ (let e : n + 1 ≡ 1 + n = omega arith in ap (λ (x : ℕ). range_with_len 1 n ++ x ∷ []) e)
     ∙ sym (numbers_from 1 n)
     ∙ (let e : suc n ≡ n + 1 = omega arith in ap (λ (k : ℕ). range_with_len 1 k) e)
+
+-- and so does one more site
+pub sites_more : (n : ℕ) (audited : Bool) (sites new : List SiteState) → sites ≡ sites_to n audited → new ≡ sites ++ site_at audited (n + 1) ∷ [] → new ≡ sites_to (n + 1) audited
+sites_more n audited sites new are is =
+    is
+    ∙ ap (λ (xs : List SiteState). xs ++ site_at audited (n + 1) ∷ []) are
+    ∙ sym (map-append (site_at audited) (range_with_len 1 n) ((n + 1) ∷ []))
+    ∙ ap (map (site_at audited)) (numbers_more n (range_with_len 1 n) (range_with_len 1 n ++ (n + 1) ∷ []) refl refl)
 
 abbrev pub numbers_of : List BookState → List ℕ
 numbers_of books = map (λ b. b.me) books
@@ -140,16 +169,26 @@ closes_all n start books left some empty c =
     }
 
 -- so many of the sites, from the first one on, have the numbers of the first nodes
-abbrev pub AreFirst : List ℕ → ℕ → Type 0
-AreFirst sites i = (k d : ℕ) → k < i → get_or sites k d ≡ k + 1
+abbrev pub AreFirst : List SiteState → ℕ → Type 0
+AreFirst sites i = (k : ℕ) (d : SiteState) → k < i → (get_or sites k d).node ≡ k + 1
 
 -- sites of which each has the number of its place are those of nodes 1 to n, in order
-pub numbers_of_first : (sites : List ℕ) (i : ℕ) → i ≡ length sites → AreFirst sites i → sites ≡ range_with_len 1 (length sites)
+pub numbers_of_first : (sites : List SiteState) (i : ℕ) → i ≡ length sites → AreFirst sites i → nodes_at sites ≡ range_with_len 1 (length sites)
 numbers_of_first sites i all first =
-    same_lists sites (range_with_len 1 (length sites)) (sym (length-range_with_len 1 (length sites)))
-    (λ k d within. first k d (omega (arith, all, within)) ∙ (let e : k + 1 ≡ 1 + k = omega arith in e) ∙ sym (get_or-range_with_len 1 (length sites) k d within))
+    let count = length-map sites (λ (site : SiteState). site.node) in
+    same_lists (nodes_at sites) (range_with_len 1 (length sites)) (count ∙ sym (length-range_with_len 1 (length sites)))
+    (λ k d within.
+    let low : k < length sites = omega (arith, within, count) in
+    get_or-map (λ (site : SiteState). site.node) sites k (site_at false 0) d low
+    ∙ first k (site_at false 0) (omega (arith, all, low))
+    ∙ (let e : k + 1 ≡ 1 + k = omega arith in e)
+    ∙ sym (get_or-range_with_len 1 (length sites) k d low))
 
 -- the other way round, the number of each is that of its place
-pub number_of : (sites : List ℕ) → sites ≡ range_with_len 1 (length sites) → (k d : ℕ) → k < length sites → get_or sites k d ≡ k + 1
+pub number_of : (sites : List SiteState) → nodes_at sites ≡ range_with_len 1 (length sites) → (k : ℕ) (d : SiteState) → k < length sites
+    → (get_or sites k d).node ≡ k + 1
 number_of sites are k d within =
-    ap (λ (xs : List ℕ). get_or xs k d) are ∙ get_or-range_with_len 1 (length sites) k d within ∙ (let e : 1 + k ≡ k + 1 = omega arith in e)
+    sym (get_or-map (λ (site : SiteState). site.node) sites k d 0 within)
+    ∙ ap (λ (xs : List ℕ). get_or xs k 0) are
+    ∙ get_or-range_with_len 1 (length sites) k 0 within
+    ∙ (let e : 1 + k ≡ k + 1 = omega arith in e)

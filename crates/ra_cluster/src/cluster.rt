@@ -8,8 +8,8 @@ pub mod script_threads;
 pub mod settled_script;
 
 ghost use Rattle.std.specs.Prelude.{◌≡◌, ◌↔◌, ◌<◌, ◌≤◌, true, false, [], IfOk, IfSome, IsNone, IsErrOf, All, vec_len, vec_capacity};
-ghost use Rattle.std.specs.List.{range_with_len};
 ghost use Rattle.ra_stamp.specs.NodeId.{IsNodeNumber};
+ghost use Rattle.ra_cluster.specs.Sites.{sites_to};
 
 use crate::cluster::all_sites::{make_sites, stop_all};
 use crate::cluster::book_room::BookRoom;
@@ -92,15 +92,15 @@ impl<G: Drop> Drop for Cluster<G> {
 
 impl<G> Model for Cluster<G> {
     ghost use Rattle.std.specs.Prelude.{◌≡◌, vec_len};
-    ghost use Rattle.std.specs.List.{range_with_len};
     ghost use Rattle.ra_stamp.specs.NodeId.{IsNodeNumber};
     ghost use Rattle.ra_cluster.specs.Cluster.{ClusterState};
+    ghost use Rattle.ra_cluster.specs.Sites.{sites_to};
 
     ghost Value = { ClusterState };
 
     ghost view = { λ c. record { nodes = vec_len c.sites; start = c.start; audited = c.audited } };
 
-    ghost invariant = { λ c. IsNodeNumber (vec_len c.sites) × (c.sites.items ≡ range_with_len 1 (vec_len c.sites)) };
+    ghost invariant = { λ c. IsNodeNumber (vec_len c.sites) × (c.sites.items ≡ sites_to (vec_len c.sites) c.audited) };
 }
 
 impl<G: Gate + Drop> Cluster<G> {
@@ -108,7 +108,7 @@ impl<G: Gate + Drop> Cluster<G> {
     ghost use Rattle.ra_history.specs.Settled.{IsCluster, start_of};
     ghost use Rattle.ra_cluster.specs.ClientGrant.{IsGrantOf};
     ghost use Rattle.ra_cluster.specs.Cluster.{MakesCluster};
-    ghost use Rattle.ra_cluster.specs.Sites.{AreSitesWith};
+    ghost use Rattle.ra_cluster.specs.Sites.{AreSitesWith, site_at};
 
     /// Makes a cluster of this many nodes, in which nothing has happened yet. The highest number of each resource
     /// begins at `start`, 0 to 2^64-1. The cost is linear in the number of nodes.
@@ -195,7 +195,7 @@ impl<G: Gate + Drop> Cluster<G> {
     /// Returns the site of a node, whose readers tell its state, or `None` if there is no such node. It does not
     /// allocate.
     pub fn site(&self, node: NodeId) -> Option<&Site>
-        ensures found { IfSome result (λ site. site.now ≡ node) }
+        ensures found { IfSome result (λ site. site.now ≡ site_at self.now.audited node) }
         ensures absent { IsNone result ↔ self.now.nodes < node }
     {
         self.sites.get(node.place())
@@ -203,7 +203,7 @@ impl<G: Gate + Drop> Cluster<G> {
 
     /// Returns the site of a node, and all sites, or `None` if there is no such node.
     fn site_among_all(&self, node: NodeId) -> Option<(&Site, &[Site])>
-        ensures found { IfSome result (λ found. found.0.now ≡ node) }
+        ensures found { IfSome result (λ found. found.0.now ≡ site_at self.now.audited node) }
         ensures all { IfSome result (λ found. AreSitesWith found.0.now found.1.now) }
         ensures absent { IsNone result ↔ self.now.nodes < node }
     {
@@ -403,7 +403,7 @@ impl<G: Gate + Drop> Cluster<G> {
 
     /// Consumes the cluster, and returns its sites, and an empty list with room for their books.
     fn into_sites(self) -> (Vec<Site>, Vec<Book>)
-        ensures sites { result.0.items ≡ range_with_len 1 self.nodes }
+        ensures sites { result.0.items ≡ sites_to self.nodes self.audited }
         ensures count { IsNodeNumber self.nodes }
         ensures empty { result.1.items ≡ [] }
         ensures room { 64 ≤ vec_capacity result.1 }
@@ -432,7 +432,7 @@ fn sites_and_room(
     start: u64,
     audited: bool,
 ) -> Result<(Vec<Site>, BookRoom), Memory>
-    ensures { IfOk result (λ made. made.0.items ≡ range_with_len 1 nodes) }
+    ensures { IfOk result (λ made. made.0.items ≡ sites_to nodes audited) }
 {
     let room = BookRoom::new(alloc)?;
     let sites = make_sites(alloc, nodes, start, audited)?;

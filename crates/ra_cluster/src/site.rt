@@ -7,7 +7,7 @@ pub mod stop_causes;
 pub mod take_error;
 pub mod ticket;
 
-ghost use Rattle.std.specs.Prelude.{◌≡◌, ◌⊎◌, ◌≤◌, [], All, IfOk, IsTrue};
+ghost use Rattle.std.specs.Prelude.{◌≡◌, ◌≤◌, true, false, [], All, IfOk, IsTrue, OnErr};
 ghost use Rattle.ra_stamp.specs.NodeId.{IsNodeNumber};
 ghost use Rattle.ra_frame.specs.Fits.{Fits};
 
@@ -40,7 +40,8 @@ pub enum SiteError {
     Stopped(Stop),
 }
 
-/// A node that threads share: its number, and its book under a lock, with the clients that wait. Contracts see the number.
+/// A node that threads share: its number, and its book under a lock, with the clients that wait. Contracts see the number, and
+/// whether an auditor takes what happens at it.
 ///
 /// Besides what the book's call takes, `lock`, `unlock` and `pump` take the post that carries the frames, the sites of all
 /// nodes in order, and the gate that watches. Their contracts require these sites, since a lost frame has to stop them all;
@@ -75,11 +76,11 @@ impl Drop for Site {
 }
 
 impl Model for Site {
-    ghost use Rattle.std.specs.Prelude.{ℕ};
+    ghost use Rattle.ra_cluster.specs.Sites.{SiteState};
 
-    ghost Value = { ℕ };
+    ghost Value = { SiteState };
 
-    ghost view = { λ site. site.node };
+    ghost view = { λ site. record { node = site.node; audited = site.sending } };
 }
 
 impl Site {
@@ -87,7 +88,7 @@ impl Site {
     ghost use Rattle.ra_history.specs.Book.{HasHistory};
     ghost use Rattle.ra_cluster.specs.ClientGrant.{IsGrantOf};
     ghost use Rattle.ra_cluster.specs.Handing.{IsHandedOver, OnlyTurnOrMemory};
-    ghost use Rattle.ra_cluster.specs.Sites.{AreSitesWith, IsWholeBookOf};
+    ghost use Rattle.ra_cluster.specs.Sites.{AreSitesWith, IsWholeBookOf, site_at};
 
     /// Makes the site of node `me` of `nodes`, with a book in which nothing has happened yet. The highest number of each
     /// resource begins at `start`, 0 to 2^64-1, which is to be the same at all nodes. It does not allocate.
@@ -99,7 +100,7 @@ impl Site {
     /// 1. `BadCount`: `nodes` is not 1 to 64.
     /// 2. `BadNode`: `me` is above `nodes`.
     pub fn new(alloc: Global, me: NodeId, nodes: u16, start: u64) -> Result<Site, NewError>
-        ensures ok { IfOk result (λ site. site ≡ me) }
+        ensures ok { IfOk result (λ site. site ≡ site_at false me) }
         ensures member { ChecksMember me nodes result }
     {
         let book = Book::new(alloc, me, nodes, start)?;
@@ -109,7 +110,7 @@ impl Site {
     /// Makes the site of a book in which nothing has happened yet, audited or not.
     pub(crate) fn of(alloc: Global, book: Book, audited: bool) -> Site
         requires { book.sent ≡ [] }
-        ensures { result ≡ book.me }
+        ensures { result ≡ site_at audited book.me }
     {
         Site {
             node: book.me(),
@@ -121,7 +122,7 @@ impl Site {
 
     /// Returns the number of its node. It does not allocate.
     pub fn node(&self) -> NodeId
-        ensures { result ≡ self.now }
+        ensures { result ≡ self.now.node }
     {
         self.node
     }
@@ -152,7 +153,7 @@ impl Site {
         gate: &G,
     ) -> Result<Grant, SiteError>
         requires { AreSitesWith self.now sites.now }
-        ensures grant { IfOk result (IsGrantOf self.now client name mode) }
+        ensures grant { IfOk result (IsGrantOf self.now.node client name mode) }
     {
         let request = Request { client, name, mode };
         let ticket = Ticket::new(alloc);
@@ -298,8 +299,9 @@ impl Site {
     /// 2. `Memory`: memory ran out, at an audited node.
     pub fn hand_over<R: Wait>(&self, rt: &R, alloc: Global, after: u64) -> Result<Handed, TakeError>
         ensures handed { IfOk result (λ handed. IsHandedOver self.now after handed.events.items handed.lost.items) }
-        ensures after { IfOk result (λ handed. (handed.after ≡ after) ⊎ (handed.events.items ≡ [])) }
+        ensures after { IfOk result (λ handed. self.now.audited ≡ true → handed.after ≡ after) }
         ensures others { OnlyTurnOrMemory result }
+        ensures unaudited { OnErr result (self.now.audited ≡ true) }
     {
         // The frames that leave the book are dropped at the end, with no lock held.
         let made = {
@@ -343,8 +345,8 @@ impl Site {
     /// `Refused` if it has none. The same would come of the book of another node or cluster, which is never there.
     pub(crate) fn close_as(self, alloc: Global, nodes: u16, start: u64) -> Book
         requires count { IsNodeNumber nodes }
-        requires member { self ≤ nodes }
-        ensures { IsWholeBookOf self nodes start result }
+        requires member { self.node ≤ nodes }
+        ensures { IsWholeBookOf self.node nodes start result }
     {
         let me = self.node;
         let book = self.close();
@@ -477,7 +479,7 @@ impl Site {
         ticket: Option<&SharedTicket>,
         request: &Request,
     ) -> Result<Grant, SiteError>
-        ensures { IfOk result (IsGrantOf self.now request.now.client request.now.name request.now.mode) }
+        ensures { IfOk result (IsGrantOf self.now.node request.now.client request.now.name request.now.mode) }
     {
         let Some(ticket) = ticket else {
             return Err(SiteError::Refused(BookError::Memory));

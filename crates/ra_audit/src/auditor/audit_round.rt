@@ -3,7 +3,7 @@ ghost use Rattle.std.specs.Prelude.{◌≡◌, ◌↔◌, ◌⊎◌, ◌≤◌, 
 ghost use Rattle.ra_audit.specs.declared.audit_error.AuditFault as audit_fault;
 ghost use Rattle.ra_cluster.specs.declared.site.take_error.TakeError.{TakeError};
 ghost use Rattle.ra_frame.specs.declared.frame.Frame.{Frame};
-ghost use Rattle.ra_audit.specs.Audit.{NoneIsReady, NoneIsReached, NoneWaits, IsNeverSent, IsLeastLeft, IsAhead, IsMisfit, IsNotLost, IsUnsent, MayBePut, IsAudited, HasLost, AllWereSent, IsAuditorOf, Audits, TakesMore, TakesMoreAt, TakesAllAt, NotTakenAt, IsNotTaken, NoneIsKept, AnswersRound, clocks_taken, last_round};
+ghost use Rattle.ra_audit.specs.Audit.{NoneIsReady, NoneIsReached, NoneWaits, IsNeverSent, IsLeastLeft, IsAhead, IsMisfit, IsNotLost, IsUnsent, MayBePut, IsAudited, HasLost, AllWereSent, IsAuditorOf, AuditsByAnswer, TakesByAnswer, TakesMoreAt, TakesAllAt, NotTakenAt, IsNotTaken, NoneIsKept, AnswersRound, clocks_taken, last_round};
 ghost use Rattle.ra_stamp.specs.NodeId.{IsNodeNumber};
 
 use crate::{AuditError, Auditor, FinishError, MarkObserver, RoundError};
@@ -175,8 +175,9 @@ fn go_round<R: Wait, G: Gate + Drop, O: MarkObserver>(
     requires lost { HasLost auditor.old.world.moves auditor.old.lost }
     requires sent { AllWereSent auditor.old.nodes auditor.old.world.moves auditor.old.lost }
     requires count { auditor.old.world.count ≡ cluster.now.nodes }
+    requires audited_cluster { cluster.now.audited ≡ true }
     requires unfaulted { auditor.old.fault ≡ None }
-    ensures audits { Audits auditor.old (O.told observer.old) auditor.new (O.told observer.new) }
+    ensures audits { AuditsByAnswer auditor.old (O.told observer.old) auditor.new (O.told observer.new) result }
     ensures ok { OnOk result (NoneIsReady auditor.new.nodes) }
     ensures none_reached { OnOk result (NoneIsReached auditor.new.nodes auditor.new.losing) }
     ensures kept { OnOk result (NoneIsKept auditor.new.nodes) }
@@ -246,7 +247,8 @@ fn take_all<R: Wait, G: Gate + Drop>(
 ) -> Result<(), (NodeId, TakeError)>
     requires audited { IsAudited auditor.old.world auditor.old.nodes }
     requires count { auditor.old.world.count ≡ cluster.now.nodes }
-    ensures more { TakesMore auditor.old auditor.new }
+    requires audited_cluster { cluster.now.audited ≡ true }
+    ensures more { TakesByAnswer auditor.old auditor.new result }
     ensures kept { OnOk result (NoneIsKept auditor.new.nodes) }
     ensures not_taken { (node : ℕ) (cause : TakeError) → IsErrOf result (node, cause) → IsNotTaken auditor.new.nodes node cause }
 {
@@ -271,8 +273,9 @@ fn take_from<R: Wait, G: Gate + Drop>(
 ) -> Result<(), (NodeId, TakeError)>
     requires number { IsNodeNumber number }
     requires member { number ≤ cluster.now.nodes }
+    requires audited { cluster.now.audited ≡ true }
     ensures more { TakesMoreAt auditor.old number auditor.new }
-    ensures all { OnOk result (TakesAllAt auditor.old.nodes number auditor.new.nodes) }
+    ensures all { OnOk result (TakesAllAt auditor.old.nodes auditor.old.losing number auditor.new.nodes auditor.new.losing) }
     ensures not_taken { (node : ℕ) (cause : TakeError) → IsErrOf result (node, cause)
         → number ≤ length auditor.old.nodes
         → (node ≡ number) × NotTakenAt auditor.old.nodes number cause auditor.new.nodes }

@@ -1,9 +1,10 @@
 //! How far the events of a node are in the run of an auditor.
-ghost use Rattle.std.specs.Prelude.{◌≡◌, ◌≢◌, ◌↔◌, ◌<◌, ◌∷◌, ◌++◌, [], List, Some, length, slice_get, IsTrue, IsErrOf, IfSome, OnOk, OnErr, MatchOption};
+ghost use Rattle.std.specs.Prelude.{◌≡◌, ◌≢◌, ◌↔◌, ◌<◌, ◌∷◌, ◌++◌, true, [], List, Some, length, slice_get, IsTrue, IsErrOf, IfSome, OnOk, OnErr, MatchOption};
 ghost use Rattle.ra_history.specs.History.{clock_of, clock_from};
 ghost use Rattle.ra_history.specs.declared.book.event.BookEvent.{BookEvent};
 ghost use Rattle.ra_frame.specs.declared.frame.Frame.{Frame};
-ghost use Rattle.ra_cluster.specs.Handing.{IsHandedOver};
+ghost use Rattle.ra_cluster.specs.Handing.{IsLeftOfBook};
+ghost use Rattle.ra_cluster.specs.Sites.{site_at};
 ghost use Rattle.ra_audit.specs.Audit.{AreNextAt, IsNextAt, IsForNumber, KeptAreNext, TakesOver, fresh_progress, handed_over, taken_of};
 
 use crate::auditor::noted_losses::Losses;
@@ -163,7 +164,7 @@ impl NodeProgress {
         site: &Site,
         losses: &mut Losses,
     ) -> Result<(), TakeError>
-        requires { site.now ≡ self.old.node }
+        requires { site.now ≡ site_at true self.old.node }
         ensures takes { (handed : List Frame) × TakesOver self.old self.new handed result
             × (losses.new.losing ≡ losses.old.losing ++ handed) }
         ensures lost { losses.new.lost ≡ losses.old.lost }
@@ -188,7 +189,7 @@ impl NodeProgress {
         losses: &mut Losses,
     ) -> Result<(), TakeError>
         requires kept { self.old.kept ≡ [] }
-        requires handing { IsHandedOver self.old.node (clock_of (handed_over self.old)) handed.events.items handed.lost.items }
+        requires handing { IsLeftOfBook self.old.node (clock_of (handed_over self.old)) handed.events.items handed.lost.items }
         requires noted { losses.old.noted ≡ [] }
         ensures takes { TakesOver self.old self.new handed.lost.items result }
         ensures handed { handed_over self.new ≡ handed_over self.old ++ handed.events.items }

@@ -1,7 +1,7 @@
 //! The sites of a whole cluster.
 ghost use Rattle.std.specs.Prelude.{◌≡◌, ◌↔◌, ◌++◌, ◌∷◌, [], length, IfOk, IsTrue, OnOk};
 ghost use Rattle.std.specs.List.{range_with_len};
-ghost use Rattle.ra_cluster.specs.Sites.{AreSitesWith};
+ghost use Rattle.ra_cluster.specs.Sites.{AreSitesWith, numbers_of, site_at, sites_to};
 
 use crate::{Book, Site, Stop};
 use ra_stamp::{Memory, NodeId};
@@ -18,7 +18,7 @@ pub fn is_site_of(site: &Site, sites: &[Site]) -> bool
 
 /// Returns whether the sites are those of nodes 1 to n, in order.
 fn are_in_order(sites: &[Site]) -> bool
-    ensures { IsTrue result ↔ (sites.now ≡ range_with_len 1 (length sites.now)) }
+    ensures { IsTrue result ↔ (numbers_of sites.now ≡ range_with_len 1 (length sites.now)) }
 {
     for place in 0..sites.len() {
         if sites[place].node().place() != place {
@@ -35,7 +35,7 @@ fn are_in_order(sites: &[Site]) -> bool
 ///
 /// `Memory`, also if there cannot be this many nodes.
 pub fn make_sites(alloc: Global, nodes: u16, start: u64, audited: bool) -> Result<Vec<Site>, Memory>
-    ensures { IfOk result (λ sites. sites.items ≡ range_with_len 1 nodes) }
+    ensures { IfOk result (λ sites. sites.items ≡ sites_to nodes audited) }
 {
     let mut sites = Vec::new(alloc);
     for place in 0..nodes {
@@ -53,7 +53,7 @@ fn push_site(
     start: u64,
     audited: bool,
 ) -> Result<(), Memory>
-    ensures { OnOk result (sites.new.items ≡ sites.old.items ++ number ∷ []) }
+    ensures { OnOk result (sites.new.items ≡ sites.old.items ++ site_at audited number ∷ []) }
 {
     let Some(me) = NodeId::new(number) else {
         return Err(Memory);

@@ -4,7 +4,7 @@ use ra_stamp::{Entry, NodeId};
 pub trait Gate: Sync {
     /// Is called under the lock of this node, just before each ask, leave and receipt of its book. The answer `false` stops
     /// the cluster, and the call is not made. It must call no site of the cluster, since that would wait for a lock that its
-    /// own thread has.
+    /// own thread has. Nor must it wait for anything else, since meanwhile each other call of this node's site waits for it.
     fn step(&self, node: NodeId) -> bool;
 
     /// Is called by the client threads of [`run_threads`](crate::run_threads), and so of [`run_cluster`](crate::run_cluster), after

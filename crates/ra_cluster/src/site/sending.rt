@@ -1,4 +1,7 @@
 //! How rounds of an audit keep off while threads send.
+ghost use Rattle.std.specs.Prelude.{◌≡◌, ◌↔◌, false, IsNone};
+
+use std::marker::Model;
 use std::sync::{RwLock, RwLockReadGuard, RwLockWriteGuard, Wait};
 
 /// What the threads that send for an audited site share, and a round of the audit has alone. A thread has its share from before
@@ -7,14 +10,27 @@ use std::sync::{RwLock, RwLockReadGuard, RwLockWriteGuard, Wait};
 /// anything is one whose threads keep off.
 ///
 /// A round that waits comes before threads that have no share yet. So a thread must not take a second one.
+///
+/// Contracts see whether the site is audited.
 #[derive(Drop)]
 pub struct Sending {
     lock: Option<RwLock<()>>,
 }
 
+impl Model for Sending {
+    ghost use Rattle.std.specs.Prelude.{Bool};
+    ghost use Rattle.std.specs.Option.{is_some};
+
+    ghost Value = { Bool };
+
+    ghost view = { λ sending. is_some sending.lock };
+}
+
 impl Sending {
     /// Makes that of a site, audited or not.
-    pub fn new(audited: bool) -> Sending {
+    pub fn new(audited: bool) -> Sending
+        ensures { result ≡ audited }
+    {
         let lock = if audited { Some(RwLock::new(())) } else { None };
         Sending { lock }
     }
@@ -30,7 +46,9 @@ impl Sending {
 
     /// Waits until no thread is sending. While the caller keeps the guard, none begins. Returns `None` at once if the site is not
     /// audited.
-    pub fn alone<R: Wait>(&self, rt: &R) -> Option<RwLockWriteGuard<'_, ()>> {
+    pub fn alone<R: Wait>(&self, rt: &R) -> Option<RwLockWriteGuard<'_, ()>>
+        ensures { IsNone result ↔ (self.now ≡ false) }
+    {
         match &self.lock {
             Some(lock) => Some(lock.write(rt)),
             None => None,

@@ -8,17 +8,18 @@ pub returns-clause-handed : goal.returns-clause-handed
 returns-clause-handed r c =
     let nodes = c.args.nodes.now in
     let place = c.place-place.result in
-    let number : place + 1 ≡ c.args.site.now = omega (arith, c.place-place.ensures.value, c.place-place.ensures.valid.0, c.node.ensures) in
+    let number : place + 1 ≡ c.args.site.now.node = omega (arith, c.place-place.ensures.value, c.place-place.ensures.valid.0, c.node.ensures) in
     let within : place < length nodes = omega (arith, c.if-place-nodes.false) in
     let x = c.index-nodes-place.result in
     let p = get_or nodes place x in
-    handed_at nodes _ c.args.losses.now.losing c.take_handed.new.losses.losing c.args.site.now place p c.take_handed.new.self c.take_handed.result number within
+    handed_at nodes _ c.args.losses.now.losing c.take_handed.new.losses.losing c.args.site.now.node place p c.take_handed.new.self c.take_handed.result number within
     (get_or_default nodes place x p within) refl c.take_handed.ensures.takes
 
 pub take_handed-requires : goal.take_handed-requires
 take_handed-requires r c =
     let nodes = c.args.nodes.now in
     let place = c.place-place.result in
-    let number : place + 1 ≡ c.args.site.now = omega (arith, c.place-place.ensures.value, c.place-place.ensures.valid.0, c.node.ensures) in
+    let number : place + 1 ≡ c.args.site.now.node = omega (arith, c.place-place.ensures.value, c.place-place.ensures.valid.0, c.node.ensures) in
     let within : place < length nodes = omega (arith, c.if-place-nodes.false) in
-    sym number ∙ sym (number_of nodes c.requires.0 place c.index-nodes-place.result c.requires.1 within)
+    let node = sym number ∙ sym (number_of nodes c.requires.numbers.0 place c.index-nodes-place.result c.requires.numbers.1 within) in
+    λ i. record { node = node i; audited = c.requires.audited i }

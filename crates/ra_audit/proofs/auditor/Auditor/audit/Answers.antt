@@ -10,11 +10,12 @@ returns-in-Ok g c =
     let faultless = c.in-Ok.ensures.ok.1 in
     let says = c.go_round.ensures in
     record {
-      audits = says.audits;
-      theorem = runs_meet_the_theorem _ _ _ says.audits.audited.count says.audits.audited.run;
+      audits = says.audits.audits;
+      theorem = runs_meet_the_theorem _ _ _ says.audits.audits.audited.count says.audits.audits.audited.run;
       ok = says.ok;
       none_reached = says.none_reached;
       kept = says.kept;
+      asked = says.audits.asked;
       may_be_put = says.may_be_put;
       not_audited = ((λ is. absurd (says.not_audited is)), λ no. let wrong : false ≡ true = sym no ∙ fits.audited in absurd cc);
       other_cluster = ((λ is. absurd (says.other_cluster is)), λ other. absurd (other.1 fits));
@@ -35,6 +36,7 @@ returns-in-Err g c =
       ok = tt;
       none_reached = tt;
       kept = tt;
+      asked = tt;
       may_be_put = tt;
       not_audited = says.not_audited;
       other_cluster = says.other_cluster;

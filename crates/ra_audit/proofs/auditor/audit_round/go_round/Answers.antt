@@ -1,25 +1,31 @@
 use Rattle.std.proofs.Common.{refl, ap, inl, ◌∙◌}
 use Rattle.ra_audit.specs.Audit.{AuditState}
-use Rattle.ra_audit.proofs.AuditRounds.{audits_nothing, audits_all, audits_as, audits_noted, none_ready_as, none_reached_as, none_kept_as, none_kept_after, may_be_put_as, not_taken_as, numbers_as, if_done, if_taken, stays_faultless, is_faultless, has_found}
+use Rattle.ra_audit.proofs.AuditRounds.{audits_nothing, audits_all, audits_as, asks_all, audits_noted, none_ready_as, none_reached_as, none_kept_as, none_kept_after, may_be_put_as, not_taken_as, numbers_as, if_done, if_taken, stays_faultless, is_faultless, has_found}
 use Rattle.ra_audit.proofs.auditor.audit_round.go_round.Goals as goal
 
 pub returns-in_default-clause-audits : goal.returns-in_default-clause-audits
-returns-in_default-clause-audits g c =
-    audits_nothing c.args.auditor.now (g.O.MarkObserver.told c.args.observer.now) c.requires.audited c.requires.lost c.requires.sent
+returns-in_default-clause-audits g c = record {
+  audits = audits_nothing c.args.auditor.now (g.O.MarkObserver.told c.args.observer.now) c.requires.audited c.requires.lost c.requires.sent;
+  asked = tt;
+}
 
 pub find_unsent-requires : goal.find_unsent-requires
 find_unsent-requires g c = if_done _ c.advance-advanced.result c.in-Ok-answer_of.ensures.ok.0 c.advance-advanced.ensures.ok
 
 pub returns-in-Some-clause-audits : goal.returns-in-Some-clause-audits
-returns-in-Some-clause-audits g c =
-    audits_noted c.args.auditor.now c.advance-advanced.new.self c.find_unsent.new.self _ _ c.in-Some.fault c.in-Some.ensures.found.0
-    (audits_all c.args.auditor.now c.take_all-taken.new.auditor c.advance-advanced.new.self _ _ c.take_all-taken.ensures.more c.advance-advanced.ensures.advances
-    c.advance-advanced.ensures.losses c.advance-advanced.ensures.lost c.advance-advanced.ensures.sent)
+returns-in-Some-clause-audits g c = record {
+  audits =
+      audits_noted c.args.auditor.now c.advance-advanced.new.self c.find_unsent.new.self _ _ c.in-Some.fault c.in-Some.ensures.found.0
+      (audits_all c.args.auditor.now c.take_all-taken.new.auditor c.advance-advanced.new.self _ _ c.take_all-taken.ensures.more.more c.advance-advanced.ensures.advances
+      c.advance-advanced.ensures.losses c.advance-advanced.ensures.lost c.advance-advanced.ensures.sent);
+  asked = tt;
+}
 
 pub returns-in-Ok-answer_of-clause-audits : goal.returns-in-Ok-answer_of-clause-audits
 returns-in-Ok-answer_of-clause-audits g c =
-    audits_as c.args.auditor.now c.advance-advanced.new.self c.find_unsent.new.self _ _ (c.in-None.ensures.none refl).0
-    (audits_all c.args.auditor.now c.take_all-taken.new.auditor c.advance-advanced.new.self _ _ c.take_all-taken.ensures.more c.advance-advanced.ensures.advances
+    audits_as c.args.auditor.now c.advance-advanced.new.self c.find_unsent.new.self _ _ tt (c.in-None.ensures.none refl).0
+    (asks_all c.args.auditor.now c.take_all-taken.new.auditor c.advance-advanced.new.self _ _ tt c.take_all-taken.ensures.more.more
+    (if_taken _ c.take_all-taken.result c.in-Ok-answer_of.ensures.ok.1 c.take_all-taken.ensures.more.asked) c.advance-advanced.ensures.advances
     c.advance-advanced.ensures.losses c.advance-advanced.ensures.lost c.advance-advanced.ensures.sent)
 
 pub returns-in-Ok-answer_of-clause-ok : goal.returns-in-Ok-answer_of-clause-ok
@@ -39,9 +45,12 @@ returns-in-Ok-answer_of-clause-may_be_put g c =
     may_be_put_as _ _ c.advance-advanced.new.self c.find_unsent.new.self (c.deref.ensures.value ∙ c.in-Ok.ensures) none.0 none.1
 
 pub returns-clause-audits : goal.returns-clause-audits
-returns-clause-audits g c =
-    audits_all c.args.auditor.now c.take_all-taken.new.auditor c.advance-advanced.new.self _ _ c.take_all-taken.ensures.more c.advance-advanced.ensures.advances
-    c.advance-advanced.ensures.losses c.advance-advanced.ensures.lost c.advance-advanced.ensures.sent
+returns-clause-audits g c = record {
+  audits =
+      audits_all c.args.auditor.now c.take_all-taken.new.auditor c.advance-advanced.new.self _ _ c.take_all-taken.ensures.more.more c.advance-advanced.ensures.advances
+      c.advance-advanced.ensures.losses c.advance-advanced.ensures.lost c.advance-advanced.ensures.sent;
+  asked = tt;
+}
 
 pub returns-clause-fault : goal.returns-clause-fault
 returns-clause-fault g c = λ fault.
@@ -66,7 +75,7 @@ returns-clause-not_taken g c node cause is =
       if_done _ c.advance-advanced.result done.0 c.advance-advanced.ensures.ok,
       if_done _ c.advance-advanced.result done.0 c.advance-advanced.ensures.none_reached,
       not_taken_as c.take_all-taken.new.auditor.nodes c.advance-advanced.new.self.nodes node cause
-          (numbers_as c.args.auditor.now c.take_all-taken.new.auditor c.advance-advanced.new.self _ _ c.take_all-taken.ensures.more advances) advances.taken advances.kept
+          (numbers_as c.args.auditor.now c.take_all-taken.new.auditor c.advance-advanced.new.self _ _ c.take_all-taken.ensures.more.more advances) advances.taken advances.kept
           (c.take_all-taken.ensures.not_taken node cause done.1),
     )
 
@@ -80,5 +89,5 @@ returns-clause-not_lost g c frame is = c.advance-advanced.ensures.not_lost frame
 
 pub returns-clause-found : goal.returns-clause-found
 returns-clause-found g c = λ fault is.
-    let faultless = ap (λ (a : AuditState). a.fault) c.take_all-taken.ensures.more.rest ∙ c.requires.unfaulted in
+    let faultless = ap (λ (a : AuditState). a.fault) c.take_all-taken.ensures.more.more.rest ∙ c.requires.unfaulted in
     inl (c.advance-advanced.ensures.found fault faultless ((c.in-Err.ensures.fault fault).0 is))

@@ -1,8 +1,8 @@
 use Rattle.std.proofs.Common.{◌≡◌, ℕ, ◌<◌, [], length, Err, ap, sym, ◌∙◌, subst, arith}
 use Rattle.std.proofs.lemmas.Result.{err_from_is_err_and}
 use Rattle.std.proofs.lemmas.List.Elements.{AllWithin-none, AllWithin-upto, All-from_all_within}
-use Rattle.ra_audit.specs.Audit.{AuditState, ProgressState, IsNotTaken}
-use Rattle.ra_audit.proofs.AuditRounds.{took_nothing, took_further, none_kept_more, not_taken_from, length_of}
+use Rattle.ra_audit.specs.Audit.{AuditState, ProgressState, IsNotTaken, TakesByAnswer}
+use Rattle.ra_audit.proofs.AuditRounds.{took_nothing, took_further, took_last, none_kept_more, not_taken_from, length_of}
 use Rattle.ra_audit.proofs.auditor.audit_round.take_all.Goals as goal
 
 pub loop-place-init : goal.loop-place-init
@@ -19,8 +19,8 @@ loop-place-preserved g c =
     let long = length_of mid.world mid.nodes more.audited in
     let within : c.loop-place.place < length mid.nodes = omega (arith, long, count, c.requires.count, c.nodes-place-end.ensures, c.loop-place-test.true) in
     record {
-      up_to = took_further c.args.auditor.now mid c.take_from.new.auditor c.loop-place.place within c.loop-place.invariant.up_to c.in_ok-take_from.ensures.more;
-      kept = none_kept_more mid.nodes c.take_from.new.auditor.nodes c.loop-place.place within c.loop-place.invariant.kept c.in_ok-take_from.ensures.all;
+      up_to = took_further c.args.auditor.now mid c.take_from.new.auditor c.loop-place.place within c.loop-place.invariant.up_to c.in_ok-take_from.ensures.more c.in_ok-take_from.ensures.all;
+      kept = none_kept_more mid.nodes c.take_from.new.auditor.nodes mid.losing c.take_from.new.auditor.losing c.loop-place.place within c.loop-place.invariant.kept c.in_ok-take_from.ensures.all;
     }
 
 pub returns-in_err-take_from-clause-not_taken : goal.returns-in_err-take_from-clause-not_taken
@@ -42,10 +42,21 @@ returns-in_err-take_from-clause-more g c =
     let count = ap (λ (a : AuditState). a.world.count) more.rest in
     let long = length_of mid.world mid.nodes more.audited in
     let within : c.loop-place.place < length mid.nodes = omega (arith, long, count, c.requires.count, c.nodes-place-end.ensures, c.loop-place-test.true) in
-    (took_further c.args.auditor.now mid c.take_from.new.auditor c.loop-place.place within c.loop-place.invariant.up_to c.in_err-take_from.ensures.more).more
+    let p = err_from_is_err_and c.from_residual.result c.from_residual.ensures.1 in
+    let last = took_last c.args.auditor.now mid c.take_from.new.auditor c.loop-place.place within c.loop-place.invariant.up_to c.in_err-take_from.ensures.more in
+    subst (TakesByAnswer c.args.auditor.now c.take_from.new.auditor) (sym p.1) (record { more = last; asked = tt })
 
 pub returns-clause-more : goal.returns-clause-more
-returns-clause-more g c = c.loop-place.invariant.up_to.more
+returns-clause-more g c =
+    let up_to = c.loop-place.invariant.up_to in
+    let mid = c.loop-place.auditor in
+    let more = up_to.more in
+    let count = ap (λ (a : AuditState). a.world.count) more.rest in
+    let long = length_of mid.world mid.nodes more.audited in
+    record {
+      more = more;
+      asked = omega (arith, up_to.long, long, count, c.requires.count, c.nodes-place-end.ensures, c.loop-place-test.false, c.loop-place.auto.place-end);
+    }
 
 pub returns-clause-kept : goal.returns-clause-kept
 returns-clause-kept g c =

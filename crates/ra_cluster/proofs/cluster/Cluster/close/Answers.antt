@@ -1,9 +1,10 @@
 -- Each site that is closed gives the book of the node after those that were closed.
 use Rattle.std.proofs.Common.{rules, ℕ, length, ap, sym, ◌∙◌, arith}
-use Rattle.std.specs.List.{range_with_len}
 use Rattle.std.specs.Vec.Iter.{into_iter_items}
+use Rattle.std.proofs.lemmas.List.{length-map}
 use Rattle.ra_cluster.specs.Cluster.{ClusterState}
-use Rattle.ra_cluster.proofs.SiteNumbers.{next_within, closes_none, closes_more, closes_all}
+use Rattle.ra_cluster.specs.Sites.{SiteState, sites_to}
+use Rattle.ra_cluster.proofs.SiteNumbers.{nodes_at, numbered, next_within, closes_none, closes_more, closes_all}
 use Rattle.ra_cluster.proofs.cluster.Cluster.close.Goals as goal
 
 pub loop-site-init : goal.loop-site-init
@@ -16,8 +17,9 @@ loop-site-init g c =
           (closes_none
           c.nodes-nodes.result
           c.self.inside.start
-          (into_iter_items c.into_iter-site-iterator.result)
-          (gives.0 ∙ (c.into_sites-sites.ensures.sites ∙ ap (λ (k : ℕ). range_with_len 1 k) (sym c.nodes-nodes.ensures))));
+          (nodes_at (into_iter_items c.into_iter-site-iterator.result))
+          (numbered c.nodes-nodes.result c.args.self.audited (into_iter_items c.into_iter-site-iterator.result)
+          (gives.0 ∙ (c.into_sites-sites.ensures.sites ∙ ap (λ (k : ℕ). sites_to k c.args.self.audited) (sym c.nodes-nodes.ensures)))));
       counted = search rules;
       room = search rules;
     }
@@ -28,8 +30,8 @@ close_as-requires-clause-member g c =
     c.nodes-nodes.result
     c.self.inside.start
     c.loop-site.books.items
-    c.in-Some.site
-    (into_iter_items c.next.new.self)
+    c.in-Some.site.node
+    (nodes_at (into_iter_items c.next.new.self))
     (rw c.in-Some.ensures.steps.0 at c.loop-site.invariant.closes)
 
 pub loop-site-preserved : goal.loop-site-preserved
@@ -44,8 +46,8 @@ loop-site-preserved g c =
           c.nodes-nodes.result
           c.self.inside.start
           c.loop-site.books.items
-          c.in-Some.site
-          (into_iter_items c.next.new.self)
+          c.in-Some.site.node
+          (nodes_at (into_iter_items c.next.new.self))
           c.close_as.result
           (rw steps.0 at c.loop-site.invariant.closes)
           c.close_as.ensures.me_is
@@ -63,9 +65,9 @@ returns-clause-cluster g c =
     c.nodes-nodes.result
     c.self.inside.start
     c.loop-site.books.items
-    (into_iter_items c.loop-site.site-iterator)
+    (nodes_at (into_iter_items c.loop-site.site-iterator))
     (omega (arith, c.nodes-nodes.ensures, c.into_sites-sites.ensures.count.0))
-    (omega (arith, c.in-None.ensures.steps, c.loop-site.invariant.counted))
+    (omega (arith, c.in-None.ensures.steps, c.loop-site.invariant.counted, length-map (into_iter_items c.loop-site.site-iterator) (λ (s : SiteState). s.node)))
     c.loop-site.invariant.closes).cluster
 
 pub returns-clause-start : goal.returns-clause-start
@@ -74,9 +76,9 @@ returns-clause-start g c =
     c.nodes-nodes.result
     c.self.inside.start
     c.loop-site.books.items
-    (into_iter_items c.loop-site.site-iterator)
+    (nodes_at (into_iter_items c.loop-site.site-iterator))
     (omega (arith, c.nodes-nodes.ensures, c.into_sites-sites.ensures.count.0))
-    (omega (arith, c.in-None.ensures.steps, c.loop-site.invariant.counted))
+    (omega (arith, c.in-None.ensures.steps, c.loop-site.invariant.counted, length-map (into_iter_items c.loop-site.site-iterator) (λ (s : SiteState). s.node)))
     c.loop-site.invariant.closes).start_is
     ∙ ap (λ (s : ClusterState). s.start) c.self.view_is
 
@@ -86,9 +88,9 @@ returns-clause-histories g c =
     c.nodes-nodes.result
     c.self.inside.start
     c.loop-site.books.items
-    (into_iter_items c.loop-site.site-iterator)
+    (nodes_at (into_iter_items c.loop-site.site-iterator))
     (omega (arith, c.nodes-nodes.ensures, c.into_sites-sites.ensures.count.0))
-    (omega (arith, c.in-None.ensures.steps, c.loop-site.invariant.counted))
+    (omega (arith, c.in-None.ensures.steps, c.loop-site.invariant.counted, length-map (into_iter_items c.loop-site.site-iterator) (λ (s : SiteState). s.node)))
     c.loop-site.invariant.closes).histories
 
 pub returns-clause-count : goal.returns-clause-count
@@ -97,9 +99,9 @@ returns-clause-count g c =
     c.nodes-nodes.result
     c.self.inside.start
     c.loop-site.books.items
-    (into_iter_items c.loop-site.site-iterator)
+    (nodes_at (into_iter_items c.loop-site.site-iterator))
     (omega (arith, c.nodes-nodes.ensures, c.into_sites-sites.ensures.count.0))
-    (omega (arith, c.in-None.ensures.steps, c.loop-site.invariant.counted))
+    (omega (arith, c.in-None.ensures.steps, c.loop-site.invariant.counted, length-map (into_iter_items c.loop-site.site-iterator) (λ (s : SiteState). s.node)))
     c.loop-site.invariant.closes).count in
     let books = c.loop-site.books.ok.0 in
     omega (arith, books, all, c.nodes-nodes.ensures, ap (λ (s : ClusterState). s.nodes) c.self.view_is)

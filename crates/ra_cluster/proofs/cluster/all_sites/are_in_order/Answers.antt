@@ -1,5 +1,6 @@
-use Rattle.std.proofs.Common.{refl, ◌∙◌, arith}
+use Rattle.std.proofs.Common.{refl, ap, ◌∙◌, arith}
 use Rattle.std.proofs.lemmas.Bool.{false≢true}
+use Rattle.ra_cluster.specs.Sites.{SiteState}
 use Rattle.ra_cluster.proofs.SiteNumbers.{number_of, numbers_of_first}
 use Rattle.ra_cluster.proofs.cluster.all_sites.are_in_order.Goals as goal
 
@@ -9,7 +10,7 @@ returns-then-place c = (
   λ are.
       let place = c.loop-place.place in
       let number = number_of c.args.sites.now are place c.index-sites-place.result c.loop-place-test.true in
-      let found = c.node.ensures ∙ c.index-sites-place.is ∙ number in
+      let found = c.node.ensures ∙ ap (λ (s : SiteState). s.node) c.index-sites-place.is ∙ number in
       absurd (c.if-place.true (omega (arith, c.place.ensures.value, found))),
 )
 

@@ -2,7 +2,8 @@ use Rattle.std.proofs.Common.{◌≡◌, ℕ, [], ◌++◌, Result, Err, ap, sym
 use Rattle.std.proofs.lemmas.Result.{err_from_is_err_and}
 use Rattle.std.proofs.lemmas.List.{append-nil}
 use Rattle.ra_cluster.specs.declared.site.take_error.TakeError.{TakeError}
-use Rattle.ra_cluster.specs.Handing.{IsHandedOver}
+use Rattle.ra_cluster.specs.Handing.{IsLeftOfBook}
+use Rattle.ra_cluster.specs.Sites.{SiteState}
 use Rattle.ra_history.specs.History.{clock_of}
 use Rattle.ra_audit.specs.Audit.{ProgressState, TakesOver, handed_over}
 use Rattle.ra_audit.specs.AuditKeeping.{LossState}
@@ -51,6 +52,7 @@ accept-requires-clause-handing r c =
     let is = c.in_ok-take_kept.ensures.ok in
     let events = c.in-Ok.handed.events.items in
     let lost = c.in-Ok.handed.lost.items in
-    let node : c.args.site.now ≡ q.node = c.requires ∙ sym (ap (λ (x : ProgressState). x.node) is) in
-    subst (λ (n : ℕ). IsHandedOver n (clock_of (handed_over q)) events lost) node
-    (subst (λ (k : ℕ). IsHandedOver c.args.site.now k events lost) (asked_after p q is c.latest.result c.latest.ensures) c.in-Ok.ensures.handed)
+    let node : c.args.site.now.node ≡ q.node = ap (λ (s : SiteState). s.node) c.requires ∙ sym (ap (λ (x : ProgressState). x.node) is) in
+    let left = c.in-Ok.ensures.handed.audited (ap (λ (s : SiteState). s.audited) c.requires) in
+    subst (λ (n : ℕ). IsLeftOfBook n (clock_of (handed_over q)) events lost) node
+    (subst (λ (k : ℕ). IsLeftOfBook c.args.site.now.node k events lost) (asked_after p q is c.latest.result c.latest.ensures) left)
