@@ -5,10 +5,11 @@ use Rattle.std.proofs.lemmas.Option.{same_Some}
 use Rattle.ra_stamp.specs.declared.entry.Entry.{Entry}
 use Rattle.ra_stamp.specs.declared.entry.Mark.{Mark}
 use Rattle.ra_stamp.specs.declared.entry.Mark.TheVariants.{Requested, Entered}
+use Rattle.ra_stamp.specs.Mark.{entry_of_mark}
 use Rattle.ra_stamp.specs.NodeId.{IsNodeNumber}
 use Rattle.ra_stamp.specs.Stamp.{IsEarlier}
 use Rattle.ra_automaton.specs.State.{IsOtherNode}
-use Rattle.ra_node.specs.Carried.{IsMark, entry_in}
+use Rattle.ra_node.specs.Carried.{IsMark}
 use Rattle.ra_node.specs.Node.{NodeState, opening_node, resource_at}
 use Rattle.ra_node.specs.Events.{Happening, NodeEvents, name_of_event}
 use Rattle.ra_table.specs.Table.{LockTable, empty_table, TableSteps, TableRun}
@@ -46,10 +47,10 @@ module _ (laws : LawsBelow) (marks_law : MarksOfNodes) (history : TablesByMarks)
   -- ---- What holds of the marks of a run
 
   -- each mark is of one of the nodes
-  marks_of_nodes : (suffix ms : List Move) → IsRun n start (ms ++ suffix) → All (λ mark. IsNode n (entry_in mark).stamp.node) (marks_of suffix)
-  marks_of_nodes [] ms run = All-nil (λ mark. IsNode n (entry_in mark).stamp.node)
+  marks_of_nodes : (suffix ms : List Move) → IsRun n start (ms ++ suffix) → All (λ mark. IsNode n (entry_of_mark mark).stamp.node) (marks_of suffix)
+  marks_of_nodes [] ms run = All-nil (λ mark. IsNode n (entry_of_mark mark).stamp.node)
   marks_of_nodes (m ∷ suffix) ms run =
-      let P = λ (mark : Mark). IsNode n (entry_in mark).stamp.node in
+      let P = λ (mark : Mark). IsNode n (entry_of_mark mark).stamp.node in
       let before = just_before laws n start count m suffix ms run in
       let here = by_move laws n start count m suffix ms run P (λ p event new within for happened.
       let there = before.invariant.each p within in
@@ -142,7 +143,7 @@ module _ (laws : LawsBelow) (marks_law : MarksOfNodes) (history : TablesByMarks)
     is_fair_to =
         record {
           elsewhere = λ place f over.
-              let of_node = All-contains (λ mark. IsNode n (entry_in mark).stamp.node) (marks_of later) (Entered f) (marks_of_nodes later before run) (contained (marks_of later) place (Entered f) over.enters) in
+              let of_node = All-contains (λ mark. IsNode n (entry_of_mark mark).stamp.node) (marks_of later) (Entered f) (marks_of_nodes later before run) (contained (marks_of later) place (Entered f) over.enters) in
               record { first = of_node.0; last = of_node.1; other = (overtakes place f over).1 };
           earlier = λ place f over. (overtakes place f over).0;
           waits = λ place f over here. (same.waiting f).1 (overtakes_waiting laws.symmetric e At (marks_of later) cut.between cut.last cut.steps sound waits' above place f over here);
