@@ -1,6 +1,6 @@
 -- What it means for the statuses that books were settled, or not.
-use Rattle.std.proofs.Common.{◌≡◌, ◌≢◌, ◌⊎◌, ℕ, ◌<◌, ◌≤◌, ◌^◌, List, [], ◌++◌, length, Option, inl, inr, refl, sym, ap, subst, codes, arith}
-use Rattle.std.specs.Io.KnownBytes.{Appends, Consumes}
+use Rattle.std.proofs.Common.{◌≡◌, ◌≢◌, ◌⊎◌, ℕ, ◌≤◌, List, [], ◌++◌, length, Option, inl, inr, refl, sym, ap, subst, codes, arith}
+use Rattle.std.specs.Io.KnownBytes.{Appends}
 use Rattle.ra_world.specs.Input.{Reads}
 use Rattle.ra_trace.specs.declared.error.TraceError.{TraceError}
 use Rattle.ra_trace.specs.declared.error.TraceError.TheVariants as fault
