@@ -1,4 +1,4 @@
-//! Tests of what `ra_cli` offers to other programs and `ra` does not use or print, since `ra` calls `do_command` in place of
+//! Tests of what `ra_cli` offers to other programs and `ra` does not use or print, since `ra` calls `do_alone` in place of
 //! `serve` and `answer`. All other tests of `ra_cli` are in `cases/`.
 #![tactic(auto)]
 
