@@ -12,3 +12,6 @@ mod SentFrames
 mod Flying
 mod Tracking
 mod AuditLaws
+mod Matching
+mod EnteredOnce
+mod EntryPlaces

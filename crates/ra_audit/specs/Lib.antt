@@ -1,2 +1,3 @@
 pub mod Audit
 pub mod AuditKeeping
+pub mod Matching

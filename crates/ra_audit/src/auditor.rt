@@ -236,6 +236,7 @@ impl Auditor {
     ) -> Result<(), AuditError>
         ensures advances { Advances self.old.world self.old.nodes (O.told observer.old)
             self.new.world self.new.nodes (O.told observer.new) }
+        ensures granted { O.granted observer.new ≡ O.granted observer.old }
         ensures losses { PutsLosses self.new.nodes self.old.losing self.old.lost self.new.losing self.new.lost }
         ensures lost { HasLost self.new.world.moves self.new.lost }
         ensures sent { AllWereSent self.new.nodes self.new.world.moves self.new.lost }

@@ -16,9 +16,13 @@
 
 mod audit_error;
 mod auditor;
+mod grant_matcher;
+mod laws;
 mod mark_observer;
 
 pub use audit_error::{AuditError, AuditFault, BehindError, FinishError, RoundError};
 pub use auditor::Auditor;
+pub use grant_matcher::{GrantError, GrantMatcher};
+pub use laws::matched_grants_were_granted_once;
 pub use mark_observer::{MarkObserver, Told};
 pub use ra_cluster::TakeError;

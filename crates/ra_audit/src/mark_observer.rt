@@ -1,17 +1,21 @@
 ghost use Rattle.std.specs.Prelude.{◌≡◌, List, [], ◌∷◌, ◌++◌};
 ghost use Rattle.ra_stamp.specs.declared.entry.Mark as mark;
+ghost use Rattle.ra_history.specs.declared.book.grant.Grant as granted;
 
 use ra_stamp::{GhostList, Mark};
 use std::marker::Model;
 
-/// Is told the marks of a run in their order, each once. Contracts see the marks that it was told so far. An observer that
-/// does not keep them has a [`Told`], which takes no memory.
+/// Is told the marks of a run in their order, each once. Contracts see the marks that it was told so far, and the grants that it
+/// was given, if it is one that takes them. An observer that does not keep the marks has a [`Told`], which takes no memory.
 pub trait MarkObserver {
     ghost told: { Self → List mark.Mark };
 
+    ghost granted: { Self → List granted.Grant } = { λ _. [] };
+
     /// Is called for each mark of the run.
     fn tell(&mut self, mark: &Mark)
-        ensures { told self.new ≡ told self.old ++ mark.now ∷ [] };
+        ensures told { told self.new ≡ told self.old ++ mark.now ∷ [] }
+        ensures granted { granted self.new ≡ granted self.old };
 }
 
 /// The marks that an observer was told, for proofs alone. By itself it is the observer that passes over all.

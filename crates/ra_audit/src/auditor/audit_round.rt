@@ -53,7 +53,8 @@ impl Auditor {
         cluster: &Cluster<G>,
         observer: &mut O,
     ) -> Result<(), RoundError>
-        ensures { AnswersRound cluster.now self.old (O.told observer.old) self.new (O.told observer.new) result }
+        ensures round { AnswersRound cluster.now self.old (O.told observer.old) self.new (O.told observer.new) result }
+        ensures granted { O.granted observer.new ≡ O.granted observer.old }
     {
         match check_round(cluster, self) {
             Ok(()) => go_round(rt, alloc, cluster, self, observer),
@@ -82,6 +83,7 @@ impl Auditor {
         observer: &mut O,
     ) -> Result<(), FinishError>
         ensures round { AnswersRound cluster.old self.old (O.told observer.old) self.new (O.told observer.new) (last_round result) }
+        ensures granted { O.granted observer.new ≡ O.granted observer.old }
         ensures ok { OnOk result (NoneWaits self.new.nodes) }
         ensures all_lost { OnOk result (self.new.losing ≡ []) }
         ensures never_sent { (fault : audit_fault.AuditFault) → IsErrOf result (FinishError.NeverSent fault)
@@ -178,6 +180,7 @@ fn go_round<R: Wait, G: Gate + Drop, O: MarkObserver>(
     requires audited_cluster { cluster.now.audited ≡ true }
     requires unfaulted { auditor.old.fault ≡ None }
     ensures audits { AuditsByAnswer auditor.old (O.told observer.old) auditor.new (O.told observer.new) result }
+    ensures granted { O.granted observer.new ≡ O.granted observer.old }
     ensures ok { OnOk result (NoneIsReady auditor.new.nodes) }
     ensures none_reached { OnOk result (NoneIsReached auditor.new.nodes auditor.new.losing) }
     ensures kept { OnOk result (NoneIsKept auditor.new.nodes) }

@@ -37,6 +37,7 @@ pub fn put_all<O: MarkObserver>(
     ensures tracked { IsTracked nodes.new world.new.moves flights.new }
     ensures stay { StaySent nodes.old world.old.moves nodes.new world.new.moves }
     ensures advances { Advances world.old nodes.old (O.told observer.old) world.new nodes.new (O.told observer.new) }
+    ensures granted { O.granted observer.new ≡ O.granted observer.old }
     ensures unlost { lost_by world.new.moves ≡ lost_by world.old.moves }
     ensures ok { OnOk result (NoneIsReady nodes.new) }
     ensures fault { (fault : AuditFault) → IsErrOf result (AuditError.Fault fault) → IsMisfit world.new nodes.new fault }
@@ -71,6 +72,7 @@ fn put_next<O: MarkObserver>(
     requires within { place < length nodes.old }
     requires ready { (d : ProgressState) → IsReady nodes.old (slice_index_or nodes.old place d) }
     ensures advances { Advances world.old nodes.old (O.told observer.old) world.new nodes.new (O.told observer.new) }
+    ensures granted { O.granted observer.new ≡ O.granted observer.old }
     ensures unlost { lost_by world.new.moves ≡ lost_by world.old.moves }
     ensures tracked { IsTracked nodes.new world.new.moves flights.new }
     ensures stay { StaySent nodes.old world.old.moves nodes.new world.new.moves }
@@ -114,7 +116,8 @@ fn error_of(refused: StepError, fault: AuditFault) -> AuditError
 
 /// Tells an observer marks in their order.
 fn tell_all<O: MarkObserver>(observer: &mut O, marks: &[Mark])
-    ensures { O.told observer.new ≡ O.told observer.old ++ marks.now }
+    ensures told { O.told observer.new ≡ O.told observer.old ++ marks.now }
+    ensures granted { O.granted observer.new ≡ O.granted observer.old }
 {
     for mark in marks {
         observer.tell(mark);

@@ -41,6 +41,7 @@ pub fn put_events_and_losses<O: MarkObserver>(
     ensures tracked { IsTracked nodes.new world.new.moves flights.new }
     ensures sent { All (WasSentIn nodes.new world.new.moves) losses.new.lost }
     ensures advances { Advances world.old nodes.old (O.told observer.old) world.new nodes.new (O.told observer.new) }
+    ensures granted { O.granted observer.new ≡ O.granted observer.old }
     ensures losses { PutsLosses nodes.new losses.old.losing losses.old.lost losses.new.losing losses.new.lost }
     ensures lost { HasLost world.new.moves losses.new.lost }
     ensures ok { OnOk result (NoneIsReady nodes.new × NoneIsReached nodes.new losses.new.losing) }

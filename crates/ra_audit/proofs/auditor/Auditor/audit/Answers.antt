@@ -4,8 +4,8 @@ use Rattle.ra_audit.proofs.AuditLaws.{runs_meet_the_theorem}
 use Rattle.ra_audit.proofs.AuditRounds.{audits_nothing}
 use Rattle.ra_audit.proofs.auditor.Auditor.audit.Goals as goal
 
-pub returns-in-Ok : goal.returns-in-Ok
-returns-in-Ok g c =
+pub returns-in-Ok-clause-round : goal.returns-in-Ok-clause-round
+returns-in-Ok-clause-round g c =
     let fits = c.in-Ok.ensures.ok.0 in
     let faultless = c.in-Ok.ensures.ok.1 in
     let says = c.go_round.ensures in
@@ -27,8 +27,8 @@ returns-in-Ok g c =
       not_taken = says.not_taken;
     }
 
-pub returns-in-Err : goal.returns-in-Err
-returns-in-Err g c =
+pub returns-in-Err-clause-round : goal.returns-in-Err-clause-round
+returns-in-Err-clause-round g c =
     let says = c.in-Err.ensures in
     record {
       audits = audits_nothing c.args.self.now (g.O.MarkObserver.told c.args.observer.now) says.audited says.lost says.sent;

@@ -9,6 +9,7 @@ use Rattle.ra_audit.proofs.auditor.put_events.put_all.Given as goal
 abbrev pub invariant-loop-place : goal.invariant-loop-place
 invariant-loop-place g l = record {
   advances : Advances l.fn.world l.fn.nodes (g.O.MarkObserver.told l.fn.observer) l.world l.nodes (g.O.MarkObserver.told l.observer);
+  granted : g.O.MarkObserver.granted l.observer ≡ g.O.MarkObserver.granted l.fn.observer;
   unlost : lost_by l.world.moves ≡ lost_by l.fn.world.moves;
   tracked : IsTracked l.nodes l.world.moves l.flights;
   stay : StaySent l.fn.nodes l.fn.world.moves l.nodes l.world.moves;

@@ -23,7 +23,7 @@ returns-in-Ok-clause-advances g c =
     advances_step c.args.world.now nodes place p c.put.new.self c.in-Some.event c.in-Ok.outcome.sends.items c.in-Ok.outcome.marks.items c.step_of-step.result c.node-node.result c.step.new.self
     told (g.O.MarkObserver.told c.tell_all.new.observer)
     c.requires.audited c.requires.within at c.in-Some.ensures.for_node c.put.ensures.node (c.put.ensures.one_more c.in-Some.event (sym c.in-Some.ensures.value)) c.put.ensures.taken c.put.ensures.kept
-    c.node-node.ensures c.step_of-step.ensures c.in-Ok.ensures.ok c.step.ensures.run (c.tell_all.ensures ∙ ap (λ (ms : List Mark). told ++ ms) c.as_slice.ensures)
+    c.node-node.ensures c.step_of-step.ensures c.in-Ok.ensures.ok c.step.ensures.run (c.tell_all.ensures.told ∙ ap (λ (ms : List Mark). told ++ ms) c.as_slice.ensures)
 
 pub returns-in-Err-clause-advances : goal.returns-in-Err-clause-advances
 returns-in-Err-clause-advances g c =

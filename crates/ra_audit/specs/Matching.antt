@@ -1,0 +1,57 @@
+-- How grants are matched with the Entered marks of a run.
+use Rattle.std.specs.Prelude.{◌≡◌, ◌≢◌, Bool, false, List, [], ◌++◌, map, All, AllPairs, Contains}
+use Rattle.std.specs.List.Sorted.{IsPermutation}
+use Rattle.ra_stamp.specs.declared.entry.Entry.{Entry}
+use Rattle.ra_stamp.specs.declared.entry.Mark.{Mark}
+use Rattle.ra_stamp.specs.declared.entry.Mark.TheVariants.{Entered}
+use Rattle.ra_history.specs.declared.book.grant.Grant.{Grant}
+pub use Rattle.ra_history.specs.Keys.{entered_in}
+
+-- the requests of these grants, in order
+abbrev pub entries_of : List Grant → List Entry
+entries_of grants = map (λ grant. grant.entry) grants
+
+-- Grants are matched with the Entered marks of their requests, one for one. These requests of grants are left over, and these of
+-- marks.
+pub record AreMatched (marks : List Mark) (grants : List Grant) (waiting others : List Entry) : Type 0 where
+  pub matched : List Entry
+  pub grants_are : IsPermutation (entries_of grants) (matched ++ waiting)
+  pub marks_are : IsPermutation (entered_in marks) (matched ++ others)
+
+-- each grant is matched with a mark of its own
+abbrev pub AreAllMatched : List Mark → List Grant → Type 0
+AreAllMatched marks grants = (others : List Entry) × AreMatched marks grants [] others
+
+-- Once grants and marks were matched, a grant of this request is left over, and no mark of it. So there are fewer Entered marks of
+-- the request than grants.
+pub record IsUnmatched (marks : List Mark) (grants : List Grant) (entry : Entry) : Type 0 where
+  pub waiting : List Entry
+  pub others : List Entry
+  pub matched : AreMatched marks grants waiting others
+  pub is_waiting : Contains waiting entry
+  pub no_mark : Contains others entry → ⊥
+
+-- What a matcher knows: the marks that it was told, the grants that it was given, the requests of those of them that wait for a
+-- mark, the requests of Entered marks that wait for a grant, and whether it has forgotten some of these marks.
+pub record MatcherState : Type 0 where
+  pub told : List Mark
+  pub grants : List Grant
+  pub waiting : List Entry
+  pub left : List Entry
+  pub forgot : Bool
+
+-- no request waits for a mark and for a grant at once
+abbrev pub AreApart : List Entry → List Entry → Type 0
+AreApart waiting left = (entry : Entry) → Contains waiting entry → Contains left entry → ⊥
+
+-- what is matched, and what is left over, forgotten marks with it
+pub record IsMatcher (state : MatcherState) : Type 0 where
+  pub forgotten : List Entry
+  pub matching : AreMatched state.told state.grants state.waiting (state.left ++ forgotten)
+  pub all_kept : state.forgot ≡ false → forgotten ≡ []
+  pub apart : AreApart state.waiting state.left
+
+-- each of these grants was granted in a run with these marks, and no two are equal
+pub record AreGrantedOnce (marks : List Mark) (grants : List Grant) : Type 0 where
+  pub granted : All (λ grant. Contains marks (Entered grant.entry)) grants
+  pub once : AllPairs (λ a b. a ≢ b) grants
