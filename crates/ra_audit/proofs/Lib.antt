@@ -14,4 +14,5 @@ mod Tracking
 mod AuditLaws
 mod Matching
 mod EnteredOnce
+mod StillLost
 mod EntryPlaces

@@ -16,6 +16,8 @@ use Rattle.ra_world.specs.World.{WorldState}
 use Rattle.ra_world.specs.MainTheorem.{AreGrantedInOrder}
 use Rattle.ra_frame.specs.declared.frame.Frame.{Frame}
 use Rattle.ra_audit.specs.declared.audit_error.AuditFault.{AuditFault}
+use Rattle.ra_audit.specs.declared.audit_error.CloseError.{CloseError}
+use Rattle.ra_audit.specs.declared.audit_error.CloseError.TheVariants.{NotFinished, Behind, StillLost}
 use Rattle.ra_audit.specs.declared.audit_error.FinishError.{FinishError}
 use Rattle.ra_audit.specs.declared.audit_error.FinishError.TheVariants.{Round, NeverSent, LostUnsent}
 use Rattle.ra_audit.specs.declared.audit_error.RoundError.{RoundError}
@@ -26,10 +28,11 @@ use Rattle.ra_history.specs.declared.book.event.BookKind.{BookKind}
 use Rattle.ra_history.specs.declared.book.event.BookKind.TheVariants.{Asked, Gave, Got}
 use Rattle.ra_history.specs.declared.book.event.BookEvent.{BookEvent}
 use Rattle.ra_history.specs.History.{clock_after, clock_of, frames_at, node_event}
-use Rattle.ra_history.specs.Book.{BookState, whole_events}
+use Rattle.ra_history.specs.Book.{BookState, HasHistory, whole_events}
 use Rattle.ra_history.specs.Settled.{step_at, frames_in, received_among}
 use Rattle.ra_cluster.specs.Cluster.{ClusterState}
 use Rattle.ra_cluster.specs.Handing.{IsLeftOfBook}
+use Rattle.ra_cluster.specs.Losses.{lost_frames}
 
 -- ---- What an auditor knows
 
@@ -446,6 +449,8 @@ pub record AnswersRound (cluster : ClusterState) (old : AuditState) (told : List
     (answer : Result (Unit {0}) RoundError) : Type 0 where
   pub audits : Audits old told new told'
   pub theorem : RunTheorem new.world.count new.world.moves
+  -- the auditor is one of the cluster
+  pub fits : OnOk answer (IsAuditorOf cluster old)
   pub ok : OnOk answer (NoneIsReady new.nodes)
   pub none_reached : OnOk answer (NoneIsReached new.nodes new.losing)
   pub kept : OnOk answer (NoneIsKept new.nodes)
@@ -504,3 +509,42 @@ pub record IsFirstNotAllIn (nodes : List ProgressState) (books : List BookState)
   pub number : node ≡ p.node
   pub not_all : IsAllIn p book → ⊥
   pub before : (earlier : ℕ) → earlier < place → IsAllInAt nodes books earlier
+
+-- the frames that these books still have flagged lost, by node and in order of sending
+abbrev pub still_lost : List BookState → List Frame
+still_lost books = flat_map (λ book. lost_frames book.sent) books
+
+-- ---- The end of an audit
+
+-- Why an audit did not end: its last round was refused, or a frame that came or was noted as lost was never sent.
+abbrev pub RefusesFinish : AuditState → FinishError → Type 0
+RefusesFinish auditor (Round refused) = Unit {0}
+RefusesFinish auditor (NeverSent fault) = IsNeverSent auditor.nodes fault × IsLeastLeft auditor.nodes fault
+RefusesFinish auditor (LostUnsent frame) = NoneWaits auditor.nodes × IsAhead auditor.nodes auditor.losing frame
+
+-- all that was taken is in the run, and no loss is still to be put
+pub record HasAllIn (auditor : AuditState) : Type 0 where
+  pub none_waits : NoneWaits auditor.nodes
+  pub none_losing : auditor.losing ≡ []
+
+-- An audit ended, and all that the books of its cluster say is in the run, by the clock. None of the frames that they still have is
+-- flagged lost.
+pub record ClosesAudit (auditor : AuditState) (books : List BookState) : Type 0 where
+  pub all_in : HasAllIn auditor
+  pub books_in : AreAllIn auditor.nodes books
+  pub none_lost : still_lost books ≡ []
+  pub histories : All HasHistory books
+
+-- Why a cluster was not closed so, with the cluster, if it was not closed, or else its books.
+abbrev pub RefusesClose : ClusterState → AuditState → CloseError → Option ClusterState → List BookState → Type 0
+RefusesClose cluster auditor (NotFinished cause) kept books = (kept ≡ Some cluster) × (books ≡ []) × RefusesFinish auditor cause
+RefusesClose cluster auditor (Behind node) kept books =
+    (kept ≡ None) × HasAllIn auditor × All HasHistory books × IsFirstNotAllIn auditor.nodes books node
+RefusesClose cluster auditor (StillLost frame) kept books =
+    (kept ≡ None) × HasAllIn auditor × All HasHistory books × AreAllIn auditor.nodes books × (slice_get (still_lost books) 0 ≡ Some frame)
+
+-- what the last round answered, by what the close of a cluster did
+abbrev pub round_of : CloseError → Result (Unit {0}) RoundError
+round_of (NotFinished cause) = last_round (Err cause)
+round_of (Behind node) = Ok tt
+round_of (StillLost frame) = Ok tt

@@ -78,6 +78,24 @@ impl fmt::Display for FinishError {
     }
 }
 
+/// Why a cluster was not closed with all that happened in the run of its auditor.
+#[derive(Clone, Copy, Debug, PartialEq, Eq, Error)]
+pub enum CloseError {
+    /// Its audit did not end.
+    NotFinished(FinishError),
+    /// The last event of this node's book has another clock than the node's last event in the run, or the book at its place is
+    /// that of another node.
+    Behind(NodeId),
+    /// A book still has this frame flagged lost, so its loss is not in the run.
+    StillLost(Frame),
+}
+
+impl fmt::Display for CloseError {
+    fn fmt<W: fmt::Write>(&self, f: &mut fmt::Formatter<W>) -> fmt::Result {
+        fmt::Debug::fmt(self, f)
+    }
+}
+
 /// Why not all that the books of a closed cluster say is in the run of an auditor.
 #[derive(Clone, Copy, Debug, Error)]
 pub enum BehindError {

@@ -1,5 +1,6 @@
 pub mod audit_round;
 pub mod closing;
+pub mod ending;
 pub mod flights;
 pub mod never_sent;
 pub mod node_progress;

@@ -20,8 +20,9 @@ mod grant_matcher;
 mod laws;
 mod mark_observer;
 
-pub use audit_error::{AuditError, AuditFault, BehindError, FinishError, RoundError};
+pub use audit_error::{AuditError, AuditFault, BehindError, CloseError, FinishError, RoundError};
 pub use auditor::Auditor;
+pub use auditor::ending::NotClosed;
 pub use grant_matcher::{GrantError, GrantMatcher};
 pub use laws::matched_grants_were_granted_once;
 pub use mark_observer::{MarkObserver, Told};

@@ -91,6 +91,26 @@ impl Auditor {
         ensures lost_unsent { (frame : Frame) → IsErrOf result (FinishError.LostUnsent frame)
             → NoneWaits self.new.nodes × IsAhead self.new.nodes self.new.losing frame }
     {
+        self.end(rt, alloc, cluster, observer)
+    }
+
+    /// Ends the audit of a cluster whose threads have ended, as [`Auditor::finish`] does, and tells the same.
+    pub(crate) fn end<R: Wait, G: Gate + Drop, O: MarkObserver>(
+        &mut self,
+        rt: &R,
+        alloc: Global,
+        cluster: &Cluster<G>,
+        observer: &mut O,
+    ) -> Result<(), FinishError>
+        ensures round { AnswersRound cluster.now self.old (O.told observer.old) self.new (O.told observer.new) (last_round result) }
+        ensures granted { O.granted observer.new ≡ O.granted observer.old }
+        ensures ok { OnOk result (NoneWaits self.new.nodes) }
+        ensures all_lost { OnOk result (self.new.losing ≡ []) }
+        ensures never_sent { (fault : audit_fault.AuditFault) → IsErrOf result (FinishError.NeverSent fault)
+            → IsNeverSent self.new.nodes fault × IsLeastLeft self.new.nodes fault }
+        ensures lost_unsent { (frame : Frame) → IsErrOf result (FinishError.LostUnsent frame)
+            → NoneWaits self.new.nodes × IsAhead self.new.nodes self.new.losing frame }
+    {
         match self.audit(rt, alloc, cluster, observer) {
             Ok(()) => all_settled(self),
             Err(refused) => Err(FinishError::Round(refused)),

@@ -30,7 +30,7 @@ pub fn check_all(nodes: &[NodeProgress], books: &[Book]) -> Result<(), BehindErr
 }
 
 /// Returns the first node of whose book not all is in the run, or `None` if all of each is.
-fn first_not_all_in(nodes: &[NodeProgress], books: &[Book]) -> Option<NodeId>
+pub fn first_not_all_in(nodes: &[NodeProgress], books: &[Book]) -> Option<NodeId>
     requires { length books.now ≡ length nodes.now }
     ensures all { IsNone result → AreAllIn nodes.now books.now }
     ensures found { IfSome result (IsFirstNotAllIn nodes.now books.now) }

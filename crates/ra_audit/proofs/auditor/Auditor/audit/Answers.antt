@@ -1,7 +1,8 @@
 use Rattle.std.proofs.Common.{◌≡◌, true, false, refl, sym, ◌∙◌}
 use Rattle.std.proofs.lemmas.Option.{none-some}
 use Rattle.ra_audit.proofs.AuditLaws.{runs_meet_the_theorem}
-use Rattle.ra_audit.proofs.AuditRounds.{audits_nothing}
+use Rattle.ra_audit.proofs.AuditRounds.{audits_nothing, in_any_case}
+use Rattle.ra_audit.specs.Audit.{IsAuditorOf}
 use Rattle.ra_audit.proofs.auditor.Auditor.audit.Goals as goal
 
 pub returns-in-Ok-clause-round : goal.returns-in-Ok-clause-round
@@ -12,6 +13,7 @@ returns-in-Ok-clause-round g c =
     record {
       audits = says.audits.audits;
       theorem = runs_meet_the_theorem _ _ _ says.audits.audits.audited.count says.audits.audits.audited.run;
+      fits = in_any_case (IsAuditorOf c.args.cluster.now c.args.self.now) c.go_round.result fits;
       ok = says.ok;
       none_reached = says.none_reached;
       kept = says.kept;
@@ -33,6 +35,7 @@ returns-in-Err-clause-round g c =
     record {
       audits = audits_nothing c.args.self.now (g.O.MarkObserver.told c.args.observer.now) says.audited says.lost says.sent;
       theorem = runs_meet_the_theorem _ _ _ says.audited.count says.audited.run;
+      fits = tt;
       ok = tt;
       none_reached = tt;
       kept = tt;

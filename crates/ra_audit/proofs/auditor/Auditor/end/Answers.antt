@@ -1,6 +1,6 @@
 use Rattle.std.proofs.Common.{sym, subst}
 use Rattle.ra_audit.specs.Audit.{AnswersRound}
-use Rattle.ra_audit.proofs.auditor.Auditor.finish.Goals as goal
+use Rattle.ra_audit.proofs.auditor.Auditor.end.Goals as goal
 
 -- the last round was Ok
 pub returns-in-Ok-clause-round : goal.returns-in-Ok-clause-round
