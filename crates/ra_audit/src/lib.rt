@@ -7,9 +7,9 @@
 //!   and the same start.
 //! - From time to time it calls [`Auditor::audit`], which takes what has happened at each node, puts it into the run, and tells
 //!   a [`MarkObserver`] each mark.
-//! - At the end it calls [`Auditor::finish`], closes the cluster by
-//!   [`Cluster::close_audited`](ra_cluster::Cluster::close_audited), and has [`Auditor::check_books`] look whether all that the
-//!   books say is in the run.
+//! - At the end it calls [`Auditor::close`], which puts what is left into the run, closes the cluster, and looks whether all
+//!   that the books say is in the run. [`Auditor::finish`],
+//!   [`Cluster::close_audited`](ra_cluster::Cluster::close_audited) and [`Auditor::check_books`] are its three parts.
 //!
 //! docs/EMBEDDING.md has an example.
 #![tactic(auto)]
