@@ -4,8 +4,8 @@
 //! The arguments are how many locks to give in all, how many nodes and how many clients.
 #![tactic(auto)]
 
-use anyhow::{Context, Result, anyhow, ensure};
-use ra_audit::{Auditor, MarkObserver, RoundError, Told};
+use anyhow::{Context, Error, Result, anyhow, ensure};
+use ra_audit::{Auditor, CloseError, MarkObserver, RoundError, Told};
 use ra_cluster::{CallError, Cluster, Grant, OpenGate, SiteError, Stop};
 use ra_stamp::{Mark, Mode, Name, NodeId};
 use std::alloc::Global;
@@ -275,30 +275,25 @@ fn run_in<R: Threads + Wait + Sync>(
     }
 }
 
-/// Ends the audit, closes the cluster, and returns what is in the run.
-fn finish<R: Wait>(
+/// Ends the audit, closes the cluster, and returns what is in the run, if that is all that happened at its nodes.
+fn close<R: Wait>(
     rt: &R,
     alloc: Global,
-    mut cluster: Cluster<OpenGate>,
+    cluster: Cluster<OpenGate>,
     mut rounds: Rounds,
 ) -> Result<Figures> {
-    let Rounds {
-        auditor,
-        counts,
-        ..
-    } = &mut rounds;
-    match auditor.finish(rt, alloc, &mut cluster, counts) {
-        Ok(()) => close(cluster, &rounds),
-        Err(fault) => Err(anyhow!("the audit did not end: {fault:?}")),
+    let closed = rounds.auditor.close(rt, alloc, cluster, &mut rounds.counts);
+    match closed {
+        Ok(_books) => Ok(figures_of(&rounds)),
+        Err(left) => Err(why_not(left.cause)),
     }
 }
 
-/// Closes the cluster, and returns what is in the run, if that is all that happened at its nodes.
-fn close(cluster: Cluster<OpenGate>, rounds: &Rounds) -> Result<Figures> {
-    let books = cluster.close_audited();
-    match rounds.auditor.check_books(books.as_slice()) {
-        Ok(()) => Ok(figures_of(rounds)),
-        Err(fault) => Err(anyhow!("not all is in the run: {fault:?}")),
+/// Returns what to say of a cluster that was not closed, for this cause.
+fn why_not(cause: CloseError) -> Error {
+    match cause {
+        CloseError::NotFinished(fault) => anyhow!("the audit did not end: {fault:?}"),
+        other => anyhow!("not all is in the run: {other:?}"),
     }
 }
 
@@ -322,7 +317,7 @@ fn figures_of(rounds: &Rounds) -> Figures {
 fn serve<R: Threads + Wait + Sync>(rt: &R, alloc: Global, plan: Plan) -> Result<Figures> {
     let cluster = Cluster::new_audited(alloc, plan.nodes, 0, OpenGate)?;
     let rounds = run_in(rt, alloc, plan, &cluster)?;
-    finish(rt, alloc, cluster, rounds)
+    close(rt, alloc, cluster, rounds)
 }
 
 fn main(rt: HostRuntime) -> Result<()> {
