@@ -123,8 +123,10 @@ fn try_leaving(rt: &(impl Abort + AllocGlobal), node: &mut Node) -> Result<Tried
         return Err(Memory);
     };
     // Nobody holds, and the room stays for the leave below.
-    let early = node.leave_into(rt.alloc(), 1, r(), &mut left);
-    assert_same(rt, row(label), &early, &Err(LeaveError::NotHeld));
+    let Err(early) = node.leave_into(rt.alloc(), 1, r(), &mut left) else {
+        panic!(rt; "{label}: expected NotHeld before the first ask, and the leave was taken");
+    };
+    assert_same(rt, row(label), &early, &LeaveError::NotHeld);
     for place in 0..BEFORE_LEAVING {
         make(rt, At(label, "call", place + 1), node, CALLS[place])?;
     }
