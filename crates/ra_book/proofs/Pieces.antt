@@ -11,7 +11,7 @@ use Rattle.ra_book.specs.declared.next_line.kept_line.KeptLine.{KeptLine}
 use Rattle.ra_book.specs.declared.next_line.input_piece.Piece.{Piece}
 use Rattle.ra_book.specs.declared.next_line.input_piece.Piece.TheVariants.{Part, Over, End}
 use Rattle.ra_book.specs.declared.next_line.input_piece.TakenBytes.{TakenBytes}
-use Rattle.ra_world.specs.declared.error.ReadFault.{ReadFault}
+use Rattle.ra_text.specs.declared.error.ReadFault.{ReadFault}
 use Rattle.ra_book.specs.Input.{HasNoFeed, IsKeptLine, IsPiece, Keeps, TakesShown, TakesPiece, TakesLine, TakesOpen}
 
 -- more bytes than there is room for

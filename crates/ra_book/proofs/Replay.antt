@@ -10,7 +10,7 @@ use Rattle.ra_frame.specs.declared.error.FrameError.{FrameError}
 use Rattle.ra_frame.specs.declared.error.FrameError.TheVariants as fault
 use Rattle.ra_frame.specs.Words as frame
 use Rattle.ra_node.specs.Node.{NodeState}
-use Rattle.ra_world.specs.Lines.{field, mark_line}
+use Rattle.ra_text.specs.Lines.{field, mark_line}
 use Rattle.ra_history.specs.EventChecks.{MayTake, NodeRefuses}
 use Rattle.ra_history.specs.declared.book.event.BookKind.{BookKind}
 use Rattle.ra_history.specs.declared.book.event.BookKind.TheVariants.{Asked, Gave, Got}

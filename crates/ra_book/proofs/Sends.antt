@@ -7,7 +7,7 @@ use Rattle.ra_stamp.specs.declared.entry.Entry.{Entry}
 use Rattle.ra_stamp.specs.declared.entry.Mark.{Mark}
 use Rattle.ra_stamp.specs.declared.message.Message.{Message}
 use Rattle.ra_frame.specs.FrameText.{IsWrittenText}
-use Rattle.ra_world.specs.Lines.{entry_fields, mark_line}
+use Rattle.ra_text.specs.Lines.{entry_fields, mark_line}
 use Rattle.ra_book.specs.Answers.{AreSends, send_line}
 
 pub sends_more : (clock : ℕ) (sends : List Message) (message : Message) (text bytes : List ℕ) → AreSends clock sends text

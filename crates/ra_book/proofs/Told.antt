@@ -9,7 +9,7 @@ use Rattle.ra_frame.specs.declared.format.Format.{Format}
 use Rattle.ra_frame.specs.declared.format.Format.TheVariants.{V2}
 use Rattle.ra_frame.specs.FrameText.{IsFrameText, IsFrameTextOf}
 use Rattle.ra_frame.specs.Faults.{first_fault}
-use Rattle.ra_world.specs.Lines.{mark_line}
+use Rattle.ra_text.specs.Lines.{mark_line}
 use Rattle.ra_node.specs.Node.{NodeState}
 use Rattle.ra_node.specs.Events.{Event, NodeEvent}
 use Rattle.ra_history.specs.declared.book.event.BookKind.{BookKind}

@@ -15,7 +15,7 @@ use Rattle.ra_stamp.specs.declared.message.Message.TheVariants.{Request, Reply}
 use Rattle.ra_frame.specs.FrameText.{IsMessageText}
 use Rattle.ra_frame.specs.declared.format.Format.TheVariants.{V2}
 use Rattle.ra_frame.specs.declared.frame.Frame.{Frame}
-use Rattle.ra_world.specs.Lines.{entry_fields, field, mark_line}
+use Rattle.ra_text.specs.Lines.{entry_fields, field, mark_line}
 use Rattle.ra_history.specs.Book.{BookState, TakenState}
 use Rattle.ra_history.specs.History.{Posting, frames_at, frames_of}
 use Rattle.ra_history.specs.Settled.{marks_in}

@@ -23,9 +23,9 @@ use Rattle.ra_frame.specs.FrameText.{IsMessageText, IsWrittenText}
 use Rattle.ra_frame.specs.declared.format.Format.TheVariants.{V2}
 use Rattle.ra_frame.specs.declared.frame.Frame.{Frame}
 use Rattle.ra_stamp.specs.Mode.{mode_word}
-use Rattle.ra_world.specs.declared.text.draft.Draft.{Draft}
-use Rattle.ra_world.specs.Drafting.{Says}
-use Rattle.ra_world.specs.Lines.{field}
+use Rattle.ra_text.specs.declared.draft.Draft.{Draft}
+use Rattle.ra_text.specs.Drafting.{Says}
+use Rattle.ra_text.specs.Lines.{field}
 use Rattle.ra_trace.specs.TraceText.{IsClientNumber}
 use Rattle.ra_trace.proofs.Cuts.{IsFree}
 use Rattle.ra_trace.proofs.Spelled.{reads_client, reads_mode, reads_name, reads_node, reads_start}

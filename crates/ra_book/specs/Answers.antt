@@ -11,7 +11,7 @@ use Rattle.ra_stamp.specs.declared.message.Message.{Message}
 use Rattle.ra_frame.specs.FrameText.{IsWrittenText}
 use Rattle.ra_frame.specs.Words as frame
 use Rattle.ra_trace.specs.TraceText.{IsClientNumber}
-use Rattle.ra_world.specs.Lines.{field, mark_line}
+use Rattle.ra_text.specs.Lines.{field, mark_line}
 use Rattle.ra_history.specs.declared.book.event.BookKind.{BookKind}
 use Rattle.ra_history.specs.declared.error.BookError.{BookError}
 use Rattle.ra_history.specs.declared.error.BookError.TheVariants as error

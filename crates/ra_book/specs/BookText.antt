@@ -9,7 +9,7 @@ use Rattle.ra_frame.specs.declared.frame.Frame.{Frame}
 use Rattle.ra_frame.specs.FrameText.{IsFrameText}
 use Rattle.ra_frame.specs.Faults.{first_fault}
 use Rattle.ra_stamp.specs.Mode.{mode_word}
-use Rattle.ra_world.specs.Lines.{field}
+use Rattle.ra_text.specs.Lines.{field}
 use Rattle.ra_trace.specs.TraceText.{IsClientNumber}
 use Rattle.ra_history.specs.declared.book.event.BookKind.{BookKind}
 use Rattle.ra_history.specs.declared.book.event.BookKind.TheVariants.{Asked, Gave, Got}

@@ -5,8 +5,8 @@ use Rattle.ra_book.specs.declared.next_line.kept_line.KeptLine.{KeptLine}
 use Rattle.ra_book.specs.declared.next_line.input_piece.Piece.{Piece}
 use Rattle.ra_book.specs.declared.next_line.input_piece.Piece.TheVariants.{Part, Over, End}
 use Rattle.ra_book.specs.declared.next_line.input_piece.TakenBytes.{TakenBytes}
-use Rattle.ra_world.specs.declared.error.ReadFault.{ReadFault}
-use Rattle.ra_world.specs.declared.error.ReadFault.TheVariants.{Read}
+use Rattle.ra_text.specs.declared.error.ReadFault.{ReadFault}
+use Rattle.ra_text.specs.declared.error.ReadFault.TheVariants.{Read}
 
 -- no line feed is among these bytes
 abbrev pub HasNoFeed : List ℕ → Type 0

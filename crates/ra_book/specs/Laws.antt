@@ -5,7 +5,7 @@ use Rattle.ra_stamp.specs.Message.{to_of}
 use Rattle.ra_stamp.specs.declared.entry.Mark.{Mark}
 use Rattle.ra_frame.specs.FrameText.{IsWrittenText}
 use Rattle.ra_frame.specs.declared.frame.Frame.{Frame}
-use Rattle.ra_world.specs.Lines.{mark_line}
+use Rattle.ra_text.specs.Lines.{mark_line}
 use Rattle.ra_history.specs.Book.{BookState, LeadsTo}
 use Rattle.ra_history.specs.Settled.{marks_in}
 use Rattle.ra_book.specs.Book.{lines_text}

@@ -5,8 +5,8 @@ use Rattle.std.specs.List.{AllZip}
 use Rattle.hex.specs.Hex.{encode_lower}
 use Rattle.ra_frame.specs.Fits.{Fits}
 use Rattle.ra_frame.specs.FrameText.{IsWrittenText}
-use Rattle.ra_world.specs.declared.text.draft.Draft.{Draft}
-use Rattle.ra_world.specs.Drafting.{Adds, Says}
+use Rattle.ra_text.specs.declared.draft.Draft.{Draft}
+use Rattle.ra_text.specs.Drafting.{Adds, Says}
 use Rattle.ra_history.specs.declared.book.event.BookEvent.{BookEvent}
 use Rattle.ra_history.specs.declared.book.event.BookKind.{BookKind}
 use Rattle.ra_history.specs.declared.book.event.BookKind.TheVariants.{Asked, Gave, Got}

@@ -9,9 +9,9 @@ use Rattle.ra_automaton.specs.declared.error.ReceiveError.{ReceiveError}
 use Rattle.ra_automaton.specs.declared.error.ReceiveError.TheVariants as receive
 use Rattle.ra_frame.specs.declared.error.FrameError.{FrameError}
 use Rattle.ra_frame.specs.declared.frame.Frame.{Frame}
-use Rattle.ra_world.specs.declared.error.ReadFault.{ReadFault}
-use Rattle.ra_world.specs.declared.error.ReadFault.TheVariants as read
-use Rattle.ra_world.specs.Input.{Reads}
+use Rattle.ra_text.specs.declared.error.ReadFault.{ReadFault}
+use Rattle.ra_text.specs.declared.error.ReadFault.TheVariants as read
+use Rattle.ra_text.specs.Input.{Reads}
 use Rattle.ra_cli.specs.declared.error.AnswerError.{AnswerError}
 use Rattle.ra_cli.specs.declared.error.AnswerError.TheVariants as fault
 use Rattle.ra_stamp.specs.Member.{IsMember}

@@ -4,7 +4,7 @@ use Rattle.std.specs.Prelude.{All, IfSome, IfNone}
 use Rattle.std.proofs.lemmas.Bool.{cases_lt}
 use Rattle.std.proofs.lemmas.List.{append-nil, length-append}
 use Rattle.std.proofs.lemmas.List.Elements.{All-head, All-tail}
-use Rattle.ra_world.specs.Input.{Reads}
+use Rattle.ra_text.specs.Input.{Reads}
 use Rattle.ra_cli.specs.Line.{IsLine}
 
 -- all of the input was read, or as many bytes as may be

@@ -5,7 +5,7 @@ use Rattle.std.specs.Io.KnownBytes.{Appends, Consumes}
 use Rattle.std.proofs.lemmas.List.{append-nil}
 use Rattle.ra_draw.specs.declared.error.DrawError.{DrawError}
 use Rattle.ra_draw.specs.declared.error.DrawError.TheVariants.{Limit, Memory, NoLines, Read, TooLong, Write}
-use Rattle.ra_world.specs.declared.text.drawn_part.Part.{Part}
+use Rattle.ra_text.specs.declared.drawn_part.Part.{Part}
 use Rattle.ra_draw.specs.Drawing.{IsInput, IsOfPart, IsPicture, IsUnfit}
 use Rattle.ra_cli.specs.Pictures.{Attempts, IsOfKind, SaysWhyNot, Shows}
 use Rattle.ra_cli.specs.InputOutput.{StopsBefore}

@@ -3,7 +3,7 @@ use Rattle.std.proofs.Common.{◌≡◌, ℕ, ◌≤◌, Bool, true, false, List
 use Rattle.std.specs.Prelude.{IfSome, if◌then◌else◌, ok_or}
 use Rattle.std.specs.Io.KnownBytes.{Consumes}
 use Rattle.std.proofs.lemmas.Bool.{lt-ltb}
-use Rattle.ra_world.specs.Input.{Reads}
+use Rattle.ra_text.specs.Input.{Reads}
 use Rattle.ra_schedule.specs.Script.{ScriptState}
 use Rattle.ra_script.specs.declared.error.ScriptError.{ScriptError}
 use Rattle.ra_script.specs.declared.error.ScriptError.TheVariants.{Limit, Shape}

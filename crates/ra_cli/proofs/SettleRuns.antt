@@ -1,7 +1,7 @@
 -- What it means for the statuses that books were settled, or not.
 use Rattle.std.proofs.Common.{◌≡◌, ◌≢◌, ◌⊎◌, ℕ, ◌≤◌, List, [], ◌++◌, length, Option, inl, inr, refl, sym, ap, subst, codes, arith}
 use Rattle.std.specs.Io.KnownBytes.{Appends}
-use Rattle.ra_world.specs.Input.{Reads}
+use Rattle.ra_text.specs.Input.{Reads}
 use Rattle.ra_trace.specs.declared.error.TraceError.{TraceError}
 use Rattle.ra_trace.specs.declared.error.TraceError.TheVariants as fault
 use Rattle.ra_task.specs.declared.settle_arguments.SettleTask.{SettleTask}

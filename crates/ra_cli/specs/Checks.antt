@@ -1,7 +1,7 @@
 -- What `ra check` does.
 use Rattle.std.specs.Prelude.{◌≡◌, ℕ, List, ◌++◌, Bool, true, false, Option, IfSome, codes, decimal}
 use Rattle.std.specs.Io.KnownBytes.{Consumes, Appends}
-use Rattle.ra_world.specs.Lines.{field, total_line}
+use Rattle.ra_text.specs.Lines.{field, total_line}
 use Rattle.ra_trace.specs.declared.checker.verdict.Cause.{Cause}
 use Rattle.ra_trace.specs.declared.checker.verdict.Cause.TheVariants.{Line, Refused, NotUnderWay, Marks, Table}
 use Rattle.ra_trace.specs.declared.checker.verdict.Verdict.{Verdict}

@@ -1,7 +1,8 @@
 -- What `ra settle` reads and prints, and its exit status.
 use Rattle.std.specs.Prelude.{◌≡◌, ◌≢◌, ◌⊎◌, ℕ, ◌<◌, ◌≤◌, ◌^◌, List, [], ◌++◌, Option, codes, decimal, length, map}
 use Rattle.std.specs.Io.KnownBytes.{Appends, Consumes, IsAtEnd}
-use Rattle.ra_world.specs.Lines.{field, report_text}
+use Rattle.ra_text.specs.Lines.{field}
+use Rattle.ra_world.specs.Lines.{report_text}
 use Rattle.ra_world.specs.Traffic.{Move}
 use Rattle.ra_trace.specs.TraceText.{IsTrace}
 use Rattle.ra_book.specs.declared.text_settling.settle_error.TextCause.{TextCause}

@@ -1,7 +1,7 @@
 -- What `ra sim --seeds` does.
 use Rattle.std.specs.Prelude.{◌≡◌, ◌↔◌, ◌⊎◌, ℕ, List, [], ◌++◌, Bool, true, false, IsTrue, Option, Some, None, IfSome, MatchOption, Ok, Err, codes, decimal}
 use Rattle.std.specs.Io.KnownBytes.{Consumes, Appends}
-use Rattle.ra_world.specs.Lines.{field}
+use Rattle.ra_text.specs.Lines.{field}
 use Rattle.ra_schedule.specs.declared.surveys.seed_outcomes.Spread.{Spread}
 use Rattle.ra_schedule.specs.declared.surveys.seed_outcomes.Survey.{Survey}
 use Rattle.ra_schedule.specs.declared.surveys.seed_outcomes.Tally.{Tally}

@@ -10,7 +10,7 @@ use Rattle.ra_schedule.specs.declared.error.ChoicesError.{ChoicesError}
 use Rattle.ra_schedule.specs.declared.error.ChoicesError.TheVariants.{Choice}
 use Rattle.ra_script.specs.declared.error.PerformError.{PerformError}
 use Rattle.ra_script.specs.declared.error.PerformError.TheVariants as perform
-use Rattle.ra_schedule.specs.declared.driver.output_kind.OutputKind.{OutputKind}
+use Rattle.ra_text.specs.declared.output_kind.OutputKind.{OutputKind}
 use Rattle.ra_script.specs.Performed.{IsPerformedAs, RefusesAs}
 use Rattle.ra_trace.specs.declared.error.TraceError.{TraceError}
 use Rattle.ra_trace.specs.declared.checker.verdict.Verdict.{Verdict}
@@ -18,7 +18,7 @@ use Rattle.ra_trace.specs.Verdict.{IsVerdict}
 use Rattle.ra_trace.specs.declared.mark_log.marks_verdict.MarksVerdict.{MarksVerdict}
 use Rattle.ra_trace.specs.Marks.{IsMarksVerdict}
 use Rattle.ra_draw.specs.declared.error.DrawError.{DrawError}
-use Rattle.ra_world.specs.declared.text.drawn_part.Part.{Part}
+use Rattle.ra_text.specs.declared.drawn_part.Part.{Part}
 use Rattle.ra_draw.specs.Drawing.{IsInput}
 use Rattle.ra_cli.specs.Answer.{IsAnswered, Refuses}
 use Rattle.ra_cli.specs.Checks.{Checks, ChecksMarks, RefusesCheck, RefusesCheckOfMarks, marks_verdict_text, verdict_text}

@@ -1,13 +1,13 @@
 ghost use Rattle.std.specs.Prelude.{◌≡◌};
 ghost use Rattle.ra_cli.specs.declared.error.AnswerError.TheVariants.{Read, Memory};
 ghost use Rattle.ra_cli.specs.ClusterRun.{of_read, of_script, of_choices, of_cluster};
-ghost use Rattle.ra_world.specs.declared.error.ReadFault.{ReadFault};
+ghost use Rattle.ra_text.specs.declared.error.ReadFault.{ReadFault};
 
 use ra_cluster::ClusterError;
 use ra_frame::FrameError;
 use ra_schedule::ChoicesError;
 use ra_script::ScriptError;
-use ra_world::ReadFault;
+use ra_text::ReadFault;
 
 /// Why `answer` gave no answer, in the order in which the causes are looked for.
 #[derive(Clone, Copy)]

@@ -21,14 +21,14 @@ use crate::error::RunScriptError;
 use crate::refusal_lines::{CommandRefusal, line_of};
 use crate::{AnswerError, answer};
 use ra_draw::{DrawError, Part};
-use ra_schedule::{Ending, Observer, OutputKind};
+use ra_schedule::{Ending, Observer};
 use ra_script::{PerformError, perform_as};
 use ra_task::{
     ClusterOutput, Command, CommandFault, InputKind, PolicyName, Search, SurveyTask, Task,
     command_of, policy_of,
 };
+use ra_text::{OutputKind, write_out};
 use ra_trace::{TraceError, check_buffered_with_due, check_marks_buffered};
-use ra_world::write_out;
 use std::alloc::Global;
 use std::io::{BufRead, Read, Write};
 use std::sync::Wait;

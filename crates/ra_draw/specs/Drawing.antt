@@ -1,7 +1,7 @@
 -- What is drawn of an input, and when.
 use Rattle.std.specs.Prelude.{◌≡◌, ◌≢◌, ◌⊎◌, ℕ, ◌<◌, ◌≤◌, List, [], ◌++◌, Option, Result, Ok, codes, length, IfOk, IfErr, IsErrOf}
 use Rattle.std.specs.Io.KnownBytes.{Appends, Consumes}
-use Rattle.ra_world.specs.Input.{Reads}
+use Rattle.ra_text.specs.Input.{Reads}
 use Rattle.ra_trace.specs.declared.error.TraceError.{TraceError}
 use Rattle.ra_trace.specs.declared.error.TraceError.TheVariants as trace
 use Rattle.ra_trace.specs.declared.mark_log.marks_verdict.MarksVerdict.{MarksVerdict}
@@ -12,9 +12,9 @@ use Rattle.ra_trace.specs.Marks.{IsMarksVerdict}
 use Rattle.ra_trace.specs.Verdict.{IsVerdict}
 use Rattle.ra_draw.specs.declared.error.DrawError.{DrawError}
 use Rattle.ra_draw.specs.declared.error.DrawError.TheVariants.{Read, Limit, NoLines, TooLong, Memory, Write}
-use Rattle.ra_world.specs.declared.text.drawn_part.Part.{Part}
+use Rattle.ra_text.specs.declared.drawn_part.Part.{Part}
 use Rattle.ra_draw.specs.Lines.{line_count}
-use Rattle.ra_world.specs.DrawnPart.{lines_between}
+use Rattle.ra_text.specs.DrawnPart.{lines_between}
 
 -- the refusal that one of a check becomes
 abbrev pub of_trace : TraceError → DrawError

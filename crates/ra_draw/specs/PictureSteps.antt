@@ -3,7 +3,7 @@ use Rattle.std.specs.Prelude.{◌≡◌, ◌≢◌, ℕ, ◌<◌, ◌≤◌, Lis
 use Rattle.std.specs.Io.KnownBytes.{Appends, Consumes}
 use Rattle.ra_draw.specs.declared.error.DrawError.{DrawError}
 use Rattle.ra_draw.specs.declared.error.DrawError.TheVariants.{Read, Limit, NoLines, TooLong, Memory, Write}
-use Rattle.ra_world.specs.declared.text.drawn_part.Part.{Part}
+use Rattle.ra_text.specs.declared.drawn_part.Part.{Part}
 use Rattle.ra_draw.specs.Drawing.{IsPicture, drawn_lines, line_limit}
 use Rattle.ra_draw.specs.Lines.{line_count}
 

@@ -7,8 +7,8 @@ ghost use Rattle.ra_draw.specs.Lines as spec;
 
 use crate::svg::{Totals, picture_of};
 use crate::{DrawError, Part};
+use ra_text::{ReadFault, read_up_to, write_out};
 use ra_trace::MAX_TEXT;
-use ra_world::{ReadFault, read_up_to, write_out};
 use std::alloc::Global;
 use std::io::{Read, Write};
 

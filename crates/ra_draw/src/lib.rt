@@ -15,4 +15,4 @@ mod timeline;
 pub use draw_log::draw_marks;
 pub use draw_trace::draw;
 pub use error::DrawError;
-pub use ra_world::Part;
+pub use ra_text::Part;

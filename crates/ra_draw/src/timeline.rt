@@ -12,8 +12,9 @@ pub use lock_span::{LockKey, LockSpan, LockSpans};
 pub use message_path::{MessageEnd, MessagePath, MessagePaths};
 pub use moment::Moment;
 use ra_stamp::{Mark, Memory, Message, Mode};
+use ra_text::cut;
 use ra_trace::Line;
-use ra_world::{MarklessWorld, Step, cut};
+use ra_world::{MarklessWorld, Step};
 use std::alloc::Global;
 
 /// The most marks of a step: a client leaves, and the next one of its node gets a number and enters.

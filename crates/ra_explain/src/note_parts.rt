@@ -1,7 +1,7 @@
 //! Parts of a note that are often added together. One call for them is proved faster than one for each.
 use itoa::Integer;
 use ra_stamp::{Mode, Name};
-use ra_world::Note;
+use ra_text::Note;
 
 /// Adds a text and the number after it.
 pub fn push_numbered<N: Integer>(note: &mut Note, text: &str, number: N) {

@@ -1,7 +1,7 @@
 //! The first lines of the books of a text.
 use ra_book::FirstLine;
 use ra_stamp::Member;
-use ra_world::cut;
+use ra_text::cut;
 
 /// How many numbers there are from 0 to the highest node.
 const NODE_NUMBERS: usize = 65;

@@ -9,8 +9,8 @@ use ra_explain::{end_note, push_number_in, push_numbered};
 use ra_schedule::{ChoicesError, DriveError};
 use ra_script::PerformError;
 use ra_task::{Command, CommandFault, NO_MEMORY, Notice, is_choice, usage_note, write_line};
+use ra_text::Note;
 use ra_trace::TraceError;
-use ra_world::Note;
 use std::alloc::Global;
 use std::io::Write;
 

@@ -4,7 +4,7 @@ use ra_book::{Refusal, TimedNode, event_of};
 use ra_explain::{Reached, Stage};
 use ra_history::{BookError, BookKind};
 use ra_stamp::{Mark, Name};
-use ra_world::cut;
+use ra_text::cut;
 use std::alloc::Global;
 
 /// How far a client of a node is with a name.

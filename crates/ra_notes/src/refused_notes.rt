@@ -7,7 +7,7 @@ use ra_explain::{
 use ra_frame::Frame;
 use ra_history::BookError;
 use ra_stamp::Member;
-use ra_world::Note;
+use ra_text::Note;
 
 /// What comes before the digits of a frame.
 const RECEIVE: &[u8] = b"receive ";

@@ -5,7 +5,7 @@ use crate::script_notes::script_end::script_end_note;
 use ra_explain::{push_number_in, push_numbered};
 use ra_schedule::Ending;
 use ra_task::{Command, Search, Task, write_line, write_unused_options};
-use ra_world::Note;
+use ra_text::Note;
 use std::alloc::Global;
 use std::io::Write;
 

@@ -2,7 +2,7 @@
 use ra_explain::push_number_in;
 use ra_schedule::{Observer, RunCost, SeedOutcome};
 use ra_task::write_line;
-use ra_world::Note;
+use ra_text::Note;
 use std::alloc::Global;
 use std::io::Write;
 

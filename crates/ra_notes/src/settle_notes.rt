@@ -7,7 +7,7 @@ use crate::refused_notes::push_refused;
 use ra_book::{FirstLine, TextCause, event_of};
 use ra_explain::{push_number_in, push_numbered};
 use ra_history::BookKind;
-use ra_world::{Note, cut};
+use ra_text::{Note, cut};
 use std::alloc::Global;
 
 /// Adds why the books of these first lines are not those of all nodes. If another one begins at a line, its node has a book already, or it

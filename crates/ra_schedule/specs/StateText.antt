@@ -11,7 +11,7 @@ use Rattle.ra_world.specs.declared.step.Step.TheVariants.{Ask}
 use Rattle.ra_world.specs.Traffic.{Move}
 use Rattle.ra_world.specs.Run.{marks_of}
 use Rattle.ra_stamp.specs.Mode.{mode_word}
-use Rattle.ra_world.specs.Lines.{field}
+use Rattle.ra_text.specs.Lines.{field}
 use Rattle.ra_world.specs.StateLines.{IsStateText}
 use Rattle.ra_schedule.specs.declared.choice.Policy.{Policy}
 use Rattle.ra_schedule.specs.declared.driver.client_state.ClientState.{ClientState}

@@ -3,7 +3,6 @@ pub mod begun;
 pub mod client_progress;
 pub mod client_state;
 pub mod drive_script;
-pub mod output_kind;
 pub mod replaying;
 pub mod showing;
 pub mod shrinking;

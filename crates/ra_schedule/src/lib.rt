@@ -13,7 +13,6 @@ pub use choice::choices_spelling::choices_text;
 pub use choice::faults::Faults;
 pub use choice::{Choice, Choices, Policy};
 pub use driver::drive_script::{Recording, Summary, drive, summarize};
-pub use driver::output_kind::OutputKind;
 pub use driver::showing::{Shown, show};
 pub use driver::shrinking::{Shrunk, shrink};
 pub use error::{AddClientError, AddOpError, ChoicesError, DriveError, NewScriptError};

@@ -6,13 +6,13 @@ use Rattle.std.specs.Io.KnownBytes.{Consumes}
 use Rattle.std.proofs.lemmas.Bool.{cases_lt, lt-ltb}
 use Rattle.std.proofs.lemmas.List.{append-nil, length-append}
 use Rattle.toml.specs.Parse.{parse_document}
-use Rattle.ra_world.specs.Input.{Reads}
-use Rattle.ra_world.specs.declared.error.ReadFault.{ReadFault}
-use Rattle.ra_world.specs.declared.error.ReadFault.TheVariants as read
+use Rattle.ra_text.specs.Input.{Reads}
+use Rattle.ra_text.specs.declared.error.ReadFault.{ReadFault}
+use Rattle.ra_text.specs.declared.error.ReadFault.TheVariants as read
 use Rattle.ra_schedule.specs.declared.choice.Policy.{Policy}
 use Rattle.ra_schedule.specs.Script.{ScriptState}
-use Rattle.ra_schedule.specs.declared.driver.output_kind.OutputKind.{OutputKind}
-use Rattle.ra_schedule.specs.declared.driver.output_kind.OutputKind.TheVariants.{Lines, Trace, Choices, Shrunk, State}
+use Rattle.ra_text.specs.declared.output_kind.OutputKind.{OutputKind}
+use Rattle.ra_text.specs.declared.output_kind.OutputKind.TheVariants.{Lines, Trace, Choices, Shrunk, State}
 use Rattle.ra_script.specs.declared.error.ScriptError.{ScriptError}
 use Rattle.ra_script.specs.declared.error.ScriptError.TheVariants.{Limit, Toml, Shape}
 use Rattle.ra_script.specs.declared.error.ScriptError.TheVariants as script

@@ -8,8 +8,8 @@ use Rattle.ra_schedule.specs.declared.error.AddOpError.{AddOpError}
 use Rattle.ra_schedule.specs.declared.error.AddOpError.TheVariants as op
 use Rattle.ra_script.specs.declared.error.ScriptError.{ScriptError}
 use Rattle.ra_script.specs.declared.error.ScriptError.TheVariants as fault
-use Rattle.ra_world.specs.declared.error.ReadFault.{ReadFault}
-use Rattle.ra_world.specs.declared.error.ReadFault.TheVariants as read
+use Rattle.ra_text.specs.declared.error.ReadFault.{ReadFault}
+use Rattle.ra_text.specs.declared.error.ReadFault.TheVariants as read
 use Rattle.ra_schedule.specs.declared.error.DriveError.{DriveError}
 use Rattle.ra_schedule.specs.declared.error.DriveError.TheVariants as drive
 use Rattle.ra_schedule.specs.declared.error.ChoicesError.{ChoicesError}

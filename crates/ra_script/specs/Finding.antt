@@ -5,7 +5,7 @@ use Rattle.ra_schedule.specs.Faults.{FaultRates}
 use Rattle.ra_schedule.specs.Finding.{IsFirstSeed}
 use Rattle.ra_schedule.specs.Script.{ScriptState}
 use Rattle.ra_schedule.specs.Survey.{chance}
-use Rattle.ra_schedule.specs.declared.driver.output_kind.OutputKind.{OutputKind}
+use Rattle.ra_text.specs.declared.output_kind.OutputKind.{OutputKind}
 use Rattle.ra_script.specs.Performed.{IsPerformedAs, Unwritten, turn_limit}
 use Rattle.ra_script.specs.ScriptText.{script_of}
 

@@ -18,8 +18,8 @@ use Rattle.ra_schedule.specs.Shrinking.{IsStuckRun, IsLeastOf}
 use Rattle.ra_schedule.specs.Schedule.{Follows, Ends, Stops, RepeatsNothing}
 use Rattle.ra_schedule.specs.StateText.{ShowsState}
 use Rattle.ra_trace.specs.TraceText.{IsTrace}
-use Rattle.ra_schedule.specs.declared.driver.output_kind.OutputKind.{OutputKind}
-use Rattle.ra_schedule.specs.declared.driver.output_kind.OutputKind.TheVariants.{Lines, Trace, Choices, Shrunk, State}
+use Rattle.ra_text.specs.declared.output_kind.OutputKind.{OutputKind}
+use Rattle.ra_text.specs.declared.output_kind.OutputKind.TheVariants.{Lines, Trace, Choices, Shrunk, State}
 use Rattle.ra_schedule.specs.ChoicesText.{Lists}
 use Rattle.ra_script.specs.declared.error.ScriptError.TheVariants as script_fault
 use Rattle.ra_script.specs.declared.error.PerformError.{PerformError}

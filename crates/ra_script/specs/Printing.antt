@@ -4,7 +4,7 @@ use Rattle.ra_schedule.specs.declared.choice.Policy.{Policy}
 use Rattle.ra_schedule.specs.Script.{ScriptState}
 use Rattle.ra_script.specs.declared.error.PerformError.{PerformError}
 use Rattle.ra_script.specs.declared.error.PerformError.TheVariants.{Read, Write}
-use Rattle.ra_schedule.specs.declared.driver.output_kind.OutputKind.{OutputKind}
+use Rattle.ra_text.specs.declared.output_kind.OutputKind.{OutputKind}
 use Rattle.ra_script.specs.declared.performing.printed.Printed.{Printed}
 use Rattle.ra_script.specs.Performed.{IsPerformedAs, RefusesAs}
 use Rattle.ra_script.specs.ScriptText.{script_of}

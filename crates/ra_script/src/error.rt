@@ -6,7 +6,7 @@ ghost use Rattle.ra_script.specs.Faults.{of_read, of_script, of_drive, of_choice
 
 use ra_schedule::{AddClientError, AddOpError, ChoicesError, DriveError, NewScriptError};
 use ra_stamp::Memory;
-use ra_world::{ReadFault, WriteFault};
+use ra_text::{ReadFault, WriteFault};
 use std::alloc::AllocFailed;
 use std::fmt;
 use thiserror::Error;

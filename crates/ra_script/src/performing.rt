@@ -2,7 +2,7 @@ pub mod find_run;
 pub mod printed;
 
 ghost use Rattle.std.specs.Prelude.{◌≡◌, ◌⊎◌, ℕ, List, All, MatchOption, ◌++◌, string_bytes, codes, IfOk, IfErr};
-ghost use Rattle.ra_schedule.specs.declared.driver.output_kind.OutputKind.{OutputKind};
+ghost use Rattle.ra_text.specs.declared.output_kind.OutputKind.{OutputKind};
 ghost use Rattle.ra_schedule.specs.ChoicesText.{HasText, Lists};
 ghost use Rattle.ra_script.specs.Performed.{PerformsScript};
 ghost use Rattle.ra_script.specs.Printing.{PrintsRun};
@@ -12,11 +12,11 @@ use crate::performing::printed::Printed;
 use crate::script_reading::MAX_SCRIPT;
 use crate::{PerformError, read_script};
 use ra_schedule::{
-    Choices, ChoicesError, OutputKind, Policy, Script, Shown, choices_text, drive, show, shrink,
-    summarize,
+    Choices, ChoicesError, Policy, Script, Shown, choices_text, drive, show, shrink, summarize,
 };
+use ra_text::{OutputKind, read_up_to, write_out};
 use ra_trace::trace_text;
-use ra_world::{read_up_to, report_text, runs_are_determined, write_out};
+use ra_world::{report_text, runs_are_determined};
 use std::alloc::Global;
 use std::io::{Read, Write};
 

@@ -4,10 +4,10 @@ use Rattle.std.specs.Prelude.{⊤, if◌then◌else◌, nat_le, option_and_then,
 use Rattle.std.specs.Str.{bytes_eq}
 use Rattle.std.proofs.lemmas.Bool.{leb-true}
 use Rattle.clap.specs.Words.{Row, Text, first_of, subcommand_of}
-use Rattle.ra_schedule.specs.declared.driver.output_kind.OutputKind.{OutputKind}
+use Rattle.ra_text.specs.declared.output_kind.OutputKind.{OutputKind}
 use Rattle.ra_schedule.specs.declared.surveys.first_seed.Ending.{Ending}
 use Rattle.ra_schedule.specs.declared.surveys.seed_range.SeedRange.{SeedRange}
-use Rattle.ra_world.specs.declared.text.drawn_part.Part.{Part}
+use Rattle.ra_text.specs.declared.drawn_part.Part.{Part}
 use Rattle.ra_task.specs.declared.command_line.PolicyName.{PolicyName}
 use Rattle.ra_task.specs.declared.command_line.input_kind.InputKind.{InputKind}
 use Rattle.ra_task.specs.declared.command_line.search.SurveyTask.{SurveyTask}

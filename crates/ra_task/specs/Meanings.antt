@@ -7,12 +7,12 @@ use Rattle.clap.specs.ValueTests.{is_numeral}
 use Rattle.clap.specs.Words.{Row, Text, first_of}
 use Rattle.clap.specs.Walk.{one_of}
 use Rattle.ra_schedule.specs.Faults.{FaultRates}
-use Rattle.ra_schedule.specs.declared.driver.output_kind.OutputKind.{OutputKind}
-use Rattle.ra_schedule.specs.declared.driver.output_kind.OutputKind.TheVariants as prints
+use Rattle.ra_text.specs.declared.output_kind.OutputKind.{OutputKind}
+use Rattle.ra_text.specs.declared.output_kind.OutputKind.TheVariants as prints
 use Rattle.ra_schedule.specs.declared.surveys.first_seed.Ending.{Ending}
 use Rattle.ra_schedule.specs.declared.surveys.first_seed.Ending.TheVariants.{Finished, Stuck}
 use Rattle.ra_schedule.specs.declared.surveys.seed_range.SeedRange.{SeedRange}
-use Rattle.ra_world.specs.declared.text.drawn_part.Part.{Part}
+use Rattle.ra_text.specs.declared.drawn_part.Part.{Part}
 use Rattle.ra_task.specs.declared.cluster_output.ClusterOutput.{ClusterOutput}
 use Rattle.ra_task.specs.declared.cluster_output.ClusterOutput.TheVariants as cluster_prints
 use Rattle.ra_task.specs.declared.command_line.PolicyName.{PolicyName}

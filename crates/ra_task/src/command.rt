@@ -6,7 +6,7 @@ use crate::command_line::search::{Search, SurveyTask};
 use crate::command_line::{CommandFault, PolicyName, Task, parse};
 use crate::lone_command::is_command_alone;
 use crate::settle_arguments::{SettleTask, settle_arguments};
-use ra_schedule::OutputKind;
+use ra_text::OutputKind;
 use std::alloc::Global;
 
 /// What the arguments of a command line ask for.

@@ -18,8 +18,8 @@ use crate::command_line::input_kind::InputKind;
 use crate::command_line::search::{Search, SurveyTask};
 use clap::error::ErrorKind;
 use clap::{ArgMatches, Error as ParseError};
-use ra_schedule::{Ending, Faults, OutputKind, SeedRange};
-use ra_world::Part;
+use ra_schedule::{Ending, Faults, SeedRange};
+use ra_text::{OutputKind, Part};
 use std::alloc::Global;
 
 /// Which policy the arguments name.

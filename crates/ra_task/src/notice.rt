@@ -1,6 +1,6 @@
 //! What there is to say to a person, and how it is written.
 use itoa::Buffer;
-use ra_world::{Note, write_out};
+use ra_text::{Note, write_out};
 use std::io::Write;
 
 /// What is said if memory ran out.

@@ -5,7 +5,7 @@ use Rattle.std.proofs.lemmas.List.Elements.{All-head, All-tail}
 use Rattle.ra_stamp.specs.declared.entry.Mark.{Mark}
 use Rattle.ra_table.specs.Table.{LockTable, empty_table, TableSteps, TableRun}
 use Rattle.ra_table.specs.Laws.{AllowsMark}
-use Rattle.ra_world.specs.Lines.{mark_line}
+use Rattle.ra_text.specs.Lines.{mark_line}
 use Rattle.ra_world.specs.Quiet.{requests_in}
 use Rattle.ra_trace.specs.declared.line.Line.TheVariants.{Marked}
 use Rattle.ra_trace.specs.declared.mark_log.marks_verdict.MarkCause.{MarkCause}

@@ -9,7 +9,7 @@ use Rattle.ra_stamp.specs.declared.entry.Mark.{Mark}
 use Rattle.ra_stamp.specs.declared.entry.Mark.TheVariants.{Requested, Entered, Left}
 use Rattle.ra_table.specs.Table.{empty_table}
 use Rattle.ra_table.specs.Laws.{AllowsMark}
-use Rattle.ra_world.specs.Lines.{entry_fields, mark_line}
+use Rattle.ra_text.specs.Lines.{entry_fields, mark_line}
 use Rattle.ra_world.specs.Quiet.{requests_in}
 use Rattle.ra_trace.specs.declared.error.TraceError.{TraceError}
 use Rattle.ra_trace.specs.declared.error.TraceError.TheVariants.{Read, Limit, Memory}

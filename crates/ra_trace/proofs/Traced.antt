@@ -10,9 +10,9 @@ use Rattle.ra_stamp.specs.declared.entry.Mark.{Mark}
 use Rattle.ra_stamp.specs.declared.entry.Mark.TheVariants.{Requested, Entered, Left}
 use Rattle.ra_world.specs.declared.step.Step.{Step}
 use Rattle.ra_world.specs.declared.step.Step.TheVariants.{Ask, Leave, Deliver, Lose, Repeat}
-use Rattle.ra_world.specs.Drafting.{Adds, Says}
-use Rattle.ra_world.specs.declared.text.draft.Draft.{Draft}
-use Rattle.ra_world.specs.Lines.{mark_line}
+use Rattle.ra_text.specs.Drafting.{Adds, Says}
+use Rattle.ra_text.specs.declared.draft.Draft.{Draft}
+use Rattle.ra_text.specs.Lines.{mark_line}
 use Rattle.ra_world.specs.Numbers.{IsNumberedMark, IsNumberedMessage}
 use Rattle.ra_world.specs.declared.error.RunError.TheVariants.{Refused}
 use Rattle.ra_world.specs.declared.error.StepError.{StepError}

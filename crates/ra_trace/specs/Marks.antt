@@ -7,7 +7,7 @@ use Rattle.ra_stamp.specs.declared.entry.Mark.TheVariants.{Requested, Entered, L
 use Rattle.ra_table.specs.Table.{LockTable, TableRun, TableStep}
 use Rattle.ra_table.specs.Laws.{AllowsMark}
 use Rattle.ra_table.specs.Refusals.{IsNodeBusy, IsNotAbove, IsHeld, HasEarlier}
-use Rattle.ra_world.specs.Lines.{mark_line}
+use Rattle.ra_text.specs.Lines.{mark_line}
 use Rattle.ra_world.specs.Quiet.{requests_in}
 use Rattle.ra_trace.specs.declared.error.TraceError.{TraceError}
 use Rattle.ra_trace.specs.declared.error.TraceError.TheVariants.{Memory}

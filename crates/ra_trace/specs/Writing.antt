@@ -7,8 +7,8 @@ use Rattle.ra_world.specs.Refused.{IsRefusedAt}
 use Rattle.ra_world.specs.Run.{IsRun, WorldRun}
 use Rattle.ra_world.specs.Traffic.{Move}
 use Rattle.ra_world.specs.World.{WorldState}
-use Rattle.ra_world.specs.Drafting.{Says}
-use Rattle.ra_world.specs.declared.text.draft.Draft.{Draft}
+use Rattle.ra_text.specs.Drafting.{Says}
+use Rattle.ra_text.specs.declared.draft.Draft.{Draft}
 use Rattle.ra_trace.specs.declared.error.WriteTraceError.{WriteTraceError}
 use Rattle.ra_trace.specs.declared.error.WriteTraceError.TheVariants.{Run, Memory, Write}
 use Rattle.ra_trace.specs.declared.line.Line.TheVariants.{First}

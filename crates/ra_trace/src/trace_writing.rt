@@ -2,8 +2,8 @@ ghost use Rattle.std.specs.Prelude.{◌≡◌, ◌≢◌, ◌+◌, ◌<◌, ◌^
 ghost use Rattle.std.specs.Io.KnownBytes.{Appends};
 ghost use Rattle.ra_world.specs.Traffic.{Move};
 ghost use Rattle.ra_world.specs.Run.{GoesOn, WorldRun};
-ghost use Rattle.ra_world.specs.Drafting.{Adds, Says};
-ghost use Rattle.ra_world.specs.Lines.{field, mark_line, message_fields};
+ghost use Rattle.ra_text.specs.Drafting.{Adds, Says};
+ghost use Rattle.ra_text.specs.Lines.{field, mark_line, message_fields};
 ghost use Rattle.ra_trace.specs.TraceText as spec;
 ghost use Rattle.ra_trace.specs.TraceText.{IsTrace};
 ghost use Rattle.ra_trace.specs.Ranges.{StepFits, MarkFits};
@@ -13,9 +13,9 @@ ghost use Rattle.ra_trace.specs.Writing.{HasTraced, IsOpened, Traces, Written};
 use crate::WriteTraceError;
 use crate::line::field_ranges::{mark_fits, step_fits};
 use ra_stamp::{Marks, Message, Name, NodeId};
+use ra_text::{Draft, write_out};
 use ra_world::{
-    Draft, MarklessWorld, NewError, RunError, Step, StepError, Steps, marks_of_runs_are_numbered,
-    write_out,
+    MarklessWorld, NewError, RunError, Step, StepError, Steps, marks_of_runs_are_numbered,
 };
 use std::alloc::Global;
 use std::io::Write;

@@ -56,11 +56,8 @@ mod StepAnswers
 mod Worlds
 pub mod Refusing
 mod RunEnds
-mod Written
 mod StateTexts
-pub mod Drafts
 mod Elsewhere
 pub mod Times
 pub mod FittingRuns
-mod Pieces
 pub mod WorldLaws

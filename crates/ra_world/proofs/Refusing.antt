@@ -1,6 +1,6 @@
 -- A list of steps that a world refuses at a place is no run.
 use Rattle.std.proofs.Common.{◌≡◌, ◌≢◌, ◌⊎◌, ◌↔◌, ℕ, ◌+◌, ◌-◌, ◌<◌, List, [], ◌∷◌, ◌++◌, map, length, take, drop, get_or, refl, sym, ap, ◌∙◌, subst, arith, inl, inr}
-use Rattle.std.specs.Prelude.{slice_get, Result, Err}
+use Rattle.std.specs.Prelude.{slice_get, Result, Ok, Err}
 use Rattle.std.proofs.lemmas.List.{take_more, take-append-drop}
 use Rattle.std.proofs.lemmas.Option.{slice_get_read}
 use Rattle.ra_stamp.specs.NodeId.{IsNodeNumber}
@@ -21,6 +21,10 @@ memory_or_not NoNode = inr (λ e. cc)
 memory_or_not NotUnderWay = inr (λ e. cc)
 memory_or_not (Node why) = inr (λ e. cc)
 memory_or_not Memory = inl refl
+
+-- what is made is no refusal
+pub no_fault : {T E : Type 0} {v : T} {e : E} → ◌≡◌ {A = Result T E} (Ok v) (Err e) → ⊥
+no_fault is = absurd cc
 
 -- one end of a run, and what it says of a step that is refused
 pub one_end : {T : Type 0} {a b : RunError} → ◌≡◌ {A = Result T RunError} (Err a) (Err b) → a ≡ b

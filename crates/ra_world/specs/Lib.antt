@@ -15,6 +15,3 @@ pub mod Trying
 pub mod Refused
 pub mod Lines
 pub mod StateLines
-pub mod Drafting
-pub mod Input
-pub mod DrawnPart

@@ -16,7 +16,7 @@ use Rattle.ra_world.specs.Traffic.{Move, LeavesUnderWay}
 use Rattle.ra_world.specs.Run.{EndsWith, marks_of}
 use Rattle.ra_world.specs.AtNodes.{IsTableOf}
 use Rattle.ra_stamp.specs.Mode.{mode_word}
-use Rattle.ra_world.specs.Lines.{field, entry_fields, message_fields, total_line}
+use Rattle.ra_text.specs.Lines.{field, entry_fields, message_fields, total_line}
 
 -- ---- A name at a node
 

@@ -1,11 +1,9 @@
 ghost use Rattle.std.specs.Prelude.{◌≡◌, ◌≢◌};
 ghost use Rattle.ra_world.specs.declared.error.NewError.TheVariants as new;
 ghost use Rattle.ra_world.specs.declared.error.StepError.TheVariants as step;
-ghost use Rattle.ra_world.specs.declared.error.ReadFault.TheVariants as read;
 
 use ra_node::{AskError, LeaveError};
 use ra_stamp::Memory;
-use std::alloc::AllocError;
 use std::fmt;
 use thiserror::Error;
 
@@ -85,39 +83,6 @@ impl fmt::Display for RunError {
             RunError::Refused { cause, .. } => fmt::Display::fmt(cause, f),
             end => fmt::Debug::fmt(end, f),
         }
-    }
-}
-
-/// Why an input was not read.
-#[derive(Clone, Copy, Debug, PartialEq, Eq, Error)]
-pub enum ReadFault {
-    /// The reader failed.
-    Read,
-    /// Memory ran out.
-    Memory,
-}
-
-impl fmt::Display for ReadFault {
-    fn fmt<W: fmt::Write>(&self, f: &mut fmt::Formatter<W>) -> fmt::Result {
-        fmt::Debug::fmt(self, f)
-    }
-}
-
-/// The writer failed, or took nothing.
-#[derive(Clone, Copy, Debug, PartialEq, Eq, Error)]
-pub struct WriteFault;
-
-impl fmt::Display for WriteFault {
-    fn fmt<W: fmt::Write>(&self, f: &mut fmt::Formatter<W>) -> fmt::Result {
-        f.write_str("Write")
-    }
-}
-
-impl From<AllocError> for ReadFault {
-    ghost from_gives = { λ _ e. e ≡ read.Memory };
-
-    fn from(_refused: AllocError) -> ReadFault {
-        ReadFault::Memory
     }
 }
 

@@ -1,19 +1,14 @@
 //! What a run of the cluster is, what holds of every run, and a cluster in one thread that makes such runs. Also the
-//! lines in which its report is printed, how bytes are read and written, how a text is made part by part and cut apart, and how
-//! a note to a person is made.
+//! lines in which its report and its state are printed.
 #![tactic(auto)]
 
 mod error;
-mod io;
 mod laws;
 mod step;
 mod text;
 mod world;
 
-pub use error::{NewError, NodeRefusal, ReadFault, RunError, StepError, WriteFault};
-pub use io::limited_input::read_up_to;
-pub use io::one_byte::next_byte;
-pub use io::whole_output::write_out;
+pub use error::{NewError, NodeRefusal, RunError, StepError};
 pub use laws::fairness::{each_other_node_overtakes_at_most_once, one_request_may_overtake};
 pub use laws::fitting::{steps_that_fit_together_are_runs, steps_that_fit_with_copies_are_runs};
 pub use laws::{
@@ -26,12 +21,10 @@ pub use laws::{
     tables_of_runs_are_those_of_their_nodes, two_nodes_never_hold_in_conflict,
     waiting_requests_are_blocked_in_quiet_runs,
 };
+// A caller of `report_text` finds here what else it prints a run by.
+pub use ra_text::{WriteFault, mark_line, write_out};
 pub use step::{Step, Steps};
-pub use text::cutting::cut;
-pub use text::draft::Draft;
-pub use text::drawn_part::Part;
-pub use text::lines::{mark_line, report_text};
-pub use text::note::Note;
+pub use text::lines::report_text;
 pub use text::report::Report;
 pub use world::run_steps::run;
 pub use world::{MarklessWorld, World, WorldOf};

@@ -1,8 +1,4 @@
-//! Lines of text: those of reports, states and notes, and how a text is cut apart.
-pub mod cutting;
-pub mod draft;
-pub mod drawn_part;
+//! Lines of text: those of reports and of states.
 pub mod lines;
-pub mod note;
 pub mod report;
 pub mod state_lines;

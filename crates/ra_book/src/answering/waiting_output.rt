@@ -3,7 +3,7 @@ ghost use Rattle.std.specs.Prelude.{◌≡◌, ◌≤◌, [], true, false, lengt
 ghost use Rattle.ra_book.specs.Output.{HasPut, Puts};
 
 use arrayvec::ArrayVec;
-use ra_world::write_out;
+use ra_text::write_out;
 use std::io::Write;
 
 /// The most bytes that wait.

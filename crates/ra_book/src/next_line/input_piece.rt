@@ -2,7 +2,7 @@
 ghost use Rattle.ra_book.specs.Input.{KeepsShown, TakesShown, TakesPiece};
 
 use crate::next_line::kept_line::KeptLine;
-use ra_world::{ReadFault, cut, next_byte};
+use ra_text::{ReadFault, cut, next_byte};
 use std::io::{BufRead, Read};
 
 /// What was taken.

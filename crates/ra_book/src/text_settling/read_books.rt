@@ -10,7 +10,7 @@ use crate::text_settling::came_frames::CameList;
 use crate::text_settling::gathering::{Gathered, LineFault};
 use crate::{FirstLine, SettleTextError, TextCause};
 use ra_history::Book;
-use ra_world::cut;
+use ra_text::cut;
 use std::alloc::Global;
 
 /// The text does not begin with the first line of a book.

@@ -14,7 +14,7 @@ use ra_automaton::{Automaton, Reaction, ReceiveError};
 use ra_book::MAX_LINE;
 use ra_frame::{Frame, MAX_FRAME, decode, encoded};
 use ra_stamp::{Member, Memory, Message, Messages, NodeCount};
-use ra_world::{read_up_to, write_out};
+use ra_text::{read_up_to, write_out};
 use std::alloc::Global;
 use std::io::{Read, Write};
 

@@ -13,8 +13,9 @@ use crate::serving::{print_text, refuse};
 use ra_book::{SettleTextError, SettledText, TextCause, settle_text};
 use ra_stamp::Memory;
 use ra_task::{SettleOutput, SettleTask};
+use ra_text::{ReadFault, read_up_to};
 use ra_trace::TraceError;
-use ra_world::{ReadFault, read_up_to, report_text};
+use ra_world::report_text;
 use std::alloc::Global;
 use std::io::{Read, Write};
 

@@ -1,12 +1,12 @@
 //! The lines of a survey.
 ghost use Rattle.std.specs.Prelude.{◌≡◌, ◌++◌, codes, decimal, string_bytes, IfOk};
-ghost use Rattle.ra_world.specs.Drafting.{Adds};
-ghost use Rattle.ra_world.specs.Lines.{field};
+ghost use Rattle.ra_text.specs.Drafting.{Adds};
+ghost use Rattle.ra_text.specs.Lines.{field};
 ghost use Rattle.ra_cli.specs.Surveyed as spec;
 
 use ra_schedule::{Spread, Survey, Tally};
 use ra_stamp::Memory;
-use ra_world::Draft;
+use ra_text::Draft;
 use std::alloc::Global;
 
 /// Adds a line of a word, a number, a text and another number.

@@ -1,11 +1,11 @@
 //! The lines of a verdict.
 ghost use Rattle.std.specs.Prelude.{◌≡◌, ◌++◌, codes, decimal, string_bytes, IfOk};
-ghost use Rattle.ra_world.specs.Lines.{field, total_line};
+ghost use Rattle.ra_text.specs.Lines.{field, total_line};
 ghost use Rattle.ra_cli.specs.Checks as spec;
 
 use ra_stamp::Memory;
+use ra_text::Draft;
 use ra_trace::{Cause, Verdict};
-use ra_world::Draft;
 use std::alloc::Global;
 
 /// Returns the word of a cause. It does not allocate.

@@ -2,7 +2,7 @@
 use crate::layout::NameCut;
 use itoa::Buffer;
 use ra_stamp::{Memory, Name, NodeId};
-use ra_world::cut;
+use ra_text::cut;
 use std::alloc::Global;
 
 /// What is put in a place of a pattern.

@@ -6,7 +6,7 @@ use crate::frame_notes::frame_field::{
 use crate::note_parts::{push_number_in, push_numbered};
 use ra_frame::FrameError;
 use ra_stamp::Memory;
-use ra_world::{Note, cut};
+use ra_text::{Note, cut};
 use std::alloc::Global;
 
 /// Adds the name of a field and the offsets of its bytes.

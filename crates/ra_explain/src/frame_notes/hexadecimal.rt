@@ -1,7 +1,7 @@
 //! Why an input is not a line of hexadecimal digits.
 use crate::note_parts::{push_number_in, push_numbered};
 use ra_stamp::Memory;
-use ra_world::{Note, cut};
+use ra_text::{Note, cut};
 use std::alloc::Global;
 
 /// The most bytes that a line may have, without its line feed: as many as `MAX_LINE` of `ra_book`, which this crate does not see.

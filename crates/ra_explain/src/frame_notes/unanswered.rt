@@ -4,7 +4,7 @@ use crate::frame_notes::frame_fault::push_offsets;
 use crate::frame_notes::frame_field::{CLOCK, RECEIVER, SENDER, field_at};
 use crate::note_parts::push_number_in;
 use ra_stamp::Memory;
-use ra_world::{Note, cut};
+use ra_text::{Note, cut};
 use std::alloc::Global;
 
 /// Why a node does not answer a frame.

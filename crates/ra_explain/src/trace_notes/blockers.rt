@@ -1,7 +1,7 @@
 //! Which requests are in the way of one that waits or is queued.
 use crate::trace_notes::open_request::OpenRequest;
 use crate::trace_notes::open_requests::{OpenRequests, Sought};
-use ra_world::Note;
+use ra_text::Note;
 
 /// The most clients that are named of those at one stage, or of those with something left to do.
 pub const MAX_CLIENTS: u64 = 4;

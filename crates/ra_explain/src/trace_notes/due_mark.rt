@@ -3,7 +3,7 @@ use crate::note_parts::{push_number_in, push_numbered};
 use crate::trace_notes::open_request::Stage;
 use crate::trace_notes::replay::Replay;
 use ra_stamp::Mark;
-use ra_world::{Note, mark_line};
+use ra_text::{Note, mark_line};
 use std::alloc::Global;
 
 /// Adds which mark is due at a line of a trace. If none is, it adds that. If the line grants a request that waits, it then adds

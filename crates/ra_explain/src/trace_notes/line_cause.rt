@@ -8,8 +8,8 @@ use crate::trace_notes::refused_step::push_refused;
 use crate::trace_notes::replay::Replay;
 use crate::trace_notes::text_line::TextLine;
 use ra_stamp::{Mark, Memory};
+use ra_text::Note;
 use ra_trace::{Cause, MarkCause};
-use ra_world::Note;
 use std::alloc::Global;
 
 /// Why a line is wrong: of a trace, or of a mark log.

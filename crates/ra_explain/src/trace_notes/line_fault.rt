@@ -2,8 +2,8 @@
 use crate::hint::TAB;
 use crate::trace_notes::line_field::{NAMES, field_range, may_be};
 use crate::trace_notes::line_form::{kind_of, words_of};
+use ra_text::{Note, cut};
 use ra_trace::{Field, LineKind, Version};
-use ra_world::{Note, cut};
 
 /// Adds what is wrong with a line of this kind, and how one is made.
 fn push_expected(note: &mut Note, wrong: &str, kind: LineKind) {

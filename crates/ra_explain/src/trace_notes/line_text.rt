@@ -3,8 +3,8 @@ use crate::hint::{AT_BOTH, AT_FIRST, AT_LATER, AT_MARKS, TAB, hint_at};
 use crate::trace_notes::line_fault::push_line_fault;
 use crate::trace_notes::line_form::{FIRST_LINES, LATER_LINES, MARKS, kind_of, version_of};
 use crate::trace_notes::text_line::TextLine;
+use ra_text::Note;
 use ra_trace::{MAX_LINE, Version};
-use ra_world::Note;
 
 /// The text for a later line that does not begin with any of the words of a trace.
 const WORDS: &str =

@@ -6,8 +6,8 @@ use crate::trace_notes::open_requests::Sought;
 use crate::trace_notes::replay::Replay;
 use crate::trace_notes::text_line::TextLine;
 use ra_stamp::Message;
+use ra_text::Note;
 use ra_trace::Version;
-use ra_world::Note;
 
 /// What is said of a message for which there is no reason to be sent.
 const NEVER_SENT: &str = "it was never sent";

@@ -6,8 +6,8 @@ use crate::trace_notes::replay::Replay;
 use crate::trace_notes::table_steps::refusal_after;
 use crate::trace_notes::text_line::TextLine;
 use ra_stamp::Entry;
+use ra_text::Note;
 use ra_trace::MarkCause;
-use ra_world::Note;
 use std::alloc::Global;
 
 /// What is said of a mark of a trace that a lock table does not allow, in the order of `MarkCause`. If a request is in the way, it is

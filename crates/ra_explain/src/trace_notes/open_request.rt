@@ -1,7 +1,7 @@
 //! A client that waits, is queued or holds, as a note says it.
 use crate::note_parts::{push_name_and_mode, push_numbered};
 use ra_stamp::{Entry, Mode, Name, conflicts};
-use ra_world::Note;
+use ra_text::Note;
 
 /// What a client does between its ask and its release.
 #[derive(Clone, Copy)]

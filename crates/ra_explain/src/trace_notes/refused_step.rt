@@ -4,8 +4,9 @@ use crate::trace_notes::open_request::Reached;
 use crate::trace_notes::replay::Replay;
 use crate::trace_notes::text_line::TextLine;
 use ra_stamp::{Name, NodeId};
+use ra_text::Note;
 use ra_trace::Line;
-use ra_world::{Note, Step};
+use ra_world::Step;
 
 /// Adds how far a client is with a name, in which mode and since which line, or that it does not hold the name if it is at no stage. It adds
 /// at which node that is, if one is told.

@@ -2,8 +2,9 @@
 use crate::trace_notes::open_request::Stage;
 use crate::trace_notes::open_requests::OpenRequests;
 use ra_stamp::{Entry, Mark, Message, Stamp};
+use ra_text::cut;
 use ra_trace::Line;
-use ra_world::{Step, cut};
+use ra_world::Step;
 use std::alloc::Global;
 
 /// The numbers of nodes, and 0.

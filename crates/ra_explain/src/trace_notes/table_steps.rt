@@ -1,8 +1,8 @@
 //! What a lock table says of a mark of a trace.
 use ra_stamp::Mark;
 use ra_table::Table;
+use ra_text::cut;
 use ra_trace::{Line, MarkCause, try_mark};
-use ra_world::cut;
 use std::alloc::Global;
 
 /// Returns why a lock table refuses a mark after these lines of a trace, none of whose marks it refuses, or `None` if it does not or

@@ -7,7 +7,7 @@ use crate::trace_notes::open_requests::{OpenRequests, Sought};
 use crate::trace_notes::replay::Replay;
 use memchr::memchr;
 use ra_stamp::Memory;
-use ra_world::Note;
+use ra_text::Note;
 use std::alloc::Global;
 use std::simd::prelude::*;
 

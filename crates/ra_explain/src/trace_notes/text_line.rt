@@ -1,6 +1,6 @@
 //! The line of a text that is wrong.
+use ra_text::cut;
 use ra_trace::MAX_LINE;
-use ra_world::cut;
 
 /// A line of a text.
 #[derive(Clone, Copy)]

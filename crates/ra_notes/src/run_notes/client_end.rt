@@ -4,7 +4,8 @@ use ra_explain::{
 };
 use ra_schedule::{Choice, Op, Policy, Script};
 use ra_stamp::{Entry, Mark, Mode, Name};
-use ra_world::{Note, Report};
+use ra_text::Note;
+use ra_world::Report;
 use std::alloc::Global;
 
 /// The end of a run.

@@ -8,7 +8,7 @@ use ra_schedule::{DriveError, Policy, Script, Shrunk, shrink};
 use ra_script::MAX_TURNS;
 use ra_stamp::Memory;
 use ra_task::{Command, write_line};
-use ra_world::Note;
+use ra_text::Note;
 use std::alloc::Global;
 use std::io::Write;
 

@@ -6,7 +6,7 @@ use ra_explain::{
 };
 use ra_schedule::{Policy, Script};
 use ra_stamp::{Memory, NodeId};
-use ra_world::Note;
+use ra_text::Note;
 use std::alloc::Global;
 
 /// Adds what is in the way of a client of a node that has something left to do, if it waits or is queued: which requests block it, or

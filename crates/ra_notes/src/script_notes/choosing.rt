@@ -4,7 +4,7 @@ use crate::script_notes::script_text::{run_of, script_in};
 use ra_explain::{push_number_in, push_numbered};
 use ra_schedule::{Choice, Choices, ChoicesError, Policy, Script, read_choices};
 use ra_stamp::Memory;
-use ra_world::Note;
+use ra_text::Note;
 use std::alloc::Global;
 
 /// Returns the policy of the first `count` choices.

@@ -3,7 +3,7 @@ use crate::script_notes::script_text::script_in;
 use ra_explain::push_number_in;
 use ra_schedule::{Op, Script, first_out_of_order, first_unreleased};
 use ra_stamp::Memory;
-use ra_world::Note;
+use ra_text::Note;
 use std::alloc::Global;
 
 /// Adds the name that the operation of a client at this place locks.

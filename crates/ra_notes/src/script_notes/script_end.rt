@@ -3,7 +3,7 @@ use crate::script_notes::script_text::script_in;
 use ra_explain::{MAX_CLIENTS, push_name_and_mode};
 use ra_schedule::{Op, Script, is_unreleased};
 use ra_stamp::Memory;
-use ra_world::Note;
+use ra_text::Note;
 use std::alloc::Global;
 
 /// The most names that are told of each client.

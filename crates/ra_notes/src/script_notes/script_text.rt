@@ -1,7 +1,7 @@
 //! The script of a text of which something is said, and its runs.
 use ra_schedule::{DriveError, Policy, Script, Summary, summarize};
 use ra_script::{MAX_TURNS, ScriptError, read_script};
-use ra_world::Note;
+use ra_text::Note;
 use std::alloc::Global;
 
 /// Returns the script of a text, or `None` if it is no script. If memory ran out, the note records it.

@@ -1,7 +1,7 @@
 //! What a client is at after the steps so far.
 ghost use Rattle.std.specs.Prelude.{◌≡◌, List, length, string_bytes, IfOk};
 ghost use Rattle.ra_world.specs.Traffic.{Move};
-ghost use Rattle.ra_world.specs.Drafting.{Adds};
+ghost use Rattle.ra_text.specs.Drafting.{Adds};
 ghost use Rattle.ra_schedule.specs.Schedule.{IsWaiting, steps_of};
 ghost use Rattle.ra_schedule.specs.Progress.{IsProgress, IsWaitingAt, Tracks};
 ghost use Rattle.ra_schedule.specs.StateText as spec;
@@ -10,7 +10,8 @@ use crate::choice::picking::enabled_step;
 use crate::driver::client_progress::Progress;
 use crate::{Op, Script};
 use ra_stamp::{Memory, Mode, Name};
-use ra_world::{Draft, Step, World};
+use ra_text::Draft;
+use ra_world::{Step, World};
 use std::alloc::Global;
 
 /// What a client is at.

@@ -9,9 +9,8 @@ ghost use Rattle.ra_script.specs.ScriptText.{script_of};
 use crate::PerformError;
 use crate::performing::printed::Printed;
 use crate::performing::{MAX_TURNS, print_run};
-use ra_schedule::{
-    ChoicesError, Ending, Faults, Observer, OutputKind, Script, SeedRange, chance, first_seed,
-};
+use ra_schedule::{ChoicesError, Ending, Faults, Observer, Script, SeedRange, chance, first_seed};
+use ra_text::OutputKind;
 use std::alloc::Global;
 
 /// Returns what is written in a format of the run of a script by the least seed of a range by which it comes to an end by chance, with

@@ -5,7 +5,7 @@ use crate::script_reading::shape_note::say_shape;
 use crate::script_reading::{MAX_SCRIPT, add_op};
 use ra_schedule::Script;
 use ra_stamp::{Memory, NodeId};
-use ra_world::Note;
+use ra_text::Note;
 use std::alloc::Global;
 use toml::Table;
 

@@ -1,7 +1,7 @@
 //! Explains to a person why a document does not have the shape of a script. No clause covers what is said.
 use crate::ScriptError;
 use crate::script_reading::document::{array_at, client_of, integer_at};
-use ra_world::Note;
+use ra_text::Note;
 use std::alloc::Global;
 use toml::value::Array;
 use toml::{Table, Value};

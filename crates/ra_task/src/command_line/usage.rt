@@ -6,8 +6,7 @@ use crate::policy::is_choice;
 use crate::unused_options::is_given;
 use clap::error::ErrorKind;
 use clap::{ArgMatches, Error as ParseError};
-use ra_schedule::OutputKind;
-use ra_world::Note;
+use ra_text::{Note, OutputKind};
 use std::alloc::Global;
 
 /// What is said about a state that can't be printed.

@@ -14,7 +14,7 @@ use crate::line_source::{ByBytes, FromBuffer, LineRoom, LineSource};
 use crate::text_limits::MAX_TEXT;
 use crate::{Cause, TraceError, Verdict};
 use ra_stamp::Mark;
-use ra_world::next_byte;
+use ra_text::next_byte;
 use std::alloc::Global;
 use std::io::{BufRead, Read};
 

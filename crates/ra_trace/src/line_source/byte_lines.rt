@@ -8,7 +8,7 @@ use crate::line::forms::read_line_of;
 use crate::line_source::LineRoom;
 use crate::text_limits::MAX_LINE;
 use arrayvec::ArrayVec;
-use ra_world::next_byte;
+use ra_text::next_byte;
 use std::io::Read;
 
 /// The bytes of a line, as far as they were read.

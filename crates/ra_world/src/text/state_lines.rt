@@ -5,15 +5,14 @@ ghost use Rattle.ra_stamp.specs.NodeId.{IsNodeNumber};
 ghost use Rattle.ra_node.specs.Node.{resource_at};
 ghost use Rattle.ra_node.specs.Resource.{use_of};
 ghost use Rattle.ra_world.specs.Keeping.{nodes_of};
-ghost use Rattle.ra_world.specs.Lines as lines;
-ghost use Rattle.ra_world.specs.Drafting.{Adds};
+ghost use Rattle.ra_text.specs.Lines as lines;
+ghost use Rattle.ra_text.specs.Drafting.{Adds};
 ghost use Rattle.ra_world.specs.StateLines as spec;
 
-use crate::text::draft::Draft;
-use crate::text::lines::push_total_line;
 use ra_bag::Bag;
 use ra_node::Node;
 use ra_stamp::{Entry, Memory, Name, NodeCount, NodeId};
+use ra_text::Draft;
 use std::alloc::Global;
 
 /// Adds the first word of a line about a name at a node, and then the two.
@@ -161,7 +160,7 @@ pub fn state_text(
         ≡ spec.state_text (length nodes.now) steps names.now (nodes_of nodes.now) under_way.now.items clients.now) }
 {
     let mut text = Draft::new(alloc);
-    push_total_line(&mut text, "steps", u128::from(steps));
+    text.push_total_line("steps", u128::from(steps));
     push_nodes(&mut text, nodes, names);
     push_messages(&mut text, under_way);
     text.push(clients);

@@ -16,9 +16,10 @@ use crate::trace_tests::traced_steps::{assert_left, fault_of_steps, steps_of, te
 use ra_draw::{DrawError, Part};
 use ra_explain::Unanswered::WrongNode;
 use ra_frame::FrameError;
-use ra_schedule::{ChoicesError, Ending, OutputKind, Policy, SeedRange};
+use ra_schedule::{ChoicesError, Ending, Policy, SeedRange};
 use ra_script::{PerformError, ScriptError, find_run};
 use ra_stamp::Memory;
+use ra_text::OutputKind;
 use ra_trace::{Cause, MarksVerdict, TraceError, Verdict, WriteTraceError};
 use ra_world::Steps;
 use std::fmt::Debug;

@@ -14,7 +14,8 @@ use ra_schedule::{
     Policy, Script, SeedOutcome, SeedRange, Survey, Tally, survey,
 };
 use ra_stamp::{Mark, Memory, Mode, Name};
-use ra_world::{RunError, Step, StepError, Steps, World, mark_line, report_text};
+use ra_text::mark_line;
+use ra_world::{RunError, Step, StepError, Steps, World, report_text};
 use std::process::Abort;
 use test_support::{At, Tried, again, assert_grown, assert_memory, both, entry, id, part, r, row};
 

@@ -1,6 +1,6 @@
 //! How bytes are read up to a limit and written, also if a reader or a writer fails.
 use crate::world_steps::world_asserting::assert_same;
-use ra_world::{ReadFault, WriteFault, read_up_to, write_out};
+use ra_text::{ReadFault, WriteFault, read_up_to, write_out};
 use std::alloc::Global;
 use std::io;
 use std::io::Read;

@@ -4,7 +4,8 @@ use crate::world_steps::world_asserting::{assert_same, assert_text};
 use Act::{Lock, Reports};
 use ra_schedule::{AddClientError, AddOpError, DriveError, NewScriptError};
 use ra_stamp::{Mark, Mode, Name};
-use ra_world::{NewError, NodeRefusal, RunError, StepError, mark_line};
+use ra_text::mark_line;
+use ra_world::{NewError, NodeRefusal, RunError, StepError};
 use test_support::{ONE_LOCK_LINES, assert_prints, assert_words, entry, row};
 
 /// Why a step is refused, with its word.

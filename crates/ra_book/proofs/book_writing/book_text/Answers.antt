@@ -2,8 +2,8 @@ use Rattle.std.proofs.Common.{◌≡◌, ◌+◌, refl, ◌<◌, ◌^◌, ◌++�
 use Rattle.std.proofs.lemmas.List.{take_more, take_all}
 use Rattle.std.specs.Prelude.{map}
 use Rattle.std.specs.List.{AllZip}
-use Rattle.ra_world.specs.Lines.{field}
-use Rattle.ra_world.proofs.Drafts.{adds_as, adds_both}
+use Rattle.ra_text.specs.Lines.{field}
+use Rattle.ra_text.proofs.Drafts.{adds_as, adds_both}
 use Rattle.ra_history.specs.declared.book.event.BookEvent.{BookEvent}
 use Rattle.ra_book.specs.BookText.{first_text}
 use Rattle.ra_book.specs.Written.{IsWrittenEvent, SaysEvents}

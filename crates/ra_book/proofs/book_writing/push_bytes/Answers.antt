@@ -1,8 +1,8 @@
 use Rattle.std.proofs.Common.{◌≡◌, ap, sym, subst, rules}
 use Rattle.std.specs.Str.{IsUtf8}
 use Rattle.hex.specs.Hex.{encode_lower}
-use Rattle.ra_world.specs.Lines.{field}
-use Rattle.ra_world.proofs.Drafts.{adds_as}
+use Rattle.ra_text.specs.Lines.{field}
+use Rattle.ra_text.proofs.Drafts.{adds_as}
 use Rattle.ra_book.proofs.WrittenLines.{digits_are_utf8}
 use Rattle.ra_book.proofs.book_writing.push_bytes.Goals as goal
 

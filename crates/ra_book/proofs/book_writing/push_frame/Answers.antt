@@ -1,7 +1,7 @@
 use Rattle.std.proofs.Common.{◌≤◌, List, ℕ, ap, length, subst}
 use Rattle.hex.specs.Hex.{IsBytes, encode_lower}
-use Rattle.ra_world.specs.Lines.{field}
-use Rattle.ra_world.proofs.Drafts.{adds_as, adds_both}
+use Rattle.ra_text.specs.Lines.{field}
+use Rattle.ra_text.proofs.Drafts.{adds_as, adds_both}
 use Rattle.ra_book.proofs.WrittenLines.{got_line}
 use Rattle.ra_book.proofs.book_writing.push_frame.Goals as goal
 

@@ -3,7 +3,7 @@ use Rattle.ra_trace.specs.declared.mark_log.marks_verdict.MarksVerdict.{MarksVer
 use Rattle.ra_trace.specs.declared.mark_log.marks_verdict.MarksVerdict.TheVariants.{Valid, Invalid}
 use Rattle.ra_trace.specs.Marks.{IsMarksVerdict, marks_text}
 use Rattle.ra_draw.specs.Drawing.{DrawsMarks}
-use Rattle.ra_world.specs.declared.text.drawn_part.Part.{Part}
+use Rattle.ra_text.specs.declared.drawn_part.Part.{Part}
 use Rattle.ra_draw.proofs.DrawingLemmas.{unread, unjudged, undrawn, judged, too_long, appends_nothing}
 use Rattle.ra_draw.proofs.draw_log.draw_marks.Goals as goal
 

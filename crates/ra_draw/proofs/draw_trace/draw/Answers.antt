@@ -4,7 +4,7 @@ use Rattle.ra_trace.specs.declared.checker.verdict.Verdict.TheVariants.{Valid, I
 use Rattle.ra_trace.specs.TraceText.{line_text}
 use Rattle.ra_trace.specs.Verdict.{IsVerdict}
 use Rattle.ra_draw.specs.Drawing.{Draws}
-use Rattle.ra_world.specs.declared.text.drawn_part.Part.{Part}
+use Rattle.ra_text.specs.declared.drawn_part.Part.{Part}
 use Rattle.ra_draw.proofs.DrawingLemmas.{unread, unjudged, undrawn, judged, too_long, appends_nothing}
 use Rattle.ra_draw.proofs.draw_trace.draw.Goals as goal
 

@@ -3,8 +3,8 @@ use Rattle.std.proofs.lemmas.Grind.{common_steps}
 use Rattle.std.proofs.lemmas.List.{append-nil}
 use Rattle.std.proofs.lemmas.List.Elements.{All-nil, All-more}
 use Rattle.ra_stamp.specs.declared.entry.Mark.{Mark}
-use Rattle.ra_world.specs.Lines.{mark_line}
-use Rattle.ra_world.proofs.Drafts.{adds_as, adds_both}
+use Rattle.ra_text.specs.Lines.{mark_line}
+use Rattle.ra_text.proofs.Drafts.{adds_as, adds_both}
 use Rattle.ra_trace.specs.Ranges.{MarkFits}
 use Rattle.ra_trace.specs.TraceText.{step_line}
 use Rattle.ra_trace.proofs.trace_writing.push_move.Goals as goal

@@ -1,6 +1,6 @@
 use Rattle.std.proofs.Common.{◌++◌, take, flat_map, All}
-use Rattle.ra_world.specs.Drafting.{Adds}
-use Rattle.ra_world.specs.Lines.{mark_line}
+use Rattle.ra_text.specs.Drafting.{Adds}
+use Rattle.ra_text.specs.Lines.{mark_line}
 use Rattle.ra_trace.specs.Ranges.{MarkFits}
 use Rattle.ra_trace.specs.TraceText.{step_line}
 use Rattle.ra_trace.proofs.trace_writing.push_move.Given as goal

@@ -1,4 +1,4 @@
-use Rattle.ra_world.proofs.Drafts.{adds_both}
+use Rattle.ra_text.proofs.Drafts.{adds_both}
 use Rattle.ra_trace.proofs.trace_writing.push_sent.Goals as goal
 
 pub returns : goal.returns

@@ -3,9 +3,9 @@ use Rattle.std.specs.Prelude.{codes, decimal}
 use Rattle.ra_stamp.specs.Mode.{mode_word}
 use Rattle.ra_world.specs.declared.step.Step.{Step}
 use Rattle.ra_world.specs.declared.step.Step.TheVariants.{Ask, Leave, Deliver, Lose, Repeat}
-use Rattle.ra_world.specs.Drafting.{Adds}
-use Rattle.ra_world.specs.Lines.{field, message_fields}
-use Rattle.ra_world.proofs.Drafts.{adds_as, adds_to, adds_both}
+use Rattle.ra_text.specs.Drafting.{Adds}
+use Rattle.ra_text.specs.Lines.{field, message_fields}
+use Rattle.ra_text.proofs.Drafts.{adds_as, adds_to, adds_both}
 use Rattle.ra_trace.specs.TraceText.{step_line}
 use Rattle.ra_trace.proofs.trace_writing.push_step.Goals as goal
 use Rattle.ra_trace.proofs.trace_writing.push_step.Goals.{in-Ask, in-Leave, in-Deliver, in-Lose, in-Repeat}

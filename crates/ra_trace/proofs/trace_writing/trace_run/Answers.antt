@@ -1,6 +1,6 @@
 use Rattle.std.proofs.Common.{[], ◌++◌, codes, arith}
-use Rattle.ra_world.specs.Drafting.{Says}
-use Rattle.ra_world.proofs.Drafts.{adds_both}
+use Rattle.ra_text.specs.Drafting.{Says}
+use Rattle.ra_text.proofs.Drafts.{adds_both}
 use Rattle.ra_world.proofs.Outcomes.{is_traffic}
 use Rattle.ra_world.proofs.WorldLaws.{laws_below}
 use Rattle.ra_trace.specs.declared.line.Line.TheVariants.{First}

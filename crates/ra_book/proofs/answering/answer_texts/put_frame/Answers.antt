@@ -1,7 +1,7 @@
 use Rattle.std.proofs.Common.{◌≡◌, ℕ, decimal, ap, ◌∙◌, rules}
 use Rattle.hex.specs.Hex.{encode_lower}
 use Rattle.ra_stamp.specs.Message.{to_of}
-use Rattle.ra_world.specs.Lines.{field}
+use Rattle.ra_text.specs.Lines.{field}
 use Rattle.ra_book.proofs.Put.{both, renamed}
 use Rattle.ra_book.proofs.answering.answer_texts.put_frame.Goals as goal
 

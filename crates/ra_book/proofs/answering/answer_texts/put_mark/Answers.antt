@@ -2,7 +2,7 @@ use Rattle.std.proofs.Common.{arith, subst, ◌≡◌, ◌++◌, ℕ, codes, dec
 use Rattle.ra_stamp.specs.Name.{IsName}
 use Rattle.ra_stamp.specs.NodeId.{IsNodeNumber}
 use Rattle.ra_book.specs.Answers.{IsShown}
-use Rattle.ra_world.specs.Lines.{entry_fields, field, mark_line}
+use Rattle.ra_text.specs.Lines.{entry_fields, field, mark_line}
 use Rattle.ra_book.proofs.Put.{both, renamed}
 use Rattle.ra_book.proofs.Sends.{mark_text}
 use Rattle.ra_book.proofs.answering.answer_texts.put_mark.Goals as goal

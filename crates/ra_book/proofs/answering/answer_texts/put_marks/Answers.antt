@@ -2,7 +2,7 @@ use Rattle.std.proofs.Common.{◌≡◌, ◌+◌, ◌++◌, ◌∷◌, [], ◌�
 use Rattle.std.proofs.lemmas.List.{take_more, take_all, flat_map_more}
 use Rattle.std.proofs.lemmas.List.Elements.{All-nil, All-push}
 use Rattle.ra_stamp.specs.Mark.{entry_of_mark}
-use Rattle.ra_world.specs.Lines.{mark_line}
+use Rattle.ra_text.specs.Lines.{mark_line}
 use Rattle.ra_book.specs.Answers.{AreShown, IsShown}
 use Rattle.ra_book.proofs.Put.{both, none, renamed}
 use Rattle.ra_book.proofs.answering.answer_texts.put_marks.Goals as goal

@@ -1,5 +1,5 @@
 use Rattle.std.proofs.Common.{take, flat_map}
-use Rattle.ra_world.specs.Lines.{mark_line}
+use Rattle.ra_text.specs.Lines.{mark_line}
 use Rattle.ra_book.specs.Answers.{AreShown}
 use Rattle.ra_book.specs.Output.{Puts}
 use Rattle.ra_book.proofs.answering.answer_texts.put_marks.Given as goal

@@ -1,6 +1,6 @@
 use Rattle.std.proofs.Common.{◌≡◌, ◌++◌, List, refl, ap, subst, flat_map, codes, rules}
 use Rattle.ra_stamp.specs.declared.message.Message.{Message}
-use Rattle.ra_world.specs.Lines.{mark_line}
+use Rattle.ra_text.specs.Lines.{mark_line}
 use Rattle.ra_book.specs.Answers.{AreSends, AreShown}
 use Rattle.ra_book.proofs.Put.{both, renamed}
 use Rattle.ra_book.proofs.answering.answer_texts.put_outcome.Goals as goal

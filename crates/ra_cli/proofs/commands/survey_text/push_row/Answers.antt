@@ -1,4 +1,4 @@
-use Rattle.ra_world.proofs.Drafts.{adds_both}
+use Rattle.ra_text.proofs.Drafts.{adds_both}
 use Rattle.ra_cli.proofs.commands.survey_text.push_row.Goals as goal
 
 pub returns : goal.returns

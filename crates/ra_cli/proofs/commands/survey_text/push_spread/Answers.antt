@@ -1,6 +1,6 @@
 use Rattle.std.proofs.Common.{◌++◌, List, ℕ, ap, append-nil, codes, decimal, sym, ◌∙◌}
-use Rattle.ra_world.specs.Lines.{field}
-use Rattle.ra_world.proofs.Drafts.{adds_as, adds_nothing}
+use Rattle.ra_text.specs.Lines.{field}
+use Rattle.ra_text.proofs.Drafts.{adds_as, adds_nothing}
 use Rattle.ra_cli.specs.Surveyed.{spread_line}
 use Rattle.ra_cli.proofs.commands.survey_text.push_spread.Goals as goal
 

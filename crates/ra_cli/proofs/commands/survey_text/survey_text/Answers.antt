@@ -1,5 +1,5 @@
 use Rattle.std.proofs.Common.{[]}
-use Rattle.ra_world.proofs.Drafts.{adds_both}
+use Rattle.ra_text.proofs.Drafts.{adds_both}
 use Rattle.ra_cli.proofs.commands.survey_text.survey_text.Goals as goal
 
 pub returns : goal.returns

@@ -1,8 +1,8 @@
 use Rattle.std.proofs.Common.{◌≡◌, ℕ, ◌+◌, ◌++◌, ◌<◌, [], arith, length, refl, sym, ap, subst}
 use Rattle.std.specs.Prelude.{decimal}
 use Rattle.std.proofs.lemmas.Result.{IfOk-weaker}
-use Rattle.ra_world.specs.Lines.{field}
-use Rattle.ra_world.proofs.Drafts.{adds_as, adds_both}
+use Rattle.ra_text.specs.Lines.{field}
+use Rattle.ra_text.proofs.Drafts.{adds_as, adds_both}
 use Rattle.ra_schedule.specs.StateText.{AreClientLines, client_line}
 use Rattle.ra_schedule.proofs.ClientLines.{is_there, line_of, next_line, all_lines}
 use Rattle.ra_schedule.proofs.driver.client_state.client_lines.Goals as goal

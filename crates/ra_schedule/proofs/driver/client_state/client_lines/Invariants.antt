@@ -1,5 +1,5 @@
 use Rattle.std.proofs.Common.{ℕ, List}
-use Rattle.ra_world.specs.Drafting.{Says}
+use Rattle.ra_text.specs.Drafting.{Says}
 use Rattle.ra_schedule.specs.StateText.{AreClientLines}
 use Rattle.ra_schedule.proofs.driver.client_state.client_lines.Given as goal
 

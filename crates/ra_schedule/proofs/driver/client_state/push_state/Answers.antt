@@ -1,7 +1,7 @@
 use Rattle.std.proofs.Common.{◌≡◌, ◌∙◌, sym, ap, subst}
-use Rattle.ra_world.specs.Drafting.{Adds}
-use Rattle.ra_world.specs.Lines.{field}
-use Rattle.ra_world.proofs.Drafts.{adds_as, adds_both}
+use Rattle.ra_text.specs.Drafting.{Adds}
+use Rattle.ra_text.specs.Lines.{field}
+use Rattle.ra_text.proofs.Drafts.{adds_as, adds_both}
 use Rattle.ra_schedule.specs.StateText.{op_fields, enabled_word, state_fields}
 use Rattle.ra_schedule.proofs.driver.client_state.push_state.Goals as goal
 use Rattle.ra_schedule.proofs.driver.client_state.push_state.Goals.{in-Lock, in-Unlock, then-enabled, else-enabled}

@@ -1,7 +1,8 @@
 use Rattle.std.proofs.Common.{[], flat_map, take, refl, ap, ◌∙◌, arith}
 use Rattle.std.proofs.lemmas.List.{take_all}
-use Rattle.ra_world.specs.Lines.{mark_line, report_text}
-use Rattle.ra_world.proofs.Drafts.{adds_nothing, adds_as, adds_both}
+use Rattle.ra_text.specs.Lines.{mark_line}
+use Rattle.ra_world.specs.Lines.{report_text}
+use Rattle.ra_text.proofs.Drafts.{adds_nothing, adds_as, adds_both}
 use Rattle.ra_world.proofs.StateTexts.{next_item}
 use Rattle.ra_world.proofs.text.lines.report_text.Goals as goal
 

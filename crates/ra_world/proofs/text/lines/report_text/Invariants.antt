@@ -1,6 +1,6 @@
 use Rattle.std.proofs.Common.{flat_map, take}
-use Rattle.ra_world.specs.Lines.{mark_line}
-use Rattle.ra_world.specs.Drafting.{Adds}
+use Rattle.ra_text.specs.Lines.{mark_line}
+use Rattle.ra_text.specs.Drafting.{Adds}
 use Rattle.ra_world.proofs.text.lines.report_text.Given as goal
 
 -- the lines of the marks so far

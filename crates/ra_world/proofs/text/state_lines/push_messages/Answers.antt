@@ -3,7 +3,7 @@ use Rattle.std.proofs.Common.{◌≤◌, List, [], length, take, refl, sym, ap, 
 use Rattle.std.proofs.lemmas.List.{take_all}
 use Rattle.ra_stamp.specs.declared.message.Message.{Message}
 use Rattle.ra_world.specs.StateLines.{message_lines}
-use Rattle.ra_world.proofs.Drafts.{adds_nothing, adds_as, adds_both}
+use Rattle.ra_text.proofs.Drafts.{adds_nothing, adds_as, adds_both}
 use Rattle.ra_world.proofs.StateTexts.{at_place, next_message, some_there}
 use Rattle.ra_world.proofs.text.state_lines.push_messages.Goals as goal
 

@@ -1,6 +1,6 @@
 use Rattle.std.proofs.Common.{take}
 use Rattle.ra_world.specs.StateLines.{message_lines}
-use Rattle.ra_world.specs.Drafting.{Adds}
+use Rattle.ra_text.specs.Drafting.{Adds}
 use Rattle.ra_world.proofs.text.state_lines.push_messages.Given as goal
 
 -- the lines of the messages so far

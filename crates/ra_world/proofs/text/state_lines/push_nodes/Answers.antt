@@ -4,9 +4,9 @@ use Rattle.std.specs.List.{range_with_len}
 use Rattle.std.proofs.lemmas.List.{take_all}
 use Rattle.ra_node.specs.Node.{NodeState, resource_at}
 use Rattle.ra_world.specs.Keeping.{nodes_of}
-use Rattle.ra_world.specs.Lines.{field}
+use Rattle.ra_text.specs.Lines.{field}
 use Rattle.ra_world.specs.StateLines.{resource_lines, lines_at}
-use Rattle.ra_world.proofs.Drafts.{adds_nothing, adds_as, adds_both}
+use Rattle.ra_text.proofs.Drafts.{adds_nothing, adds_as, adds_both}
 use Rattle.ra_world.proofs.StateTexts.{next_item, next_lines, node_at}
 use Rattle.ra_world.proofs.text.state_lines.push_nodes.Goals as goal
 

@@ -1,7 +1,7 @@
 use Rattle.std.proofs.Common.{length, take}
 use Rattle.ra_world.specs.Keeping.{nodes_of}
 use Rattle.ra_world.specs.StateLines.{lines_at, node_lines}
-use Rattle.ra_world.specs.Drafting.{Adds}
+use Rattle.ra_text.specs.Drafting.{Adds}
 use Rattle.ra_world.proofs.text.state_lines.push_nodes.Given as goal
 
 -- the lines of the nodes so far

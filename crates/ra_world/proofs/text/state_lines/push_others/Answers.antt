@@ -3,10 +3,10 @@ use Rattle.std.proofs.Common.{◌≡◌, ◌+◌, ℕ, Bool, [], flat_map, refl,
 use Rattle.std.specs.Prelude.{decimal, if◌then◌else◌}
 use Rattle.std.specs.List.{range_with_len}
 use Rattle.ra_node.specs.Node.{resource_at}
-use Rattle.ra_world.specs.Lines.{field}
+use Rattle.ra_text.specs.Lines.{field}
 use Rattle.ra_world.specs.StateLines.{awaits_line, awaited_line, awaited_lines, defers_line, deferred_line, deferred_lines}
-use Rattle.ra_world.specs.Drafting.{Adds}
-use Rattle.ra_world.proofs.Drafts.{adds_nothing, adds_as, adds_to, adds_both}
+use Rattle.ra_text.specs.Drafting.{Adds}
+use Rattle.ra_text.proofs.Drafts.{adds_nothing, adds_as, adds_to, adds_both}
 use Rattle.ra_world.proofs.StateTexts.{next_lines, no_others, nothing}
 use Rattle.ra_world.proofs.text.state_lines.push_others.Goals as goal
 use Rattle.ra_world.proofs.text.state_lines.push_others.Goals.{then-waits_for, else-waits_for, in-Some, in_default}

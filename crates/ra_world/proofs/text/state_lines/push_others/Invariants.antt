@@ -1,7 +1,7 @@
 -- proofs/text/state_lines/push_others/Invariants.antt
 use Rattle.ra_node.specs.Node.{resource_at}
 use Rattle.ra_world.specs.StateLines.{awaited_lines, deferred_lines}
-use Rattle.ra_world.specs.Drafting.{Adds}
+use Rattle.ra_text.specs.Drafting.{Adds}
 use Rattle.ra_world.proofs.text.state_lines.push_others.Given as goal
 
 -- the lines of the awaited nodes so far

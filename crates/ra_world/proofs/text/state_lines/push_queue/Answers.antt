@@ -3,9 +3,9 @@ use Rattle.std.proofs.Common.{◌≤◌, List, [], flat_map, length, take, refl,
 use Rattle.std.proofs.lemmas.List.{take_all}
 use Rattle.ra_node.specs.declared.queued_client.Queued.{Queued}
 use Rattle.ra_node.specs.Node.{resource_at}
-use Rattle.ra_world.specs.Lines.{field}
+use Rattle.ra_text.specs.Lines.{field}
 use Rattle.ra_world.specs.StateLines.{queued_line}
-use Rattle.ra_world.proofs.Drafts.{adds_nothing, adds_as, adds_both}
+use Rattle.ra_text.proofs.Drafts.{adds_nothing, adds_as, adds_both}
 use Rattle.ra_world.proofs.StateTexts.{at_place, next_item, some_there}
 use Rattle.ra_world.proofs.text.state_lines.push_queue.Goals as goal
 

@@ -1,7 +1,7 @@
 use Rattle.std.proofs.Common.{flat_map, take}
 use Rattle.ra_node.specs.Node.{resource_at}
 use Rattle.ra_world.specs.StateLines.{queued_line}
-use Rattle.ra_world.specs.Drafting.{Adds}
+use Rattle.ra_text.specs.Drafting.{Adds}
 use Rattle.ra_world.proofs.text.state_lines.push_queue.Given as goal
 
 -- the lines of the clients so far

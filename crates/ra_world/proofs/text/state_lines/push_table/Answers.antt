@@ -6,8 +6,8 @@ use Rattle.ra_node.specs.Node.{NodeState, resource_at}
 use Rattle.ra_node.specs.Resource.{use_of}
 use Rattle.ra_world.specs.Keeping.{nodes_of}
 use Rattle.ra_world.specs.StateLines.{table_line, table_lines_at}
-use Rattle.ra_world.specs.Drafting.{Adds}
-use Rattle.ra_world.proofs.Drafts.{adds_nothing, adds_as, adds_to, adds_both}
+use Rattle.ra_text.specs.Drafting.{Adds}
+use Rattle.ra_text.proofs.Drafts.{adds_nothing, adds_as, adds_to, adds_both}
 use Rattle.ra_world.proofs.StateTexts.{next_item, next_lines, node_at, use_waiting, use_holding, use_nobody}
 use Rattle.ra_world.proofs.text.state_lines.push_table.Goals as goal
 use Rattle.ra_world.proofs.text.state_lines.push_table.Goals.{in-Some, in_default+in-Some-holder, in_default+in_default-holder}

@@ -1,6 +1,6 @@
 use Rattle.std.proofs.Common.{sym, ap}
 use Rattle.ra_world.specs.StateLines.{use_fields}
-use Rattle.ra_world.proofs.Drafts.{adds_as}
+use Rattle.ra_text.proofs.Drafts.{adds_as}
 use Rattle.ra_world.proofs.StateTexts.{use_waiting, use_holding, use_nobody}
 use Rattle.ra_world.proofs.text.state_lines.push_use.Goals as goal
 

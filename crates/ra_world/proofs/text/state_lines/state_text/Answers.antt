@@ -1,9 +1,9 @@
 use Rattle.std.proofs.Common.{[], length, ap}
 use Rattle.std.specs.Prelude.{codes}
 use Rattle.ra_world.specs.Keeping.{nodes_of}
-use Rattle.ra_world.specs.Lines.{total_line}
+use Rattle.ra_text.specs.Lines.{total_line}
 use Rattle.ra_world.specs.StateLines.{state_text}
-use Rattle.ra_world.proofs.Drafts.{adds_as, adds_both}
+use Rattle.ra_text.proofs.Drafts.{adds_as, adds_both}
 use Rattle.ra_world.proofs.text.state_lines.state_text.Goals as goal
 
 pub returns : goal.returns

@@ -4,7 +4,7 @@ use Rattle.std.proofs.lemmas.Bool.{false≢true}
 use Rattle.std.proofs.lemmas.List.FromFn.{length-map-range_with_len}
 use Rattle.ra_stamp.specs.NodeId.{IsNodeNumber}
 use Rattle.ra_node.specs.Node.{opening_node}
-use Rattle.ra_world.proofs.Pieces.{no_fault}
+use Rattle.ra_world.proofs.Refusing.{no_fault}
 use Rattle.ra_world.proofs.Worlds.{begins}
 use Rattle.ra_world.proofs.WorldLaws.{kept_runs_go_on}
 use Rattle.ra_world.proofs.world.WorldOf.new.Goals as goal

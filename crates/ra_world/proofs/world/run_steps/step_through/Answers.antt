@@ -6,8 +6,7 @@ use Rattle.ra_world.specs.declared.step.Step.{Step}
 use Rattle.ra_world.specs.World.{with_move, HasMade}
 use Rattle.ra_world.specs.declared.error.StepError.{StepError}
 use Rattle.ra_world.specs.Refused.{IsRefusedAt}
-use Rattle.ra_world.proofs.Refusing.{memory_or_not, one_end, one_refusal, no_refusal, no_count, memory_no_count, made_next, no_run, refused_there, stops_before}
-use Rattle.ra_world.proofs.Pieces.{no_fault}
+use Rattle.ra_world.proofs.Refusing.{memory_or_not, no_fault, one_end, one_refusal, no_refusal, no_count, memory_no_count, made_next, no_run, refused_there, stops_before}
 use Rattle.ra_world.proofs.Runs.{prefix_of_steps, steps_go_on}
 use Rattle.ra_world.proofs.WorldLaws.{laws_below}
 use Rattle.ra_world.proofs.world.run_steps.step_through.Goals as goal

@@ -1,0 +1,3 @@
+pub mod Drafts
+mod Pieces
+mod Written

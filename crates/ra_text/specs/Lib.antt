@@ -1,0 +1,4 @@
+pub mod Lines
+pub mod Drafting
+pub mod Input
+pub mod DrawnPart

@@ -1,0 +1,16 @@
+/// Which text is made of a run. It is here because a command line asks for one in `ra_task`, and `ra_script` makes it: neither uses
+/// the other.
+#[derive(Clone, Copy)]
+pub enum OutputKind {
+    /// The lines of its report.
+    Lines,
+    /// Its trace.
+    Trace,
+    /// The choices by which the policy listed makes it again: their words on one line.
+    Choices,
+    /// If it is stuck, the choices of the least run that is found by leaving out one step after the other, and otherwise the
+    /// word `none`.
+    Shrunk,
+    /// The lines of the state at its end.
+    State,
+}

@@ -1,6 +1,0 @@
-use Rattle.ra_world.proofs.Drafts.{adds_both}
-use Rattle.ra_world.proofs.text.lines.push_total_line.Goals as goal
-
-pub returns : goal.returns
-returns c =
-    adds_both (adds_both c.push.ensures c.push_number.ensures) c.end_line.ensures
