@@ -192,6 +192,12 @@ impl<G: Gate + Drop> Cluster<G> {
         self.audited
     }
 
+    /// Returns the gate that the cluster was made with. It does not allocate.
+    // No clause says that it is this gate, since contracts don't see the gate. There is no other one that it could return.
+    pub fn gate(&self) -> &G {
+        &self.gate
+    }
+
     /// Returns the site of a node, whose readers tell its state, or `None` if there is no such node. It does not
     /// allocate.
     pub fn site(&self, node: NodeId) -> Option<&Site>

@@ -40,5 +40,6 @@ pub use ra_history::{
     is_cluster, settle,
 };
 pub use site::desk::Handed;
+pub use site::stop_causes::stop_of;
 pub use site::take_error::TakeError;
 pub use site::{Site, SiteError};

@@ -1,6 +1,5 @@
 //! The threads of a cluster that does a script.
-use crate::site::stop_causes::stop_of;
-use crate::{CallError, Cluster, Gate, Grant, SiteError, Stop};
+use crate::{CallError, Cluster, Gate, Grant, SiteError, Stop, stop_of};
 use ra_schedule::{Op, Script};
 use ra_stamp::NodeId;
 use std::alloc::Global;
@@ -98,7 +97,7 @@ fn do_op<R: Wait, G: Gate + Drop>(
             // It is kept, and shown to the gate.
             let stop = if run.grants.lock(rt).push(grant).is_err() {
                 Stop::Memory
-            } else if cluster.gate.inside(&grant.entry) {
+            } else if cluster.gate().inside(&grant.entry) {
                 return Ok(());
             } else {
                 Stop::Gate
