@@ -2,10 +2,13 @@
 import collections
 import concurrent.futures
 import os
+import re
 import subprocess
 import sys
 import tomllib
 import unittest
+
+from settle_model import Frame, Message, encoded
 
 FOLDER = os.path.dirname(os.path.realpath(__file__))
 # The command, and the program that it runs. Both are another program if the first word is --ra or --unproved.
@@ -14,11 +17,22 @@ PROGRAM = os.path.abspath(f"{FOLDER}/../crates/ra/out/ra")
 KEEP = (f"{FOLDER}/../tools/unproved", "--keep")
 # The most seconds that one run may take.
 LIMIT = 100
+# How much of a text a name has, in characters.
+LONGEST = 60
 STREAMS = {"output": "standard output", "note": "standard error"}
 PARTS = ("begins", "has", "ends")
 KEYS = {"shows", "words", "input", "status", "row", *STREAMS, *(f"{it}_{part}" for it in STREAMS for part in PARTS)}
+# A frame in a text: its message, as in a trace, and its clock.
+FRAME = re.compile(r"<(request|reply) ([0-9]+) ([0-9]+) ([^ >]+)(?: ([A-Z]+))? ([0-9]+) at ([0-9]+)>")
 # The texts of all tables, by their names.
 TEXTS = {}
+
+
+def digits(found):
+    """Returns the digits of a frame that was found in a text, in version 2."""
+    kind, sender, receiver, name, mode, number, clock = found.groups()
+    message = Message(kind, int(sender), int(receiver), name, mode or "", int(number))
+    return encoded(Frame(message, int(clock))).hex()
 
 
 def text(value):
@@ -35,6 +49,8 @@ def text(value):
         return bytes.fromhex(value["hex"])
     if set(value) == {"times", "text"}:
         return value["times"] * text(value["text"])
+    if set(value) == {"frames"}:
+        return FRAME.sub(digits, value["frames"]).encode()
     raise ValueError(f"not a text: {value}")
 
 
@@ -122,6 +138,24 @@ def tables():
     return found
 
 
+def beginning(value):
+    """Returns the beginning of a text of a table, on one line and in quotation marks, or the name of a named text."""
+    if isinstance(value, dict) and "of" in value:
+        return value["of"]
+    whole = shown(text(value)).replace("\n", " ").strip()
+    return f"'{whole if len(whole) <= LONGEST else whole[:LONGEST] + '..'}'"
+
+
+def row_name(row):
+    """Returns what a row shows, or its own words, the beginning of its own input, and its own output if that is one line."""
+    if "shows" in row:
+        return row["shows"]
+    words, output = row.get("words", []), text(row.get("output", ""))
+    named = [f"ra {words if isinstance(words, str) else ' '.join(words)}"] if "words" in row else []
+    named += [beginning(row["input"])] if "input" in row else []
+    return ", ".join(named + ([output.decode().strip()] if output.count(b"\n") == 1 else []))
+
+
 def cases_of(found):
     """Returns each case of the tables, and in place of one with rows each row, with its name."""
     listed = []
@@ -130,10 +164,13 @@ def cases_of(found):
             name = f"{table}: {case['shows']}"
             if "row" not in case:
                 listed.append((name, case))
-            for number, row in enumerate(case.get("row", []), 1):
+            for row in case.get("row", []):
                 full = {**case, **row}
                 del full["row"]
-                listed.append((f"{name}, {row['shows']}" if "shows" in row else f"{name}, row {number}", full))
+                listed.append((f"{name}, {row_name(row)}", full))
+    alike = sorted(name for name, count in collections.Counter(name for name, _ in listed).items() if count > 1)
+    if alike:
+        sys.exit("\n".join(["cases/check: several cases have these names:", *alike]))
     return listed
 
 

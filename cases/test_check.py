@@ -1,5 +1,8 @@
 """Traces that `ra sim` prints, and traces with one line edited, judged by `ra check`."""
+import itertools
+
 from cases import TEXTS, RaTest, run
+from state_model import CONFLICTS, MODES
 
 # What is expected of the first trace, in either version.
 VALID = "valid\nrequests 2\nmessages 8\n"
@@ -72,6 +75,19 @@ class Traces(RaTest):
 
     def test_the_trace_of_a_deadlock_is_valid(self):
         self.expect_valid("sim --trace", "A_DEADLOCK", 3, "valid\nrequests 4\nmessages 6\n")
+
+
+class Logs(RaTest):
+    def test_requests_are_granted_at_once_if_their_modes_go_together(self):
+        """Node 2 asks after node 1. If the modes conflict it enters neither before that one nor beside it."""
+        for first, second in itertools.product(MODES, MODES):
+            with self.subTest(first=first, second=second):
+                asks = f"request 1 1 r {first} 1\nrequest 2 2 r {second} 2\n"
+                enters = [f"enter 1 1 r {first} 1\n", f"enter 2 2 r {second} 2\n"]
+                is_held = second in CONFLICTS[first].split()
+                for order, cause in ((enters, "4 Held"), (enters[::-1], "3 Earlier")):
+                    output = f"invalid {cause}\n" if is_held else "valid\nrequests 2\ngrants 2\n"
+                    self.expect(words="check --marks", input=asks + "".join(order), status=3 if is_held else 0, output=output)
 
 
 class Ends(RaTest):
