@@ -36,10 +36,6 @@ module _ {X : Type 0} where
   with_last P xs y false here any = any_before (λ x. P x → ⊥) xs y any
 
 -- room that was made
-pub room_for_one : {T E : Type 0} (r : Result T E) (len capacity : ℕ) → is_err r ≡ false → OnOk r (len + 1 ≤ capacity) → len < capacity
-room_for_one (Ok done) len capacity fine room = omega (arith, room)
-room_for_one (Err failed) len capacity fine room = absurd cc
-
-pub room_for_all : {T E : Type 0} (r : Result T E) (len count capacity : ℕ) → is_err r ≡ false → OnOk r (len + count ≤ capacity) → count ≤ capacity
-room_for_all (Ok done) len count capacity fine room = omega (arith, room)
-room_for_all (Err failed) len count capacity fine room = absurd cc
+pub room_for_two : {T E : Type 0} (r : Result T E) (len capacity : ℕ) → is_err r ≡ false → OnOk r (len + 2 ≤ capacity) → len + 1 < capacity
+room_for_two (Ok done) len capacity fine room = omega (arith, room)
+room_for_two (Err failed) len capacity fine room = absurd cc

@@ -1,5 +1,5 @@
 -- One more line of a text of books.
-use Rattle.std.proofs.Common.{◌≡◌, ℕ, suc, ◌+◌, false, List, [], ◌∷◌, ◌++◌, length, refl, sym, ap, subst, ◌∙◌, append_assoc, arith}
+use Rattle.std.proofs.Common.{◌≡◌, ℕ, suc, ◌+◌, false, List, [], ◌∷◌, ◌++◌, length, refl, sym, ap, subst, ◌∙◌, append_assoc, arith, ◌<◌, vec_len, vec_capacity}
 use Rattle.std.specs.Prelude.{All}
 use Rattle.std.specs.List.{AllZip, flat_map}
 use Rattle.std.proofs.lemmas.List.{append-nil, flat_map_more, map_push}
@@ -109,14 +109,15 @@ came_next number (Happens one ∷ said) kind =
 -- ---- What was gathered
 
 pub begun : (g : Gathered) (line : List ℕ) (node nodes start : ℕ) → IsFirst line node nodes start → g.earlier.items ≡ [] → g.last ≡ opening_book node nodes start
-    → g.came.items ≡ [] → HasHistory g.last → IsGathered (line ∷ []) g
-begun g line node nodes start is none last empty history =
+    → g.came.items ≡ [] → HasHistory g.last → vec_len g.earlier < vec_capacity g.earlier → IsGathered (line ∷ []) g
+begun g line node nodes start is none last empty history room =
     let same : books_of g ≡ opening_book node nodes start ∷ [] = λ i. none i ++ last i ∷ [] in
     let right : AreRight [] [] = record { lines_are = tt; each = All-nil IsRead; beside = λ i j d low within. absurd (omega (arith, within)) } in
     let opened : AreRight (line ∷ []) (opening_book node nodes start ∷ []) = opens [] [] line node nodes start right is (All-nil (IsBeside node nodes start)) (subst HasHistory last history) in
     record {
       right = subst (AreRight (line ∷ [])) (sym same) opened;
       came_is = empty ∙ ap came_in (sym same);
+      room = room;
     }
 
 pub opened : (lines : List (List ℕ)) (line : List ℕ) (old new : Gathered) → IsGathered lines old → IsOpened old line new → IsGathered (lines ++ line ∷ []) new
@@ -129,6 +130,7 @@ opened lines line old new g o =
           o.came_is ∙ g.came_is
           ∙ sym (ap (came_from 1) (said_more (books_of old) book) ∙ came_first 1 (flat_map said_by (books_of old)) o.node o.nodes o.start)
           ∙ ap came_in (sym same);
+      room = o.room;
     }
 
 pub happened : (lines : List (List ℕ)) (line : List ℕ) (number : ℕ) (old new : Gathered) → IsGathered lines old → number ≡ length lines + 1 → HasHappened old number line new
@@ -136,7 +138,7 @@ pub happened : (lines : List (List ℕ)) (line : List ℕ) (number : ℕ) (old n
 happened lines line number old new g number_is h =
     let (clock, frames, last_is, history) = h.taken in
     let book = with_event old.last clock h.kind frames in
-    let same : books_of new ≡ old.earlier.items ++ book ∷ [] = λ i. h.earlier_is i ++ last_is i ∷ [] in
+    let same : books_of new ≡ old.earlier.items ++ book ∷ [] = λ i. (h.earlier_is i).items ++ last_is i ∷ [] in
     let long : length lines ≡ length (flat_map said_by (books_of old)) = zip_long lines (flat_map said_by (books_of old)) g.right.lines_are in
     record {
       right =
@@ -148,4 +150,5 @@ happened lines line number old new g number_is h =
           ∙ sym (came_next 1 (flat_map said_by (books_of old)) h.kind)
           ∙ ap (came_from 1) (said_on old.earlier.items old.last clock h.kind frames)
           ∙ ap came_in (sym same);
+      room = subst (λ (bs : _). vec_len bs < vec_capacity bs) (sym h.earlier_is) g.room;
     }

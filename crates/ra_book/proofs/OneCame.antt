@@ -120,7 +120,7 @@ module _ {X : Type 0} (R : X → X → Type 0) (turned : (x y : X) → R x y →
       let apart = places_differ a b i j u.0 v.0 (λ e. omega (arith, e, below)) u.3 u.4 u.5 v.3 v.4 v.5 in
       subst (λ (t : X × X). R t.0 t.1) (λ k. (sym u.2 k, sym v.2 k)) (at_places xs u.0 v.0 d pairs apart u.1 v.1)
 
-  pairs_permutation : (xs ys : List X) → IsPermutation xs ys → AllPairs R xs → AllPairs R ys
+  pub pairs_permutation : (xs ys : List X) → IsPermutation xs ys → AllPairs R xs → AllPairs R ys
   pairs_permutation xs ys same pairs = IsPermutation-keeps xs (AllPairs R) pairs (λ l i j p q h. pairs_swapped l i j p q h) ys same
 
 -- ---- Lists that are different, part by part

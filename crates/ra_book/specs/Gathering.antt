@@ -1,6 +1,5 @@
 -- The parts of reading a text of books and of settling it. No public contract speaks of them.
-use Rattle.std.specs.Prelude.{◌≡◌, ◌≢◌, ◌↔◌, ◌⊎◌, ℕ, ◌+◌, ◌≤◌, Bool, false, List, [], ◌∷◌, ◌++◌, All, Contains, Result, Ok, Err, length, map}
-use Rattle.std.specs.List.{range_with_len}
+use Rattle.std.specs.Prelude.{◌≡◌, ◌≢◌, ◌↔◌, ◌⊎◌, ℕ, ◌+◌, ◌<◌, vec_len, vec_capacity, Bool, false, List, [], ◌∷◌, ◌++◌, All, Contains, Result, Ok, Err, length, map}
 use Rattle.std.specs.List.Sorted.{IsPermutation}
 use Rattle.ra_frame.specs.declared.frame.Frame.{Frame}
 use Rattle.ra_history.specs.declared.error.BookError.{BookError}
@@ -9,7 +8,7 @@ use Rattle.ra_history.specs.declared.error.SettleError.{SettleError}
 use Rattle.ra_history.specs.declared.error.SettleError.TheVariants.{NotSent, Twice}
 use Rattle.ra_history.specs.declared.book.event.BookKind.{BookKind}
 use Rattle.ra_history.specs.Book.{BookState, HasHistory, opening_book, with_event}
-use Rattle.ra_history.specs.Settled.{HasUnsent, all_received}
+use Rattle.ra_history.specs.Settled.{HasUnsent, IsCluster, all_received}
 use Rattle.ra_book.specs.BookText.{IsEvent, IsFirst}
 use Rattle.ra_book.specs.declared.text_settling.came_frames.Came.{Came}
 use Rattle.ra_book.specs.declared.text_settling.settle_error.SettleTextError.{SettleTextError}
@@ -38,10 +37,11 @@ Comes old kind new (Err why) = (why ≢ refused.Memory → CanTake old kind → 
 abbrev pub books_of : Gathered → List BookState
 books_of g = g.earlier.items ++ g.last ∷ []
 
--- the lines were read, and this was gathered
+-- the lines were read, and this was gathered, with room for the last book after the earlier ones
 pub record IsGathered (lines : List (List ℕ)) (g : Gathered) : Type 0 where
   pub right : AreRight lines (books_of g)
   pub came_is : g.came.items ≡ came_in (books_of g)
+  pub room : vec_len g.earlier < vec_capacity g.earlier
 
 -- a first line begins a book beside those before it
 pub record IsOpened (old : Gathered) (line : List ℕ) (new : Gathered) : Type 0 where
@@ -54,13 +54,14 @@ pub record IsOpened (old : Gathered) (line : List ℕ) (new : Gathered) : Type 0
   pub last_is : new.last ≡ opening_book node nodes start
   pub came_is : new.came.items ≡ old.came.items
   pub history : HasHistory new.last
+  pub room : vec_len new.earlier < vec_capacity new.earlier
 
 -- an event happens in the last book
 pub record HasHappened (old : Gathered) (number : ℕ) (line : List ℕ) (new : Gathered) : Type 0 where
   pub kind : BookKind
   pub is_event : IsEvent line kind
   pub taken : HasTaken old.last kind new.last
-  pub earlier_is : new.earlier.items ≡ old.earlier.items
+  pub earlier_is : new.earlier ≡ old.earlier
   pub came_is : new.came.items ≡ old.came.items ++ came_by number kind
 
 -- the line is right: it begins a book beside those before it
@@ -103,31 +104,19 @@ pub record HasGathered (text : List ℕ) (g : Gathered) (next : ℕ) : Type 0 wh
   pub gathered : IsGathered lines g
   pub next_is : next ≡ length lines + 1
 
--- these are the books that were gathered, of so many nodes, and what came to them
-pub record IsMadeOf (g : Gathered) (books : List BookState) (nodes : ℕ) (came : List Came) : Type 0 where
+-- these are the books that were gathered, and what came to them
+pub record IsMadeOf (g : Gathered) (books : List BookState) (came : List Came) : Type 0 where
   pub books_are : books ≡ books_of g
-  pub count : nodes ≡ g.last.nodes
   pub came_are : came ≡ g.came.items
 
 -- ---- The order of the nodes
 
--- a node of these many has no book
-abbrev pub LacksNode : List BookState → ℕ → Type 0
-LacksNode books nodes = (node : ℕ) × (1 ≤ node) × (node ≤ nodes) × All (λ book. book.me ≢ node) books
-
--- those of the books that are of the nodes 1 to this many, in order
-pub record IsArranged (books : List BookState) (nodes : ℕ) (ordered : List BookState) : Type 0 where
-  pub left : List BookState
-  pub same : IsPermutation books (ordered ++ left)
-  pub numbers : map (λ book. book.me) ordered ≡ range_with_len 1 nodes
-
--- all of them are
-pub record IsAllArranged (books : List BookState) (nodes : ℕ) (ordered : List BookState) : Type 0 where
+-- in some order they are the books of a cluster, and each frame that came was sent
+pub record AreSentInCluster (books : List BookState) : Type 0 where
+  pub ordered : List BookState
   pub same : IsPermutation books ordered
-  pub numbers : map (λ book. book.me) ordered ≡ range_with_len 1 nodes
-
-abbrev pub LacksSome : List BookState → ℕ → Type 0
-LacksSome books nodes = (nodes ≢ length books) ⊎ LacksNode books nodes
+  pub cluster : IsCluster ordered
+  pub sent : HasUnsent ordered → ⊥
 
 -- ---- Why books do not settle
 

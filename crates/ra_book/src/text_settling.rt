@@ -1,4 +1,3 @@
-pub mod arranging;
 pub mod came_frames;
 pub mod gathering;
 pub mod read_books;
@@ -6,21 +5,20 @@ pub mod recording;
 pub mod searching;
 pub mod settle_error;
 
-ghost use Rattle.std.specs.Prelude.{◌⊎◌, ℕ, List, All, IfErr, IfOk, IsErrOf, IsOkUnless, MatchResult, OnOk};
+ghost use Rattle.std.specs.Prelude.{◌≡◌, ◌⊎◌, ◌↔◌, ℕ, List, All, IfErr, IfOk, IsErrOf, IsOkUnless, MatchResult, OnOk};
 ghost use Rattle.ra_history.specs.Settled.{IsCluster};
 ghost use Rattle.ra_book.specs.Texts.{IsRead};
-ghost use Rattle.ra_book.specs.Gathering.{HasAllCome, HasGathered, IsGathered, IsMadeOf, IsRefusedBy, IsUnfit, LacksSome};
-ghost use Rattle.ra_book.specs.Verdicts.{HasFittingBooks, IsRunBy, IsSettledBy, IsSettledText, IsUnsettled, IsWrong};
+ghost use Rattle.ra_book.specs.Gathering.{AreSentInCluster, HasAllCome, HasGathered, IsGathered, IsMadeOf, IsRefusedBy, IsUnfit, books_of};
+ghost use Rattle.ra_book.specs.Verdicts.{HasFittingBooks, IsMissing, IsRunBy, IsSettledBy, IsSettledText, IsUnsettled, IsWrong};
 ghost use Rattle.ra_book.specs.declared.text_settling.settle_error.TextCause.{TextCause};
 
 use crate::laws::text_verdicts::each_text_of_books_has_one_verdict;
-use crate::text_settling::arranging::{Unarranged, arranged};
 use crate::text_settling::came_frames::Came;
 use crate::text_settling::gathering::Gathered;
 use crate::text_settling::read_books::read_books;
 use crate::text_settling::searching::{first_again, first_unsent};
 use crate::{SettleTextError, TextCause};
-use ra_history::{Book, SettleError, Settled, settle, settle_with_copies};
+use ra_history::{Book, SettleError, Settled, is_cluster, settle, settle_with_copies};
 use std::alloc::Global;
 
 /// The one run into which the books of a text settle.
@@ -97,40 +95,49 @@ fn settle_ordered(
 }
 
 /// Settles the books that were gathered from a text, in which the line after the last one would have this number, with what came to
-/// them. They are borrowed, so that each is dropped in one place only.
+/// them. It puts them in the order of their nodes, which takes no memory. They are borrowed, so that each is dropped in one place
+/// only.
 ///
 /// # Errors
 ///
-/// Those of `settle_gathered`. `Memory` comes only if no book is missing.
+/// Those of `settle_gathered`.
 fn settle_books(
     alloc: Global,
     books: &mut Vec<Book>,
-    nodes: usize,
     came: &[Came],
     next: u64,
     repeats: bool,
 ) -> Result<SettledText, SettleTextError>
-    requires { (gathered : Gathered) × IsMadeOf gathered books.old.items nodes came.now
+    requires { (gathered : Gathered) × IsMadeOf gathered books.old.items came.now
         × ((lines : List (List ℕ)) × IsGathered lines gathered) }
-    ensures verdict { (text : List ℕ) (gathered : Gathered) → IsMadeOf gathered books.old.items nodes came.now
+    ensures verdict { (text : List ℕ) (gathered : Gathered) → IsMadeOf gathered books.old.items came.now
         → HasGathered text gathered next → MatchResult result (IsSettledText repeats text) (IsUnsettled repeats text) }
-    ensures memory { IsErrOf result SettleTextError.Memory → LacksSome books.old.items nodes → ⊥ }
+    ensures missing { IsErrOf result (SettleTextError.Invalid next TextCause.Books) ↔ IsMissing books.old.items }
+    ensures memory { IsErrOf result SettleTextError.Memory → AreSentInCluster books.old.items }
 {
-    match arranged(alloc, books, nodes) {
-        Ok(ordered) => settle_ordered(alloc, ordered.as_slice(), came, repeats),
-        Err(Unarranged::Missing) => Err(SettleTextError::Invalid {
+    books.sort_unstable_by_key(
+        |book| -> u16
+            ensures { result ≡ book.now.me }
+        { book.me().get() },
+    );
+    let ordered = books.as_slice();
+    if !is_cluster(ordered) {
+        return Err(SettleTextError::Invalid {
             line: next,
             cause: TextCause::Books,
-        }),
-        Err(Unarranged::Memory) => Err(SettleTextError::Memory),
+        });
     }
+    settle_ordered(alloc, ordered, came, repeats)
 }
 
 /// Settles the books that were gathered from a text, in which the line after the last one would have this number.
 ///
 /// # Errors
 ///
-/// `Invalid` with `Books` at this line: the book of a node is missing. Then those of `settle_ordered`.
+/// The first that holds:
+///
+/// 1. `Invalid` with `Books` at this line: the book of a node is missing.
+/// 2. Those of `settle_ordered`. So `Memory` comes only if no book is missing and each frame that came was sent.
 fn settle_gathered(
     alloc: Global,
     gathered: Gathered,
@@ -138,21 +145,19 @@ fn settle_gathered(
     repeats: bool,
 ) -> Result<SettledText, SettleTextError>
     requires { (lines : List (List ℕ)) × IsGathered lines gathered }
-    ensures { (text : List ℕ) → HasGathered text gathered next
+    ensures verdict { (text : List ℕ) → HasGathered text gathered next
         → MatchResult result (IsSettledText repeats text) (IsUnsettled repeats text) }
+    ensures missing { IsErrOf result (SettleTextError.Invalid next TextCause.Books) ↔ IsMissing (books_of gathered) }
+    ensures memory { IsErrOf result SettleTextError.Memory → AreSentInCluster (books_of gathered) }
 {
     let Gathered {
         earlier,
         last,
         came,
     } = gathered;
-    let nodes = usize::from(last.nodes());
     let mut books = earlier;
-    if books.reserve(1).is_err() {
-        return Err(SettleTextError::Memory);
-    }
     books.push_reserved(last);
-    settle_books(alloc, &mut books, nodes, came.as_slice(), next, repeats)
+    settle_books(alloc, &mut books, came.as_slice(), next, repeats)
 }
 
 /// Reads the books of all nodes, and settles them.
@@ -186,7 +191,8 @@ fn settle_lines(alloc: Global, text: &[u8], repeats: bool) -> Result<SettledText
 /// 3. `Invalid` with `NotSent`, at the first line by which a frame comes that is not among those that its sender's book sent with
 ///    its clock.
 /// 4. `Invalid` with `Twice`, without `repeats`, at the first line by which a message comes that came by an earlier line.
-/// 5. `Memory`, which may come before any of them.
+/// 5. `Memory`: it ran out at a line that is right, and no line after it was looked at; or it ran out after all lines, and then no
+///    book is missing and each frame that came was sent.
 pub fn settle_text(
     alloc: Global,
     text: &[u8],

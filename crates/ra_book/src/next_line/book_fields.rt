@@ -10,15 +10,9 @@ use ra_trace::{client_of, mode_of, name_of, node_of, split_once, start_of};
 fn name_and_mode_of(text: &[u8]) -> Option<(Name, Mode)>
     ensures { result ≡ spec.name_and_mode_of text.now }
 {
-    let Some((name, mode)) = split_once(text, b' ') else {
-        return None;
-    };
-    let Some(name) = name_of(name) else {
-        return None;
-    };
-    let Some(mode) = mode_of(mode) else {
-        return None;
-    };
+    let (name, mode) = split_once(text, b' ')?;
+    let name = name_of(name)?;
+    let mode = mode_of(mode)?;
     Some((name, mode))
 }
 
@@ -26,15 +20,9 @@ fn name_and_mode_of(text: &[u8]) -> Option<(Name, Mode)>
 pub fn ask_of(text: &[u8]) -> Option<BookKind>
     ensures { result ≡ spec.ask_of text.now }
 {
-    let Some((client, rest)) = split_once(text, b' ') else {
-        return None;
-    };
-    let Some(client) = client_of(client) else {
-        return None;
-    };
-    let Some((name, mode)) = name_and_mode_of(rest) else {
-        return None;
-    };
+    let (client, rest) = split_once(text, b' ')?;
+    let client = client_of(client)?;
+    let (name, mode) = name_and_mode_of(rest)?;
     Some(BookKind::Asked { client, name, mode })
 }
 
@@ -42,15 +30,9 @@ pub fn ask_of(text: &[u8]) -> Option<BookKind>
 pub fn release_of(text: &[u8]) -> Option<BookKind>
     ensures { result ≡ spec.release_of text.now }
 {
-    let Some((client, name)) = split_once(text, b' ') else {
-        return None;
-    };
-    let Some(client) = client_of(client) else {
-        return None;
-    };
-    let Some(name) = name_of(name) else {
-        return None;
-    };
+    let (client, name) = split_once(text, b' ')?;
+    let client = client_of(client)?;
+    let name = name_of(name)?;
     Some(BookKind::Gave { client, name })
 }
 
@@ -58,15 +40,9 @@ pub fn release_of(text: &[u8]) -> Option<BookKind>
 fn nodes_and_start_of(text: &[u8]) -> Option<(NodeId, u64)>
     ensures { result ≡ spec.nodes_and_start_of text.now }
 {
-    let Some((nodes, start)) = split_once(text, b' ') else {
-        return None;
-    };
-    let Some(nodes) = node_of(nodes) else {
-        return None;
-    };
-    let Some(start) = start_of(start) else {
-        return None;
-    };
+    let (nodes, start) = split_once(text, b' ')?;
+    let nodes = node_of(nodes)?;
+    let start = start_of(start)?;
     Some((nodes, start))
 }
 
@@ -74,14 +50,8 @@ fn nodes_and_start_of(text: &[u8]) -> Option<(NodeId, u64)>
 pub fn first_of(text: &[u8]) -> Option<(NodeId, (NodeId, u64))>
     ensures { result ≡ spec.first_of text.now }
 {
-    let Some((node, rest)) = split_once(text, b' ') else {
-        return None;
-    };
-    let Some(node) = node_of(node) else {
-        return None;
-    };
-    let Some(rest) = nodes_and_start_of(rest) else {
-        return None;
-    };
+    let (node, rest) = split_once(text, b' ')?;
+    let node = node_of(node)?;
+    let rest = nodes_and_start_of(rest)?;
     Some((node, rest))
 }

@@ -15,7 +15,7 @@ use std::mem::replace;
 /// The books that were read so far, in the order of the text, and what came to their nodes.
 #[derive(Drop)]
 pub struct Gathered {
-    /// Those before the last one.
+    /// Those before the last one. There is room for the last one after them, so that no room is wanted once all lines are read.
     pub earlier: Vec<Book>,
     /// The one whose lines are read.
     pub last: Book,
@@ -70,7 +70,8 @@ impl Gathered {
         if !are_beside(&self.earlier, first) {
             return Err(LineFault::Wrong(TextCause::Books));
         }
-        if self.earlier.reserve(1).is_err() {
+        // One for the book whose lines were read, and one for the book that begins.
+        if self.earlier.reserve(2).is_err() {
             return Err(LineFault::Memory);
         }
         let book = Book::of(alloc, first.member, first.start);

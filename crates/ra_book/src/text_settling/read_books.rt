@@ -79,9 +79,10 @@ pub fn read_books(alloc: Global, text: &[u8]) -> Result<(Gathered, u64), SettleT
     let Some(first) = FirstLine::parse(line) else {
         return Err(NO_FIRST_LINE);
     };
+    let earlier = Vec::with_capacity(alloc, 1)?;
     let last = Book::of(alloc, first.member, first.start);
     let mut gathered = Gathered {
-        earlier: Vec::new(alloc),
+        earlier,
         last,
         came: CameList::new(alloc),
     };

@@ -1,3 +1,6 @@
+ghost use Rattle.std.specs.Prelude.{◌≡◌};
+
+use std::alloc::AllocError;
 use std::fmt;
 use thiserror::Error;
 
@@ -30,5 +33,15 @@ pub enum SettleTextError {
 impl fmt::Display for SettleTextError {
     fn fmt<W: fmt::Write>(&self, f: &mut fmt::Formatter<W>) -> fmt::Result {
         fmt::Debug::fmt(self, f)
+    }
+}
+
+impl From<AllocError> for SettleTextError {
+    ghost use Rattle.ra_book.specs.declared.text_settling.settle_error.SettleTextError.TheVariants.{Memory};
+
+    ghost from_gives = { λ _ fault. fault ≡ Memory };
+
+    fn from(_failed: AllocError) -> SettleTextError {
+        SettleTextError::Memory
     }
 }

@@ -1,28 +1,35 @@
-use Rattle.std.proofs.Common.{List, [], ◌∷◌, ◌++◌, ap, sym, ◌∙◌}
+use Rattle.std.proofs.Common.{List, subst}
+use Rattle.std.specs.Prelude.{◌↔◌, IsErrOf}
 use Rattle.ra_history.specs.Book.{BookState}
-use Rattle.ra_book.specs.Gathering.{IsMadeOf}
-use Rattle.ra_book.proofs.Last.{room_for_one}
+use Rattle.ra_book.specs.Gathering.{AreSentInCluster, IsMadeOf}
+use Rattle.ra_book.specs.Verdicts.{IsMissing}
+use Rattle.ra_book.specs.declared.text_settling.settle_error.SettleTextError.TheVariants as fault
+use Rattle.ra_book.specs.declared.text_settling.settle_error.TextCause.TheVariants as cause
 use Rattle.ra_book.proofs.text_settling.settle_gathered.Goals as goal
 
 pub push_reserved-requires : goal.push_reserved-requires
-push_reserved-requires c = room_for_one c.reserve.result _ _ (sym c.is_err.ensures.value ∙ c.if-is_err.false) c.reserve.ensures.ok
+push_reserved-requires c = c.requires.1.room
 
 pub settle_books-requires : goal.settle_books-requires
 settle_books-requires c =
-    let g = c.args.gathered in
-    let made : IsMadeOf g c.push_reserved.new.self.items c.from-nodes.result c.as_slice.result.now = record {
-      books_are = c.push_reserved.ensures.items ∙ ap (λ (bs : List BookState). bs ++ g.last ∷ []) c.reserve.ensures.items;
-      count = c.from-nodes.ensures ∙ c.nodes.ensures.value;
+    let made : IsMadeOf c.args.gathered c.push_reserved.new.self.items c.as_slice.result.now = record {
+      books_are = c.push_reserved.ensures.items;
       came_are = c.as_slice.ensures;
     } in
-    (g, made, c.requires)
+    (c.args.gathered, made, c.requires)
 
-pub returns : goal.returns
-returns c text h =
-    let g = c.args.gathered in
-    let made : IsMadeOf g c.push_reserved.new.self.items c.from-nodes.result c.as_slice.result.now = record {
-      books_are = c.push_reserved.ensures.items ∙ ap (λ (bs : List BookState). bs ++ g.last ∷ []) c.reserve.ensures.items;
-      count = c.from-nodes.ensures ∙ c.nodes.ensures.value;
+pub returns-clause-verdict : goal.returns-clause-verdict
+returns-clause-verdict c text h =
+    let made : IsMadeOf c.args.gathered c.push_reserved.new.self.items c.as_slice.result.now = record {
+      books_are = c.push_reserved.ensures.items;
       came_are = c.as_slice.ensures;
     } in
-    c.settle_books.ensures.verdict text g made h
+    c.settle_books.ensures.verdict text c.args.gathered made h
+
+pub returns-clause-missing : goal.returns-clause-missing
+returns-clause-missing c =
+    subst (λ (bs : List BookState). IsErrOf c.settle_books.result (fault.Invalid c.args.next cause.Books) ↔ IsMissing bs) c.push_reserved.ensures.items
+    c.settle_books.ensures.missing
+
+pub returns-clause-memory : goal.returns-clause-memory
+returns-clause-memory c is = subst AreSentInCluster c.push_reserved.ensures.items (c.settle_books.ensures.memory is)

@@ -1,6 +1,7 @@
-use Rattle.std.proofs.Common.{◌≡◌, [], ◌∷◌, ◌++◌}
+use Rattle.std.proofs.Common.{◌≡◌, [], ◌∷◌, ◌++◌, arith}
 use Rattle.ra_book.proofs.BookTexts.{no_beginning, nothing, one_more}
 use Rattle.ra_book.proofs.Lines.{begun}
+use Rattle.ra_book.proofs.Outcome.{lacks_memory}
 use Rattle.ra_book.proofs.text_settling.read_books.read_books.Goals as goal
 
 -- the first line is none of a book
@@ -12,6 +13,10 @@ returns-in_default-parse c =
     let is : text ≡ line ++ 10 ∷ rest = rw c.in-Some.is at c.cut.ensures.cut in
     no_beginning text line rest (one_more text [] text line rest (nothing text) is c.cut.ensures.before) c.in_default-parse.ensures
 
+-- there is no room for the first book
+pub returns-in_err-earlier : goal.returns-in_err-earlier
+returns-in_err-earlier c = lacks_memory _ c.args.text.now c.from_residual.result c.from_residual.ensures.1
+
 pub returns-in-Ok : goal.returns-in-Ok
 returns-in-Ok c =
     let text = c.args.text.now in
@@ -20,8 +25,9 @@ returns-in-Ok c =
     let first = c.in-Some-parse.first in
     let is : text ≡ line ++ 10 ∷ rest = rw c.in-Some.is at c.cut.ensures.cut in
     c.in-Ok.ensures text line (one_more text [] text line rest (nothing text) is c.cut.ensures.before)
-    (begun (record { earlier = c.new.result; last = c.of-last.result; came = c.new-2.result }) line first.member.node first.member.nodes first.start
-    c.in-Some-parse.ensures c.new.ensures.items c.of-last.ensures.value c.new-2.ensures c.of-last.ensures.history)
+    (begun (record { earlier = c.in_ok-earlier.earlier; last = c.of-last.result; came = c.new.result }) line first.member.node first.member.nodes first.start
+    c.in-Some-parse.ensures c.in_ok-earlier.ensures.items c.of-last.ensures.value c.new.ensures c.of-last.ensures.history
+    (omega (arith, c.in_ok-earlier.ensures.len, c.in_ok-earlier.ensures.exact)))
 
 pub returns-in-Err : goal.returns-in-Err
 returns-in-Err c =
@@ -31,5 +37,6 @@ returns-in-Err c =
     let first = c.in-Some-parse.first in
     let is : text ≡ line ++ 10 ∷ rest = rw c.in-Some.is at c.cut.ensures.cut in
     c.in-Err.ensures text line (one_more text [] text line rest (nothing text) is c.cut.ensures.before)
-    (begun (record { earlier = c.new.result; last = c.of-last.result; came = c.new-2.result }) line first.member.node first.member.nodes first.start
-    c.in-Some-parse.ensures c.new.ensures.items c.of-last.ensures.value c.new-2.ensures c.of-last.ensures.history)
+    (begun (record { earlier = c.in_ok-earlier.earlier; last = c.of-last.result; came = c.new.result }) line first.member.node first.member.nodes first.start
+    c.in-Some-parse.ensures c.in_ok-earlier.ensures.items c.of-last.ensures.value c.new.ensures c.of-last.ensures.history
+    (omega (arith, c.in_ok-earlier.ensures.len, c.in_ok-earlier.ensures.exact)))

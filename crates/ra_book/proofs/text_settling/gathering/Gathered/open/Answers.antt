@@ -1,9 +1,9 @@
-use Rattle.std.proofs.Common.{[], ◌∷◌, ◌++◌, List, refl, sym, ap, subst, ◌∙◌}
+use Rattle.std.proofs.Common.{[], ◌∷◌, ◌++◌, List, refl, sym, ap, subst, ◌∙◌, arith}
 use Rattle.ra_history.specs.Book.{BookState, HasHistory}
 use Rattle.std.proofs.lemmas.Bool.{false≢true}
 use Rattle.std.proofs.lemmas.List.Quantifiers.{Any-push}
 use Rattle.ra_book.specs.Texts.{IsBeside}
-use Rattle.ra_book.proofs.Last.{room_for_one, with_last}
+use Rattle.ra_book.proofs.Last.{room_for_two, with_last}
 use Rattle.ra_book.proofs.text_settling.gathering.Gathered.open.Goals as goal
 
 pub returns-then-not-is_beside : goal.returns-then-not-is_beside
@@ -37,7 +37,7 @@ returns-then-is_err c line is = record {
 }
 
 pub push_reserved-requires : goal.push_reserved-requires
-push_reserved-requires c = room_for_one c.reserve.result _ _ (sym c.is_err.ensures.value ∙ c.if-is_err.false) c.reserve.ensures.ok
+push_reserved-requires c = omega (arith, room_for_two c.reserve.result _ _ (sym c.is_err.ensures.value ∙ c.if-is_err.false) c.reserve.ensures.ok)
 
 pub returns : goal.returns
 returns c line is = record {
@@ -55,4 +55,11 @@ returns c line is = record {
   last_is = c.replace-earlier.ensures.after ∙ c.of-book.ensures.value;
   came_is = refl;
   history = subst HasHistory (sym c.replace-earlier.ensures.after) c.of-book.ensures.history;
+  room =
+      omega (
+        arith,
+        room_for_two c.reserve.result _ _ (sym c.is_err.ensures.value ∙ c.if-is_err.false) c.reserve.ensures.ok,
+        c.push_reserved.ensures.len,
+        c.push_reserved.ensures.capacity,
+      );
 }
