@@ -6,7 +6,7 @@
 
 use anyhow::{Context, Error, Result, anyhow, ensure};
 use ra_audit::{Auditor, CloseError, MarkObserver, RoundError, Told};
-use ra_cluster::{CallError, Cluster, Grant, OpenGate, SiteError, Stop};
+use ra_site::{CallError, Cluster, Grant, OpenGate, SiteError, Stop};
 use ra_stamp::{Mark, Mode, Name, NodeId};
 use std::alloc::Global;
 use std::sync::atomic::{AtomicU64, Ordering};

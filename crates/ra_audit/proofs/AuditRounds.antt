@@ -13,13 +13,13 @@ use Rattle.ra_audit.specs.declared.audit_error.AuditError.TheVariants as audit
 use Rattle.ra_audit.specs.declared.audit_error.AuditFault.{AuditFault}
 use Rattle.ra_audit.specs.declared.audit_error.RoundError.{RoundError}
 use Rattle.ra_audit.specs.declared.audit_error.RoundError.TheVariants as round
-use Rattle.ra_cluster.specs.declared.site.take_error.TakeError.{TakeError}
-use Rattle.ra_cluster.specs.declared.site.take_error.TakeError.TheVariants.{NoNode, OutOfTurn, NotNext, Memory}
+use Rattle.ra_site.specs.declared.site.take_error.TakeError.{TakeError}
+use Rattle.ra_site.specs.declared.site.take_error.TakeError.TheVariants.{NoNode, OutOfTurn, NotNext, Memory}
 use Rattle.ra_frame.specs.declared.frame.Frame.{Frame}
 use Rattle.ra_history.specs.declared.book.event.BookEvent.{BookEvent}
 use Rattle.ra_history.specs.History.{clock_of}
 use Rattle.ra_audit.specs.Audit.{ProgressState, AuditState, NoneIsReady, NoneIsReached, MayBePut, IsAudited, HasLost, AllWereSent, Advances, PutsLosses, Audits, TakenGoOn, HandsOver, HandsNothing, MayHandOver, AllHandOver, TakesMore, TakesMoreAt, AuditsByAnswer, AtNumber, TakesHanded, TakesOver, TakesAllAt, NotTakenAt, IsNotTaken, IsCauseAt, KeptAreNext, AreNextAt, NoneIsKept, GoesOnFrom, taken_of, handed_over}
-use Rattle.ra_cluster.specs.Handing.{IsLeftOfBook}
+use Rattle.ra_site.specs.Handing.{IsLeftOfBook}
 use Rattle.ra_world.specs.World.{WorldState}
 use Rattle.ra_audit.proofs.AuditLosses.{puts_none}
 

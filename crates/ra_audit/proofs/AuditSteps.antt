@@ -25,8 +25,8 @@ use Rattle.ra_audit.specs.declared.audit_error.AuditError.{AuditError}
 use Rattle.ra_audit.specs.declared.audit_error.AuditError.TheVariants as audit
 use Rattle.ra_audit.specs.declared.audit_error.AuditError.TheVariants.{Fault}
 use Rattle.ra_audit.specs.declared.audit_error.AuditFault.{AuditFault}
-use Rattle.ra_cluster.specs.declared.site.take_error.TakeError.{TakeError}
-use Rattle.ra_cluster.specs.declared.site.take_error.TakeError.TheVariants.{NoNode, OutOfTurn, NotNext}
+use Rattle.ra_site.specs.declared.site.take_error.TakeError.{TakeError}
+use Rattle.ra_site.specs.declared.site.take_error.TakeError.TheVariants.{NoNode, OutOfTurn, NotNext}
 use Rattle.ra_history.specs.declared.book.event.BookKind.{BookKind}
 use Rattle.ra_history.specs.declared.book.event.BookKind.TheVariants.{Got}
 use Rattle.ra_history.specs.History.{node_event, clock_of}

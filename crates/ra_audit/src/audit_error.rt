@@ -1,8 +1,8 @@
 ghost use Rattle.std.specs.Prelude.{◌≡◌};
 ghost use Rattle.ra_audit.specs.declared.audit_error.AuditError.TheVariants as audit;
 
-use ra_cluster::{BookEvent, TakeError};
 use ra_frame::Frame;
+use ra_site::{BookEvent, TakeError};
 use ra_stamp::{Memory, NodeId};
 use std::fmt;
 use thiserror::Error;

@@ -5,7 +5,7 @@ ghost use Rattle.ra_history.specs.declared.book.grant.Grant as granted;
 ghost use Rattle.ra_audit.specs.Matching.{AreAllMatched, IsUnmatched};
 
 use crate::{MarkObserver, Told};
-use ra_cluster::Grant;
+use ra_site::Grant;
 use ra_stamp::{Entry, GhostList, Mark, Memory};
 use std::alloc::Global;
 use std::fmt;

@@ -3,13 +3,13 @@
 //!
 //! # What a service does
 //!
-//! - It makes its cluster by [`Cluster::new_audited`](ra_cluster::Cluster::new_audited), and an [`Auditor`] for as many nodes
+//! - It makes its cluster by [`Cluster::new_audited`](ra_site::Cluster::new_audited), and an [`Auditor`] for as many nodes
 //!   and the same start.
 //! - From time to time it calls [`Auditor::audit`], which takes what has happened at each node, puts it into the run, and tells
 //!   a [`MarkObserver`] each mark.
 //! - At the end it calls [`Auditor::close`], which puts what is left into the run, closes the cluster, and looks whether all
 //!   that the books say is in the run. [`Auditor::finish`],
-//!   [`Cluster::close_audited`](ra_cluster::Cluster::close_audited) and [`Auditor::check_books`] are its three parts.
+//!   [`Cluster::close_audited`](ra_site::Cluster::close_audited) and [`Auditor::check_books`] are its three parts.
 //!
 //! docs/EMBEDDING.md has an example.
 #![tactic(auto)]
@@ -26,4 +26,4 @@ pub use auditor::ending::NotClosed;
 pub use grant_matcher::{GrantError, GrantMatcher};
 pub use laws::matched_grants_were_granted_once;
 pub use mark_observer::{MarkObserver, Told};
-pub use ra_cluster::TakeError;
+pub use ra_site::TakeError;

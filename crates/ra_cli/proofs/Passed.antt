@@ -7,8 +7,8 @@ use Rattle.ra_schedule.specs.declared.error.ChoicesError.{ChoicesError}
 use Rattle.ra_schedule.specs.declared.error.ChoicesError.TheVariants as choices
 use Rattle.ra_script.specs.declared.error.ScriptError.{ScriptError}
 use Rattle.ra_script.specs.declared.error.ScriptError.TheVariants as script
-use Rattle.ra_cluster.specs.declared.cluster.cluster_run.ClusterError.{ClusterError}
-use Rattle.ra_cluster.specs.declared.cluster.cluster_run.ClusterError.TheVariants as cluster
+use Rattle.ra_cluster.specs.declared.cluster_run.ClusterError.{ClusterError}
+use Rattle.ra_cluster.specs.declared.cluster_run.ClusterError.TheVariants as cluster
 use Rattle.ra_cli.specs.declared.error.RunScriptError.TheVariants as fault
 use Rattle.ra_cli.specs.ClusterRun.{RefusesRun, of_read, of_script, of_choices, of_cluster}
 

@@ -9,7 +9,7 @@ use Rattle.ra_schedule.specs.declared.error.ChoicesError.{ChoicesError}
 use Rattle.ra_schedule.specs.declared.error.ChoicesError.TheVariants as choices
 use Rattle.ra_script.specs.Performed.{turn_limit}
 use Rattle.ra_script.specs.ScriptText.{script_of}
-use Rattle.ra_cluster.specs.declared.cluster.cluster_run.ClusterError.{ClusterError}
+use Rattle.ra_cluster.specs.declared.cluster_run.ClusterError.{ClusterError}
 use Rattle.ra_cli.specs.declared.error.RunScriptError.{RunScriptError}
 use Rattle.ra_cli.specs.declared.error.RunScriptError.TheVariants as fault
 use Rattle.ra_task.specs.declared.command_line.search.SurveyTask.{SurveyTask}

@@ -5,8 +5,8 @@ use Rattle.ra_script.specs.declared.error.ScriptError.{ScriptError}
 use Rattle.ra_script.specs.declared.error.ScriptError.TheVariants as script
 use Rattle.ra_schedule.specs.declared.error.DriveError.{DriveError}
 use Rattle.ra_schedule.specs.declared.error.DriveError.TheVariants as drive
-use Rattle.ra_cluster.specs.declared.cluster.cluster_run.ClusterError.{ClusterError}
-use Rattle.ra_cluster.specs.declared.cluster.cluster_run.ClusterError.TheVariants as cluster
+use Rattle.ra_cluster.specs.declared.cluster_run.ClusterError.{ClusterError}
+use Rattle.ra_cluster.specs.declared.cluster_run.ClusterError.TheVariants as cluster
 use Rattle.ra_task.specs.declared.command_line.CommandFault.{CommandFault}
 use Rattle.ra_task.specs.declared.command_line.CommandFault.TheVariants as command
 use Rattle.ra_cli.specs.declared.error.AnswerError.{AnswerError}

@@ -12,8 +12,8 @@ use Rattle.ra_history.specs.declared.settle_books.settled.Settled.{Settled}
 use Rattle.ra_history.specs.declared.book.stop.Stop.{Stop}
 use Rattle.ra_history.specs.Book.{BookState, HasHistory}
 use Rattle.ra_history.specs.Settled.{all_lost, lost_among}
-use Rattle.ra_cluster.specs.declared.cluster.cluster_run.ClusterError.{ClusterError}
-use Rattle.ra_cluster.specs.declared.cluster.cluster_run.ClusterError.TheVariants.{Fault}
+use Rattle.ra_cluster.specs.declared.cluster_run.ClusterError.{ClusterError}
+use Rattle.ra_cluster.specs.declared.cluster_run.ClusterError.TheVariants.{Fault}
 use Rattle.ra_cluster.specs.Outcome.{first_fault, fault_or, IsDone, IsOutcome, IsRecord}
 
 -- ---- No frame is flagged lost

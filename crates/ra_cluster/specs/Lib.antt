@@ -1,9 +1,3 @@
-pub mod StopCauses
-pub mod Sites
-pub mod ClientGrant
 pub mod Outcome
-pub mod Cluster
-pub mod Losses
-pub mod Handing
 pub mod Plan
 pub mod Progress

@@ -1,45 +1,27 @@
-//! Nodes that run on threads. A node's book has the node, its event clock, what happened at it, and what it sent.
-//! Threads share the book under the lock of a site, and a post carries the frames between the sites. The books of all
-//! nodes settle into one run of the cluster.
+//! Scripts on threads. [`run_cluster`] runs a script with a thread for each node and each client, and [`record_cluster`]
+//! returns the books, too. [`run_threads`] and [`settle_script`] are its two halves, for a caller that makes the cluster.
 //!
-//! The event clock is that of L. Lamport, CACM 21(7), 1978.
-//!
-//! # What a service does
-//!
-//! - It makes a [`Cluster`], and has [`Cluster::run`] run its clients: a closure, which may start threads. While the
-//!   closure runs, each node has a thread that carries its frames.
-//! - The clients lock and unlock names with [`Cluster::with_lock`], or with [`Cluster::lock`] and [`Cluster::unlock`],
-//!   and end if a node is stopped.
-//! - At the end it closes the cluster, and [`settle`] shows the run. A service that runs for long makes its cluster by
-//!   [`Cluster::new_audited`] instead, and has an auditor of the crate `ra_audit` take what has happened from time to time.
-//!
-//! docs/EMBEDDING.md explains the shortest such program line by line. It also says how to start the threads of the nodes
-//! yourself, and how to use a [`Site`] for each node and the [`Post`] by themselves.
-//!
-//! [`run_cluster`] does all of it for a script, and [`record_cluster`] returns the books, too. [`run_threads`] and
-//! [`settle_script`] are its two halves, for a caller that makes the cluster.
+//! The cluster itself, with its sites and its post, is in the crate `ra_site`. Its names are here, too. A service that
+//! runs no scripts needs `ra_site` alone.
 #![tactic(auto)]
 
-mod cluster;
+mod cluster_run;
 mod laws;
-mod post;
-mod site;
+mod script_plan;
+mod script_threads;
+mod settled_script;
 
-pub use cluster::all_sites::is_site_of;
-pub use cluster::cluster_run::{ClusterError, Recorded, record_cluster, run_cluster};
-pub use cluster::gate::{Gate, OpenGate};
-pub use cluster::script_plan::meets_plan;
-pub use cluster::script_threads::{ScriptRun, run_threads};
-pub use cluster::settled_script::settle_script;
-pub use cluster::{CallError, Cluster, Held};
+pub use cluster_run::{ClusterError, Recorded, record_cluster, run_cluster};
 pub use laws::clients_of_settled_books_never_deadlock;
-pub use post::{Inbox, NewPostError, Post, SendError};
 pub use ra_history::{
     Book, BookError, BookEvent, BookKind, Events, Frames, Grant, MarkLostError, NewError, Posted,
     Sent, SettleError, Settled, Stop, clock_after, histories_are_determined, histories_go_on,
     is_cluster, settle,
 };
-pub use site::desk::Handed;
-pub use site::stop_causes::stop_of;
-pub use site::take_error::TakeError;
-pub use site::{Site, SiteError};
+pub use ra_site::{
+    CallError, Cluster, Gate, Handed, Held, Inbox, NewPostError, OpenGate, Post, SendError, Site,
+    SiteError, TakeError, is_site_of, stop_of,
+};
+pub use script_plan::meets_plan;
+pub use script_threads::{ScriptRun, run_threads};
+pub use settled_script::settle_script;

@@ -1,7 +1,7 @@
 //! The history of a node, and the run into which the histories of all nodes settle.
 //!
 //! A node's book has the node, its event clock, what happened at it, and what it sent. [`settle`] makes one run of the
-//! cluster out of the books of all nodes, or says why they do not settle. Nothing here knows of threads: `ra_cluster` shares
+//! cluster out of the books of all nodes, or says why they do not settle. Nothing here knows of threads: `ra_site` shares
 //! books among threads, and `ra_book` writes them as text.
 //!
 //! The event clock is that of L. Lamport, CACM 21(7), 1978.

@@ -3,7 +3,7 @@
 #![tactic(auto)]
 
 use anyhow::{Context, Result};
-use ra_cluster::{CallError, Cluster, Grant, OpenGate, Stop, settle};
+use ra_site::{CallError, Cluster, Grant, OpenGate, Stop, settle};
 use ra_stamp::{Mode, Name, NodeId};
 use std::alloc::Global;
 use std::sync::Wait;

@@ -1,13 +1,13 @@
 //! A round of the audit of a cluster whose threads go on.
 ghost use Rattle.std.specs.Prelude.{◌≡◌, ◌↔◌, ◌⊎◌, ◌≤◌, true, false, [], ℕ, length, All, None, Some, IsOk, IsErrOf, OnOk};
 ghost use Rattle.ra_audit.specs.declared.audit_error.AuditFault as audit_fault;
-ghost use Rattle.ra_cluster.specs.declared.site.take_error.TakeError.{TakeError};
+ghost use Rattle.ra_site.specs.declared.site.take_error.TakeError.{TakeError};
 ghost use Rattle.ra_frame.specs.declared.frame.Frame.{Frame};
 ghost use Rattle.ra_audit.specs.Audit.{NoneIsReady, NoneIsReached, NoneWaits, IsNeverSent, IsLeastLeft, IsAhead, IsMisfit, IsNotLost, IsUnsent, MayBePut, IsAudited, HasLost, AllWereSent, IsAuditorOf, AuditsByAnswer, TakesByAnswer, TakesMoreAt, TakesAllAt, NotTakenAt, IsNotTaken, NoneIsKept, AnswersRound, clocks_taken, last_round};
 ghost use Rattle.ra_stamp.specs.NodeId.{IsNodeNumber};
 
 use crate::{AuditError, Auditor, FinishError, MarkObserver, RoundError};
-use ra_cluster::{Cluster, Gate, TakeError};
+use ra_site::{Cluster, Gate, TakeError};
 use ra_stamp::NodeId;
 use std::alloc::Global;
 use std::sync::Wait;

@@ -4,7 +4,7 @@ ghost use Rattle.ra_audit.specs.Audit.{IsAllIn, AreAllIn, IsFirstNotAllIn};
 
 use crate::BehindError;
 use crate::auditor::node_progress::NodeProgress;
-use ra_cluster::Book;
+use ra_site::Book;
 use ra_stamp::NodeId;
 
 /// Tells whether all of the history of each of these books is in the run. The cost is linear in the number of nodes.

@@ -1,6 +1,6 @@
 //! The end of an audit and of its cluster, in one call.
 ghost use Rattle.std.specs.Prelude.{◌≡◌, ℕ, [], Some, IsErrOf, MatchResult, Ok, OnOk, length, slice_get};
-ghost use Rattle.ra_cluster.specs.Losses.{lost_frames};
+ghost use Rattle.ra_site.specs.Losses.{lost_frames};
 ghost use Rattle.ra_frame.specs.declared.frame.Frame.{Frame};
 ghost use Rattle.ra_audit.specs.declared.audit_error.FinishError.{FinishError};
 ghost use Rattle.ra_audit.specs.Audit.{AnswersRound, AreAllIn, ClosesAudit, IsFirstNotAllIn, RefusesClose, round_of, still_lost};
@@ -8,8 +8,8 @@ ghost use Rattle.ra_audit.specs.Audit.{AnswersRound, AreAllIn, ClosesAudit, IsFi
 use crate::auditor::closing::first_not_all_in;
 use crate::auditor::node_progress::NodeProgress;
 use crate::{Auditor, CloseError, MarkObserver};
-use ra_cluster::{Book, Cluster, Gate};
 use ra_frame::Frame;
+use ra_site::{Book, Cluster, Gate};
 use std::alloc::Global;
 use std::sync::Wait;
 

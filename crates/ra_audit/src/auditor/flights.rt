@@ -5,8 +5,8 @@ ghost use Rattle.ra_history.specs.Settled.{frames_in};
 ghost use Rattle.ra_audit.specs.AuditKeeping.{NoneFlies, FliesOn, FliesAfter, AreNoted, NotesSome, IsIn, IsNotedIn, AreApart, slot_of, kind_of};
 
 use indexmap::IndexMap;
-use ra_cluster::{BookEvent, BookKind};
 use ra_frame::Frame;
+use ra_site::{BookEvent, BookKind};
 use ra_stamp::{Memory, Message, Messages};
 use std::alloc::Global;
 use std::marker::Model;

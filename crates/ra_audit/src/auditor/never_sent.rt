@@ -10,7 +10,7 @@ ghost use Rattle.ra_audit.specs.AuditKeeping.{HasNone, IsOfNone};
 
 use crate::AuditFault;
 use crate::auditor::node_progress::NodeProgress;
-use ra_cluster::BookKind;
+use ra_site::BookKind;
 use ra_stamp::Memory;
 use std::alloc::Global;
 

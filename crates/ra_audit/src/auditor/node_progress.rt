@@ -3,12 +3,12 @@ ghost use Rattle.std.specs.Prelude.{◌≡◌, ◌≢◌, ◌↔◌, ◌<◌, �
 ghost use Rattle.ra_history.specs.History.{clock_of, clock_from};
 ghost use Rattle.ra_history.specs.declared.book.event.BookEvent.{BookEvent};
 ghost use Rattle.ra_frame.specs.declared.frame.Frame.{Frame};
-ghost use Rattle.ra_cluster.specs.Handing.{IsLeftOfBook};
-ghost use Rattle.ra_cluster.specs.Sites.{site_at};
+ghost use Rattle.ra_site.specs.Handing.{IsLeftOfBook};
+ghost use Rattle.ra_site.specs.Sites.{site_at};
 ghost use Rattle.ra_audit.specs.Audit.{AreNextAt, IsNextAt, IsForNumber, KeptAreNext, TakesOver, fresh_progress, handed_over, taken_of};
 
 use crate::auditor::noted_losses::Losses;
-use ra_cluster::{BookEvent, BookKind, Events, Handed, Site, TakeError, clock_after};
+use ra_site::{BookEvent, BookKind, Events, Handed, Site, TakeError, clock_after};
 use ra_stamp::{GhostList, Memory, NodeId};
 use std::alloc::Global;
 use std::collections::VecDeque;

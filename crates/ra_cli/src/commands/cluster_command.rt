@@ -5,7 +5,7 @@ ghost use Rattle.ra_world.specs.Run.{IsRun};
 ghost use Rattle.ra_world.specs.Traffic.{Move};
 ghost use Rattle.ra_trace.specs.TraceText.{IsTrace};
 ghost use Rattle.ra_script.specs.ScriptText.{script_of};
-ghost use Rattle.ra_cluster.specs.declared.cluster.cluster_run.ClusterError.{ClusterError};
+ghost use Rattle.ra_cluster.specs.declared.cluster_run.ClusterError.{ClusterError};
 ghost use Rattle.ra_cli.specs.ClusterRun.{AreWrittenBooks, IsClusterRun, RefusesRun, SaysRun, SaysScript};
 ghost use Rattle.ra_cli.specs.InputOutput.{ReadsInput};
 

@@ -1,5 +1,5 @@
 use Rattle.std.proofs.Common.{ap, ◌∙◌}
-use Rattle.ra_cluster.specs.Sites.{SiteState}
+use Rattle.ra_site.specs.Sites.{SiteState}
 use Rattle.ra_audit.proofs.AuditRounds.{took_by_handing, takes_all_at, not_taken_by}
 use Rattle.ra_audit.proofs.auditor.audit_round.take_from.Goals as goal
 

@@ -1,9 +1,9 @@
 use Rattle.std.proofs.Common.{◌≡◌, ℕ, [], ◌++◌, Result, Err, ap, sym, ◌∙◌, subst, inr}
 use Rattle.std.proofs.lemmas.Result.{err_from_is_err_and}
 use Rattle.std.proofs.lemmas.List.{append-nil}
-use Rattle.ra_cluster.specs.declared.site.take_error.TakeError.{TakeError}
-use Rattle.ra_cluster.specs.Handing.{IsLeftOfBook}
-use Rattle.ra_cluster.specs.Sites.{SiteState}
+use Rattle.ra_site.specs.declared.site.take_error.TakeError.{TakeError}
+use Rattle.ra_site.specs.Handing.{IsLeftOfBook}
+use Rattle.ra_site.specs.Sites.{SiteState}
 use Rattle.ra_history.specs.History.{clock_of}
 use Rattle.ra_audit.specs.Audit.{ProgressState, TakesOver, handed_over}
 use Rattle.ra_audit.specs.AuditKeeping.{LossState}

@@ -1,6 +1,0 @@
--- The sites so far are those of the first nodes.
-use Rattle.ra_cluster.proofs.SiteNumbers.{AreFirst}
-use Rattle.ra_cluster.proofs.cluster.all_sites.are_in_order.Given as goal
-
-abbrev pub invariant-loop-place : goal.invariant-loop-place
-invariant-loop-place l = AreFirst l.sites l.place

@@ -1,0 +1,40 @@
+use Rattle.std.proofs.Common.{ap, ◌∙◌, Err}
+use Rattle.std.proofs.lemmas.Result.{err_from_is_err_and}
+use Rattle.ra_cluster.specs.declared.cluster_run.ClusterError.TheVariants.{Memory}
+use Rattle.ra_cluster.specs.Outcome.{IsOfThreads}
+use Rattle.ra_cluster.proofs.Endings.{not_ok, passed_on, still_checked}
+use Rattle.ra_cluster.proofs.Records.{record_of}
+use Rattle.ra_cluster.proofs.cluster_run.record_cluster.Goals as goal
+
+pub returns-in_err-check_script : goal.returns-in_err-check_script
+returns-in_err-check_script g c =
+    let refused = c.from_residual.ensures.1 in
+    let p = err_from_is_err_and c.from_residual.result refused in
+    record {
+      checked = passed_on c.args.script.now c.in_err-check_script.field-0.0 c.from_residual.result (p.1 ∙ ap Err p.2) c.in_err-check_script.ensures;
+      recorded = not_ok _ _ c.from_residual.result refused;
+    }
+
+pub returns-in-Ok : goal.returns-in-Ok
+returns-in-Ok g c =
+    let says = c.in-Ok.ensures in
+    record {
+      checked = still_checked c.args.script.now tt _ c.in_ok-check_script.ensures tt;
+      recorded = record_of c.args.script.now c.in_ok-books.books.items c.deref.result.now c.deref-2.result.now c.in-Ok.settled c.deref.ensures.value
+          c.in_ok-books.ensures says.outcome says.done says.fault;
+    }
+
+pub returns-in-Err : goal.returns-in-Err
+returns-in-Err g c = record {
+  checked = still_checked c.args.script.now tt _ c.in_ok-check_script.ensures c.in-Err.ensures.threads;
+  recorded = tt;
+}
+
+-- memory may run out at any time
+memory_of_threads : IsOfThreads Memory
+memory_of_threads = (λ is. absurd cc, λ is. absurd cc)
+
+pub returns-in_err-books-clause-checked : goal.returns-in_err-books-clause-checked
+returns-in_err-books-clause-checked g c =
+    let p = err_from_is_err_and c.from_residual-in_err-books.result c.from_residual-in_err-books.ensures.1 in
+    still_checked c.args.script.now tt c.from_residual-in_err-books.result c.in_ok-check_script.ensures (rw (p.1, p.2) memory_of_threads)

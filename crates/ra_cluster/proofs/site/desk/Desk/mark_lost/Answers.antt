@@ -1,5 +1,0 @@
-use Rattle.ra_cluster.proofs.LostFrames.{flagged_by}
-use Rattle.ra_cluster.proofs.site.desk.Desk.mark_lost.Goals as goal
-
-pub returns : goal.returns
-returns c = flagged_by c.args.self.now.book c.mark_lost.new.self c.args.frame.now c.mark_lost.result c.mark_lost.ensures.allowed c.mark_lost.ensures.ok

@@ -1,0 +1,3 @@
+mod SiteNumbers
+mod LostFrames
+mod NoError

@@ -1,0 +1,29 @@
+use Rattle.std.proofs.Common.{rules, ◌≡◌, Result, Ok, Err, sym, ◌∙◌, inl, inr}
+use Rattle.ra_history.specs.History.{clock_of}
+use Rattle.ra_site.specs.declared.site.take_error.TakeError.{TakeError}
+use Rattle.ra_site.specs.declared.site.take_error.TakeError.TheVariants.{OutOfTurn}
+use Rattle.ra_site.proofs.site.desk.Desk.hand_over.Goals as goal
+
+pub returns-clause-handed : goal.returns-clause-handed
+returns-clause-handed c = record {
+  me = search rules;
+  history = c.me.ensures.history;
+  clock = sym c.taken_clock.ensures.value ∙ c.if-taken_clock-after.false;
+  events_are = c.in_ok-events.ensures.events;
+  lost_are = c.in_ok-lost.ensures;
+}
+
+-- what is handed over is not refused
+made : {X : Type 0} (x : X) → ◌≡◌ {A = Result X TakeError} (Ok x) (Err OutOfTurn) → ⊥
+made x is = cc
+
+pub returns-clause-out_of_turn : goal.returns-clause-out_of_turn
+returns-clause-out_of_turn c =
+    let me : c.args.self.now.book.me ≡ c.args.node = search rules in
+    let clock : clock_of c.args.self.now.book.taken.events ≡ c.args.after = sym c.taken_clock.ensures.value ∙ c.if-taken_clock-after.false in (
+      λ is. absurd (made _ is),
+      λ other. elim other [
+        | inl another ↦ absurd (another me)
+        | inr past ↦ absurd (past (sym clock))
+      ],
+    )

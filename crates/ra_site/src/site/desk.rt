@@ -1,0 +1,326 @@
+//! What is under the lock of a site: the book, and the clients that wait.
+ghost use Rattle.std.specs.Prelude.{◌≡◌, ◌≢◌, ◌↔◌, ◌⊎◌, ◌<◌, false, [], All, IfOk, IfSome, IsErrOf, OnErr, OnOk, vec_len, vec_capacity};
+ghost use Rattle.ra_frame.specs.Fits.{Fits};
+ghost use Rattle.ra_history.specs.History.{clock_of};
+ghost use Rattle.ra_history.specs.Book.{with_all_taken, IsFirst, Loses};
+ghost use Rattle.ra_site.specs.Handing.{IsAllLeft, OnlyTurnOrMemory};
+ghost use Rattle.ra_site.specs.Losses.{lost_frames};
+
+use crate::site::refused_frames::lost_of;
+use crate::site::request::Request;
+use crate::site::ticket::SharedTicket;
+use crate::{Book, BookError, Events, Frames, Gate, Grant, Posted, Sent, Stop, TakeError};
+use ra_frame::Frame;
+use ra_stamp::{Entry, Mark, Memory, Name, NodeId};
+use std::alloc::Global;
+use std::mem;
+use std::sync::Arc;
+
+/// Why a node did not make a step.
+#[derive(Clone, Copy)]
+pub enum Halt {
+    /// The gate answered `false`.
+    Gate,
+    /// The book refused it.
+    Refused(BookError),
+}
+
+impl From<BookError> for Halt {
+    fn from(refused: BookError) -> Halt {
+        Halt::Refused(refused)
+    }
+}
+
+/// A client that waits, and the ticket by which its thread is told what came of its request. A client has at most one
+/// request on a name, so the two name the request.
+#[derive(Drop)]
+pub struct Waiter {
+    client: u32,
+    name: Name,
+    /// By which its thread is told.
+    pub ticket: SharedTicket,
+}
+
+/// What a call made of the book: the frames to send, and the client that it let in, if there is one.
+#[derive(Drop)]
+pub struct Stepped {
+    /// The frames to send.
+    pub frames: Frames,
+    /// Whom to tell of a grant.
+    pub told: Option<(SharedTicket, Grant)>,
+    ghost fit: { All Fits frames.items },
+}
+
+/// A book, and the clients of its node whose requests are neither granted nor stopped.
+#[derive(Drop)]
+pub struct Desk {
+    /// The book.
+    pub book: Book,
+    /// In any order.
+    waiters: Vec<Waiter>,
+    /// Whether one of the frames that the book has may be flagged lost. If not, a round does not look at each.
+    may_have_lost: bool,
+    ghost flagged: { may_have_lost ≡ false → lost_frames book.sent ≡ [] },
+}
+
+/// What a node hands over in a round of an audit. It has left the node's book.
+#[derive(Drop)]
+pub struct Handed {
+    /// The clock of the event before the first one, or 0 before the node's first event.
+    pub after: u64,
+    /// The events since the round before.
+    pub events: Events,
+    /// Those of the frames sent since the round before that the post refused, in order of sending. Each frame was tried by now,
+    /// so the others were not lost.
+    pub lost: Vec<Frame>,
+}
+
+impl Desk {
+    /// Makes the desk of a book that has sent nothing, at which nobody waits.
+    pub fn new(alloc: Global, book: Book) -> Desk
+        requires { book.sent ≡ [] }
+    {
+        Desk {
+            book,
+            waiters: Vec::new(alloc),
+            may_have_lost: false,
+        }
+    }
+
+    /// Asks the gate of this node, and then a client asks for a name. Its thread is told by this ticket when the client is let in, at
+    /// once or later, or when the node is stopped.
+    ///
+    /// # Errors
+    ///
+    /// The first that holds:
+    ///
+    /// 1. `Gate`: the gate answered `false`.
+    /// 2. `Refused`: the book refused it, as [`Book::ask`] says. `Memory` also comes if there is no ticket.
+    pub fn ask<G: Gate>(
+        &mut self,
+        alloc: Global,
+        node: NodeId,
+        gate: &G,
+        request: &Request,
+        ticket: Option<&SharedTicket>,
+    ) -> Result<Stepped, Halt> {
+        if !gate.step(node) {
+            return Err(Halt::Gate);
+        }
+        let Some(waiter) = self.waiter(request, ticket) else {
+            // Each other cause comes before `Memory`.
+            let refused = self
+                .book
+                .ask_refusal(request.client, request.name, request.mode);
+            return Err(Halt::Refused(refused));
+        };
+        let posted = self
+            .book
+            .ask(alloc, request.client, request.name, request.mode)?;
+        self.waiters.push_reserved(waiter);
+        Ok(self.stepped(posted))
+    }
+
+    /// Makes room for one more client that waits, and returns that client, or `None` if there is no memory or no ticket.
+    fn waiter(&mut self, request: &Request, ticket: Option<&SharedTicket>) -> Option<Waiter>
+        ensures { IfSome result (λ _. vec_len self.new.waiters < vec_capacity self.new.waiters) }
+    {
+        let ticket = ticket?;
+        self.waiters.reserve(1).ok()?;
+        let ticket = Arc::try_clone(ticket).ok()?;
+        Some(Waiter {
+            client: request.client,
+            name: request.name,
+            ticket,
+        })
+    }
+
+    /// Asks the gate of this node, and then the client that holds a name leaves it.
+    ///
+    /// # Errors
+    ///
+    /// The first that holds:
+    ///
+    /// 1. `Gate`: the gate answered `false`.
+    /// 2. `Refused`: the book refused it, as [`Book::leave`] says.
+    pub fn leave<G: Gate>(
+        &mut self,
+        alloc: Global,
+        node: NodeId,
+        gate: &G,
+        client: u32,
+        name: Name,
+    ) -> Result<Stepped, Halt> {
+        if !gate.step(node) {
+            return Err(Halt::Gate);
+        }
+        let posted = self.book.leave(alloc, client, name)?;
+        Ok(self.stepped(posted))
+    }
+
+    /// Asks the gate of this node, and then the bytes of a frame come.
+    ///
+    /// # Errors
+    ///
+    /// The first that holds:
+    ///
+    /// 1. `Gate`: the gate answered `false`.
+    /// 2. `Refused`: the book refused it, as [`Book::receive`] says.
+    fn receive<G: Gate>(
+        &mut self,
+        alloc: Global,
+        node: NodeId,
+        gate: &G,
+        bytes: &[u8],
+    ) -> Result<Stepped, Halt> {
+        if !gate.step(node) {
+            return Err(Halt::Gate);
+        }
+        let posted = self.book.receive(alloc, bytes)?;
+        Ok(self.stepped(posted))
+    }
+
+    /// Hands the book frames, and asks the gate of this node before each. Puts what came of each into the list.
+    ///
+    /// # Errors
+    ///
+    /// Why one of them was not received. Those before it were.
+    pub fn receive_all<G: Gate>(
+        &mut self,
+        alloc: Global,
+        node: NodeId,
+        gate: &G,
+        taken: &[Vec<u8>],
+        stepped: &mut Vec<Stepped>,
+    ) -> Result<(), Halt> {
+        for bytes in taken {
+            if stepped.reserve(1).is_err() {
+                return Err(Halt::Refused(BookError::Memory));
+            }
+            let step = self.receive(alloc, node, gate, bytes.as_slice())?;
+            stepped.push_reserved(step);
+        }
+        Ok(())
+    }
+
+    /// Gives the book a fault, if it has none. Returns the cause that the book has then, and the clients that waited. They
+    /// are to be told of it.
+    pub fn fail(&mut self, alloc: Global, stop: Stop) -> (Stop, Vec<Waiter>) {
+        self.book.fail(stop);
+        let cause = self.book.fault().unwrap_or(stop);
+        (cause, mem::replace(&mut self.waiters, Vec::new(alloc)))
+    }
+
+    /// Flags a frame that the book sent and still has as lost.
+    pub fn mark_lost(&mut self, frame: &Frame)
+        ensures { IsFirst self.old.book.sent frame.now false → Loses self.old.book.sent frame.now self.new.book.sent }
+    {
+        self.may_have_lost = true;
+        // The book sent it, no round took it before it was tried, and nobody else flags it.
+        let _ = self.book.mark_lost(frame);
+    }
+
+    /// Hands over the events of this node after one with the clock `after`, or from its first one on if `after` is 0, and those of the
+    /// frames sent since the round before that are flagged lost. Unless there may be one, that takes a time that does not grow
+    /// with the history. All frames leave the book, too; they are returned, so that they need not be dropped under the lock.
+    ///
+    /// # Errors
+    ///
+    /// The first that holds, and the book is as before:
+    ///
+    /// 1. `OutOfTurn`: the book is that of another node, or `after` is not the clock of the last event that was handed over, or 0
+    ///    before the first.
+    /// 2. `Memory`: there is no room for the lost frames, or for what the leaves of the node's clients will need.
+    pub fn hand_over(
+        &mut self,
+        alloc: Global,
+        node: NodeId,
+        after: u64,
+    ) -> Result<(Handed, Vec<Sent>), TakeError>
+        ensures after { IfOk result (λ made. made.0.after ≡ after) }
+        ensures handed { IfOk result (λ made. IsAllLeft self.old.book node after made.0.events.items made.0.lost.items) }
+        // So nothing is handed over twice.
+        ensures taken { OnOk result (self.new.book ≡ with_all_taken self.old.book) }
+        ensures out_of_turn { IsErrOf result TakeError.OutOfTurn
+            ↔ ((self.old.book.me ≢ node) ⊎ (after ≢ clock_of self.old.book.taken.events)) }
+        ensures others { OnlyTurnOrMemory result }
+        ensures err { OnErr result (self.new.book ≡ self.old.book) }
+    {
+        if self.book.me() != node || self.book.taken_clock() != after {
+            return Err(TakeError::OutOfTurn);
+        }
+        let lost = self.lost(alloc)?;
+        let (events, sent) = self.book.take_all(alloc)?;
+        self.may_have_lost = false;
+        let handed = Handed {
+            after,
+            events,
+            lost,
+        };
+        Ok((handed, sent))
+    }
+
+    /// Returns the frames of the book that are flagged lost, in order of sending. If there may be one, the cost is linear in the
+    /// number of its frames.
+    ///
+    /// # Errors
+    ///
+    /// `Memory`: memory ran out.
+    fn lost(&self, alloc: Global) -> Result<Vec<Frame>, Memory>
+        ensures { IfOk result (λ lost. lost.items ≡ lost_frames self.now.book.sent) }
+    {
+        if !self.may_have_lost {
+            return Ok(Vec::new(alloc));
+        }
+        lost_of(alloc, &self.book)
+    }
+
+    /// Returns what an event of the book made. The client that it let in waits no more.
+    fn stepped(&mut self, posted: Posted) -> Stepped
+        requires { All Fits posted.frames.items }
+    {
+        let Posted { frames, marks } = posted;
+        let told = match entry_let_in(marks.as_slice()) {
+            Some(entry) => self.take(entry),
+            None => None,
+        };
+        Stepped { frames, told }
+    }
+
+    /// Takes the client that waits for this request to be granted out of those that wait, if it is among them.
+    fn take(&mut self, entry: Entry) -> Option<(SharedTicket, Grant)>
+        ensures { IfSome result (λ told. told.1.entry ≡ entry) }
+    {
+        let place = self.place_of(&entry)?;
+        let Waiter {
+            client: _,
+            name: _,
+            ticket,
+        } = self.waiters.swap_remove(place);
+        Some((ticket, Grant { entry }))
+    }
+
+    /// Returns the place of the client that waits for this request to be granted. The cost is linear in the number of
+    /// those that wait.
+    fn place_of(&self, entry: &Entry) -> Option<usize>
+        ensures { IfSome result (λ place. place < vec_len self.now.waiters) }
+    {
+        for place in 0..self.waiters.len() {
+            let waiter = &self.waiters[place];
+            if waiter.client == entry.client && waiter.name == entry.name {
+                return Some(place);
+            }
+        }
+        None
+    }
+}
+
+/// Returns the request that an event granted, if there is one: an event lets in at most one client.
+fn entry_let_in(marks: &[Mark]) -> Option<Entry> {
+    for mark in marks {
+        if let Mark::Entered(entry) = mark {
+            return Some(*entry);
+        }
+    }
+    None
+}

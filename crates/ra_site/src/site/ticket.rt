@@ -1,0 +1,60 @@
+//! Where a thread waits for what comes of its request.
+ghost use Rattle.std.specs.Prelude.{IfOk};
+ghost use Rattle.ra_site.specs.ClientGrant.{IsGrantOf};
+
+use crate::site::request::Request;
+use crate::{Grant, Stop};
+use ra_stamp::NodeId;
+use std::alloc::Global;
+use std::sync::{Arc, Mutex, Wait};
+use std::thread::Parker;
+
+/// A ticket that two threads share: the one that waits, and the one that tells it what came of its request.
+pub type SharedTicket = Arc<Ticket, Global>;
+
+/// Where the one thread that made a request waits. The thread that tells it what came of the request wakes it alone.
+#[derive(Drop)]
+pub struct Ticket {
+    /// The grant, or why the node was stopped before, once it is told.
+    outcome: Mutex<Option<Result<Grant, Stop>>>,
+    waits: Parker,
+}
+
+impl Ticket {
+    /// Makes a ticket of which nobody has told anything yet, or returns `None` if memory ran out.
+    pub fn new(alloc: Global) -> Option<SharedTicket> {
+        let ticket = Ticket {
+            outcome: Mutex::new(None),
+            waits: Parker::new(),
+        };
+        Arc::new(alloc, ticket).ok()
+    }
+
+    /// Tells the thread that waits what came of its request: its grant, or why its node was stopped before. Wakes it.
+    pub fn tell<R: Wait>(&self, rt: &R, outcome: Result<Grant, Stop>) {
+        *self.outcome.lock(rt) = Some(outcome);
+        // The lock is given back by now, so the thread that wakes does not wait for it.
+        self.waits.unpark();
+    }
+
+    /// Waits until it is told what came of this request, which was made at this node, and returns that.
+    pub fn wait<R: Wait>(&self, rt: &R, node: NodeId, request: &Request) -> Result<Grant, Stop>
+        ensures { IfOk result (IsGrantOf node request.now.client request.now.name request.now.mode) }
+    {
+        for _ in rt.forever() {
+            // The lock is given back at once, so that nobody waits for it while this thread sleeps.
+            let outcome = self.outcome.lock(rt).take();
+            match outcome {
+                Some(Ok(grant)) => {
+                    // It is always so, but no contract can say what another thread told.
+                    if request.is_granted_by(node, &grant) {
+                        return Ok(grant);
+                    }
+                }
+                Some(Err(stop)) => return Err(stop),
+                None => self.waits.park(rt),
+            }
+        }
+        unreachable!()
+    }
+}
