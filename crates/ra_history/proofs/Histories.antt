@@ -39,7 +39,7 @@ frames_of-push (q ∷ ps) p =
     ∙ sym (append_assoc (frames_at q.event.clock q.sends) (frames_of ps) (frames_at p.event.clock p.sends))
 
 -- the frames of what is sent are what went out
-frames_as_sent : (frames : List Frame) → map (λ (s : Sent). s.frame) (as_sent frames) ≡ frames
+pub frames_as_sent : (frames : List Frame) → map (λ (s : Sent). s.frame) (as_sent frames) ≡ frames
 frames_as_sent [] = refl
 frames_as_sent (f ∷ fs) = ap (λ (xs : List Frame). f ∷ xs) (frames_as_sent fs)
 

@@ -5,6 +5,8 @@ mod Running
 mod Adding
 mod Accepting
 mod EventChecked
+mod TimedTaking
+mod TimedHistories
 mod Losing
 mod Ascending
 mod FrameSearch

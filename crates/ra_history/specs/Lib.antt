@@ -4,6 +4,7 @@ pub mod Departures
 pub mod Keeping
 pub mod Refused
 pub mod EventChecks
+pub mod Timed
 pub mod Settled
 pub mod Repeats
 pub mod SettlingParts

@@ -1,7 +1,7 @@
 ghost use Rattle.std.specs.Prelude.{◌≡◌};
 
 use ra_frame::FrameError;
-use ra_node::AskError;
+use ra_node::{AskError, LeaveError, ReceiveError};
 use ra_stamp::Memory;
 use std::fmt;
 use thiserror::Error;
@@ -49,6 +49,33 @@ impl From<AskError> for BookError {
             AskError::Busy => BookError::Busy,
             AskError::Exhausted => BookError::Exhausted,
             AskError::Memory => BookError::Memory,
+        }
+    }
+}
+
+impl From<LeaveError> for BookError {
+    ghost use Rattle.ra_history.specs.Refused.{refusal_of_leave};
+
+    ghost from_gives = { λ refused fault. fault ≡ refusal_of_leave refused };
+
+    fn from(refused: LeaveError) -> BookError {
+        match refused {
+            LeaveError::NotHeld => BookError::NotHeld,
+            LeaveError::Memory => BookError::Memory,
+        }
+    }
+}
+
+impl From<ReceiveError> for BookError {
+    ghost use Rattle.ra_history.specs.Refused.{refusal_of_receive};
+
+    ghost from_gives = { λ refused fault. fault ≡ refusal_of_receive refused };
+
+    fn from(refused: ReceiveError) -> BookError {
+        match refused {
+            ReceiveError::WrongNode => BookError::WrongNode,
+            ReceiveError::Stranger => BookError::Stranger,
+            ReceiveError::Memory => BookError::Memory,
         }
     }
 }

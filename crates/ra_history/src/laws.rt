@@ -1,6 +1,7 @@
 //! What is true of histories, for the crates above. Each function does nothing, and its contract is the law.
 pub mod settled_fairness;
 pub mod settling_with_copies;
+pub mod timed_histories;
 
 ghost use Rattle.std.specs.Prelude.{◌≡◌, ◌≤◌, ◌^◌, ◌++◌, ◌∷◌, [], ℕ, List, map};
 ghost use Rattle.ra_stamp.specs.declared.entry.Mark.{Mark};

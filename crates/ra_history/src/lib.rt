@@ -1,8 +1,8 @@
 //! The history of a node, and the run into which the histories of all nodes settle.
 //!
-//! A node's book has the node, its event clock, what happened at it, and what it sent. [`settle`] makes one run of the
-//! cluster out of the books of all nodes, or says why they do not settle. Nothing here knows of threads: `ra_site` shares
-//! books among threads, and `ra_book` writes them as text.
+//! A [`TimedNode`] is a node with an event clock, and no history. A node's book has the node, its event clock, what happened
+//! at it, and what it sent. [`settle`] makes one run of the cluster out of the books of all nodes, or says why they do not
+//! settle. Nothing here knows of threads: `ra_site` shares books among threads, and `ra_book` writes them as text.
 //!
 //! The event clock is that of L. Lamport, CACM 21(7), 1978.
 #![tactic(auto)]
@@ -11,6 +11,7 @@ mod book;
 mod error;
 mod laws;
 mod settle_books;
+mod timed_node;
 
 pub use book::Book;
 pub use book::event::{BookEvent, BookKind, Events};
@@ -23,6 +24,7 @@ pub use book::stop::Stop;
 pub use error::{BookError, MarkLostError, SettleError};
 pub use laws::settled_fairness::settled_runs_are_fair;
 pub use laws::settling_with_copies::books_settle_with_copies;
+pub use laws::timed_histories::timed_nodes_have_histories;
 pub use laws::{histories_are_determined, histories_go_on};
 pub use ra_node::NewError;
 pub use settle_books::copies::settle_with_copies;
@@ -30,3 +32,4 @@ pub use settle_books::event_merge::step_of;
 pub use settle_books::receipts::was_sent;
 pub use settle_books::settled::Settled;
 pub use settle_books::{is_cluster, settle};
+pub use timed_node::TimedNode;

@@ -1,34 +1,30 @@
 //! Which events a node takes, and why it does not take the others.
-ghost use Rattle.std.specs.Prelude.{◌≡◌, ◌≢◌, IfErr, MatchOption, MatchResult};
+ghost use Rattle.std.specs.Prelude.{◌≢◌, IfErr, MatchResult};
 ghost use Rattle.ra_history.specs.EventChecks.{MayTake, NodeRefuses, CanHappen, IsRefusedAfter};
 ghost use Rattle.ra_history.specs.declared.error.BookError.{BookError};
 
 use crate::book::kept_events::clock_after;
 use crate::{BookError, BookKind};
-use ra_node::{AskError, Node, ReceiveError};
+use ra_node::Node;
 
-/// Returns why a node does not take an event, whatever its clock, or `None` if it may.
-fn node_refusal(node: &Node, kind: &BookKind) -> Option<BookError>
-    ensures { MatchOption result (MayTake node.now kind.now) (NodeRefuses node.now kind.now) }
+/// Checks that a node takes an event, whatever its clock.
+///
+/// # Errors
+///
+/// `Busy`, `Exhausted`, `NotHeld`, `WrongNode`, `Stranger`: it does not, as its call says.
+fn check_node(node: &Node, kind: &BookKind) -> Result<(), BookError>
+    ensures { MatchResult result (λ _. MayTake node.now kind.now) (NodeRefuses node.now kind.now) }
 {
     match kind {
-        BookKind::Asked { client, name, .. } => match node.may_ask(*client, name) {
-            Err(AskError::Busy) => Some(BookError::Busy),
-            Err(AskError::Exhausted) => Some(BookError::Exhausted),
-            _ => None,
-        },
+        BookKind::Asked { client, name, .. } => Ok(node.may_ask(*client, name)?),
         BookKind::Gave { client, name } => {
             if node.is_held_by(*client, name) {
-                None
+                Ok(())
             } else {
-                Some(BookError::NotHeld)
+                Err(BookError::NotHeld)
             }
         }
-        BookKind::Got(frame) => match node.check_address(&frame.message) {
-            Err(ReceiveError::WrongNode) => Some(BookError::WrongNode),
-            Err(ReceiveError::Stranger) => Some(BookError::Stranger),
-            _ => None,
-        },
+        BookKind::Got(frame) => Ok(node.check_address(&frame.message)?),
     }
 }
 
@@ -44,10 +40,8 @@ pub fn check_event(node: &Node, clock: u64, kind: &BookKind) -> Result<u64, Book
     ensures checked { MatchResult result (CanHappen node.now clock kind.now) (IsRefusedAfter node.now clock kind.now) }
     ensures no_memory { IfErr result (λ why. why ≢ BookError.Memory) }
 {
-    match node_refusal(node, kind) {
-        Some(why) => Err(why),
-        None => clock_after(clock, kind),
-    }
+    check_node(node, kind)?;
+    clock_after(clock, kind)
 }
 
 /// Returns why an event of this kind is refused at a node if there is no memory for it, and this is the clock before it. Each other
