@@ -1,5 +1,8 @@
 //! The note that tells the user what came of a command: one line, which begins with `ra: `.
-use ra_cli::{AnswerError, CommandOutcome, CommandRefusal, Remark, RunScriptError, UNFINISHED};
+use ra_cli::{
+    AnswerError, BookFault, CommandOutcome, CommandRefusal, Remark, RunScriptError, SettleFault,
+    UNFINISHED,
+};
 use ra_notes::{
     BOOKS_TOO_LONG, FrameCause, NO_BOOK, NO_INPUT, NO_SEED_DONE, NO_WORD, SEEDS_LEFT, Unanswered,
     cluster_notice, frame_notice, log_notice, of_check, of_choices, of_command, of_drawing, of_end,
@@ -65,13 +68,7 @@ fn notice_of(alloc: Global, source: &NoteSource<'_>, remark: Remark) -> Notice {
         Remark::Ends { sent } => of_end(alloc, seen, sent),
         Remark::NoTrace { line, cause, due } => trace_notice(alloc, seen, text, line, cause, due),
         Remark::NoLog { line, cause } => log_notice(alloc, seen, text, line, cause),
-        Remark::NoBook => Notice::Line {
-            line: 1,
-            text: NO_BOOK,
-        },
-        Remark::Unread => Notice::Text(NO_INPUT),
         Remark::Unsettled { line, cause } => unsettled_notice(alloc, text, line, cause),
-        Remark::TooManyBooks => Notice::Text(BOOKS_TOO_LONG),
     }
 }
 
@@ -86,13 +83,22 @@ fn refusal_of(alloc: Global, source: &NoteSource<'_>, refusal: CommandRefusal) -
         }
         CommandRefusal::Check(why) => of_check(why),
         CommandRefusal::Draw(why) => of_drawing(alloc, source.asked, why),
-        CommandRefusal::Cluster(why) => match why {
+        CommandRefusal::Cluster(why) | CommandRefusal::Survey(why) => match why {
             RunScriptError::Read => Notice::Text(NO_INPUT),
             RunScriptError::Script(_) => script_notice(alloc, source.seen),
             RunScriptError::Cluster(fault) => cluster_notice(alloc, source.seen, fault),
             RunScriptError::Choice => Notice::Text(NO_WORD),
             RunScriptError::Memory => Notice::Text(NO_MEMORY),
         },
+        CommandRefusal::Settle(SettleFault::Read) => Notice::Text(NO_INPUT),
+        CommandRefusal::Settle(SettleFault::Limit) => Notice::Text(BOOKS_TOO_LONG),
+        CommandRefusal::Settle(SettleFault::Memory) => Notice::Text(NO_MEMORY),
+        CommandRefusal::Node(BookFault::Line) => Notice::Line {
+            line: 1,
+            text: NO_BOOK,
+        },
+        CommandRefusal::Node(BookFault::Read) => Notice::Text(NO_INPUT),
+        CommandRefusal::Node(BookFault::Write) => Notice::Nothing,
     }
 }
 

@@ -1,25 +1,21 @@
 -- Which statuses a command may have, and what was written with status 2.
-use Rattle.std.proofs.Common.{◌≡◌, ◌≢◌, ◌⊎◌, ℕ, ◌≤◌, List, Option, Ok, Err, codes, subst, inl, inr, arith}
+use Rattle.std.proofs.Common.{◌≡◌, ◌⊎◌, ℕ, ◌≤◌, List, Option, Ok, Err, codes, subst, inl, inr, arith}
 use Rattle.std.specs.Io.KnownBytes.{Appends}
 use Rattle.ra_book.specs.declared.error.BookFault.TheVariants as book
-use Rattle.ra_trace.specs.declared.error.TraceError.{TraceError}
-use Rattle.ra_trace.specs.declared.error.TraceError.TheVariants as trace
+use Rattle.ra_cli.specs.declared.error.SettleFault.TheVariants as settle
 use Rattle.ra_task.specs.declared.command.Command.{Command}
 use Rattle.ra_task.specs.declared.command.Command.TheVariants.{Node, Settle, Task, Unknown}
 use Rattle.ra_task.specs.declared.command_line.CommandFault.{CommandFault}
 use Rattle.ra_task.specs.declared.command_line.Task.{Task as AskedTask}
 use Rattle.ra_task.specs.declared.command_line.Task.TheVariants as task
 use Rattle.ra_task.specs.declared.settle_arguments.SettleTask.{SettleTask}
-use Rattle.ra_cli.specs.declared.error.AnswerError.TheVariants.{Line}
 use Rattle.ra_cli.specs.declared.refusal_lines.CommandRefusal.TheVariants as refusal
 use Rattle.ra_cli.specs.Commands.{DoesCommand}
 use Rattle.ra_cli.specs.NodeRun.{ServesNode}
-use Rattle.ra_cli.specs.Refusals.{IsOfReader, IsOfWriter, command_word, refused_line}
+use Rattle.ra_cli.specs.Refusals.{command_word, refused_line}
 use Rattle.ra_cli.specs.SettleRun.{RefusesBooks, ServesSettle}
 use Rattle.ra_cli.specs.Statuses.{IsRefused, Writes}
 use Rattle.ra_cli.specs.Tasks.{IsRefusedBy}
-use Rattle.ra_cli.proofs.SettleRuns.{of_reader}
-use Rattle.ra_cli.proofs.Statuses.{no_reader, none_of_check, none_of_command, of_answer}
 
 -- ---- 0 to 3
 
@@ -42,38 +38,25 @@ at_most_3 (Unknown fault) old new before after status h = at_most _ 2 before aft
 
 -- ---- 2
 
-no_reader_of_line : IsOfReader (refusal.Answer Line) → ⊥
-no_reader_of_line (inl is) = absurd cc
-no_reader_of_line (inr (inl is)) = absurd cc
-no_reader_of_line (inr (inr (inl is))) = absurd cc
-no_reader_of_line (inr (inr (inr (inl is)))) = absurd cc
-no_reader_of_line (inr (inr (inr (inr is)))) = absurd cc
-
-no_writer_of_line : IsOfWriter (refusal.Answer Line) → ⊥
-no_writer_of_line is = let wrong = of_answer Line is in absurd cc
-
 node_refuses : (old new before after : Option (List ℕ)) (status : ℕ) → ServesNode old new before after status → status ≡ 2 → IsRefused before after
 node_refuses old new before after status (answers, Ok done, owed, told, is) two = absurd (omega (arith, is, two))
 node_refuses old new before after status (answers, Err book.Line, owed, told, is) two =
-    (refusal.Answer Line, no_reader_of_line, no_writer_of_line, subst (Appends before after) owed.1 told)
+    (refusal.Node book.Line, (λ is. absurd cc), (λ is. absurd cc), subst (Appends before after) owed.1 told)
 node_refuses old new before after status (answers, Err book.Read, owed, told, is) two = absurd (omega (arith, is, two))
 node_refuses old new before after status (answers, Err book.Write, owed, told, is) two = absurd (omega (arith, is, two))
-
-not_reader : (why : TraceError) → why ≢ trace.Read → IsOfReader (refusal.Check why) → ⊥
-not_reader why other is = other (of_reader why is)
 
 settle_refuses : (asked : SettleTask) (old new before after : Option (List ℕ)) (status : ℕ) → ServesSettle asked old new before after status → status ≡ 2
     → IsRefused before after
 settle_refuses asked old new before after status h two = by_word (h.refused two)
   where
     by_word : Appends before after (refused_line (codes "Memory"))
-        ⊎ (Appends before after (refused_line (codes "Limit")) × RefusesBooks old new trace.Limit) → IsRefused before after
-    by_word (inl all) = (refusal.Check trace.Memory, not_reader trace.Memory (λ is. cc), none_of_check trace.Memory, all)
-    by_word (inr (all, long)) = (refusal.Check trace.Limit, not_reader trace.Limit (λ is. cc), none_of_check trace.Limit, all)
+        ⊎ (Appends before after (refused_line (codes "Limit")) × RefusesBooks old new settle.Limit) → IsRefused before after
+    by_word (inl all) = (refusal.Settle settle.Memory, (λ is. absurd cc), (λ is. is), all)
+    by_word (inr (all, long)) = (refusal.Settle settle.Limit, (λ is. absurd cc), (λ is. is), all)
 
 said : (fault : CommandFault) (before after : Option (List ℕ)) (status : ℕ) → Writes (refused_line (command_word fault)) 2 before after status → status ≡ 2
     → IsRefused before after
-said fault before after status (inl (is, all)) two = (refusal.Command fault, no_reader fault, none_of_command fault, all)
+said fault before after status (inl (is, all)) two = (refusal.Command fault, (λ is. is), (λ is. is), all)
 said fault before after status (inr (one, breaks)) two = absurd (omega (arith, one, two))
 
 not_two : {A : Type 0} (text : List ℕ) (before after : Option (List ℕ)) (status : ℕ) → Writes text 0 before after status → status ≡ 2 → A

@@ -175,19 +175,19 @@ refused_for_memory laws (task.Sim name choices format) input new why orderly fai
     ap word_of is ∙ of_run fault is cause
   where
     of_run : (fault : PerformError) → why ≡ refusal.Perform fault → RefusesAs format policy input fault → perform_word fault ≡ codes "Memory"
-    of_run perform.Read is h = absurd (reader (inr (inl is)))
+    of_run perform.Read is h = absurd (reader (subst IsOfReader (sym is) refl))
     of_run (perform.Script wrong) is h = let read = orderly.script_is in let other = h.1 in absurd cc
     of_run (perform.Drive cause) is h =
         let chosen = willing name choices.now policy faithful named in
         absurd (laws.never_refused format policy input cause chosen.unrepeated chosen.itself h)
     of_run perform.Choice is h = absurd (laws.worded format policy input (willing name choices.now policy faithful named).unrepeated h)
     of_run perform.Memory is h = refl
-    of_run perform.Write is h = absurd (writer (inr (inl is)))
+    of_run perform.Write is h = absurd (writer (subst IsOfWriter (sym is) refl))
 refused_for_memory laws (task.Survey survey) input new why orderly faithful plain reader writer (fault, is, failed, cause) =
     ap word_of is ∙ of_survey fault is cause
   where
-    of_survey : (fault : RunScriptError) → why ≡ refusal.Cluster fault → RefusesSurvey survey input fault → run_word fault ≡ codes "Memory"
-    of_survey run.Read is h = absurd (reader (inr (inr (inr (inl is)))))
+    of_survey : (fault : RunScriptError) → why ≡ refusal.Survey fault → RefusesSurvey survey input fault → run_word fault ≡ codes "Memory"
+    of_survey run.Read is h = absurd (reader (subst IsOfReader (sym is) refl))
     of_survey (run.Script wrong) is h = let read = orderly.script_is in absurd cc
     of_survey (run.Cluster wrong) is h = absurd h
     of_survey run.Choice is h = absurd (none_wordless laws survey survey.find input faithful.0 faithful.1 h)

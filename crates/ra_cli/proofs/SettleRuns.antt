@@ -1,48 +1,48 @@
 -- What it means for the statuses that books were settled, or not.
-use Rattle.std.proofs.Common.{◌≡◌, ◌≢◌, ◌⊎◌, ℕ, ◌≤◌, List, [], ◌++◌, length, Option, inl, inr, refl, sym, ap, subst, codes, arith}
+use Rattle.std.proofs.Common.{◌≡◌, ◌≢◌, ◌⊎◌, ℕ, ◌≤◌, List, [], ◌++◌, length, Option, inl, inr, refl, sym, subst, codes, arith}
 use Rattle.std.specs.Io.KnownBytes.{Appends}
 use Rattle.ra_text.specs.Input.{Reads}
-use Rattle.ra_trace.specs.declared.error.TraceError.{TraceError}
-use Rattle.ra_trace.specs.declared.error.TraceError.TheVariants as fault
+use Rattle.ra_text.specs.declared.error.ReadFault.{ReadFault}
+use Rattle.ra_text.specs.declared.error.ReadFault.TheVariants as read
+use Rattle.ra_cli.specs.InputOutput.{StopsBefore}
+use Rattle.ra_cli.specs.declared.error.SettleFault.{SettleFault}
+use Rattle.ra_cli.specs.declared.error.SettleFault.TheVariants as fault
 use Rattle.ra_task.specs.declared.settle_arguments.SettleTask.{SettleTask}
-use Rattle.ra_cli.specs.declared.refusal_lines.CommandRefusal.TheVariants.{Check}
-use Rattle.ra_cli.specs.Refusals.{IsOfReader, IsOfWriter, refused_line, trace_word}
-use Rattle.ra_cli.specs.SettleRun.{Contradicts, ReadsBooks, RefusesBooks, ServesSettle, Settles, TellsSettled}
+use Rattle.ra_cli.specs.declared.refusal_lines.CommandRefusal.TheVariants.{Settle}
+use Rattle.ra_cli.specs.Refusals.{IsOfWriter, refused_line, settle_word}
+use Rattle.ra_cli.specs.SettleRun.{Contradicts, ReadsBooks, RefusesBooks, ServesSettle, Settles, TellsSettled, of_unread}
 use Rattle.ra_cli.specs.Statuses.{IsSaid, PrintsRefusal, Writes}
-use Rattle.ra_cli.proofs.Statuses.{none_of_check}
 
 -- what comes of an input that was not read to its end: the status is 1 if the reader failed, and otherwise 2, or 1 if
 -- the writer failed
-pub record RefusesInput (why : TraceError) (before after : Option (List ℕ)) (status : ℕ) : Type 0 where
+pub record RefusesInput (why : SettleFault) (before after : Option (List ℕ)) (status : ℕ) : Type 0 where
   pub range : (1 ≤ status) × (status ≤ 2)
-  pub refused : status ≡ 2 → (why ≢ fault.Read) × Appends before after (refused_line (trace_word why))
+  pub refused : status ≡ 2 → (why ≢ fault.Read) × Appends before after (refused_line (settle_word why))
   pub broken : status ≡ 1 → ((why ≡ fault.Read) × Appends before after (codes "refused Read\n"))
-      ⊎ ((prefix : List ℕ) × (rest : List ℕ) × (rest ≢ []) × Appends before after prefix × (prefix ++ rest ≡ refused_line (trace_word why)))
-
-pub of_reader : (why : TraceError) → IsOfReader (Check why) → why ≡ fault.Read
-of_reader why (inl is) = absurd cc
-of_reader why (inr (inl is)) = absurd cc
-of_reader why (inr (inr (inl is))) = cc
-of_reader why (inr (inr (inr (inl is)))) = absurd cc
-of_reader why (inr (inr (inr (inr is)))) = absurd cc
+      ⊎ ((prefix : List ℕ) × (rest : List ℕ) × (rest ≢ []) × Appends before after prefix × (prefix ++ rest ≡ refused_line (settle_word why)))
 
 -- what `refuse` says of a refusal of the input
-module _ (why : TraceError) (before after : Option (List ℕ)) (Unwritten : Type 0) (status : ℕ)
-    (printed : PrintsRefusal (Check why) before after Unwritten status) where
-  of_said : IsOfWriter (Check why) ⊎ ((IsOfWriter (Check why) → ⊥) × IsSaid (Check why) before after)
+module _ (why : SettleFault) (before after : Option (List ℕ)) (Unwritten : Type 0) (status : ℕ)
+    (printed : PrintsRefusal (Settle why) before after Unwritten status) where
+  of_said : IsOfWriter (Settle why) ⊎ ((IsOfWriter (Settle why) → ⊥) × IsSaid (Settle why) before after)
       → ((why ≡ fault.Read) × Appends before after (codes "refused Read\n"))
-      ⊎ ((prefix : List ℕ) × (rest : List ℕ) × (rest ≢ []) × Appends before after prefix × (prefix ++ rest ≡ refused_line (trace_word why)))
-  of_said (inl writer) = absurd (none_of_check why writer)
+      ⊎ ((prefix : List ℕ) × (rest : List ℕ) × (rest ≢ []) × Appends before after prefix × (prefix ++ rest ≡ refused_line (settle_word why)))
+  of_said (inl writer) = absurd writer
   of_said (inr (other, inl (reader, all))) =
-      inl (of_reader why reader, subst (λ (w : TraceError). Appends before after (refused_line (trace_word w))) (of_reader why reader) all)
+      inl (reader, subst (λ (w : SettleFault). Appends before after (refused_line (settle_word w))) reader all)
   of_said (inr (other, inr (prefix, rest, is, left, some))) = inr (prefix, rest, left, some, sym is)
 
   pub refuses : RefusesInput why before after status
   refuses = record {
     range = (printed.not_done, printed.range);
-    refused = λ is. (λ reads. (printed.refused is).0 (inr (inr (inl (ap Check reads)))), (printed.refused is).2);
+    refused = λ is. ((printed.refused is).0, (printed.refused is).2);
     broken = λ is. of_said (printed.broken is);
   }
+
+-- why the text was not read
+pub of_fault : (old new : Option (List ℕ)) (why : ReadFault) → (why ≡ read.Read → StopsBefore 1073741825 old new) → RefusesBooks old new (of_unread why)
+of_fault old new read.Read stops = stops refl
+of_fault old new read.Memory stops = tt
 
 -- that memory ran out
 pub no_memory : (asked : SettleTask) (input : List ℕ) (before after : Option (List ℕ)) (status : ℕ) → RefusesInput fault.Memory before after status
@@ -117,13 +117,13 @@ served asked input old new before after status reads short h = record {
         × (Settles asked input (prefix ++ rest) ⊎ Contradicts asked input (prefix ++ rest) ⊎ (prefix ++ rest ≡ refused_line (codes "Memory")))
         → (prefix : List ℕ) × (rest : List ℕ) × (rest ≢ []) × Appends before after prefix
         × (((text : List ℕ) × ReadsBooks old new text × (Settles asked text (prefix ++ rest) ⊎ Contradicts asked text (prefix ++ rest)))
-        ⊎ ((w : TraceError) × RefusesBooks old new w × (prefix ++ rest ≡ refused_line (trace_word w))))
+        ⊎ ((w : SettleFault) × RefusesBooks old new w × (prefix ++ rest ≡ refused_line (settle_word w))))
     of_broken (prefix, rest, left, some, inl settles) = (prefix, rest, left, some, inl (input, read, inl settles))
     of_broken (prefix, rest, left, some, inr (inl wrong)) = (prefix, rest, left, some, inl (input, read, inr wrong))
     of_broken (prefix, rest, left, some, inr (inr is)) = (prefix, rest, left, some, inr (fault.Memory, tt, is))
 
 -- or without: it was not all read
-pub unread : (asked : SettleTask) (why : TraceError) (old new before after : Option (List ℕ)) (status : ℕ) → RefusesInput why before after status
+pub unread : (asked : SettleTask) (why : SettleFault) (old new before after : Option (List ℕ)) (status : ℕ) → RefusesInput why before after status
     → RefusesBooks old new why → ServesSettle asked old new before after status
 unread asked why old new before after status h cause = record {
   range = omega (arith, h.range.1);
@@ -133,17 +133,17 @@ unread asked why old new before after status h cause = record {
   broken = λ is. of_broken (h.broken is);
 }
   where
-    by_fault : (w : TraceError) → (w ≢ fault.Read) × Appends before after (refused_line (trace_word w)) → RefusesBooks old new w
+    by_fault : (w : SettleFault) → (w ≢ fault.Read) × Appends before after (refused_line (settle_word w)) → RefusesBooks old new w
         → Appends before after (refused_line (codes "Memory")) ⊎ (Appends before after (refused_line (codes "Limit")) × RefusesBooks old new fault.Limit)
     by_fault fault.Read (other, all) long = absurd (other refl)
     by_fault fault.Limit (other, all) long = inr (all, long)
     by_fault fault.Memory (other, all) long = inl all
 
     of_broken : ((why ≡ fault.Read) × Appends before after (codes "refused Read\n"))
-        ⊎ ((prefix : List ℕ) × (rest : List ℕ) × (rest ≢ []) × Appends before after prefix × (prefix ++ rest ≡ refused_line (trace_word why)))
+        ⊎ ((prefix : List ℕ) × (rest : List ℕ) × (rest ≢ []) × Appends before after prefix × (prefix ++ rest ≡ refused_line (settle_word why)))
         → (RefusesBooks old new fault.Read × Appends before after (codes "refused Read\n"))
         ⊎ ((prefix : List ℕ) × (rest : List ℕ) × (rest ≢ []) × Appends before after prefix
         × (((input : List ℕ) × ReadsBooks old new input × (Settles asked input (prefix ++ rest) ⊎ Contradicts asked input (prefix ++ rest)))
-        ⊎ ((w : TraceError) × RefusesBooks old new w × (prefix ++ rest ≡ refused_line (trace_word w)))))
+        ⊎ ((w : SettleFault) × RefusesBooks old new w × (prefix ++ rest ≡ refused_line (settle_word w)))))
     of_broken (inl (is, all)) = inl (subst (RefusesBooks old new) is cause, all)
     of_broken (inr (prefix, rest, left, some, is)) = inr (prefix, rest, left, some, inr (why, cause, is))

@@ -1,18 +1,16 @@
 -- What a refusal comes to, and a text that is written, as the statuses tell it.
 use Rattle.std.proofs.Common.{◌≡◌, ◌⊎◌, ℕ, zero, suc, ◌≤◌, List, Option, refl, sym, ap, subst, ◌∙◌, inl, inr, codes, arith}
 use Rattle.std.specs.Io.KnownBytes.{Appends}
-use Rattle.ra_schedule.specs.declared.error.ChoicesError.{ChoicesError}
 use Rattle.ra_script.specs.declared.error.PerformError.{PerformError}
-use Rattle.ra_script.specs.declared.error.PerformError.TheVariants as perform
 use Rattle.ra_draw.specs.declared.error.DrawError.{DrawError}
-use Rattle.ra_draw.specs.declared.error.DrawError.TheVariants as draw
+use Rattle.ra_book.specs.declared.error.BookFault.{BookFault}
 use Rattle.ra_trace.specs.declared.error.TraceError.{TraceError}
 use Rattle.ra_task.specs.declared.command_line.CommandFault.{CommandFault}
 use Rattle.ra_cli.specs.declared.error.AnswerError.{AnswerError}
-use Rattle.ra_cli.specs.declared.error.AnswerError.TheVariants as answer
 use Rattle.ra_cli.specs.declared.error.RunScriptError.{RunScriptError}
+use Rattle.ra_cli.specs.declared.error.SettleFault.{SettleFault}
 use Rattle.ra_cli.specs.declared.refusal_lines.CommandRefusal.{CommandRefusal}
-use Rattle.ra_cli.specs.declared.refusal_lines.CommandRefusal.TheVariants.{Command, Answer, Choices, Perform, Check, Draw, Cluster}
+use Rattle.ra_cli.specs.declared.refusal_lines.CommandRefusal.TheVariants.{Command, Answer, Choices, Perform, Check, Draw, Cluster, Survey, Settle, Node}
 use Rattle.ra_cli.specs.InputOutput.{BreaksOff}
 use Rattle.ra_cli.specs.Refusals.{IsOfReader, IsOfWriter, command_word, refused_line, word_of}
 use Rattle.ra_cli.specs.Statuses.{IsSaid, PrintsRefusal, Writes}
@@ -20,55 +18,17 @@ use Rattle.ra_cli.proofs.Numbers.{broken_at_least_1, broken_at_most_2, broken_no
 
 -- ---- Who failed
 
-pub none_of_command : (fault : CommandFault) → IsOfWriter (Command fault) → ⊥
-none_of_command fault (inl is) = absurd cc
-none_of_command fault (inr (inl is)) = absurd cc
-none_of_command fault (inr (inr is)) = absurd cc
-
-pub none_of_choices : (fault : ChoicesError) → IsOfWriter (Choices fault) → ⊥
-none_of_choices fault (inl is) = absurd cc
-none_of_choices fault (inr (inl is)) = absurd cc
-none_of_choices fault (inr (inr is)) = absurd cc
-
-pub none_of_check : (fault : TraceError) → IsOfWriter (Check fault) → ⊥
-none_of_check fault (inl is) = absurd cc
-none_of_check fault (inr (inl is)) = absurd cc
-none_of_check fault (inr (inr is)) = absurd cc
-
-pub none_of_run : (fault : RunScriptError) → IsOfWriter (Cluster fault) → ⊥
-none_of_run fault (inl is) = absurd cc
-none_of_run fault (inr (inl is)) = absurd cc
-none_of_run fault (inr (inr is)) = absurd cc
-
-pub of_answer : (fault : AnswerError) → IsOfWriter (Answer fault) → fault ≡ answer.Write
-of_answer fault (inl is) = cc
-of_answer fault (inr (inl is)) = absurd cc
-of_answer fault (inr (inr is)) = absurd cc
-
-pub of_perform : (fault : PerformError) → IsOfWriter (Perform fault) → fault ≡ perform.Write
-of_perform fault (inl is) = absurd cc
-of_perform fault (inr (inl is)) = cc
-of_perform fault (inr (inr is)) = absurd cc
-
-pub of_draw : (fault : DrawError) → IsOfWriter (Draw fault) → fault ≡ draw.Write
-of_draw fault (inl is) = absurd cc
-of_draw fault (inr (inl is)) = absurd cc
-of_draw fault (inr (inr is)) = cc
-
--- the command line was not read
-pub no_reader : (fault : CommandFault) → IsOfReader (Command fault) → ⊥
-no_reader fault (inl is) = absurd cc
-no_reader fault (inr (inl is)) = absurd cc
-no_reader fault (inr (inr (inl is))) = absurd cc
-no_reader fault (inr (inr (inr (inl is)))) = absurd cc
-no_reader fault (inr (inr (inr (inr is)))) = absurd cc
-
 pub line_of_reader : (refusal : CommandRefusal) → IsOfReader refusal → refused_line (word_of refusal) ≡ codes "refused Read\n"
-line_of_reader refusal (inl is) = ap (λ (r : CommandRefusal). refused_line (word_of r)) is
-line_of_reader refusal (inr (inl is)) = ap (λ (r : CommandRefusal). refused_line (word_of r)) is
-line_of_reader refusal (inr (inr (inl is))) = ap (λ (r : CommandRefusal). refused_line (word_of r)) is
-line_of_reader refusal (inr (inr (inr (inl is)))) = ap (λ (r : CommandRefusal). refused_line (word_of r)) is
-line_of_reader refusal (inr (inr (inr (inr is)))) = ap (λ (r : CommandRefusal). refused_line (word_of r)) is
+line_of_reader (Command why) is = absurd is
+line_of_reader (Answer why) is = ap (λ (w : AnswerError). refused_line (word_of (Answer w))) is
+line_of_reader (Choices why) is = absurd is
+line_of_reader (Perform why) is = ap (λ (w : PerformError). refused_line (word_of (Perform w))) is
+line_of_reader (Check why) is = ap (λ (w : TraceError). refused_line (word_of (Check w))) is
+line_of_reader (Draw why) is = ap (λ (w : DrawError). refused_line (word_of (Draw w))) is
+line_of_reader (Cluster why) is = ap (λ (w : RunScriptError). refused_line (word_of (Cluster w))) is
+line_of_reader (Survey why) is = ap (λ (w : RunScriptError). refused_line (word_of (Survey w))) is
+line_of_reader (Settle why) is = ap (λ (w : SettleFault). refused_line (word_of (Settle w))) is
+line_of_reader (Node why) is = ap (λ (w : BookFault). refused_line (word_of (Node w))) is
 
 -- ---- What comes of a refusal
 
@@ -146,8 +106,8 @@ said_why fault before after Unwritten status printed = by_status (one_or_two sta
 
     of_one : IsOfWriter (Command fault) ⊎ ((IsOfWriter (Command fault) → ⊥) × IsSaid (Command fault) before after)
         → BreaksOff (refused_line (command_word fault)) before after
-    of_one (inl writer) = absurd (none_of_command fault writer)
-    of_one (inr (other, inl (reader, all))) = absurd (no_reader fault reader)
+    of_one (inl writer) = absurd writer
+    of_one (inr (other, inl (reader, all))) = absurd reader
     of_one (inr (other, inr breaks)) = breaks
 
     by_status : (status ≡ 1) ⊎ (status ≡ 2) → Writes (refused_line (command_word fault)) 2 before after status

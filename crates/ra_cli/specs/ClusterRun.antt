@@ -65,7 +65,8 @@ RunsCluster printed old new before after =
 abbrev pub MayRun : ScriptState → Type 0
 MayRun script = (IsOutOfOrder script → ⊥) × (IsUnreleased script → ⊥)
 
--- which scripts each refusal is for; `Memory` is treated elsewhere
+-- which scripts each refusal is for. After the first two it is said only that threads may run the script: the script does not
+-- decide whether they bring it to its end. `Memory` is treated elsewhere.
 abbrev pub StopsAt : ScriptState → ClusterError → Type 0
 StopsAt script cluster.OutOfOrder = IsOutOfOrder script
 StopsAt script cluster.Unreleased = (IsOutOfOrder script → ⊥) × IsUnreleased script
@@ -76,8 +77,9 @@ StopsAt script cluster.Lost = MayRun script
 StopsAt script cluster.UnderWay = MayRun script
 StopsAt script cluster.Memory = ⊥
 
--- when each refusal may come: its cause applies, and no earlier one does. `Choice` may not come. `Memory` and faults of
--- the reader come from outside.
+-- When each refusal may come. For `Script`, `OutOfOrder` and `Unreleased`, the input has this cause and no earlier one. For
+-- the other refusals of threads, it is a script that they may run. `Choice` may not come. `Memory` and faults of the reader
+-- come from outside.
 abbrev pub RefusesRun : List ℕ → RunScriptError → Type 0
 RefusesRun input fault.Read = Unit {0}
 RefusesRun input (fault.Script why) = (why ≢ text.Memory) × (script_of input ≡ Err why)

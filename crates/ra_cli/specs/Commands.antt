@@ -14,8 +14,8 @@ use Rattle.ra_cli.specs.Statuses.{Writes}
 use Rattle.ra_cli.specs.Tasks.{Does}
 
 -- What came of a command that ended with this status. `old` and `new` are what is left in the reader before and after it,
--- and `before` and `after` what the writer contains, if they tell. A text of help is printed as it is. If nothing is asked
--- for, it is said why.
+-- and `before` and `after` what the writer contains, if they tell. A text of help is printed as it is. For an
+-- unknown command, the line of its refusal is.
 abbrev pub DoesCommand : Command → (old new before after : Option (List ℕ)) → (status : ℕ) → Type 0
 DoesCommand Node old new before after status = ServesNode old new before after status
 DoesCommand (Settle asked) old new before after status = ServesSettle asked old new before after status
@@ -23,8 +23,8 @@ DoesCommand (Task (task.Help text)) old new before after status = Writes (string
 DoesCommand (Task asked) old new before after status = Does asked old new before after status
 DoesCommand (Unknown fault) old new before after status = Writes (refused_line (command_word fault)) 2 before after status
 
--- The command reads nothing: a text of help, or nothing that is asked for. Nor does `answer` if the node is not one of the
--- nodes, nor `sim` if the choices are no list of choices.
+-- The command reads nothing: a text of help, or an unknown command. Nor does `answer` if the node is not one of the nodes,
+-- nor `sim` if the choices are no list of choices.
 abbrev pub ReadsNothing : Command → Type 0
 ReadsNothing Node = ⊥
 ReadsNothing (Settle asked) = ⊥

@@ -1,5 +1,5 @@
 -- What `ra` prints if it does not do what it is asked: the word of each refusal, after `refused`, as one line.
-use Rattle.std.specs.Prelude.{◌≡◌, ℕ, ◌⊎◌, List, ◌++◌, codes}
+use Rattle.std.specs.Prelude.{◌≡◌, ℕ, List, ◌++◌, codes}
 use Rattle.ra_frame.specs.Words as frame
 use Rattle.ra_script.specs.declared.error.ScriptError.{ScriptError}
 use Rattle.ra_script.specs.declared.error.ScriptError.TheVariants as script
@@ -21,8 +21,12 @@ use Rattle.ra_draw.specs.declared.error.DrawError.{DrawError}
 use Rattle.ra_draw.specs.declared.error.DrawError.TheVariants as draw
 use Rattle.ra_cli.specs.declared.error.RunScriptError.{RunScriptError}
 use Rattle.ra_cli.specs.declared.error.RunScriptError.TheVariants as run
+use Rattle.ra_cli.specs.declared.error.SettleFault.{SettleFault}
+use Rattle.ra_cli.specs.declared.error.SettleFault.TheVariants as settle
+use Rattle.ra_book.specs.declared.error.BookFault.{BookFault}
+use Rattle.ra_book.specs.declared.error.BookFault.TheVariants as book
 use Rattle.ra_cli.specs.declared.refusal_lines.CommandRefusal.{CommandRefusal}
-use Rattle.ra_cli.specs.declared.refusal_lines.CommandRefusal.TheVariants.{Command, Answer, Choices, Perform, Check, Draw, Cluster}
+use Rattle.ra_cli.specs.declared.refusal_lines.CommandRefusal.TheVariants.{Command, Answer, Choices, Perform, Check, Draw, Cluster, Survey, Settle, Node}
 
 -- the word for what is wrong with a script
 abbrev pub script_word : ScriptError → List ℕ
@@ -110,6 +114,18 @@ run_word (run.Cluster why) = cluster_word why
 run_word run.Choice = codes "Choice"
 run_word run.Memory = codes "Memory"
 
+-- the word for a refusal of `ra settle`
+abbrev pub settle_word : SettleFault → List ℕ
+settle_word settle.Read = codes "Read"
+settle_word settle.Limit = codes "Limit"
+settle_word settle.Memory = codes "Memory"
+
+-- the word for a refusal of `ra node`
+abbrev pub node_word : BookFault → List ℕ
+node_word book.Line = codes "Line"
+node_word book.Read = codes "Read"
+node_word book.Write = codes "Write"
+
 -- the word for a refusal of any command
 abbrev pub word_of : CommandRefusal → List ℕ
 word_of (Command why) = command_word why
@@ -119,16 +135,36 @@ word_of (Perform why) = perform_word why
 word_of (Check why) = trace_word why
 word_of (Draw why) = draw_word why
 word_of (Cluster why) = run_word why
+word_of (Survey why) = run_word why
+word_of (Settle why) = settle_word why
+word_of (Node why) = node_word why
 
 -- the line of a refusal with this word
 abbrev pub refused_line : List ℕ → List ℕ
 refused_line word = codes "refused " ++ word ++ codes "\n"
 
--- the reader failed
+-- the refusal is that the reader failed
 abbrev pub IsOfReader : CommandRefusal → Type 0
-IsOfReader refusal = (refusal ≡ Answer answer.Read) ⊎ (refusal ≡ Perform perform.Read) ⊎ (refusal ≡ Check trace.Read)
-    ⊎ (refusal ≡ Cluster run.Read) ⊎ (refusal ≡ Draw draw.Read)
+IsOfReader (Command why) = ⊥
+IsOfReader (Answer why) = why ≡ answer.Read
+IsOfReader (Choices why) = ⊥
+IsOfReader (Perform why) = why ≡ perform.Read
+IsOfReader (Check why) = why ≡ trace.Read
+IsOfReader (Draw why) = why ≡ draw.Read
+IsOfReader (Cluster why) = why ≡ run.Read
+IsOfReader (Survey why) = why ≡ run.Read
+IsOfReader (Settle why) = why ≡ settle.Read
+IsOfReader (Node why) = why ≡ book.Read
 
--- the writer failed
+-- the refusal is that the writer failed
 abbrev pub IsOfWriter : CommandRefusal → Type 0
-IsOfWriter refusal = (refusal ≡ Answer answer.Write) ⊎ (refusal ≡ Perform perform.Write) ⊎ (refusal ≡ Draw draw.Write)
+IsOfWriter (Command why) = ⊥
+IsOfWriter (Answer why) = why ≡ answer.Write
+IsOfWriter (Choices why) = ⊥
+IsOfWriter (Perform why) = why ≡ perform.Write
+IsOfWriter (Check why) = ⊥
+IsOfWriter (Draw why) = why ≡ draw.Write
+IsOfWriter (Cluster why) = ⊥
+IsOfWriter (Survey why) = ⊥
+IsOfWriter (Settle why) = ⊥
+IsOfWriter (Node why) = why ≡ book.Write

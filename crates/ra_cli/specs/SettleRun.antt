@@ -9,13 +9,15 @@ use Rattle.ra_book.specs.declared.text_settling.settle_error.TextCause.{TextCaus
 use Rattle.ra_book.specs.declared.text_settling.settle_error.TextCause.TheVariants as cause
 use Rattle.ra_book.specs.declared.text_settling.SettledText.{SettledText}
 use Rattle.ra_book.specs.Verdicts.{IsSettledText, IsWrong}
-use Rattle.ra_trace.specs.declared.error.TraceError.{TraceError}
-use Rattle.ra_trace.specs.declared.error.TraceError.TheVariants as fault
+use Rattle.ra_text.specs.declared.error.ReadFault.{ReadFault}
+use Rattle.ra_text.specs.declared.error.ReadFault.TheVariants as read
+use Rattle.ra_cli.specs.declared.error.SettleFault.{SettleFault}
+use Rattle.ra_cli.specs.declared.error.SettleFault.TheVariants as fault
 use Rattle.ra_task.specs.declared.settle_arguments.SettleOutput.{SettleOutput}
 use Rattle.ra_task.specs.declared.settle_arguments.SettleOutput.TheVariants.{Lines, Trace}
 use Rattle.ra_task.specs.declared.settle_arguments.SettleTask.{SettleTask}
 use Rattle.ra_cli.specs.InputOutput.{StopsBefore}
-use Rattle.ra_cli.specs.Refusals.{refused_line, trace_word}
+use Rattle.ra_cli.specs.Refusals.{refused_line, settle_word}
 
 -- what is printed of the settled run: the lines of its report, or its trace
 abbrev pub Prints : SettleOutput → SettledText → List ℕ → Type 0
@@ -61,9 +63,14 @@ pub record ReadsBooks (old new : Option (List ℕ)) (input : List ℕ) : Type 0 
   pub ended : IsAtEnd new
   pub short : length input ≤ 2 ^ 30
 
+-- the refusal of a text that was not read
+abbrev pub of_unread : ReadFault → SettleFault
+of_unread read.Read = fault.Read
+of_unread read.Memory = fault.Memory
+
 -- why books are not settled: a text is too long if it has more than 1,073,741,824 bytes, and the reader fails only before
 -- it gave more than that
-abbrev pub RefusesBooks : (old new : Option (List ℕ)) → TraceError → Type 0
+abbrev pub RefusesBooks : (old new : Option (List ℕ)) → SettleFault → Type 0
 RefusesBooks old new fault.Read = StopsBefore 1073741825 old new
 RefusesBooks old new fault.Limit = (input : List ℕ) × Consumes old new input × (2 ^ 30 < length input)
 RefusesBooks old new fault.Memory = Unit {0}
@@ -83,4 +90,4 @@ pub record ServesSettle (asked : SettleTask) (old new before after : Option (Lis
   pub broken : status ≡ 1 → (RefusesBooks old new fault.Read × Appends before after (codes "refused Read\n"))
       ⊎ ((prefix : List ℕ) × (rest : List ℕ) × (rest ≢ []) × Appends before after prefix
       × (((input : List ℕ) × ReadsBooks old new input × (Settles asked input (prefix ++ rest) ⊎ Contradicts asked input (prefix ++ rest)))
-      ⊎ ((why : TraceError) × RefusesBooks old new why × (prefix ++ rest ≡ refused_line (trace_word why)))))
+      ⊎ ((why : SettleFault) × RefusesBooks old new why × (prefix ++ rest ≡ refused_line (settle_word why)))))

@@ -9,7 +9,8 @@ use Rattle.ra_cli.specs.Refusals.{IsOfReader, IsOfWriter, refused_line, word_of}
 abbrev pub Writes : (text : List ℕ) → (wanted : ℕ) → (before after : Option (List ℕ)) → (status : ℕ) → Type 0
 Writes text wanted before after status = ((status ≡ wanted) × Appends before after text) ⊎ ((status ≡ 1) × BreaksOff text before after)
 
--- status 2: the line of a refusal was written and nothing else, and neither the reader nor the writer failed
+-- status 2: the line of a refusal was written and nothing else, and it is another refusal than that the reader or the
+-- writer failed
 abbrev pub IsRefused : (before after : Option (List ℕ)) → Type 0
 IsRefused before after = (refusal : CommandRefusal) × (IsOfReader refusal → ⊥) × (IsOfWriter refusal → ⊥)
     × Appends before after (refused_line (word_of refusal))

@@ -109,7 +109,7 @@ abbrev pub IsCauseFor : Task → (old new : Option (List ℕ)) → CommandRefusa
 IsCauseFor (task.Answer node nodes) old new why = (fault : AnswerError) × (why ≡ refusal.Answer fault)
     × (fault ≡ answer.Read → StopsBefore 258 old new) × OfInput old (λ input. Refuses node nodes input fault)
 IsCauseFor (task.Sim policy choices format) old new why = RefusesNamed policy choices.now format old new why
-IsCauseFor (task.Survey survey) old new why = (fault : RunScriptError) × (why ≡ refusal.Cluster fault)
+IsCauseFor (task.Survey survey) old new why = (fault : RunScriptError) × (why ≡ refusal.Survey fault)
     × (fault ≡ run.Read → StopsBefore 65537 old new) × IfSome old (λ input. RefusesSurvey survey input fault)
 IsCauseFor task.Check old new why = (fault : TraceError) × (why ≡ refusal.Check fault) × RefusesCheck old new fault
 IsCauseFor task.CheckMarks old new why = (fault : TraceError) × (why ≡ refusal.Check fault) × RefusesCheckOfMarks old new fault
@@ -118,7 +118,7 @@ IsCauseFor (task.Cluster printed) old new why = (fault : RunScriptError) × (why
     × (fault ≡ run.Read → StopsBefore 65537 old new) × IfSome old (λ input. RefusesRun input fault)
 IsCauseFor (task.Help text) old new why = ⊥
 
--- status 2: the line of a refusal was written and nothing else, for such a cause, and neither the reader nor the writer
+-- status 2: the line of a refusal was written and nothing else, for such a cause, which is not that the reader or the writer
 -- failed
 abbrev pub IsRefusedBy : Task → (old new before after : Option (List ℕ)) → Type 0
 IsRefusedBy asked old new before after = (why : CommandRefusal) × (IsOfReader why → ⊥) × (IsOfWriter why → ⊥)
@@ -126,7 +126,7 @@ IsRefusedBy asked old new before after = (why : CommandRefusal) × (IsOfReader w
 
 -- ---- Status 1
 
--- the reader failed, and the line that says so was written
+-- it was refused because the reader failed, and the line that says so was written
 abbrev pub IsUnreadBy : Task → (old new before after : Option (List ℕ)) → Type 0
 IsUnreadBy asked old new before after = (why : CommandRefusal) × IsOfReader why × IsCauseFor asked old new why
     × Appends before after (codes "refused Read\n")

@@ -1,6 +1,7 @@
 ghost use Rattle.std.specs.Prelude.{◌≡◌};
 ghost use Rattle.ra_cli.specs.declared.error.AnswerError.TheVariants.{Read, Memory};
 ghost use Rattle.ra_cli.specs.ClusterRun.{of_read, of_script, of_choices, of_cluster};
+ghost use Rattle.ra_cli.specs.SettleRun.{of_unread};
 ghost use Rattle.ra_text.specs.declared.error.ReadFault.{ReadFault};
 
 use ra_cluster::ClusterError;
@@ -51,6 +52,17 @@ pub enum RunScriptError {
     Memory,
 }
 
+/// Why the books of a text were not settled, besides that they do not settle.
+#[derive(Clone, Copy)]
+pub enum SettleFault {
+    /// The reader failed.
+    Read,
+    /// The text has more than 1,073,741,824 bytes.
+    Limit,
+    /// Memory ran out.
+    Memory,
+}
+
 impl From<ReadFault> for AnswerError {
     ghost from_gives = { λ fault e. (fault ≡ ReadFault.Read → e ≡ Read) × (fault ≡ ReadFault.Memory → e ≡ Memory) };
 
@@ -59,6 +71,18 @@ impl From<ReadFault> for AnswerError {
         match fault {
             ReadFault::Read => AnswerError::Read,
             ReadFault::Memory => AnswerError::Memory,
+        }
+    }
+}
+
+impl From<ReadFault> for SettleFault {
+    ghost from_gives = { λ fault e. e ≡ of_unread fault };
+
+    /// Returns the refusal of the same word.
+    fn from(fault: ReadFault) -> SettleFault {
+        match fault {
+            ReadFault::Read => SettleFault::Read,
+            ReadFault::Memory => SettleFault::Memory,
         }
     }
 }

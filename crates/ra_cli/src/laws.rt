@@ -34,8 +34,8 @@ pub fn orderly_scripts_are_finished()
     choices_have_words_unless_messages_are_repeated();
 }
 
-/// Whatever the command, its status is 0 to 3. Status 2 comes only with one line: `refused` and the word of a refusal that
-/// neither the reader nor the writer caused.
+/// Whatever the command, its status is 0 to 3. Status 2 comes only with one line: `refused` and the word of a refusal, which
+/// is not that the reader or the writer failed.
 pub fn statuses_are_known()
     ensures range { (asked : Command) (old new before after : Option (List ℕ)) (status : ℕ) → DoesCommand asked old new before after status
         → status ≤ 3 }

@@ -1,18 +1,22 @@
 //! The program `ra`, except for its standard input and output.
 #![tactic(auto)]
 
-mod command_outcome;
 mod commands;
 mod error;
 mod input_line;
 mod laws;
+mod output;
 mod refusal_lines;
+mod remark;
 mod serving;
 
-pub use command_outcome::{CommandOutcome, Remark, UNFINISHED};
 pub use commands::answer_command::answer;
-pub use error::{AnswerError, RunScriptError};
+pub use commands::cluster_command::run_by_threads;
+pub use error::{AnswerError, RunScriptError, SettleFault};
 pub use laws::{orderly_scripts_are_finished, statuses_are_known};
+pub use output::{CommandOutcome, UNFINISHED, refuse_arguments};
+pub use ra_book::BookFault;
 pub use ra_task::CommandFault;
 pub use refusal_lines::CommandRefusal;
-pub use serving::{do_alone, refuse_arguments, run_by_threads, serve};
+pub use remark::Remark;
+pub use serving::{do_alone, serve};

@@ -4,7 +4,8 @@ ghost use Rattle.std.specs.Prelude.{◌≡◌};
 ghost use Rattle.ra_cli.specs.Refusals as spec;
 
 use crate::AnswerError;
-use crate::error::RunScriptError;
+use crate::error::{RunScriptError, SettleFault};
+use ra_book::BookFault;
 use ra_cluster::ClusterError;
 use ra_draw::DrawError;
 use ra_schedule::{ChoicesError, DriveError};
@@ -22,6 +23,9 @@ pub enum CommandRefusal {
     Check(TraceError),
     Draw(DrawError),
     Cluster(RunScriptError),
+    Survey(RunScriptError),
+    Settle(SettleFault),
+    Node(BookFault),
 }
 
 /// Returns the line of a refusal: `refused` and its word. It does not allocate.
@@ -46,7 +50,13 @@ pub fn line_of(refusal: CommandRefusal) -> &'static str
             DrawError::Memory => "refused Memory\n",
             DrawError::Write => "refused Write\n",
         },
-        CommandRefusal::Cluster(why) => run_line(why),
+        CommandRefusal::Cluster(why) | CommandRefusal::Survey(why) => run_line(why),
+        CommandRefusal::Settle(SettleFault::Read) => "refused Read\n",
+        CommandRefusal::Settle(SettleFault::Limit) => "refused Limit\n",
+        CommandRefusal::Settle(SettleFault::Memory) => "refused Memory\n",
+        CommandRefusal::Node(BookFault::Line) => "refused Line\n",
+        CommandRefusal::Node(BookFault::Read) => "refused Read\n",
+        CommandRefusal::Node(BookFault::Write) => "refused Write\n",
     }
 }
 

@@ -1,3 +1,4 @@
+//! The command `answer`.
 ghost use Rattle.std.specs.Prelude.{◌≡◌, ◌⊎◌, List, ℕ, ◌∷◌, [], ◌++◌, Ok, All, OnOk, IfOk, IfErr, IfSome, MatchResult};
 ghost use Rattle.hex.specs.Hex.{decode_of, encode_lower};
 ghost use Rattle.ra_stamp.specs.Member.{IsMember};
@@ -6,9 +7,13 @@ ghost use Rattle.ra_frame.specs.FrameText.{IsWrittenText};
 ghost use Rattle.ra_cli.specs.Answer.{Carries, IsUnwanted, Reacts, AreLines, IsAnswered, Refuses};
 ghost use Rattle.ra_cli.specs.AnswerCall.{ComesTo, IsOfInput, of_receive};
 ghost use Rattle.ra_automaton.specs.State.{IsForNode};
+ghost use Rattle.ra_task.specs.declared.command_line.Task.{Task};
+ghost use Rattle.ra_cli.specs.Tasks.{Does};
 
 use crate::AnswerError;
 use crate::input_line::only_line_of;
+use crate::output::{ALL_DONE, CommandOutcome, refuse};
+use crate::refusal_lines::CommandRefusal;
 use hex::FromHexError;
 use ra_automaton::{Automaton, Reaction, ReceiveError};
 use ra_book::MAX_LINE;
@@ -209,5 +214,24 @@ pub fn answer<R: Read, W: Write>(
     match write_out(writer, &output) {
         Ok(()) => Ok(()),
         Err(_) => Err(AnswerError::Write),
+    }
+}
+
+/// Answers the reader's frame for this node of this many.
+pub fn respond<R: Read, W: Write>(
+    alloc: Global,
+    node: u16,
+    nodes: u16,
+    reader: &mut R,
+    writer: &mut W,
+) -> CommandOutcome
+    ensures does { Does (Task.Answer node nodes) (R.remaining reader.old) (R.remaining reader.new)
+        (W.contents writer.old) (W.contents writer.new) result.status }
+    // Numbers that are those of no node are refused before anything is read.
+    ensures unread { ¬ IsMember node nodes → reader.new ≡ reader.old }
+{
+    match answer(alloc, node, nodes, reader, writer) {
+        Ok(()) => ALL_DONE,
+        Err(fault) => refuse(writer, CommandRefusal::Answer(fault)),
     }
 }

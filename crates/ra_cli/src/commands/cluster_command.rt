@@ -3,66 +3,27 @@ ghost use Rattle.std.specs.Prelude.{◌≡◌, ◌≢◌, List, ℕ, Ok, map, If
 ghost use Rattle.std.specs.Io.KnownBytes.{Consumes};
 ghost use Rattle.ra_world.specs.Run.{IsRun};
 ghost use Rattle.ra_world.specs.Traffic.{Move};
-ghost use Rattle.ra_trace.specs.TraceText.{IsTrace};
 ghost use Rattle.ra_script.specs.ScriptText.{script_of};
-ghost use Rattle.ra_cluster.specs.declared.cluster_run.ClusterError.{ClusterError};
 ghost use Rattle.ra_cli.specs.ClusterRun.{AreWrittenBooks, IsClusterRun, RefusesRun, SaysRun, SaysScript};
 ghost use Rattle.ra_cli.specs.InputOutput.{ReadsInput};
+ghost use Rattle.ra_cli.specs.Tasks.{Does};
+ghost use Rattle.ra_task.specs.declared.command_line.Task.{Task};
 
+use crate::commands::run_trace::trace_of_steps;
+use crate::commands::script_input::script_from;
 use crate::error::RunScriptError;
+use crate::output::{ALL_DONE, CommandOutcome, print_text, refuse};
+use crate::refusal_lines::CommandRefusal;
 use ra_book::push_book;
 use ra_cluster::{Book, OpenGate, Recorded, record_cluster};
 use ra_schedule::Script;
-use ra_script::{MAX_SCRIPT, read_script};
 use ra_stamp::Memory;
 use ra_task::ClusterOutput;
-use ra_text::read_up_to;
-use ra_trace::trace_text;
-use ra_world::{Steps, report_text, runs_are_determined};
+use ra_world::{report_text, runs_are_determined};
 use std::alloc::Global;
-use std::io::Read;
+use std::io::{Read, Write};
 use std::sync::Wait;
 use std::thread::Threads;
-
-/// Reads the text of a script.
-///
-/// # Errors
-///
-/// The first two and `Memory` of `run_script`.
-pub fn script_from<R: Read>(alloc: Global, reader: &mut R) -> Result<Script, RunScriptError>
-    ensures ok { IfOk result (λ script. IfSome (R.remaining reader.old) (λ input.
-        (script_of input ≡ Ok script) × Consumes (R.remaining reader.old) (R.remaining reader.new) input)) }
-    // If the reader tells nothing of its input, there still is one of which this holds.
-    ensures read { IfOk result (λ script. (input : List ℕ) × (script_of input ≡ Ok script)) }
-    ensures reads { ReadsInput RunScriptError.Read 65537 RefusesRun (R.remaining reader.old) (R.remaining reader.new) result }
-    ensures unrun { IfErr result (λ fault. (why : ClusterError) → fault ≢ RunScriptError.Cluster why) }
-{
-    let text = read_up_to(alloc, reader, MAX_SCRIPT + 1)?;
-    let script = read_script(alloc, &text)?;
-    Ok(script)
-}
-
-/// Returns the trace of a run of this many nodes, all of whose numbers begin at `start`, by its steps. They are made once
-/// more for it.
-///
-/// # Errors
-///
-/// `Memory`: memory ran out.
-pub fn trace_of_steps(
-    alloc: Global,
-    nodes: u16,
-    start: u64,
-    steps: &Steps,
-) -> Result<String, Memory>
-    ensures { IfOk result (λ text. (moves : List Move) × (map (λ move. move.step) moves ≡ steps.now.items)
-        × IsTrace nodes start moves (string_bytes text)) }
-{
-    // The steps are a run, so only `Memory` can come.
-    match trace_text(alloc, nodes, start, steps) {
-        Ok(text) => Ok(text),
-        Err(_) => Err(Memory),
-    }
-}
 
 /// Returns the text of books that threads recorded, one after the other.
 ///
@@ -153,4 +114,22 @@ pub fn run_script<T: Threads + Wait + Sync, R: Read>(
 {
     let script = script_from(alloc, reader)?;
     text_of_run(rt, alloc, printed, &script)
+}
+
+/// Does the command `cluster`: runs the script of the reader by threads, and prints what is asked of the run. It waits for the
+/// threads that it starts.
+pub fn run_by_threads<T: Threads + Wait + Sync, R: Read, W: Write>(
+    rt: &T,
+    alloc: Global,
+    printed: ClusterOutput,
+    reader: &mut R,
+    writer: &mut W,
+) -> CommandOutcome
+    ensures { Does (Task.Cluster printed) (R.remaining reader.old) (R.remaining reader.new)
+        (W.contents writer.old) (W.contents writer.new) result.status }
+{
+    match run_script(rt, alloc, printed, reader) {
+        Ok(text) => print_text(writer, text.as_bytes(), ALL_DONE),
+        Err(fault) => refuse(writer, CommandRefusal::Cluster(fault)),
+    }
 }

@@ -1,11 +1,15 @@
 //! The command `draw`, for traces and for mark logs.
 ghost use Rattle.std.specs.Prelude.{◌≡◌, Ok, IfOk, IfErr, MatchOption};
 ghost use Rattle.ra_cli.specs.Pictures.{Attempts};
+ghost use Rattle.ra_cli.specs.Tasks.{Does};
+ghost use Rattle.ra_task.specs.declared.command_line.Task.{Task};
 ghost use Rattle.ra_task.specs.declared.command_line.input_kind.InputKind.{InputKind};
 
-use crate::command_outcome::Remark;
 use crate::commands::marks_verdict_lines::marks_verdict_text;
 use crate::commands::verdict_lines::verdict_text;
+use crate::output::{ALL_DONE, CommandOutcome, UNFINISHED, print_text, refuse};
+use crate::refusal_lines::CommandRefusal;
+use crate::remark::Remark;
 use ra_draw::{DrawError, Part, draw, draw_marks};
 use ra_stamp::Memory;
 use ra_task::InputKind;
@@ -111,5 +115,32 @@ pub fn draw_input<R: Read, W: Write>(
     match kind {
         InputKind::Trace => draw_trace(alloc, part, reader, writer, text),
         InputKind::Marks => draw_log(alloc, part, reader, writer, text),
+    }
+}
+
+/// Draws a part of the reader's input, or writes the line that says why it is not of this kind. In both cases the whole
+/// input is left in `text`.
+pub fn draw_part<R: Read, W: Write>(
+    alloc: Global,
+    kind: InputKind,
+    part: Part,
+    reader: &mut R,
+    writer: &mut W,
+    text: &mut Vec<u8>,
+) -> CommandOutcome
+    ensures { Does (Task.Draw kind part) (R.remaining reader.old) (R.remaining reader.new)
+        (W.contents writer.old) (W.contents writer.new) result.status }
+{
+    match draw_input(alloc, kind, part, reader, writer, text) {
+        Ok(None) => ALL_DONE,
+        Ok(Some(denial)) => print_text(
+            writer,
+            denial.line.as_bytes(),
+            CommandOutcome {
+                status: UNFINISHED,
+                remark: Some(denial.remark),
+            },
+        ),
+        Err(fault) => refuse(writer, CommandRefusal::Draw(fault)),
     }
 }

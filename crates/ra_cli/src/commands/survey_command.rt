@@ -1,21 +1,26 @@
 //! A script under many seeds, from its text to the lines of what came of it.
-ghost use Rattle.std.specs.Prelude.{◌≡◌, ◌↔◌, List, ℕ, Ok, codes, string_bytes, IsTrue, IfOk, IfSome, IsErrOf};
+ghost use Rattle.std.specs.Prelude.{◌≡◌, ◌↔◌, ◌⊎◌, List, ℕ, Ok, codes, string_bytes, true, false, IsTrue, IfOk, IfSome, IsErrOf};
 ghost use Rattle.std.specs.Io.KnownBytes.{Consumes};
 ghost use Rattle.ra_script.specs.Finding.{IsFirstUnwritten};
 ghost use Rattle.ra_script.specs.ScriptText.{script_of};
 ghost use Rattle.ra_cli.specs.InputOutput.{ReadsInput};
 ghost use Rattle.ra_cli.specs.Surveyed.{AllFinished, FoundHasNoWords, IsFound, IsSurveyed, IsTold, RefusesSurvey};
 ghost use Rattle.ra_cli.specs.Surveyed as spec;
+ghost use Rattle.ra_cli.specs.Tasks.{Does};
+ghost use Rattle.ra_task.specs.declared.command_line.Task.{Task};
 
-use crate::commands::cluster_command::script_from;
+use crate::commands::script_input::script_from;
 use crate::commands::survey_text::survey_text;
 use crate::error::RunScriptError;
+use crate::output::{ALL_DONE, CommandOutcome, UNFINISHED, print_text, refuse};
+use crate::refusal_lines::CommandRefusal;
+use crate::remark::Remark;
 use ra_schedule::{ChoicesError, Ending, Observer, Script, Survey, survey};
 use ra_script::{MAX_TURNS, Printed, find_run};
 use ra_stamp::Memory;
 use ra_task::{Search, SurveyTask};
 use std::alloc::Global;
-use std::io::Read;
+use std::io::{Read, Write};
 
 /// Returns whether each seed's run is finished. It does not allocate.
 fn all_finished(survey: &Survey) -> bool
@@ -156,4 +161,49 @@ pub fn survey_script<R: Read, O: Observer>(
     let script = script_from(alloc, reader)?;
     let told = told_of(alloc, &script, asked, observer)?;
     Ok(told)
+}
+
+/// Returns the outcome of a survey, with status 3 if it is not finished. The remark then says that a run is stuck, if that was
+/// looked for, that no run is finished, if that was, and otherwise that some run is not.
+fn survey_outcome(finished: bool, find: Option<Search>) -> CommandOutcome
+    ensures { ((result.status ≡ 0) × (finished ≡ true)) ⊎ ((result.status ≡ 3) × (finished ≡ false)) }
+{
+    if finished {
+        return ALL_DONE;
+    }
+    let remark = match find {
+        Some(
+            Search {
+                ending: Ending::Stuck,
+                ..
+            },
+        ) => Remark::Unfinished,
+        Some(_) => Remark::NoneFinished,
+        None => Remark::SomeUnfinished,
+    };
+    CommandOutcome {
+        status: UNFINISHED,
+        remark: Some(remark),
+    }
+}
+
+/// Drives a cluster through the script of the reader under each of many seeds, and prints the lines of the survey, or what is
+/// asked of the first run that comes to the end that is looked for.
+pub fn survey_seeds<R: Read, W: Write, O: Observer>(
+    alloc: Global,
+    asked: &SurveyTask,
+    reader: &mut R,
+    writer: &mut W,
+    observer: &mut O,
+) -> CommandOutcome
+    ensures { Does (Task.Survey asked.now) (R.remaining reader.old) (R.remaining reader.new)
+        (W.contents writer.old) (W.contents writer.new) result.status }
+{
+    match survey_script(alloc, asked, reader, observer) {
+        Ok(told) => {
+            let outcome = survey_outcome(told.finished, asked.find);
+            print_text(writer, told.text.as_bytes(), outcome)
+        }
+        Err(fault) => refuse(writer, CommandRefusal::Survey(fault)),
+    }
 }

@@ -1,0 +1,40 @@
+//! What there is to say to a person of what came of a command.
+use crate::refusal_lines::CommandRefusal;
+use ra_book::TextCause;
+use ra_stamp::Mark;
+use ra_trace::{Cause, MarkCause};
+
+/// What there is to say to a person of what came of a command. A note is made of it when everything else is done, so that it
+/// takes no part in what is printed.
+#[derive(Clone, Copy)]
+pub enum Remark {
+    /// It was refused.
+    Refused(CommandRefusal),
+    /// The run ended with something left to do.
+    Unfinished,
+    /// The run of some seed ended so.
+    SomeUnfinished,
+    /// The run of each seed ended so, and a finished one was looked for.
+    NoneFinished,
+    /// The text is not a trace: its first wrong line, and why. If it is wrong for its marks, the one that is due there, if one is;
+    /// of a text to be drawn that is not told.
+    NoTrace {
+        line: u64,
+        cause: Cause,
+        due: Option<Mark>,
+    },
+    /// The books of a text do not settle: the line that is wrong, and why.
+    Unsettled {
+        line: u64,
+        cause: TextCause,
+    },
+    /// The log is not a run of the lock table: its first wrong line, and why.
+    NoLog {
+        line: u64,
+        cause: MarkCause,
+    },
+    /// The text is a trace in which this many messages were sent, or a run of the lock table, in which none is.
+    Ends {
+        sent: u128,
+    },
+}
