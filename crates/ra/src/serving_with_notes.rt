@@ -8,8 +8,9 @@ use crate::user_notes::{NoteSource, write_notes};
 use ra_cli::{CommandFault, do_alone, refuse_arguments, run_by_threads};
 use ra_notes::{
     RecordingReader, RecordingWriter, SeedProgress, write_arguments_note, write_output_note,
+    write_waiting_note,
 };
-use ra_task::{Command, Task, command_of, write_waiting_note};
+use ra_task::{Command, Task, read_command_line};
 use std::alloc::Global;
 use std::io::{BufRead, Write};
 use std::sync::Wait;
@@ -58,20 +59,22 @@ pub fn serve_with_notes<T: Threads + Wait + Sync, R: BufRead, W: Write, N: Write
     ensures { Serves (map string_bytes arguments.now) (R.remaining reader.old.inner) (R.remaining reader.new.inner)
         (W.contents writer.old.inner) (W.contents writer.new.inner) (reader.new ≡ reader.old) result }
 {
-    let asked = command_of(alloc, arguments);
+    let line = read_command_line(alloc, arguments);
+    let asked = &line.asked;
     if at_terminal {
-        write_waiting_note(&asked, notes);
+        write_waiting_note(asked, notes);
     }
     let mut progress = SeedProgress::new(alloc, notes);
     let mut text = Vec::new(alloc);
-    let outcome = if let Command::Task(Task::Cluster(printed)) = asked {
+    let outcome = if let Command::Task(Task::Cluster(printed)) = *asked {
         run_by_threads(rt, alloc, printed, reader, writer)
     } else {
-        do_alone(alloc, &asked, reader, writer, &mut text, &mut progress)
+        do_alone(alloc, asked, reader, writer, &mut text, &mut progress)
     };
     let source = NoteSource {
         arguments,
-        asked: &asked,
+        asked,
+        fault: line.fault.as_ref(),
         last_seed: progress.last(),
         seen: reader.recorded().bytes(),
         text: &text,

@@ -4,13 +4,13 @@ use ra_cli::{
     UNFINISHED,
 };
 use ra_notes::{
-    BOOKS_TOO_LONG, FrameCause, NO_BOOK, NO_INPUT, NO_SEED_DONE, NO_WORD, SEEDS_LEFT, Unanswered,
-    cluster_notice, frame_notice, log_notice, of_check, of_choices, of_command, of_drawing, of_end,
-    perform_notice, range_note, script_notice, trace_notice, unfinished_notice, unsettled_notice,
-    write_hints, write_shrunk_notes,
+    BOOKS_TOO_LONG, FrameCause, NO_BOOK, NO_INPUT, NO_MEMORY, NO_SEED_DONE, NO_WORD, Notice,
+    SEEDS_LEFT, Unanswered, cluster_notice, frame_notice, log_notice, of_check, of_choices,
+    of_command, of_drawing, of_end, perform_notice, range_note, script_notice, trace_notice,
+    unfinished_notice, unsettled_notice, write_hints, write_shrunk_notes,
 };
 use ra_stamp::NodeId;
-use ra_task::{Command, NO_MEMORY, Notice};
+use ra_task::{Command, UsageFault};
 use std::alloc::Global;
 use std::io::Write;
 
@@ -20,6 +20,8 @@ pub struct NoteSource<'a> {
     /// The arguments of the command line, of which notes quote options.
     pub arguments: &'a [String],
     pub asked: &'a Command<'a>,
+    /// Why the arguments ask for nothing, if that is so.
+    pub fault: Option<&'a UsageFault<'a>>,
     /// What was read, or `None` if there was no memory for it.
     pub seen: Option<&'a [u8]>,
     /// The text that was to be drawn or settled, or no text.
@@ -75,7 +77,7 @@ fn notice_of(alloc: Global, source: &NoteSource<'_>, remark: Remark) -> Notice {
 /// Returns what there is to say about a refusal, nothing if the writer failed, since a refusal does not say how.
 fn refusal_of(alloc: Global, source: &NoteSource<'_>, refusal: CommandRefusal) -> Notice {
     match refusal {
-        CommandRefusal::Command(why) => of_command(alloc, source.arguments, why),
+        CommandRefusal::Command(_) => of_command(alloc, source.arguments, source.fault),
         CommandRefusal::Answer(why) => of_answer(alloc, source, why),
         CommandRefusal::Choices(why) => of_choices(alloc, source.asked.choices(), why),
         CommandRefusal::Perform(why) => {

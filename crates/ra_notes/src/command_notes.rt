@@ -3,12 +3,14 @@ use crate::note_texts::{
     NO_INPUT, NO_OUTPUT, NO_SPACE, NO_TEXT, NO_WORD, TOO_LONG, TOO_MANY_BYTES, TOO_MANY_TURNS,
     UNEXPLAINED,
 };
+use crate::notice::{NO_MEMORY, Notice, write_line};
 use crate::recording_writer::OutputFault;
+use crate::usage_notes::{is_choice, usage_note};
 use ra_draw::DrawError;
 use ra_explain::{end_note, push_number_in, push_numbered};
 use ra_schedule::{ChoicesError, DriveError};
 use ra_script::PerformError;
-use ra_task::{Command, CommandFault, NO_MEMORY, Notice, is_choice, usage_note, write_line};
+use ra_task::{Command, CommandFault, UsageFault};
 use ra_text::Note;
 use ra_trace::TraceError;
 use std::alloc::Global;
@@ -47,11 +49,11 @@ pub fn of_end(alloc: Global, text: Option<&[u8]>, sent: u128) -> Notice {
     }
 }
 
-/// Returns what there is to say about arguments for which there is no task.
-pub fn of_command(alloc: Global, arguments: &[String], why: CommandFault) -> Notice {
-    match why {
-        CommandFault::Usage => usage_note(alloc, arguments),
-        CommandFault::Memory => Notice::Text(NO_MEMORY),
+/// Returns what there is to say about arguments that ask for nothing: why, or that memory ran out if it is not known why.
+pub fn of_command(alloc: Global, arguments: &[String], fault: Option<&UsageFault<'_>>) -> Notice {
+    match fault {
+        Some(fault) => usage_note(alloc, arguments, fault),
+        None => Notice::Text(NO_MEMORY),
     }
 }
 

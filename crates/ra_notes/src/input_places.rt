@@ -1,6 +1,7 @@
 //! What there is to say of the place in what was read that a note is about, and otherwise of the cause alone.
 use crate::command_notes::of_performance;
 use crate::note_texts::{UNEXPLAINED, cause_text, cluster_text, mark_cause_text, text_cause_text};
+use crate::notice::Notice;
 use crate::run_notes::unfinished::unfinished_note;
 use crate::script_notes::choosing::choices_note;
 use crate::script_notes::order_note::order_note;
@@ -12,7 +13,7 @@ use ra_frame::FrameError;
 use ra_schedule::{Policy, chance};
 use ra_script::{PerformError, explain_script};
 use ra_stamp::{Mark, Memory};
-use ra_task::{Command, Notice, Task, policy_of, text_of};
+use ra_task::{Command, Task, policy_of, text_of};
 use ra_trace::{Cause, MarkCause, check_buffered_with_due};
 use std::alloc::Global;
 

@@ -6,6 +6,7 @@ mod command_notes;
 mod end_reader;
 mod input_places;
 mod note_texts;
+mod notice;
 mod recording_reader;
 mod recording_writer;
 mod refused_event;
@@ -15,6 +16,9 @@ mod run_notes;
 mod script_notes;
 mod seed_progress;
 mod settle_notes;
+mod unused_options;
+mod usage_notes;
+mod waiting_note;
 
 pub use command_notes::{
     of_check, of_choices, of_command, of_drawing, of_end, range_note, write_arguments_note,
@@ -26,6 +30,7 @@ pub use input_places::{
     trace_notice, unfinished_notice, unsettled_notice,
 };
 pub use note_texts::{BOOKS_TOO_LONG, NO_BOOK, NO_INPUT, NO_SEED_DONE, NO_WORD, SEEDS_LEFT};
+pub use notice::{NO_MEMORY, Notice, write_line};
 pub use ra_explain::Unanswered;
 pub use recording_reader::{RecordedInput, RecordingReader};
 pub use recording_writer::{OutputFault, RecordingWriter};
@@ -36,3 +41,6 @@ pub use script_notes::choosing::choices_note;
 pub use script_notes::order_note::order_note;
 pub use script_notes::script_end::script_end_note;
 pub use seed_progress::SeedProgress;
+pub use unused_options::write_unused_options;
+pub use usage_notes::{is_choice, usage_note};
+pub use waiting_note::write_waiting_note;

@@ -1,7 +1,7 @@
 //! The texts of notes that depend on neither the words nor what the input says.
+use crate::notice::NO_MEMORY;
 use ra_book::TextCause;
 use ra_cluster::{ClusterError, Stop};
-use ra_task::NO_MEMORY;
 use ra_trace::{Cause, MarkCause};
 
 /// What is said if an explanation finds no memory. It is also said if an explanation finds nothing, which it never does.

@@ -1,10 +1,12 @@
 //! Hints for the user when nothing was refused but something may surprise: options that have no effect, names that stay
 //! locked, and which seed was found.
 use crate::input_places::PlaceNote;
+use crate::notice::write_line;
 use crate::script_notes::script_end::script_end_note;
+use crate::unused_options::write_unused_options;
 use ra_explain::{push_number_in, push_numbered};
 use ra_schedule::Ending;
-use ra_task::{Command, Search, Task, write_line, write_unused_options};
+use ra_task::{Command, Search, Task};
 use ra_text::Note;
 use std::alloc::Global;
 use std::io::Write;

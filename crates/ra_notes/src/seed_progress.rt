@@ -1,7 +1,7 @@
 //! What the user is told while many seeds take long.
+use crate::notice::write_line;
 use ra_explain::push_number_in;
 use ra_schedule::{Observer, RunCost, SeedOutcome};
-use ra_task::write_line;
 use ra_text::Note;
 use std::alloc::Global;
 use std::io::Write;

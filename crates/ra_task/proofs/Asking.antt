@@ -1,5 +1,5 @@
 -- What arguments ask for, by what the parser makes of them.
-use Rattle.std.proofs.Common.{◌≡◌, ◌∙◌, Bool, true, false, not, List, [], ◌∷◌, Result, refl, sym, subst, ap, inl, inr}
+use Rattle.std.proofs.Common.{◌≡◌, ◌∙◌, Bool, true, false, not, List, [], ◌∷◌, Result, Ok, Err, String, Global, refl, sym, subst, ap, inl, inr}
 use Rattle.std.specs.Prelude.{Any, IfOk}
 use Rattle.std.proofs.lemmas.Bool.{false≢true}
 use Rattle.std.proofs.lemmas.Result.{IfOk-weaker}
@@ -13,8 +13,16 @@ use Rattle.ra_task.specs.declared.command_line.Task.{Task}
 use Rattle.ra_task.specs.declared.command_line.Task.TheVariants as task
 use Rattle.ra_task.specs.Arguments.{IsHelpArgument}
 use Rattle.ra_task.specs.Application.{HasWords, WordList, ending_words, policy_words, program_with, ra_app}
-use Rattle.ra_task.specs.Asked.{AsksForNothing, AsksForTask, IsParsed, IsTaskFor, is_help, meaning_of, refusals}
+use Rattle.ra_task.specs.declared.usage_fault.UsageFault.{UsageFault}
+use Rattle.ra_task.specs.declared.usage_fault.UsageFault.TheVariants as usage
+use Rattle.ra_task.specs.Asked.{AsksForNothing, AsksForTask, IsParsed, IsTaskFor, IsUsageFault, is_help, meaning_of, refusals}
+use Rattle.ra_task.specs.Meanings.{Meaning, Meant}
 use Rattle.ra_task.proofs.Parsing.{same_command, same_refusals, simple, simple_and_free}
+
+-- a text of help is no task of a meaning
+no_text : (meaning : Meant Meaning) (text : String Global) → IsTaskFor meaning (task.Help text) → ⊥
+no_text (Ok meaning) text is = cc
+no_text (Err why) text is = is
 
 -- the parser takes the arguments, and they mean this
 pub taken : (arguments : List Text) (asked : Task) → refusals arguments ≡ [] → IsTaskFor (meaning_of arguments) asked → AsksForTask arguments asked
@@ -25,7 +33,7 @@ taken arguments task.Check none means = (none, means)
 taken arguments task.CheckMarks none means = (none, means)
 taken arguments (task.Draw read part) none means = (none, means)
 taken arguments (task.Cluster printed) none means = (none, means)
-taken arguments (task.Help text) none means = absurd means
+taken arguments (task.Help text) none means = absurd (no_text (meaning_of arguments) text means)
 
 -- ---- kinds of error
 
@@ -70,13 +78,11 @@ pub help_asked : (arguments : List Text) (error : Error) → HasKind (refusals a
     → list_any is_help (refusals arguments) ≡ true
 help_asked arguments error has not is = among is_help (kind_of error) (refusals arguments) (refused arguments error has not) is
 
-pub nothing_asked : (arguments : List Text) (error : Error) → HasKind (refusals arguments) error → (kind_of error ≡ kind.OutOfMemory → ⊥)
-    → (is_help (kind_of error) ≡ true → Any IsHelpArgument arguments → ⊥) → AsksForNothing arguments
-nothing_asked arguments error has no_memory other = go (is_help (kind_of error)) refl
+-- what asks for nothing for a cause asks for nothing
+pub nothing_asked : (arguments : List Text) (why : UsageFault) → IsUsageFault arguments why → AsksForNothing arguments
+nothing_asked arguments (usage.Meaning cause value) (none, means) = inl (none, cause, means)
+nothing_asked arguments (usage.Parser error) (at, other) = go (is_help (kind_of error)) refl
   where
-    at : IsAmong (kind_of error) (refusals arguments)
-    at = refused arguments error has no_memory
-
     go : (b : Bool) → is_help (kind_of error) ≡ b → AsksForNothing arguments
     go true e = inr (inr (some_kind (kind_of error) (refusals arguments) at, other e))
     go false e = inr (inl (among (λ k. not (is_help k)) (kind_of error) (refusals arguments) at (ap not e)))

@@ -1,5 +1,5 @@
 -- Arguments ask for one command.
-use Rattle.std.proofs.Common.{◌≡◌, ◌∙◌, ◌⊎◌, true, not, List, [], Some, None, refl, sym, ap, inl, inr}
+use Rattle.std.proofs.Common.{◌≡◌, ◌∙◌, ◌⊎◌, true, not, List, [], Some, None, Ok, Err, Bor, refl, sym, ap, inl, inr}
 use Rattle.std.specs.List.{list_any}
 use Rattle.std.proofs.lemmas.Bool.{false≢true}
 use Rattle.clap.specs.Words.{Text}
@@ -11,8 +11,8 @@ use Rattle.ra_task.specs.declared.command_line.PolicyName.TheVariants.{Oldest}
 use Rattle.ra_task.specs.declared.command_line.Task.{Task}
 use Rattle.ra_task.specs.declared.command_line.Task.TheVariants as task
 use Rattle.ra_task.specs.Arguments.{AreSimArguments}
-use Rattle.ra_task.specs.Asked.{AreSameCommand, Asks, AsksForHelp, AsksForNothing, AsksForTask, is_help, meaning_as, meaning_of, refusals}
-use Rattle.ra_task.specs.Meanings.{Meaning, sim}
+use Rattle.ra_task.specs.Asked.{AreSameCommand, Asks, AsksForHelp, AsksForNothing, AsksForTask, IsTaskFor, is_help, meaning_as, meaning_of, refusals}
+use Rattle.ra_task.specs.Meanings.{Meaning, Meant, sim}
 use Rattle.ra_task.proofs.Examples.{sim_alone, sim_alone_means}
 use Rattle.ra_task.proofs.SettleArguments.{no_node_arguments, one_thing}
 use Rattle.ra_task.proofs.Sorts.{one_sort}
@@ -20,19 +20,26 @@ use Rattle.ra_task.proofs.Sorts.{one_sort}
 module _ (arguments : List Text) where
   -- the parser takes the arguments and they mean something, or they ask for help
   abbrev Means : Task → Type 0
-  Means asked = (meaning : Meaning) × (meaning_as asked ≡ Some meaning) × (refusals arguments ≡ []) × (meaning_of arguments ≡ Some meaning)
+  Means asked = (meaning : Meaning) × (meaning_as asked ≡ Some meaning) × (refusals arguments ≡ []) × (meaning_of arguments ≡ Ok meaning)
 
   abbrev Helps : Task → Type 0
   Helps asked = (meaning_as asked ≡ None) × AsksForHelp arguments
 
+  means : (asked : Task) → refusals arguments ≡ [] → IsTaskFor (meaning_of arguments) asked → Means asked
+  means asked none for = go (meaning_of arguments) refl for
+    where
+      go : (meaning : Meant Meaning) → meaning_of arguments ≡ meaning → IsTaskFor meaning asked → Means asked
+      go (Ok meaning) is same = (meaning, sym same, none, is)
+      go (Err why) is same = absurd same
+
   of_task : (asked : Task) → AsksForTask arguments asked → Means asked ⊎ Helps asked
-  of_task (task.Answer node nodes) asks = inl (_, refl, asks.0, asks.1)
-  of_task (task.Sim policy choices format) asks = inl (_, refl, asks.0, asks.1)
-  of_task (task.Survey survey) asks = inl (_, refl, asks.0, asks.1)
-  of_task task.Check asks = inl (_, refl, asks.0, asks.1)
-  of_task task.CheckMarks asks = inl (_, refl, asks.0, asks.1)
-  of_task (task.Draw kind part) asks = inl (_, refl, asks.0, asks.1)
-  of_task (task.Cluster printed) asks = inl (_, refl, asks.0, asks.1)
+  of_task (task.Answer node nodes) asks = inl (means _ asks.0 asks.1)
+  of_task (task.Sim policy choices format) asks = inl (means _ asks.0 asks.1)
+  of_task (task.Survey survey) asks = inl (means _ asks.0 asks.1)
+  of_task task.Check asks = inl (means _ asks.0 asks.1)
+  of_task task.CheckMarks asks = inl (means _ asks.0 asks.1)
+  of_task (task.Draw kind part) asks = inl (means _ asks.0 asks.1)
+  of_task (task.Cluster printed) asks = inl (means _ asks.0 asks.1)
   of_task (task.Help text) asks = inr (refl, asks)
 
   -- what is not refused is not refused for help, nor otherwise
@@ -43,19 +50,20 @@ module _ (arguments : List Text) where
   not_refused_otherwise none some = false≢true (sym (ap (list_any (λ k. not (is_help k))) none) ∙ some)
 
   one_meaning : (a b : Task) → Means a ⊎ Helps a → Means b ⊎ Helps b → meaning_as a ≡ meaning_as b
-  one_meaning a b (inl (m, is, none, means)) (inl (n, is', none', means')) = is ∙ sym means ∙ means' ∙ sym is'
-  one_meaning a b (inl (m, is, none, means)) (inr (is', help)) = absurd (not_refused none help.0)
-  one_meaning a b (inr (is, help)) (inl (n, is', none, means)) = absurd (not_refused none help.0)
+  one_meaning a b (inl (m, is, none, mean)) (inl (n, is', none', mean')) =
+      let both = sym mean ∙ mean' in let same : m ≡ n = cc in is ∙ ap Some same ∙ sym is'
+  one_meaning a b (inl (m, is, none, mean)) (inr (is', help)) = absurd (not_refused none help.0)
+  one_meaning a b (inr (is, help)) (inl (n, is', none, mean)) = absurd (not_refused none help.0)
   one_meaning a b (inr (is, help)) (inr (is', help')) = is ∙ sym is'
 
   pub one_task_asked : (a b : Task) → AsksForTask arguments a → AsksForTask arguments b → meaning_as a ≡ meaning_as b
   one_task_asked a b first second = one_meaning a b (of_task a first) (of_task b second)
 
   nothing_of : (a : Task) → Means a ⊎ Helps a → AsksForNothing arguments → ⊥
-  nothing_of a (inl (m, is, none, means)) (inl (none', means')) = let clash : Some m ≡ None = sym means ∙ means' in cc
-  nothing_of a (inl (m, is, none, means)) (inr (inl other)) = not_refused_otherwise none other
-  nothing_of a (inl (m, is, none, means)) (inr (inr (some, no_help))) = some none
-  nothing_of a (inr (is, help)) (inl (none, means)) = not_refused none help.0
+  nothing_of a (inl (m, is, none, mean)) (inl (none', why, mean')) = let clash = sym mean ∙ mean' in cc
+  nothing_of a (inl (m, is, none, mean)) (inr (inl other)) = not_refused_otherwise none other
+  nothing_of a (inl (m, is, none, mean)) (inr (inr (some, no_help))) = some none
+  nothing_of a (inr (is, help)) (inl (none, why, mean)) = not_refused none help.0
   nothing_of a (inr (is, help)) (inr (inl other)) = false≢true (sym (one_sort arguments help.0) ∙ other)
   nothing_of a (inr (is, help)) (inr (inr (some, no_help))) = no_help help.1
 
@@ -87,5 +95,7 @@ module _ (arguments : List Text) where
   one_command (command.Unknown Usage) (command.Unknown Usage) first second = tt
 
 -- the program's name and `sim` ask for one run by the policy oldest
-pub sim_alone_asks : (arguments : List Text) → AreSimArguments arguments → (refusals arguments ≡ []) × (meaning_of arguments ≡ Some (sim Oldest [] prints.Lines))
-sim_alone_asks arguments (name, is) = (rw is (sim_alone name), rw is (sim_alone_means name))
+pub sim_alone_asks : (arguments : List Text) (choices : Bor Text) → choices.now ≡ [] → AreSimArguments arguments
+    → (refusals arguments ≡ []) × IsTaskFor (meaning_of arguments) (task.Sim Oldest choices prints.Lines)
+sim_alone_asks arguments choices empty (name, is) =
+    (rw is (sim_alone name), rw (is, sim_alone_means name) (ap (λ (text : Text). Some (sim Oldest text prints.Lines)) (sym empty)))

@@ -1,6 +1,6 @@
 -- What the parser's values say, by their rows.
-use Rattle.std.proofs.Common.{◌≡◌, ◌∙◌, ◌<◌, ◌≤◌, ◌^◌, ◌&&◌, ℕ, Bool, true, false, List, [], ◌∷◌, Option, Some, None, Result, Ok, Err, length, refl, sym, ap}
-use Rattle.std.specs.Prelude.{nat_le, nat_lt, option_and_then, is_some}
+use Rattle.std.proofs.Common.{◌≡◌, ◌∙◌, ◌<◌, ◌≤◌, ◌^◌, ◌&&◌, ℕ, Bool, true, false, List, [], ◌∷◌, Option, Some, None, Result, Ok, Err, Bor, length, refl, sym, ap}
+use Rattle.std.specs.Prelude.{nat_le, nat_lt, option_and_then, option_map, is_some, unwrap_or}
 use Rattle.std.specs.Char.{digit_value}
 use Rattle.std.specs.List.{list_all}
 use Rattle.std.specs.Str.Parse.{AllDigits, IsNumeral, ParsesUnsigned, digits_value, without_leading_plus}
@@ -14,6 +14,7 @@ use Rattle.clap.proofs.WalkLemmas.{both, first_value-rows}
 use Rattle.ra_text.specs.declared.output_kind.OutputKind.{OutputKind}
 use Rattle.ra_schedule.specs.declared.surveys.first_seed.Ending.{Ending}
 use Rattle.ra_task.specs.declared.command_line.PolicyName.{PolicyName}
+use Rattle.ra_task.specs.declared.usage_fault.UsageCause.TheVariants.{Find}
 use Rattle.ra_task.specs.Meanings.{numeral, run_by, sim}
 
 digits_from : (digits : List ℕ) → list_all (λ d. nat_lt (digit_value d) 10) digits ≡ true → AllDigits 10 digits
@@ -82,6 +83,12 @@ text_given found name text given = sym (first_value-rows found name) ∙ sym giv
 pub none_given : (found : Found) (name : Text) → None ≡ first_value found name → first_of name (rows_of found) ≡ None
 none_given found name given = sym (first_value-rows found name) ∙ sym given
 
+-- the text that is given, or no text
+pub text_or_nothing : (found : Found) (name : Text) (given : Option (Bor Text)) (other : Bor Text) → option_map (λ s. s.now) given ≡ first_value found name → other.now ≡ []
+    → (unwrap_or given other).now ≡ unwrap_or (first_of name (rows_of found)) []
+text_or_nothing found name None other is empty = rw (← first_value-rows found name, ← is) empty
+text_or_nothing found name (Some text) other is empty = rw (← first_value-rows found name, ← is) refl
+
 -- a first number above the last
 pub above : (a b : ℕ) → (a ≤ b → ⊥) → nat_le a b ≡ false
 above a b over = go (nat_le a b) refl
@@ -94,10 +101,10 @@ pub at_most : (a b : ℕ) → a ≤ b → nat_le a b ≡ true
 at_most a b less = le-leb _ _ less
 
 -- whether one run is asked for
-pub run_refused : (policy : PolicyName) (choices : Text) (printed : OutputKind) (ending : Option Ending) → is_some ending ≡ true → run_by policy choices printed ending ≡ None
+pub run_refused : (policy : PolicyName) (choices : Text) (printed : OutputKind) (ending : Option Ending) → is_some ending ≡ true → run_by policy choices printed ending ≡ Err Find
 run_refused policy choices printed (Some ending) some = refl
 run_refused policy choices printed None some = absurd (false≢true some)
 
-pub run_taken : (policy : PolicyName) (choices : Text) (printed : OutputKind) (ending : Option Ending) → is_some ending ≡ false → run_by policy choices printed ending ≡ Some (sim policy choices printed)
+pub run_taken : (policy : PolicyName) (choices : Text) (printed : OutputKind) (ending : Option Ending) → is_some ending ≡ false → run_by policy choices printed ending ≡ Ok (sim policy choices printed)
 run_taken policy choices printed (Some ending) none = absurd (false≢true (sym none))
 run_taken policy choices printed None none = refl

@@ -1,6 +1,6 @@
 -- The seeds of a survey are in order.
-use Rattle.std.proofs.Common.{◌≡◌, ◌≤◌, ℕ, Bool, true, false, List, Option, Some, None, codes, refl, sym, subst}
-use Rattle.std.specs.Prelude.{⊤, if◌then◌else◌, nat_le, option_and_then, option_map}
+use Rattle.std.proofs.Common.{◌≡◌, ◌≤◌, ℕ, Bool, true, false, List, [], Option, Some, None, Ok, Err, codes, refl, sym, subst}
+use Rattle.std.specs.Prelude.{⊤, if◌then◌else◌, nat_le, ok_or, unwrap_or}
 use Rattle.std.specs.Str.{bytes_eq}
 use Rattle.std.proofs.lemmas.Bool.{leb-true}
 use Rattle.clap.specs.Words.{Row, Text, first_of, subcommand_of}
@@ -12,39 +12,37 @@ use Rattle.ra_task.specs.declared.command_line.PolicyName.{PolicyName}
 use Rattle.ra_task.specs.declared.command_line.input_kind.InputKind.{InputKind}
 use Rattle.ra_task.specs.declared.command_line.search.SurveyTask.{SurveyTask}
 use Rattle.ra_task.specs.Application.{ra_app}
-use Rattle.ra_task.specs.Asked.{AsksForTask, meaning_given}
+use Rattle.ra_task.specs.declared.usage_fault.UsageCause.{UsageCause}
+use Rattle.ra_task.specs.declared.usage_fault.UsageCause.TheVariants as cause
+use Rattle.ra_task.specs.Asked.{AsksForTask, IsTaskFor, meaning_given}
 use Rattle.ra_task.specs.declared.command_line.Task.TheVariants as task
-use Rattle.ra_task.specs.Meanings.{Meaning, answer, answer_in, chance_of, check, cluster, cluster_by, cluster_in, cut_at_dots, draw, draw_in, ending_in, flag_in, kind_in, meaning_in, number_in, numeral, part_between, plain_number_in, policy_in, printed_in, run_by, search_by, seeds_between, seeds_in, seeds_of, sim, sim_by, sim_in, survey, survey_by}
+use Rattle.ra_task.specs.Meanings.{Meaning, Meant, answer, answer_in, chance_of, check, cluster, cluster_by, cluster_in, cut_at_dots, draw, draw_in, ending_in, flag_in, kind_in, meaning_in, numeral, part_in, plain_number_in, policy_in, printed_in, printing_cause, run_by, search_by, seeds_between, seeds_in, seeds_of, sim, sim_by, sim_in, survey, survey_by, with_value}
 
 InOrder : SeedRange → Type 0
 InOrder seeds = seeds.first ≤ seeds.last
 
 -- seeds, a survey and a meaning, if there is one
-IsRange : Option SeedRange → Type 0
-IsRange None = ⊤
-IsRange (Some seeds) = InOrder seeds
+IsRange : Meant SeedRange → Type 0
+IsRange (Err why) = ⊤
+IsRange (Ok seeds) = InOrder seeds
 
-IsSurvey : Option SurveyTask → Type 0
-IsSurvey None = ⊤
-IsSurvey (Some asked) = InOrder asked.seeds
+IsSurvey : Meant SurveyTask → Type 0
+IsSurvey (Err why) = ⊤
+IsSurvey (Ok asked) = InOrder asked.seeds
 
-IsOrdered : Option Meaning → Type 0
-IsOrdered None = ⊤
-IsOrdered (Some (answer node nodes)) = ⊤
-IsOrdered (Some (sim policy choices printed)) = ⊤
-IsOrdered (Some (survey asked)) = InOrder asked.seeds
-IsOrdered (Some (cluster printed)) = ⊤
-IsOrdered (Some (check kind)) = ⊤
-IsOrdered (Some (draw kind part)) = ⊤
+IsOrdered : Meant Meaning → Type 0
+IsOrdered (Err why) = ⊤
+IsOrdered (Ok (answer node nodes)) = ⊤
+IsOrdered (Ok (sim policy choices printed)) = ⊤
+IsOrdered (Ok (survey asked)) = InOrder asked.seeds
+IsOrdered (Ok (cluster printed)) = ⊤
+IsOrdered (Ok (check kind)) = ⊤
+IsOrdered (Ok (draw kind part)) = ⊤
 
--- what follows from each value follows from an optional one
-each : {X Y : Type 0} (P : Option Y → Type 0) (f : X → Option Y) (o : Option X) → P None → ((x : X) → P (f x)) → P (option_and_then f o)
-each P f None none all = none
-each P f (Some x) none all = all x
-
-every : {X Y : Type 0} (P : Option Y → Type 0) (f : X → Y) (o : Option X) → P None → ((x : X) → P (Some (f x))) → P (option_map f o)
-every P f None none all = none
-every P f (Some x) none all = all x
+-- what follows from each value, and holds of each cause, holds of what comes of a value or a cause
+follows : {X Y : Type 0} (P : Meant Y → Type 0) (f : X → Meant Y) (o : Meant X) → ((why : UsageCause) → P (Err why)) → ((x : X) → P (f x)) → P (with_value f o)
+follows P f (Err why) none all = none why
+follows P f (Ok x) none all = all x
 
 either : {X : Type 0} (P : X → Type 0) (t : Bool) (a b : X) → P a → P b → P (if t then a else b)
 either P true a b left right = left
@@ -58,31 +56,35 @@ between first last = go (nat_le first last) refl
     go true e = rw e (leb-true _ _ e)
     go false e = rw e tt
 
-range : (text : Text) → IsRange (seeds_in text)
+no_range : (why : UsageCause) → IsRange (Err why)
 unfolding IsRange
-range text = each IsRange seeds_of (cut_at_dots text) tt (λ p. each IsRange _ (numeral 64 p.0) tt (λ a. each IsRange (seeds_between a) (numeral 64 p.1) tt (between a)))
+no_range why = tt
 
-survey_of : (f : SeedRange → SurveyTask) → ((r : SeedRange) → (f r).seeds ≡ r) → (o : Option SeedRange) → IsRange o → IsSurvey (option_map f o)
+range : (text : Text) → IsRange (seeds_in text)
+range text = follows IsRange seeds_of (ok_or (cut_at_dots text) cause.Seeds) no_range (λ p. follows IsRange _ (ok_or (numeral 64 p.0) cause.Seeds) no_range
+    (λ a. follows IsRange (seeds_between a) (ok_or (numeral 64 p.1) cause.Seeds) no_range (between a)))
+
+survey_of : (f : SeedRange → SurveyTask) → ((r : SeedRange) → (f r).seeds ≡ r) → (o : Meant SeedRange) → IsRange o → IsSurvey (with_value (λ range. Ok (f range)) o)
 unfolding IsRange IsSurvey
-survey_of f same None in_order = tt
-survey_of f same (Some r) in_order = subst InOrder (sym (same r)) in_order
+survey_of f same (Err why) in_order = tt
+survey_of f same (Ok r) in_order = subst InOrder (sym (same r)) in_order
 
-no_survey : IsSurvey None
+no_survey : (why : UsageCause) → IsSurvey (Err why)
 unfolding IsSurvey
-no_survey = tt
+no_survey why = tt
 
 surveyed : (policy : PolicyName) (seeds : Text) (ending : Option Ending) (printed : OutputKind) → IsSurvey (survey_by policy seeds ending printed)
-surveyed policy seeds ending printed = each IsSurvey _ (chance_of policy) no_survey (λ faults. each IsSurvey _ (search_by ending printed) no_survey
+surveyed policy seeds ending printed = follows IsSurvey _ (ok_or (chance_of policy) cause.SeedsPolicy) no_survey (λ faults. follows IsSurvey _ (search_by ending printed) no_survey
     (λ find. survey_of (λ range. record { faults = faults; find = find; seeds = range }) (λ r. refl) (seeds_in seeds) (range seeds)))
 
-as_meaning : (o : Option SurveyTask) → IsSurvey o → IsOrdered (option_map survey o)
+as_meaning : (o : Meant SurveyTask) → IsSurvey o → IsOrdered (with_value (λ asked. Ok (survey asked)) o)
 unfolding IsSurvey IsOrdered
-as_meaning None in_order = tt
-as_meaning (Some asked) in_order = in_order
+as_meaning (Err why) in_order = tt
+as_meaning (Ok asked) in_order = in_order
 
-nothing : IsOrdered None
+nothing : (why : UsageCause) → IsOrdered (Err why)
 unfolding IsOrdered
-nothing = tt
+nothing why = tt
 
 run : (policy : PolicyName) (choices : Text) (printed : OutputKind) (ending : Option Ending) → IsOrdered (run_by policy choices printed ending)
 unfolding IsOrdered
@@ -91,20 +93,20 @@ run policy choices printed (Some ending) = tt
 
 by_seeds : (rows : List Row) (policy : PolicyName) (printed : OutputKind) (seeds : Option Text) → IsOrdered (sim_by rows policy printed seeds)
 by_seeds rows policy printed (Some seeds) = as_meaning (survey_by policy seeds (ending_in rows) printed) (surveyed policy seeds (ending_in rows) printed)
-by_seeds rows policy printed None =
-    each IsOrdered (λ choices. run_by policy choices printed (ending_in rows)) (first_of (codes "choices") rows) nothing (λ choices. run policy choices printed (ending_in rows))
+by_seeds rows policy printed None = run policy (unwrap_or (first_of (codes "choices") rows) []) printed (ending_in rows)
 
 of_sim : (rows : List Row) → IsOrdered (sim_in rows)
-of_sim rows = each IsOrdered _ (policy_in rows) nothing (λ policy. each IsOrdered _ (printed_in policy rows) nothing
+of_sim rows = follows IsOrdered _ (ok_or (policy_in rows) cause.Rates) nothing (λ policy.
+    follows IsOrdered _ (ok_or (printed_in policy rows) (printing_cause (flag_in (codes "state") rows) (flag_in (codes "shrink") rows))) nothing
     (λ printed. by_seeds rows policy printed (first_of (codes "seeds") rows)))
 
-an_answer : (node nodes : ℕ) → IsOrdered (Some (answer node nodes))
+an_answer : (node nodes : ℕ) → IsOrdered (Ok (answer node nodes))
 unfolding IsOrdered
 an_answer node nodes = tt
 
 of_answer : (rows : List Row) → IsOrdered (answer_in rows)
-of_answer rows = each IsOrdered _ (plain_number_in 16 (codes "node") rows) nothing
-    (λ node. every IsOrdered (answer node) (plain_number_in 16 (codes "nodes") rows) nothing (an_answer node))
+of_answer rows = follows IsOrdered _ (ok_or (plain_number_in 16 (codes "node") rows) cause.Node) nothing
+    (λ node. follows IsOrdered _ (ok_or (plain_number_in 16 (codes "nodes") rows) cause.Nodes) nothing (an_answer node))
 
 of_cluster : (traces books : Bool) → IsOrdered (cluster_by traces books)
 unfolding IsOrdered
@@ -113,31 +115,35 @@ of_cluster true false = tt
 of_cluster false true = tt
 of_cluster true true = tt
 
-a_check : (kind : InputKind) → IsOrdered (Some (check kind))
+a_check : (kind : InputKind) → IsOrdered (Ok (check kind))
 unfolding IsOrdered
 a_check kind = tt
 
-a_drawing : (kind : InputKind) (part : Part) → IsOrdered (Some (draw kind part))
+a_drawing : (kind : InputKind) (part : Part) → IsOrdered (Ok (draw kind part))
 unfolding IsOrdered
 a_drawing kind part = tt
 
 of_draw : (rows : List Row) → IsOrdered (draw_in rows)
-of_draw rows = each IsOrdered _ (number_in 64 (codes "from") rows) nothing (λ from. each IsOrdered _ (number_in 64 (codes "to") rows) nothing
-    (λ to. every IsOrdered (draw (kind_in rows)) (part_between from to) nothing (a_drawing (kind_in rows))))
+of_draw rows = follows IsOrdered _ (ok_or (part_in rows) cause.Part) nothing (a_drawing (kind_in rows))
 
 of_meaning : (name : Text) (rows : List Row) → IsOrdered (meaning_in name rows)
 of_meaning name rows =
     either IsOrdered (bytes_eq name (codes "answer")) (answer_in rows) _ (of_answer rows)
     (either IsOrdered (bytes_eq name (codes "sim")) (sim_in rows) _ (of_sim rows)
     (either IsOrdered (bytes_eq name (codes "cluster")) (cluster_in rows) _ (of_cluster (flag_in (codes "trace") rows) (flag_in (codes "books") rows))
-    (either IsOrdered (bytes_eq name (codes "check")) (Some (check (kind_in rows))) _ (a_check (kind_in rows))
-    (either IsOrdered (bytes_eq name (codes "draw")) (draw_in rows) None (of_draw rows) nothing))))
+    (either IsOrdered (bytes_eq name (codes "check")) (Ok (check (kind_in rows))) _ (a_check (kind_in rows))
+    (either IsOrdered (bytes_eq name (codes "draw")) (draw_in rows) _ (of_draw rows)
+    (either IsOrdered (bytes_eq name (codes "node")) (Err cause.OfNode) _ (nothing cause.OfNode)
+    (either IsOrdered (bytes_eq name (codes "settle")) (Err cause.OfSettle) (Err cause.NoCommand) (nothing cause.OfSettle) (nothing cause.NoCommand)))))))
 
 of_given : (given : Option (Text × List Row)) → IsOrdered (meaning_given given)
-unfolding IsOrdered
-of_given None = tt
+of_given None = nothing cause.NoCommand
 of_given (Some (name, rows)) = of_meaning name rows
 
-pub in_order : (arguments : List Text) (asked : SurveyTask) → AsksForTask arguments (task.Survey asked) → asked.seeds.first ≤ asked.seeds.last
+asked_in_order : (meaning : Meant Meaning) (asked : SurveyTask) → IsTaskFor meaning (task.Survey asked) → IsOrdered meaning → asked.seeds.first ≤ asked.seeds.last
 unfolding IsOrdered InOrder
-in_order arguments asked asks = subst IsOrdered asks.1 (of_given (subcommand_of ra_app arguments))
+asked_in_order (Ok meaning) asked is ordered = let same : meaning ≡ survey asked = cc in subst (λ (m : Meaning). IsOrdered (Ok m)) same ordered
+asked_in_order (Err why) asked is ordered = absurd is
+
+pub in_order : (arguments : List Text) (asked : SurveyTask) → AsksForTask arguments (task.Survey asked) → asked.seeds.first ≤ asked.seeds.last
+in_order arguments asked asks = asked_in_order (meaning_given (subcommand_of ra_app arguments)) asked asks.1 (of_given (subcommand_of ra_app arguments))

@@ -1,5 +1,5 @@
 -- What the values of a command's options mean.
-use Rattle.std.specs.Prelude.{◌^◌, ◌+◌, ◌==◌, ◌&&◌, ◌||◌, ℕ, Bool, true, false, List, [], ◌∷◌, Option, Some, None, if◌then◌else◌, nat_le, nat_lt, codes, option_map, option_and_then}
+use Rattle.std.specs.Prelude.{◌^◌, ◌+◌, ◌==◌, ◌&&◌, ◌||◌, ℕ, Bool, true, false, List, [], ◌∷◌, Option, Some, None, Result, Ok, Err, if◌then◌else◌, nat_le, nat_lt, codes, ok_or, option_map, option_and_then, unwrap_or}
 use Rattle.std.specs.Option.{option_map_or}
 use Rattle.std.specs.Str.{bytes_eq}
 use Rattle.std.specs.Str.Parse.{digits_value, without_leading_plus}
@@ -21,6 +21,8 @@ use Rattle.ra_task.specs.declared.command_line.input_kind.InputKind.{InputKind}
 use Rattle.ra_task.specs.declared.command_line.input_kind.InputKind.TheVariants as reads
 use Rattle.ra_task.specs.declared.command_line.search.Search.{Search}
 use Rattle.ra_task.specs.declared.command_line.search.SurveyTask.{SurveyTask}
+use Rattle.ra_task.specs.declared.usage_fault.UsageCause.{UsageCause}
+use Rattle.ra_task.specs.declared.usage_fault.UsageCause.TheVariants as cause
 
 -- What a command line means: a command, with all that was said of it.
 pub data Meaning : Type 0 where
@@ -33,6 +35,15 @@ pub data Meaning : Type 0 where
   -- what is read
   check : InputKind → Meaning
   draw : InputKind → Part → Meaning
+
+-- a meaning, or why there is none
+abbrev pub Meant : Type 0 → Type 0
+Meant A = Result A UsageCause
+
+-- what follows from the value, or the first cause
+abbrev pub with_value : {A B : Type 0} → (A → Meant B) → Meant A → Meant B
+with_value f (Ok x) = f x
+with_value f (Err why) = Err why
 
 -- ---- the value of an option: `rows` are the values by the names of the options
 
@@ -54,8 +65,9 @@ flag_in name rows = option_map_or (λ text. bytes_eq text (codes "true")) (first
 
 -- ---- `answer`
 
-abbrev pub answer_in : List Row → Option Meaning
-answer_in rows = option_and_then (λ node. option_map (answer node) (plain_number_in 16 (codes "nodes") rows)) (plain_number_in 16 (codes "node") rows)
+abbrev pub answer_in : List Row → Meant Meaning
+answer_in rows = with_value (λ node. with_value (λ nodes. Ok (answer node nodes)) (ok_or (plain_number_in 16 (codes "nodes") rows) cause.Nodes))
+    (ok_or (plain_number_in 16 (codes "node") rows) cause.Node)
 
 -- ---- `sim`
 
@@ -106,6 +118,10 @@ printed_if may_repeat rows =
 abbrev pub printed_in : PolicyName → List Row → Option OutputKind
 printed_in policy rows = option_and_then (λ repeat. printed_if (nat_lt 0 repeat && is_faulty policy) rows) (number_in 16 (codes "repeat") rows)
 
+-- the option that is wrong if there is no such thing
+abbrev pub printing_cause : (states shrinks : Bool) → UsageCause
+printing_cause states shrinks = if states then cause.State else (if shrinks then cause.Shrink else cause.AsChoices)
+
 abbrev pub ending_named : Text → Ending
 ending_named name = if bytes_eq name (codes "finished") then Finished else Stuck
 
@@ -118,15 +134,15 @@ cut_at_dots [] = None
 cut_at_dots (a ∷ []) = None
 cut_at_dots (a ∷ b ∷ rest) = if a == 46 && b == 46 then Some ([], rest) else option_map (λ p. (a ∷ p.0, p.1)) (cut_at_dots (b ∷ rest))
 
-abbrev pub seeds_between : (first last : ℕ) → Option SeedRange
-seeds_between first last = if nat_le first last then Some (record { first = first; last = last }) else None
+abbrev pub seeds_between : (first last : ℕ) → Meant SeedRange
+seeds_between first last = if nat_le first last then Ok (record { first = first; last = last }) else Err cause.SeedsOrder
 
-abbrev pub seeds_of : Text × Text → Option SeedRange
-seeds_of (first, last) = option_and_then (λ a. option_and_then (seeds_between a) (numeral 64 last)) (numeral 64 first)
+abbrev pub seeds_of : Text × Text → Meant SeedRange
+seeds_of (first, last) = with_value (λ a. with_value (seeds_between a) (ok_or (numeral 64 last) cause.Seeds)) (ok_or (numeral 64 first) cause.Seeds)
 
 -- two numbers with two dots between them, the first at most the last
-abbrev pub seeds_in : Text → Option SeedRange
-seeds_in text = option_and_then seeds_of (cut_at_dots text)
+abbrev pub seeds_in : Text → Meant SeedRange
+seeds_in text = with_value seeds_of (ok_or (cut_at_dots text) cause.Seeds)
 
 -- the faults of a policy of chance, if it has any
 abbrev pub chance_of : PolicyName → Option (Option FaultRates)
@@ -137,49 +153,53 @@ chance_of (Faulty seed faults) = Some (Some faults)
 chance_of Listed = None
 
 -- What is looked for among runs, if an end is given. Of the run that is found, the trace is printed unless choices are
--- asked for. A finished run can't be shrunk, and without an end nothing of one run can be printed.
-abbrev pub search_by : Option Ending → OutputKind → Option (Option Search)
-search_by None prints.Lines = Some None
-search_by None prints.Trace = None
-search_by None prints.Choices = None
-search_by None prints.Shrunk = None
-search_by None prints.State = None
-search_by (Some ending) prints.Lines = Some (Some (record { ending = ending; format = prints.Trace }))
-search_by (Some ending) prints.Trace = Some (Some (record { ending = ending; format = prints.Trace }))
-search_by (Some ending) prints.Choices = Some (Some (record { ending = ending; format = prints.Choices }))
-search_by (Some Finished) prints.Shrunk = None
-search_by (Some Stuck) prints.Shrunk = Some (Some (record { ending = Stuck; format = prints.Shrunk }))
-search_by (Some ending) prints.State = None
+-- asked for. The state of a run can't be printed, a finished run can't be shrunk, and without an end nothing of one run can be
+-- printed.
+abbrev pub search_by : Option Ending → OutputKind → Meant (Option Search)
+search_by None prints.Lines = Ok None
+search_by None prints.Trace = Err cause.OneRun
+search_by None prints.Choices = Err cause.OneRun
+search_by None prints.Shrunk = Err cause.OneRun
+search_by None prints.State = Err cause.State
+search_by (Some ending) prints.Lines = Ok (Some (record { ending = ending; format = prints.Trace }))
+search_by (Some ending) prints.Trace = Ok (Some (record { ending = ending; format = prints.Trace }))
+search_by (Some ending) prints.Choices = Ok (Some (record { ending = ending; format = prints.Choices }))
+search_by (Some Finished) prints.Shrunk = Err cause.ShrinkFinished
+search_by (Some Stuck) prints.Shrunk = Ok (Some (record { ending = Stuck; format = prints.Shrunk }))
+search_by (Some ending) prints.State = Err cause.State
 
-abbrev pub survey_by : PolicyName → Text → Option Ending → OutputKind → Option SurveyTask
-survey_by policy seeds ending printed = option_and_then (λ faults. option_and_then (λ find. option_map (λ range. record {
+-- a survey under a policy of chance, of what is looked for, and with these seeds
+abbrev pub survey_by : PolicyName → Text → Option Ending → OutputKind → Meant SurveyTask
+survey_by policy seeds ending printed = with_value (λ faults. with_value (λ find. with_value (λ range. Ok (record {
   faults = faults;
   find = find;
   seeds = range;
-}) (seeds_in seeds)) (search_by ending printed)) (chance_of policy)
+})) (seeds_in seeds)) (search_by ending printed)) (ok_or (chance_of policy) cause.SeedsPolicy)
 
 -- an end is looked for only under many seeds
-abbrev pub run_by : PolicyName → Text → OutputKind → Option Ending → Option Meaning
-run_by policy choices printed None = Some (sim policy choices printed)
-run_by policy choices printed (Some ending) = None
-
-abbrev pub sim_by : List Row → PolicyName → OutputKind → Option Text → Option Meaning
-sim_by rows policy printed (Some seeds) = option_map survey (survey_by policy seeds (ending_in rows) printed)
-sim_by rows policy printed None = option_and_then (λ choices. run_by policy choices printed (ending_in rows)) (first_of (codes "choices") rows)
+abbrev pub run_by : PolicyName → Text → OutputKind → Option Ending → Meant Meaning
+run_by policy choices printed None = Ok (sim policy choices printed)
+run_by policy choices printed (Some ending) = Err cause.Find
 
 -- with `--seeds` a survey of many runs, and otherwise one run
-abbrev pub sim_in : List Row → Option Meaning
-sim_in rows = option_and_then (λ policy. option_and_then (λ printed. sim_by rows policy printed (first_of (codes "seeds") rows)) (printed_in policy rows)) (policy_in rows)
+abbrev pub sim_by : List Row → PolicyName → OutputKind → Option Text → Meant Meaning
+sim_by rows policy printed (Some seeds) = with_value (λ asked. Ok (survey asked)) (survey_by policy seeds (ending_in rows) printed)
+sim_by rows policy printed None = run_by policy (unwrap_or (first_of (codes "choices") rows) []) printed (ending_in rows)
+
+abbrev pub sim_in : List Row → Meant Meaning
+sim_in rows = with_value (λ policy. with_value (λ printed. sim_by rows policy printed (first_of (codes "seeds") rows))
+    (ok_or (printed_in policy rows) (printing_cause (flag_in (codes "state") rows) (flag_in (codes "shrink") rows))))
+    (ok_or (policy_in rows) cause.Rates)
 
 -- ---- the other commands
 
-abbrev pub cluster_by : (traces books : Bool) → Option Meaning
-cluster_by false false = Some (cluster cluster_prints.Lines)
-cluster_by true false = Some (cluster cluster_prints.Trace)
-cluster_by false true = Some (cluster cluster_prints.Books)
-cluster_by true true = None
+abbrev pub cluster_by : (traces books : Bool) → Meant Meaning
+cluster_by false false = Ok (cluster cluster_prints.Lines)
+cluster_by true false = Ok (cluster cluster_prints.Trace)
+cluster_by false true = Ok (cluster cluster_prints.Books)
+cluster_by true true = Err cause.Books
 
-abbrev pub cluster_in : List Row → Option Meaning
+abbrev pub cluster_in : List Row → Meant Meaning
 cluster_in rows = cluster_by (flag_in (codes "trace") rows) (flag_in (codes "books") rows)
 
 abbrev pub kind_in : List Row → InputKind
@@ -189,15 +209,20 @@ kind_in rows = if flag_in (codes "marks") rows then reads.Marks else reads.Trace
 abbrev pub part_between : (from to : ℕ) → Option Part
 part_between from to = if nat_le 1 from && nat_le from to then Some (record { from = from; to = to }) else None
 
-abbrev pub draw_in : List Row → Option Meaning
-draw_in rows = option_and_then (λ from. option_and_then (λ to. option_map (draw (kind_in rows)) (part_between from to)) (number_in 64 (codes "to") rows))
-    (number_in 64 (codes "from") rows)
+abbrev pub part_in : List Row → Option Part
+part_in rows = option_and_then (λ from. option_and_then (part_between from) (number_in 64 (codes "to") rows)) (number_in 64 (codes "from") rows)
 
--- What a command means by the values of its options. What `node` and `settle` mean is said by the arguments themselves.
-abbrev pub meaning_in : (name : Text) → List Row → Option Meaning
+abbrev pub draw_in : List Row → Meant Meaning
+draw_in rows = with_value (λ part. Ok (draw (kind_in rows) part)) (ok_or (part_in rows) cause.Part)
+
+-- What a command means by the values of its options. What `node` and `settle` mean is said by the arguments themselves: with
+-- values that the parser gives them they mean nothing.
+abbrev pub meaning_in : (name : Text) → List Row → Meant Meaning
 meaning_in name rows =
     if bytes_eq name (codes "answer") then answer_in rows
     else (if bytes_eq name (codes "sim") then sim_in rows
     else (if bytes_eq name (codes "cluster") then cluster_in rows
-    else (if bytes_eq name (codes "check") then Some (check (kind_in rows))
-    else (if bytes_eq name (codes "draw") then draw_in rows else None))))
+    else (if bytes_eq name (codes "check") then Ok (check (kind_in rows))
+    else (if bytes_eq name (codes "draw") then draw_in rows
+    else (if bytes_eq name (codes "node") then Err cause.OfNode
+    else (if bytes_eq name (codes "settle") then Err cause.OfSettle else Err cause.NoCommand))))))

@@ -1,5 +1,5 @@
 //! What the user gave an option, for a note to a person. What a task is, the parser alone tells.
-ghost use Rattle.std.specs.Prelude.{◌≡◌, ◌⊎◌, ◌∷◌, ◌++◌, map, IfSome, string_bytes};
+ghost use Rattle.std.specs.Prelude.{◌≡◌, ◌∷◌, ◌++◌, map, IfSome, string_bytes};
 ghost use Rattle.ra_task.specs.Arguments.{GivesText};
 
 /// Returns the text after an option and `=` in an argument, or `None` if it is no such argument. No option has an `=`
@@ -31,15 +31,4 @@ pub fn text_of<'a>(arguments: &'a [String], option: &str) -> Option<&'a str>
         }
     }
     None
-}
-
-/// Returns the text that the arguments give an option, or its default if they give it none. The contract says only what is
-/// found, as that of `text_of`. It does not allocate.
-pub fn text_or<'a>(arguments: &'a [String], option: &str, default: &'a str) -> &'a str
-    ensures { (result.now ≡ default.now) ⊎ GivesText (map string_bytes arguments.now) option.now result.now }
-{
-    match text_of(arguments, option) {
-        Some(text) => text,
-        None => default,
-    }
 }

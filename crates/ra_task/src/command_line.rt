@@ -4,18 +4,18 @@ pub mod helps;
 pub mod input_kind;
 pub mod option_rows;
 pub mod search;
-pub mod usage;
 
-ghost use Rattle.std.specs.Prelude.{◌≡◌, ◌↔◌, Any, IsTrue, MatchResult, Some, map, string_bytes};
+ghost use Rattle.std.specs.Prelude.{◌≡◌, ◌↔◌, Any, IsTrue, MatchResult, Ok, map, string_bytes};
 ghost use Rattle.clap.specs.Words.{HasKind, found_of, rows_of, subcommand_rows_of};
 ghost use Rattle.ra_task.specs.Arguments.{IsHelpArgument};
-ghost use Rattle.ra_task.specs.Asked.{AsksForTask, IsFaultOf, IsTaken, IsTaskFor, is_help, meaning_given, refusals};
-ghost use Rattle.ra_task.specs.Meanings.{answer_in, chance_of as chance_by, cluster_in, draw_in, check, ending_in, flag_in, kind_in, meaning_in, number_in, plain_number_in, policy_in, policy_named as policy_by_name, printed_by, printed_in, rates_in, search_by, seeds_in, sim_in, survey_by};
+ghost use Rattle.ra_task.specs.Asked.{AsksForTask, IsArgumentsFault, IsRefusedBy, IsTaken, IsTaskFor, is_help, meaning_given, refusals};
+ghost use Rattle.ra_task.specs.Meanings.{answer_in, chance_of as chance_by, cluster_in, draw_in, check, ending_in, flag_in, kind_in, meaning_in, number_in, part_in, plain_number_in, policy_in, policy_named as policy_by_name, printed_by, printed_in, printing_cause, rates_in, search_by, seeds_in, sim_in, survey_by};
 
 use crate::cluster_output::ClusterOutput;
 use crate::command_line::command_rows::matches_of;
 use crate::command_line::input_kind::InputKind;
 use crate::command_line::search::{Search, SurveyTask};
+use crate::usage_fault::{ArgumentsFault, UsageCause, UsageFault};
 use clap::error::ErrorKind;
 use clap::{ArgMatches, Error as ParseError};
 use ra_schedule::{Ending, Faults, SeedRange};
@@ -103,7 +103,7 @@ fn long_number(given: &ArgMatches, option: &str) -> Option<u64>
 }
 
 /// Returns whether an option that takes nothing is given. It does not allocate.
-pub fn has_flag(given: &ArgMatches, option: &str) -> bool
+fn has_flag(given: &ArgMatches, option: &str) -> bool
     ensures { result ≡ flag_in option.now (rows_of (found_of given.now)) }
 {
     match given.get_str(option) {
@@ -113,16 +113,21 @@ pub fn has_flag(given: &ArgMatches, option: &str) -> bool
 }
 
 /// Returns the task of the command `answer`.
-fn answer_task<'a>(given: &ArgMatches<'a>) -> Option<Task<'a>>
+///
+/// # Errors
+///
+/// 1. `Node`: the parser takes the value of `--node`, which is no number.
+/// 2. `Nodes`: the same, of `--nodes`.
+fn answer_task<'a>(given: &ArgMatches<'a>) -> Result<Task<'a>, UsageCause>
     ensures { IsTaken (answer_in (rows_of (found_of given.now))) result }
 {
     let Some(node) = plain_number(given, "node") else {
-        return None;
+        return Err(UsageCause::Node);
     };
     let Some(nodes) = plain_number(given, "nodes") else {
-        return None;
+        return Err(UsageCause::Nodes);
     };
-    Some(Task::Answer { node, nodes })
+    Ok(Task::Answer { node, nodes })
 }
 
 /// Returns how often messages are lost and repeated, or `None` if there are no such faults.
@@ -154,7 +159,7 @@ fn policy_named(seed: u64, faults: Faults, name: &str) -> Option<PolicyName>
 
 /// Returns the policy that the arguments of the command `sim` name, or `None` if there are no such faults, whatever the
 /// policy.
-pub fn policy_name(sim: &ArgMatches) -> Option<PolicyName>
+fn policy_name(sim: &ArgMatches) -> Option<PolicyName>
     ensures { result ≡ policy_in (rows_of (found_of sim.now)) }
 {
     let Some(seed) = long_number(sim, "seed") else {
@@ -169,24 +174,28 @@ pub fn policy_name(sim: &ArgMatches) -> Option<PolicyName>
     }
 }
 
-/// Returns the seeds of a text, for example of `1..1000`, or `None` if it is no such text, or the first is above the
-/// last. It does not allocate.
-fn seeds_of(text: &str) -> Option<SeedRange>
+/// Returns the seeds of a text, for example of `1..1000`. It does not allocate.
+///
+/// # Errors
+///
+/// - `Seeds`: it is no such text.
+/// - `SeedsOrder`: the first is above the last.
+fn seeds_of(text: &str) -> Result<SeedRange, UsageCause>
     ensures { result ≡ seeds_in text.now }
 {
     let Some((first, last)) = text.split_once("..") else {
-        return None;
+        return Err(UsageCause::Seeds);
     };
     let Ok(first) = first.parse() else {
-        return None;
+        return Err(UsageCause::Seeds);
     };
     let Ok(last) = last.parse() else {
-        return None;
+        return Err(UsageCause::Seeds);
     };
     if first <= last {
-        Some(SeedRange { first, last })
+        Ok(SeedRange { first, last })
     } else {
-        None
+        Err(UsageCause::SeedsOrder)
     }
 }
 
@@ -206,7 +215,7 @@ fn flagged_format(traces: bool, lists: bool, shrinks: bool, states: bool) -> Opt
 
 /// Returns what is to be printed of a run. Returns `None` if the arguments ask for two things, or for choices when some
 /// may be repeats, for which there is no word. It does not allocate.
-pub fn format_of(policy: &PolicyName, sim: &ArgMatches) -> Option<OutputKind>
+fn format_of(policy: &PolicyName, sim: &ArgMatches) -> Option<OutputKind>
     ensures { result ≡ printed_in policy.now (rows_of (found_of sim.now)) }
 {
     let Some(repeat) = short_number(sim, "repeat") else {
@@ -224,6 +233,19 @@ pub fn format_of(policy: &PolicyName, sim: &ArgMatches) -> Option<OutputKind>
         shrinks,
         has_flag(sim, "state"),
     )
+}
+
+/// Returns which option is wrong if the arguments don't ask for one thing to be printed. It does not allocate.
+fn format_cause(states: bool, shrinks: bool) -> UsageCause
+    ensures { result ≡ printing_cause states shrinks }
+{
+    if states {
+        UsageCause::State
+    } else if shrinks {
+        UsageCause::Shrink
+    } else {
+        UsageCause::AsChoices
+    }
 }
 
 /// Returns the end that the arguments look for, if they do. It does not allocate.
@@ -249,45 +271,53 @@ fn chance_of(policy: PolicyName) -> Option<Option<Faults>>
 }
 
 /// Returns what is looked for among the runs of many seeds, if an end is given: the trace of such a run is printed, unless
-/// choices are asked for. Returns `None` if the state is asked for, or another format of one run but no end, or a
-/// finished run is to be shrunk. It does not allocate.
-fn search_of(ending: Option<Ending>, format: OutputKind) -> Option<Option<Search>>
+/// choices are asked for. It does not allocate.
+///
+/// # Errors
+///
+/// - `State`: the state is asked for.
+/// - `ShrinkFinished`: a finished run is to be shrunk.
+/// - `OneRun`: another format of one run is asked for, but no end.
+fn search_of(ending: Option<Ending>, format: OutputKind) -> Result<Option<Search>, UsageCause>
     ensures { result ≡ search_by ending format }
 {
     match (ending, format) {
-        (_, OutputKind::State) | (Some(Ending::Finished), OutputKind::Shrunk) => None,
+        (_, OutputKind::State) => Err(UsageCause::State),
+        (Some(Ending::Finished), OutputKind::Shrunk) => Err(UsageCause::ShrinkFinished),
         (Some(ending), OutputKind::Choices | OutputKind::Shrunk) => {
-            Some(Some(Search { ending, format }))
+            Ok(Some(Search { ending, format }))
         }
-        (Some(ending), _) => Some(Some(Search {
+        (Some(ending), _) => Ok(Some(Search {
             ending,
             format: OutputKind::Trace,
         })),
-        (None, OutputKind::Lines) => Some(None),
-        (None, _) => None,
+        (None, OutputKind::Lines) => Ok(None),
+        (None, _) => Err(UsageCause::OneRun),
     }
 }
 
 /// Returns what the command `sim` asks of many seeds: under a policy of chance and, unless an end is looked for, in no
 /// format of one run.
+///
+/// # Errors
+///
+/// 1. `SeedsPolicy`: the policy draws nothing.
+/// 2. Those of `search_of`.
+/// 3. Those of `seeds_of`.
 fn survey_task(
     policy: PolicyName,
     seeds: &str,
     ending: Option<Ending>,
     format: OutputKind,
-) -> Option<SurveyTask>
+) -> Result<SurveyTask, UsageCause>
     ensures { result ≡ survey_by policy seeds.now ending format }
 {
     let Some(faults) = chance_of(policy) else {
-        return None;
+        return Err(UsageCause::SeedsPolicy);
     };
-    let Some(find) = search_of(ending, format) else {
-        return None;
-    };
-    let Some(seeds) = seeds_of(seeds) else {
-        return None;
-    };
-    Some(SurveyTask {
+    let find = search_of(ending, format)?;
+    let seeds = seeds_of(seeds)?;
+    Ok(SurveyTask {
         faults,
         find,
         seeds,
@@ -295,29 +325,33 @@ fn survey_task(
 }
 
 /// Returns the task of the command `sim`.
-fn sim_task<'a>(sim: &ArgMatches<'a>) -> Option<Task<'a>>
+///
+/// # Errors
+///
+/// 1. `Rates`: there are no such faults.
+/// 2. `State`, `Shrink` or `AsChoices`: it is not one thing that is to be printed.
+/// 3. Those of `survey_task`, with `--seeds`.
+/// 4. `Find`: an end is looked for without `--seeds`.
+fn sim_task<'a>(sim: &ArgMatches<'a>) -> Result<Task<'a>, UsageCause>
     ensures { IsTaken (sim_in (rows_of (found_of sim.now))) result }
 {
     let Some(policy) = policy_name(sim) else {
-        return None;
+        return Err(UsageCause::Rates);
     };
     let Some(format) = format_of(&policy, sim) else {
-        return None;
+        return Err(format_cause(has_flag(sim, "state"), has_flag(sim, "shrink")));
     };
     let ending = ending_of(sim);
     if let Some(seeds) = sim.get_str("seeds") {
-        let Some(survey) = survey_task(policy, seeds, ending, format) else {
-            return None;
-        };
-        return Some(Task::Survey(survey));
+        let survey = survey_task(policy, seeds, ending, format)?;
+        return Ok(Task::Survey(survey));
     }
-    let Some(choices) = sim.get_str("choices") else {
-        return None;
-    };
     if ending.is_some() {
-        return None;
+        return Err(UsageCause::Find);
     }
-    Some(Task::Sim {
+    // It has a default, so the parser gives it a text.
+    let choices = sim.get_str("choices").unwrap_or("");
+    Ok(Task::Sim {
         policy,
         choices,
         format,
@@ -335,9 +369,9 @@ fn kind_of(given: &ArgMatches) -> InputKind
     }
 }
 
-/// Returns the task of the command `draw`, or `None` if no line is in its part, whatever the input.
-fn draw_task<'a>(given: &ArgMatches<'a>) -> Option<Task<'a>>
-    ensures { IsTaken (draw_in (rows_of (found_of given.now))) result }
+/// Returns the part that is drawn, or `None` if no line is in it, whatever the input. It does not allocate.
+fn part_of(given: &ArgMatches) -> Option<Part>
+    ensures { result ≡ part_in (rows_of (found_of given.now)) }
 {
     let Some(from) = long_number(given, "from") else {
         return None;
@@ -348,16 +382,27 @@ fn draw_task<'a>(given: &ArgMatches<'a>) -> Option<Task<'a>>
     if from == 0 || from > to {
         return None;
     }
+    Some(Part { from, to })
+}
+
+/// Returns the task of the command `draw`.
+///
+/// # Errors
+///
+/// `Part`: no line is in its part, whatever the input.
+fn draw_task<'a>(given: &ArgMatches<'a>) -> Result<Task<'a>, UsageCause>
+    ensures { IsTaken (draw_in (rows_of (found_of given.now))) result }
+{
+    let Some(part) = part_of(given) else {
+        return Err(UsageCause::Part);
+    };
     let kind = kind_of(given);
-    Some(Task::Draw {
-        kind,
-        part: Part { from, to },
-    })
+    Ok(Task::Draw { kind, part })
 }
 
 /// Returns the task of the command `check`.
 fn check_task<'a>(given: &ArgMatches<'a>) -> Task<'a>
-    ensures { IsTaskFor (Some (check (kind_in (rows_of (found_of given.now))))) result }
+    ensures { IsTaskFor (Ok (check (kind_in (rows_of (found_of given.now))))) result }
 {
     match kind_of(given) {
         InputKind::Trace => Task::Check,
@@ -365,38 +410,52 @@ fn check_task<'a>(given: &ArgMatches<'a>) -> Task<'a>
     }
 }
 
-/// Returns the task of the command `cluster`, or `None` if it is to print both the trace and the books.
-fn cluster_task<'a>(given: &ArgMatches<'a>) -> Option<Task<'a>>
+/// Returns the task of the command `cluster`.
+///
+/// # Errors
+///
+/// `Books`: it is to print both the trace and the books.
+fn cluster_task<'a>(given: &ArgMatches<'a>) -> Result<Task<'a>, UsageCause>
     ensures { IsTaken (cluster_in (rows_of (found_of given.now))) result }
 {
     match (has_flag(given, "trace"), has_flag(given, "books")) {
-        (false, false) => Some(Task::Cluster(ClusterOutput::Lines)),
-        (true, false) => Some(Task::Cluster(ClusterOutput::Trace)),
-        (false, true) => Some(Task::Cluster(ClusterOutput::Books)),
-        (true, true) => None,
+        (false, false) => Ok(Task::Cluster(ClusterOutput::Lines)),
+        (true, false) => Ok(Task::Cluster(ClusterOutput::Trace)),
+        (false, true) => Ok(Task::Cluster(ClusterOutput::Books)),
+        (true, true) => Err(UsageCause::Books),
     }
 }
 
 /// Returns the task of a command with these values.
-fn task_in<'a>(command: &str, given: &ArgMatches<'a>) -> Option<Task<'a>>
+///
+/// # Errors
+///
+/// Those of its command, or `OfNode` or `OfSettle`: the parser takes an argument that is none of `node` or `settle`.
+fn task_in<'a>(command: &str, given: &ArgMatches<'a>) -> Result<Task<'a>, UsageCause>
     ensures { IsTaken (meaning_in command.now (rows_of (found_of given.now))) result }
 {
     match command {
         "answer" => answer_task(given),
         "sim" => sim_task(given),
         "cluster" => cluster_task(given),
-        "check" => Some(check_task(given)),
+        "check" => Ok(check_task(given)),
         "draw" => draw_task(given),
-        _ => None,
+        "node" => Err(UsageCause::OfNode),
+        "settle" => Err(UsageCause::OfSettle),
+        _ => Err(UsageCause::NoCommand),
     }
 }
 
-/// Returns the task of a command line that the parser takes, or `None` if it means nothing.
-fn task_of<'a>(matches: &ArgMatches<'a>) -> Option<Task<'a>>
+/// Returns the task of a command line that the parser takes.
+///
+/// # Errors
+///
+/// The first cause for which it means nothing.
+fn task_of<'a>(matches: &ArgMatches<'a>) -> Result<Task<'a>, UsageCause>
     ensures { IsTaken (meaning_given (subcommand_rows_of matches.now)) result }
 {
     let Some((command, given)) = matches.subcommand() else {
-        return None;
+        return Err(UsageCause::NoCommand);
     };
     task_in(command, given)
 }
@@ -433,23 +492,45 @@ fn asks_for_summary(arguments: &[String]) -> bool {
     false
 }
 
+/// Returns the value that is wrong for this cause, if the cause is the value of one option, and otherwise no text. It does not
+/// allocate.
+fn wrong_value<'a>(matches: &ArgMatches<'a>, cause: UsageCause) -> &'a str {
+    let option = match cause {
+        UsageCause::Node => "node",
+        UsageCause::Nodes => "nodes",
+        UsageCause::Seeds | UsageCause::SeedsOrder => "seeds",
+        _ => return "",
+    };
+    match matches.subcommand() {
+        Some((_, given)) => given.get_str(option).unwrap_or(""),
+        None => "",
+    }
+}
+
 /// Returns the task of the arguments, of which the first is the program's name.
 ///
 /// # Errors
 ///
-/// `Usage`: they ask for nothing. `Memory`: memory ran out.
-pub fn parse<'a>(alloc: Global, arguments: &'a [String]) -> Result<Task<'a>, CommandFault>
-    ensures { MatchResult result (AsksForTask (map string_bytes arguments.now)) (IsFaultOf (map string_bytes arguments.now)) }
+/// `Usage`: they ask for nothing, for this cause. `Memory`: memory ran out.
+pub fn parse<'a>(alloc: Global, arguments: &'a [String]) -> Result<Task<'a>, ArgumentsFault<'a>>
+    ensures { MatchResult result (AsksForTask (map string_bytes arguments.now)) (IsArgumentsFault (map string_bytes arguments.now)) }
 {
     let Ok(parsed) = matches_of(alloc, arguments, asks_for_summary(arguments)) else {
-        return Err(CommandFault::Memory);
+        return Err(ArgumentsFault::Memory);
     };
     match parsed {
         Ok(matches) => match task_of(&matches) {
-            Some(task) => Ok(task),
-            None => Err(CommandFault::Usage),
+            Ok(task) => Ok(task),
+            Err(cause) => Err(ArgumentsFault::Usage(UsageFault::Meaning {
+                cause,
+                value: wrong_value(&matches, cause),
+            })),
         },
-        Err(error) => help_of(alloc, arguments, &error),
+        Err(error) => match help_of(alloc, arguments, &error) {
+            Ok(task) => Ok(task),
+            Err(CommandFault::Usage) => Err(ArgumentsFault::Usage(UsageFault::Parser(error))),
+            Err(CommandFault::Memory) => Err(ArgumentsFault::Memory),
+        },
     }
 }
 
@@ -464,14 +545,14 @@ fn is_help_kind(kind: ErrorKind) -> bool
 ///
 /// # Errors
 ///
-/// Those of `parse`.
+/// `Usage`: it stopped for another cause, or no argument asks for help. `Memory`: memory ran out.
 fn help_of<'a>(
     alloc: Global,
     arguments: &[String],
     error: &ParseError,
 ) -> Result<Task<'a>, CommandFault>
     requires { HasKind (refusals (map string_bytes arguments.now)) error.now }
-    ensures { MatchResult result (AsksForTask (map string_bytes arguments.now)) (IsFaultOf (map string_bytes arguments.now)) }
+    ensures { MatchResult result (AsksForTask (map string_bytes arguments.now)) (IsRefusedBy (map string_bytes arguments.now) error.now) }
 {
     if is_help_kind(error.kind()) {
         if !asks_for_help(arguments) {

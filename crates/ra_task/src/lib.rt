@@ -1,5 +1,4 @@
-//! What the arguments of a command line ask for. If they ask for nothing, what is wrong with them. Also what the user
-//! is told of arguments alone: which options have no effect, and what a command waits for.
+//! What the arguments of a command line ask for, or the first cause for which they ask for nothing.
 #![tactic(auto)]
 
 mod argument_text;
@@ -8,22 +7,19 @@ mod command;
 mod command_line;
 mod laws;
 mod lone_command;
-mod notice;
 mod policy;
 mod settle_arguments;
-mod unused_options;
-mod waiting;
+mod usage_fault;
 
 pub use argument_text::text_of;
 pub use cluster_output::ClusterOutput;
-pub use command::{Command, command_of};
+pub use command::{Command, CommandLine, command_of, read_command_line};
+pub use command_line::command_rows::command_named;
 pub use command_line::input_kind::InputKind;
+pub use command_line::option_rows::{DEFAULT_POLICY, OptionRow, sim_options, values_of};
 pub use command_line::search::{Search, SurveyTask};
-pub use command_line::usage::usage_note;
 pub use command_line::{CommandFault, PolicyName, Task};
 pub use laws::{arguments_ask_for_one_command, surveyed_seeds_are_in_order};
-pub use notice::{NO_MEMORY, Notice, write_line};
-pub use policy::{is_choice, policy_of};
+pub use policy::policy_of;
 pub use settle_arguments::{SettleOutput, SettleTask};
-pub use unused_options::write_unused_options;
-pub use waiting::write_waiting_note;
+pub use usage_fault::{UsageCause, UsageFault};

@@ -28,8 +28,3 @@ pub fn policy_of(alloc: Global, name: PolicyName, choices: &str) -> Result<Polic
         PolicyName::Listed => Policy::Listed(choices),
     })
 }
-
-/// Returns whether an argument is a choice.
-pub fn is_choice(alloc: Global, argument: &str) -> bool {
-    !argument.is_empty() && read_choices(alloc, argument).is_ok()
-}

@@ -1,13 +1,14 @@
 //! The notes on a run that was shrunk: by how much, and what is left to do in the shorter run, whose choices were printed.
 use crate::input_places::policy_by;
 use crate::note_texts::UNEXPLAINED;
+use crate::notice::write_line;
 use crate::run_notes::unfinished::push_run;
 use crate::script_notes::script_text::{run_of, script_in};
 use ra_explain::push_number_in;
 use ra_schedule::{DriveError, Policy, Script, Shrunk, shrink};
 use ra_script::MAX_TURNS;
 use ra_stamp::Memory;
-use ra_task::{Command, write_line};
+use ra_task::Command;
 use ra_text::Note;
 use std::alloc::Global;
 use std::io::Write;

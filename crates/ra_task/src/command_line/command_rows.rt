@@ -27,8 +27,8 @@ pub enum CommandKind {
 
 /// A command, its name, and what its help says first.
 #[derive(Clone, Copy)]
-struct CommandRow<'a> {
-    kind: CommandKind,
+pub struct CommandRow<'a> {
+    pub kind: CommandKind,
     name: &'a str,
     about: &'a str,
 }
@@ -86,7 +86,7 @@ pub fn command_named(arguments: &[String]) -> Option<&str> {
 }
 
 /// Returns the commands, in the order of help.
-fn all_rows() -> &'static [CommandRow<'static>]
+pub fn all_rows() -> &'static [CommandRow<'static>]
     ensures { map label_of_row result.now ≡ all_labels }
 {
     COMMANDS

@@ -3,7 +3,7 @@ ghost use Rattle.std.specs.Prelude.{◌≡◌, map, false};
 ghost use Rattle.clap.specs.Words.{rule_of};
 ghost use Rattle.ra_task.specs.OptionTable.{AreOfCommand, rule_of_row};
 
-use crate::command_line::command_rows::CommandKind;
+use crate::command_line::command_rows::{CommandKind, all_rows};
 use clap::builder::ValueParser;
 use clap::{Arg, ArgAction};
 use std::alloc::Global;
@@ -17,8 +17,8 @@ pub const DEFAULT_POLICY: &str = "oldest";
 /// The words for the ends of runs.
 const ENDINGS: &[&str] = &["finished", "stuck"];
 
-/// An option of a command: its names and help, what it takes, whether it is required, and its default, which help may
-/// leave out.
+/// An option of a command: its names and help, what it takes, whether it is required, its default, which help may leave
+/// out, and what notes say of it.
 #[derive(Clone, Copy)]
 pub struct OptionRow<'a> {
     name: &'a str,
@@ -29,6 +29,12 @@ pub struct OptionRow<'a> {
     is_required: bool,
     defaults: &'a [&'a str],
     hides_default: bool,
+    /// Which values it takes, as a note says it after 'must be'. Only a flag has no such text.
+    values: &'a str,
+    /// The policies under which it has an effect, or none if it has one under all.
+    policies: &'a [&'a str],
+    /// What a note says if it has no effect.
+    unused: &'a str,
 }
 
 /// An option that takes nothing.
@@ -41,6 +47,9 @@ const FLAG: OptionRow = OptionRow {
     is_required: false,
     defaults: &[],
     hides_default: false,
+    values: "",
+    policies: &[],
+    unused: "",
 };
 
 /// An option that takes a text.
@@ -77,12 +86,14 @@ const ANSWER_OPTIONS: &[OptionRow] = &[
         name: "node",
         help: "Answer as this node, 1 to the value of --nodes",
         is_required: true,
+        values: "1 to the value of --nodes",
         ..SHORT
     },
     OptionRow {
         name: "nodes",
         help: "Set the number of nodes, 1 to 64",
         is_required: true,
+        values: "1 to 64",
         ..SHORT
     },
     HELP,
@@ -95,24 +106,34 @@ const SIM_OPTIONS: &[OptionRow] = &[
         help: "Choose each step by this policy",
         parser: ValueParser::Names(POLICIES),
         defaults: &[DEFAULT_POLICY],
+        values: "oldest, newest, seeded, faulty or listed",
         ..TEXT
     },
     OptionRow {
         name: "seed",
         help: "Set the random seed, 0 to 2^64 - 1",
         defaults: &["0"],
+        values: "0 to 18446744073709551615",
+        policies: &["seeded", "faulty"],
+        unused: "--seed is ignored: only --policy seeded and faulty use it",
         ..LONG
     },
     OptionRow {
         name: "lose",
         help: "Lose 0 to 1000 of 1000 messages",
         defaults: &["0"],
+        values: "0 to 1000, of 1000 messages",
+        policies: &["faulty"],
+        unused: "--lose is ignored: only --policy faulty uses it",
         ..SHORT
     },
     OptionRow {
         name: "repeat",
         help: "Repeat 0 to 400 of 1000 messages",
         defaults: &["0"],
+        values: "0 to 400, of 1000 messages",
+        policies: &["faulty"],
+        unused: "--repeat is ignored: only --policy faulty uses it",
         ..SHORT
     },
     OptionRow {
@@ -120,17 +141,22 @@ const SIM_OPTIONS: &[OptionRow] = &[
         help: "Make these choices, under listed [default: none]",
         defaults: &[""],
         hides_default: true,
+        values: "choices with one space between them, each c, m or l and a number of 1 to 9 digits without leading zeros",
+        policies: &["listed"],
+        unused: "--choices is ignored: only --policy listed uses it",
         ..TEXT
     },
     OptionRow {
         name: "seeds",
         help: "Survey the seeds of a range, such as 1..1000",
+        values: "A..B, such as 1..1000, with two numbers from 0 to 18446744073709551615",
         ..TEXT
     },
     OptionRow {
         name: "find",
         help: "With --seeds, trace the first finished or stuck run",
         parser: ValueParser::Names(ENDINGS),
+        values: "finished or stuck",
         ..TEXT
     },
     OptionRow {
@@ -207,6 +233,7 @@ const DRAW_OPTIONS: &[OptionRow] = &[
         name: "from",
         help: "Draw from this line on, counted from 1",
         defaults: &["1"],
+        values: "the number of a line, 1 or more",
         ..LONG
     },
     OptionRow {
@@ -214,6 +241,7 @@ const DRAW_OPTIONS: &[OptionRow] = &[
         help: "Draw up to and including this line [default: the last]",
         defaults: &["18446744073709551615"],
         hides_default: true,
+        values: "the number of a line, at least that of --from",
         ..LONG
     },
     HELP,
@@ -235,6 +263,44 @@ pub fn options_of(kind: CommandKind) -> &'static [OptionRow<'static>]
         CommandKind::Settle => SETTLE_OPTIONS,
         CommandKind::Node => NODE_OPTIONS,
     }
+}
+
+impl<'a> OptionRow<'a> {
+    /// Returns the name of the option, without its hyphens. It does not allocate.
+    pub fn name(&self) -> &'a str {
+        self.name
+    }
+
+    /// Returns what there is to say of the option if it is given and has no effect under this policy, or `None` if it has one. It
+    /// does not allocate.
+    pub fn unused_under(&self, policy: &str) -> Option<&'a str> {
+        if self.policies.is_empty() || self.policies.contains(&policy) {
+            None
+        } else {
+            Some(self.unused)
+        }
+    }
+}
+
+/// Returns the options of the command `sim`, in the order of help. It does not allocate.
+pub fn sim_options() -> &'static [OptionRow<'static>] {
+    SIM_OPTIONS
+}
+
+/// Returns which values the option takes that an argument names, or `None` if it names none that takes a value. No two
+/// commands have an option of one name that takes other values. It does not allocate.
+pub fn values_of(argument: &str) -> Option<&'static str> {
+    let Some(name) = argument.strip_prefix("--") else {
+        return None;
+    };
+    for row in all_rows() {
+        for option in options_of(row.kind) {
+            if option.name == name && !option.values.is_empty() {
+                return Some(option.values);
+            }
+        }
+    }
+    None
 }
 
 /// Makes an option. If it takes one of several words, the text below the options lists them, and its own help leaves

@@ -7,14 +7,14 @@ returns g c =
       | in-Task-Cluster w ↦
           let is = rw w.in-Task-Cluster.is at w.in-Task-Cluster.field-0-is in
           rw (w.reader-is, w.writer-is, w.outcome-is) (record {
-            asked = c.command_of-asked.result;
-            asks = c.command_of-asked.ensures;
+            asked = c.read_command_line-line.result.asked;
+            asks = c.read_command_line-line.ensures.asks;
             does = rw w.in-Task-Cluster.is (rw is w.run_by_threads-outcome.ensures);
             unread = rw w.in-Task-Cluster.is (rw is (λ nothing. absurd nothing));
           })
       | in_default w ↦ rw (w.reader-is, w.writer-is, w.outcome-is) (record {
-        asked = c.command_of-asked.result;
-        asks = c.command_of-asked.ensures;
+        asked = c.read_command_line-line.result.asked;
+        asks = c.read_command_line-line.ensures.asks;
         does = w.do_alone-outcome.ensures.does;
         unread = w.do_alone-outcome.ensures.unread;
       })

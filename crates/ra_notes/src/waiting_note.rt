@@ -1,8 +1,6 @@
 //! What the user at a terminal is told that a command waits for.
-use crate::command::Command;
-use crate::command_line::Task;
-use crate::command_line::input_kind::InputKind;
 use crate::notice::write_line;
+use ra_task::{Command, InputKind, Task};
 use std::io::Write;
 
 /// Tells the user at a terminal what the command waits for, and how it is given, if it reads something. It does not

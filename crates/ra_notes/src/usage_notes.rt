@@ -1,0 +1,207 @@
+//! What is said of arguments that are not a command line, on one line.
+use crate::notice::Notice;
+use clap::Error as ParseError;
+use clap::error::ErrorKind;
+use ra_schedule::read_choices;
+use ra_task::{UsageCause, UsageFault, command_named, text_of, values_of};
+use ra_text::Note;
+use std::alloc::Global;
+
+/// Returns the option that takes a value and is followed by an argument that the parser takes for an option, though it is
+/// none, such as a negative number, and that argument, or `None`.
+fn no_option_in(arguments: &[String]) -> Option<(&str, &str)> {
+    for place in 2..arguments.len() {
+        let next = arguments[place].as_str();
+        if let [b'-', letter, ..] = next.as_bytes()
+            && !matches!(letter, b'-' | b'h' | b'V')
+        {
+            let option = arguments[place - 1].as_str();
+            if values_of(option).is_some() {
+                return Some((option, next));
+            }
+        }
+    }
+    None
+}
+
+/// Returns what comes before the first occurrence of a mark in a text, and what follows it, or `None`. A call of it is
+/// cheaper to prove than one of `split_once`, which promises more.
+fn cut_at<'a>(text: &'a str, mark: &str) -> Option<(&'a str, &'a str)> {
+    text.split_once(mark)
+}
+
+/// Returns what the parser says between two marks, and what follows the second, or `None`.
+fn between<'a>(said: &'a str, first: &str, second: &str) -> Option<(&'a str, &'a str)> {
+    match cut_at(said, first) {
+        Some((_, rest)) => cut_at(rest, second),
+        None => None,
+    }
+}
+
+/// Returns the option of which the parser says that its number is wrong, and that number, or `None`. It says why after
+/// a colon, and otherwise lists the words that an option takes, and the nearest one.
+fn wrong_number_in(said: &str) -> Option<(&str, &str)> {
+    let Some((value, rest)) = between(said, "invalid value '", "' for '") else {
+        return None;
+    };
+    let Some((option, after)) = cut_at(rest, " <") else {
+        return None;
+    };
+    if cut_at(after, ">': ").is_some() {
+        Some((option, value))
+    } else {
+        None
+    }
+}
+
+/// Adds the value of an option, and which ones it takes.
+fn push_range(note: &mut Note, option: &str, value: &str) {
+    note.push(option);
+    note.push(" is ");
+    note.quoted_text(value);
+    note.push(": must be ");
+    note.push(values_of(option).unwrap_or(""));
+}
+
+/// Adds which values an option takes if a wrong one is given, and returns whether one is.
+fn push_value(note: &mut Note, arguments: &[String], said: &str) -> bool {
+    let wrong = match no_option_in(arguments) {
+        Some(wrong) => Some(wrong),
+        None => wrong_number_in(said),
+    };
+    let Some((option, value)) = wrong else {
+        return false;
+    };
+    if values_of(option).is_none() {
+        return false;
+    }
+    push_range(note, option, value);
+    true
+}
+
+/// Adds what the parser says, without the lines of the usage and what follows them: a tip after a semicolon, and any
+/// other line after a space.
+fn push_said(note: &mut Note, said: &str) {
+    let said = said.strip_prefix("error: ").unwrap_or(said);
+    for line in said.lines() {
+        if line.starts_with("Usage:") || line.starts_with("For more information") {
+            return;
+        }
+        let line = line.trim();
+        let (joint, shown) = match line.strip_prefix("tip: ") {
+            Some(tip) => ("; ", tip),
+            None if note.is_empty() || line.is_empty() => ("", line),
+            None => (" ", line),
+        };
+        note.push(joint);
+        note.shown(shown);
+    }
+}
+
+/// Adds where to read more.
+fn push_see(note: &mut Note, arguments: &[String]) {
+    note.push("; see ra ");
+    if let Some(name) = command_named(arguments) {
+        note.push(name);
+        note.push(" ");
+    }
+    note.push("--help");
+}
+
+/// Returns whether an argument is a choice.
+pub fn is_choice(alloc: Global, argument: &str) -> bool {
+    !argument.is_empty() && read_choices(alloc, argument).is_ok()
+}
+
+/// Adds what the parser says, or which numbers an option takes, and what an unexpected argument may be that is not an
+/// option: one of the choices, which are one argument, or a file.
+fn push_parsed(alloc: Global, note: &mut Note, arguments: &[String], said: &str) {
+    if push_value(note, arguments, said) {
+        return;
+    }
+    push_said(note, said);
+    let Some(name) = command_named(arguments) else {
+        return;
+    };
+    let Some((argument, _)) = between(said, "unexpected argument '", "' found") else {
+        return;
+    };
+    if argument.starts_with('-') {
+        return;
+    }
+    if text_of(arguments, "--choices").is_some() && is_choice(alloc, argument) {
+        note.push("; all choices are one argument: quote them, as in --choices \"c1 m0\"");
+    } else {
+        note.push("; to read a file, run ra ");
+        note.push(name);
+        note.push(" < ");
+        note.shown(argument);
+    }
+}
+
+/// Adds what the parser says about the arguments with its error. It stops for help, for which no argument asks, only at one
+/// that has `-h` or `-V` among others.
+fn push_error(alloc: Global, note: &mut Note, arguments: &[String], error: &ParseError) {
+    if matches!(
+        error.kind(),
+        ErrorKind::DisplayHelp | ErrorKind::DisplayVersion
+    ) {
+        note.push(cause_text(UsageCause::NoCommand));
+        return;
+    }
+    match format!(in alloc; "{error}") {
+        Ok(said) => push_parsed(alloc, note, arguments, said.as_str()),
+        Err(_) => note.refuse_if(true),
+    }
+}
+
+/// Returns what is said of a cause that is not the value of one option.
+fn cause_text(cause: UsageCause) -> &'static str {
+    match cause {
+        UsageCause::NoCommand => "-h and -V must be arguments of their own",
+        UsageCause::Rates =>
+            "--repeat must be at most 400, and --lose and --repeat together at most 1000",
+        UsageCause::State =>
+            "--state cannot be used with --trace, --as-choices, --shrink or --seeds",
+        UsageCause::Shrink =>
+            "--shrink cannot be used with --trace, --as-choices or --state, nor with --policy faulty unless --repeat is 0",
+        UsageCause::AsChoices =>
+            "--as-choices cannot be used with --trace, nor with --policy faulty unless --repeat is 0",
+        UsageCause::Find => "--find requires --seeds",
+        UsageCause::SeedsPolicy => "--seeds requires --policy seeded or faulty",
+        UsageCause::OneRun => "--seeds takes --trace, --as-choices or --shrink only with --find",
+        UsageCause::ShrinkFinished => "--shrink cannot be used with --find finished",
+        UsageCause::Part => "--from must be at least 1, and at most --to",
+        UsageCause::Books => "--books cannot be used with --trace",
+        UsageCause::OfNode => "node takes no arguments",
+        UsageCause::OfSettle => "settle takes no arguments but --repeats and --trace",
+        UsageCause::Node | UsageCause::Nodes | UsageCause::Seeds | UsageCause::SeedsOrder => "",
+    }
+}
+
+/// Adds why arguments that the parser takes mean nothing, with the value that is wrong, if the cause is that of one option.
+fn push_cause(note: &mut Note, cause: UsageCause, value: &str) {
+    match cause {
+        UsageCause::Node => push_range(note, "--node", value),
+        UsageCause::Nodes => push_range(note, "--nodes", value),
+        UsageCause::Seeds => push_range(note, "--seeds", value),
+        UsageCause::SeedsOrder => {
+            note.push("--seeds is ");
+            note.quoted_text(value);
+            note.push(": the first seed is above the last");
+        }
+        _ => note.push(cause_text(cause)),
+    }
+}
+
+/// Returns what there is to say about arguments that are not a command line of `ra`: what is wrong, the nearest word if
+/// the parser knows one, and where to read more.
+pub fn usage_note(alloc: Global, arguments: &[String], fault: &UsageFault<'_>) -> Notice {
+    let mut note = Note::new(alloc);
+    match *fault {
+        UsageFault::Parser(ref error) => push_error(alloc, &mut note, arguments, error),
+        UsageFault::Meaning { cause, value } => push_cause(&mut note, cause, value),
+    }
+    push_see(&mut note, arguments);
+    Notice::of(note)
+}
