@@ -5,7 +5,7 @@ use Rattle.std.proofs.Math.Bool.{or-true}
 use Rattle.std.proofs.lemmas.Bool.{cases_Bool, and_parts, le-leb, leb-true, eqb-true}
 use Rattle.std.proofs.lemmas.Bool.Decides.{nat_tests}
 use Rattle.std.proofs.lemmas.Grind.{pow_more}
-use Rattle.std.proofs.lemmas.List.{append-nil, drop_all, at_drop_more}
+use Rattle.std.proofs.lemmas.List.{append-nil, drop_all, at_drop_more, take_more}
 use Rattle.std.proofs.lemmas.List.Sums.{fold_more}
 use Rattle.std.specs.Char.{is_ascii_digit}
 use Rattle.std.specs.List.{list_all, slice_split}
@@ -93,6 +93,24 @@ pub IsChosenTo-refused : (words : List (List ℕ)) (place : ℕ) (done : List Ch
     → IsChosenTo words place done → choices_in words ≡ None
 IsChosenTo-refused words place done word lt is unread h =
     let step = at_drop_more choices_in words place word lt in rw (h.same, step, sym is, unread)
+
+-- one more word that is a choice
+one_word_more : (words : List (List ℕ)) (done : List Choice) (word : List ℕ) (x : Choice) → choices_in words ≡ Some done → choice_of word ≡ Some x
+    → choices_in (words ++ word ∷ []) ≡ Some (done ++ x ∷ [])
+one_word_more [] done word x before is = let none : [] ≡ done = cc in rw (is, ← none) refl
+one_word_more (w ∷ words) done word x before is = go (choice_of w) refl (choices_in words) refl (λ cs f. one_word_more words cs word x f is)
+  where
+    go : (first : Option Choice) → choice_of w ≡ first → (rest : Option (List Choice)) → choices_in words ≡ rest
+        → ((cs : List Choice) → choices_in words ≡ Some cs → choices_in (words ++ word ∷ []) ≡ Some (cs ++ x ∷ [])) → choices_in ((w ∷ words) ++ word ∷ []) ≡ Some (done ++ x ∷ [])
+    go None e rest f more = let clash = rw e at before in cc
+    go (Some c) e None f more = let clash = rw (e, f) at before in cc
+    go (Some c) e (Some cs) f more =
+        let both = rw (e, f) at before in let same : c ∷ cs ≡ done = cc in rw (e, more cs f, ← same) refl
+
+pub one_choice_more : (words : List (List ℕ)) (place : ℕ) (done : List Choice) (word : List ℕ) (x : Choice) → place < length words → word ≡ get_or words place word → choice_of word ≡ Some x
+    → choices_in (take place words) ≡ Some done → choices_in (take (place + 1) words) ≡ Some (done ++ x ∷ [])
+one_choice_more words place done word x lt at is before =
+    ap choices_in (take_more words place word lt ∙ ap (λ (w : List ℕ). take place words ++ w ∷ []) (sym at)) ∙ one_word_more (take place words) done word x before is
 
 -- a text with some bytes is the words between its spaces
 pub choices_of-some : (text : List ℕ) → 0 < length text → choices_of text ≡ choices_in (slice_split (λ b. b == 32) text)

@@ -1,5 +1,5 @@
 -- How lists of choices are written.
-use Rattle.std.specs.Prelude.{◌≡◌, ◌<◌, ◌^◌, All, ℕ, ◌+◌, ◌*◌, ◌-◌, nat_le, ◌==◌, ◌&&◌, ◌||◌, Bool, not, List, [], ◌∷◌, length, slice_index, Option, Some, None, if◌then◌else◌, option_map, option_and_then, fold, map}
+use Rattle.std.specs.Prelude.{◌≡◌, ◌<◌, ◌≤◌, ◌^◌, All, ℕ, ◌+◌, ◌*◌, ◌-◌, nat_le, ◌==◌, ◌&&◌, ◌||◌, Bool, not, List, [], ◌∷◌, length, slice_index, Option, Some, None, if◌then◌else◌, option_map, option_and_then, fold, map, take}
 use Rattle.std.specs.Char.{is_ascii_digit}
 use Rattle.std.specs.Fmt.{decimal}
 use Rattle.std.specs.List.{list_all, slice_split, join_with_byte}
@@ -43,6 +43,13 @@ choices_in (word ∷ words) = option_and_then (λ choice. option_map (λ choices
 abbrev pub choices_of : List ℕ → Option (List Choice)
 choices_of [] = Some []
 choices_of (byte ∷ bytes) = choices_in (slice_split (λ b. b == 32) (byte ∷ bytes))
+
+-- a front of the text's words, with at least one of them, in which each spells a choice
+pub record HasChoicesFirst (text : List ℕ) : Type 0 where
+  pub count : ℕ
+  pub some : 1 ≤ count
+  pub front : List Choice
+  pub read : choices_in (take count (slice_split (λ b. b == 32) text)) ≡ Some front
 
 -- a choice as it is written; a repeat has no text
 abbrev pub spelled : Choice → List ℕ

@@ -2,7 +2,7 @@
 ghost use Rattle.std.specs.Prelude.{◌≡◌, ◌⊎◌, List, [], Some, None, OnOk, IfOk, IfErr, MatchResult};
 ghost use Rattle.ra_schedule.specs.declared.choice.Choice.{Choice};
 ghost use Rattle.ra_schedule.specs.ChoicesText as spec;
-ghost use Rattle.ra_schedule.specs.ChoicesText.{Lists};
+ghost use Rattle.ra_schedule.specs.ChoicesText.{HasChoicesFirst, Lists};
 
 use crate::choice::MAX_DIGITS;
 use crate::{Choice, Choices, ChoicesError};
@@ -52,12 +52,13 @@ fn choice_of(word: &[u8]) -> Option<Choice>
 ///
 /// # Errors
 ///
-/// `Choice`: a word of it is no choice. `Memory`, which may come before it.
+/// `Choice`: a word of it is no choice. `Memory`, which may come before it once a word is one.
 fn push_choices(choices: &mut Choices, text: &str) -> Result<(), ChoicesError>
     requires empty { choices.old.items ≡ [] }
     ensures ok { OnOk result (spec.choices_of text.now ≡ Some choices.new.items) }
     ensures err { IfErr result (λ fault. ((fault ≡ ChoicesError.Choice) × (spec.choices_of text.now ≡ None))
         ⊎ (fault ≡ ChoicesError.Memory)) }
+    ensures memory { IfErr result (λ fault. fault ≡ ChoicesError.Memory → HasChoicesFirst text.now) }
 {
     if text.is_empty() {
         return Ok(());
@@ -80,11 +81,15 @@ fn push_choices(choices: &mut Choices, text: &str) -> Result<(), ChoicesError>
 /// The first that holds:
 ///
 /// 1. `Choice`: a word is not one of these.
-/// 2. `Memory`, which may come before it.
+/// 2. `Memory`, which may come before it, but only after a word that is one. So if the first word is not a choice, or the
+///    text is empty, it does not come.
 pub fn read_choices(alloc: Global, text: &str) -> Result<Choices, ChoicesError>
     ensures ok { IfOk result (λ choices. spec.choices_of text.now ≡ Some choices.items) }
     ensures refused { IfErr result (λ fault. ((fault ≡ ChoicesError.Choice) × (spec.choices_of text.now ≡ None))
         ⊎ (fault ≡ ChoicesError.Memory)) }
+
+    // Memory runs out only for a choice, so the words up to it are choices.
+    ensures memory { IfErr result (λ fault. fault ≡ ChoicesError.Memory → HasChoicesFirst text.now) }
 
     // It is read as choices only if it is how they are written, and if it is, only `Memory` can come.
     ensures lists { IfOk result (λ choices. Lists text.now choices.items) }

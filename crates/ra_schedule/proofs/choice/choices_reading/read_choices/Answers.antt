@@ -7,6 +7,10 @@ pub returns-in_err-push_choices-clause-refused : goal.returns-in_err-push_choice
 returns-in_err-push_choices-clause-refused c =
     let p = err_from_is_err_and c.from_residual.result c.from_residual.ensures.1 in rw (p.1, p.2) c.in_err-push_choices.ensures.err
 
+pub returns-in_err-push_choices-clause-memory : goal.returns-in_err-push_choices-clause-memory
+returns-in_err-push_choices-clause-memory c =
+    let p = err_from_is_err_and c.from_residual.result c.from_residual.ensures.1 in rw (p.1, p.2) c.in_err-push_choices.ensures.memory
+
 pub returns-in_err-push_choices-clause-only : goal.returns-in_err-push_choices-clause-only
 returns-in_err-push_choices-clause-only c =
     let p = err_from_is_err_and c.from_residual.result c.from_residual.ensures.1 in
