@@ -14,7 +14,7 @@ use Rattle.ra_history.specs.declared.settle_books.settled.Settled.{Settled}
 use Rattle.ra_history.specs.declared.book.stop.Stop.{Stop}
 use Rattle.ra_history.specs.Book.{BookState, HasHistory}
 use Rattle.ra_cluster.specs.Plan.{MeetsPlan, IsQuietEnd, locks_of}
-use Rattle.ra_history.specs.Settled.{IsCluster, IsSettledOrder, IsSettledRun, Placed, IsGranted, BooksFit, settled_steps}
+use Rattle.ra_history.specs.Settled.{IsCluster, IsSettledOrder, IsSettledRun, Placed, IsGranted, BooksFit, HasUnsent, settled_steps}
 
 -- the first fault, or the other one if the first does not exist
 abbrev pub fault_or : Option Stop → Option Stop → Option Stop
@@ -81,7 +81,7 @@ abbrev pub IsReported : ScriptState → List BookState → List Grant → Cluste
 IsReported script books grants fault = (settled : Settled) × IsOutcome script books grants settled × RefusesReport script settled.report fault
 
 -- Why a script was not brought to its end, if no book has a fault. Memory may run out only after the books were found
--- to be those of the script's nodes.
+-- to be those of the script's nodes, and each frame that came to have been sent.
 abbrev pub RefusesSound : ScriptState → List BookState → List Grant → ClusterError → Type 0
 RefusesSound script books grants OutOfOrder = ⊥
 RefusesSound script books grants Unreleased = ⊥
@@ -90,7 +90,7 @@ RefusesSound script books grants Settle = AreOf script books → AreSound books 
 RefusesSound script books grants PlanUnmet = IsReported script books grants PlanUnmet
 RefusesSound script books grants Lost = IsReported script books grants Lost
 RefusesSound script books grants UnderWay = IsReported script books grants UnderWay
-RefusesSound script books grants Memory = AreOf script books
+RefusesSound script books grants Memory = AreOf script books × (HasUnsent books → ⊥)
 
 -- a script was brought to its end: what is promised of the run and its report
 pub record IsDone (script : ScriptState) (settled : Settled) : Type 0 where

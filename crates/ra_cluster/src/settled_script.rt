@@ -17,7 +17,7 @@ use std::alloc::Global;
 ///
 /// # Errors
 ///
-/// The first that holds, except that `Memory` may come before any but the first two:
+/// The first that holds, except that `Memory` may come before 3 to 6. It does not come if a frame came that was not sent:
 ///
 /// 1. `Fault`: a node was stopped, with the cause in the first such book.
 /// 2. `Settle`: the books are not those of the script's nodes, in order, with numbers that begin at 0.

@@ -8,7 +8,7 @@ returns-then-not-are_of c = λ are sound. never (c.are_of.ensures.1 are) c.if-no
 pub returns-in-Err : goal.returns-in-Err
 returns-in-Err c =
     unsettled c.args.script.now c.args.books.now c.args.grants.now c.in-Err.refused c.refusal_of.result (c.are_of.ensures.0 c.if-not-are_of.false) c.refusal_of.ensures
-    c.in-Err.ensures.not_sent c.in-Err.ensures.twice c.in-Err.ensures.missing c.in-Err.ensures.grant_twice
+    c.in-Err.ensures.not_sent c.in-Err.ensures.twice c.in-Err.ensures.missing c.in-Err.ensures.grant_twice c.in-Err.ensures.memory
 
 pub returns-in_err-check_report : goal.returns-in_err-check_report
 returns-in_err-check_report c =
