@@ -109,3 +109,8 @@ unread repeats text (fault.Invalid number cause.Books) u = u
 unread repeats text (fault.Invalid number cause.Refused) u = u
 unread repeats text (fault.Invalid number cause.NotSent) u = u
 unread repeats text (fault.Invalid number cause.Twice) u = absurd (false≢true (sym u.5))
+
+pub unread_by : {T : Type 0} (P : T → Type 0) (repeats : Bool) (text : List ℕ) (why : SettleTextError) → IsUnsettled true text why → (r : Result T SettleTextError)
+    → IsErrAnd r (λ x. x ≡ why) → MatchResult r P (IsUnsettled repeats text)
+unread_by P repeats text why u (Ok v) h = absurd h
+unread_by P repeats text why u (Err x) h = subst (IsUnsettled repeats text) (sym h) (unread repeats text why u)

@@ -20,7 +20,7 @@ use Rattle.ra_book.specs.declared.answering.line_refusal.Refusal.{Refusal}
 use Rattle.ra_book.specs.declared.answering.line_refusal.Refusal.TheVariants as refusal
 use Rattle.ra_book.specs.BookText.{IsEvent, IsUnread}
 use Rattle.ra_book.specs.Input.{HasNoFeed}
-use Rattle.ra_book.specs.Timed.{Refuses, Takes, Timed}
+use Rattle.ra_history.specs.Timed.{Refuses, Takes, Timed}
 use Rattle.ra_book.specs.Answers.{Accepts, Answered, AnswersEach, AreSends, Denies, event_word, kept_of, lines_of, refused_line, text_of, word_of}
 use Rattle.ra_book.specs.Answers.Answered.{Accepted, Refused}
 use Rattle.ra_book.specs.Laws.{IsCutShort}

@@ -9,7 +9,7 @@ use Rattle.std.proofs.KnownBytes.{Consumes-nil, Consumes-trans}
 use Rattle.ra_book.specs.declared.error.BookFault.{BookFault}
 use Rattle.ra_book.specs.declared.error.BookFault.TheVariants.{Line, Read, Write}
 use Rattle.ra_book.specs.declared.answering.line_refusal.Refusal.TheVariants as refusal
-use Rattle.ra_book.specs.Timed.{Timed, opening}
+use Rattle.ra_history.specs.Timed.{Timed, opening}
 use Rattle.ra_book.specs.Answers.{Answered, Answers, AnswersAll, AnswersEach, answer_of, line_of, lines_of, refused_line, text_of}
 use Rattle.ra_book.specs.Answers.Answered.{Accepted, Refused}
 use Rattle.ra_book.specs.declared.next_line.kept_line.KeptLine.{KeptLine}

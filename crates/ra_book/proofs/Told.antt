@@ -20,7 +20,7 @@ use Rattle.ra_book.specs.declared.answering.line_refusal.Refusal.TheVariants as 
 use Rattle.ra_book.specs.BookText.{Form, HasForm, IsEvent, IsFrameOf, IsUnread}
 use Rattle.ra_book.specs.BookText.Form.{Ask, Release, Receive}
 use Rattle.ra_book.specs.Answers.{AreSends, Accepts, send_line}
-use Rattle.ra_book.specs.Timed.{Timed}
+use Rattle.ra_history.specs.Timed.{Timed}
 use Rattle.ra_book.proofs.Forms.{ask_once, release_once, receive_once, ask_no_release, ask_no_receive, release_no_receive}
 
 abbrev pub OneFrame : Type 0

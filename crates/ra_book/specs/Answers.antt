@@ -18,7 +18,7 @@ use Rattle.ra_history.specs.declared.error.BookError.TheVariants as error
 use Rattle.ra_book.specs.declared.answering.line_refusal.Refusal.{Refusal}
 use Rattle.ra_book.specs.declared.answering.line_refusal.Refusal.TheVariants as refusal
 use Rattle.ra_book.specs.BookText.{IsEvent, IsUnread}
-use Rattle.ra_book.specs.Timed.{Timed, Takes, Refuses}
+use Rattle.ra_history.specs.Timed.{Timed, Takes, Refuses}
 
 -- the word of why an event is refused
 abbrev pub event_word : BookError → List ℕ

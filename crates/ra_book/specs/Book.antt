@@ -5,7 +5,7 @@ use Rattle.ra_book.specs.declared.error.BookFault.{BookFault}
 use Rattle.ra_book.specs.declared.error.BookFault.TheVariants.{Line, Read, Write}
 use Rattle.ra_book.specs.declared.answering.line_refusal.Refusal.TheVariants as refusal
 use Rattle.ra_book.specs.BookText.{IsFirst}
-use Rattle.ra_book.specs.Timed.{Timed, opening}
+use Rattle.ra_history.specs.Timed.{Timed, opening}
 use Rattle.ra_book.specs.Answers.{AnswersAll, refused_line}
 use Rattle.ra_book.specs.Input.{HasNoFeed}
 

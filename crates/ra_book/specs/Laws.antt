@@ -14,7 +14,7 @@ use Rattle.ra_history.specs.History.{Posting, clock_of}
 use Rattle.ra_history.specs.declared.error.BookError.TheVariants as error
 use Rattle.ra_book.specs.declared.answering.line_refusal.Refusal.TheVariants as refusal
 use Rattle.ra_book.specs.BookText.{IsEvent, IsFirst}
-use Rattle.ra_book.specs.Timed.{Timed, opening}
+use Rattle.ra_history.specs.Timed.{Timed, opening}
 use Rattle.ra_book.specs.Answers.{Answered, AnswersEach, IsPosted, kept_of, lines_of, refused_line, send_line, text_of}
 use Rattle.ra_book.specs.Answers.Answered.{Accepted, Refused}
 use Rattle.ra_book.specs.Texts.{IsRead, Says, said_by}

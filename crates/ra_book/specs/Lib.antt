@@ -1,6 +1,5 @@
 pub mod BookText
 pub mod Fields
-pub mod Timed
 pub mod Answers
 pub mod Laws
 pub mod Output

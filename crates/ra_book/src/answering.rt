@@ -2,8 +2,6 @@
 pub mod answer_line;
 pub mod answer_texts;
 pub mod line_refusal;
-pub mod node_event;
-pub mod timed_node;
 pub mod waiting_output;
 
 ghost use Rattle.std.specs.Prelude.{◌≡◌, ◌↔◌, [], true, false, ℕ, List, IsErrOf, OnOk};

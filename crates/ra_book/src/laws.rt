@@ -12,10 +12,11 @@ ghost use Rattle.ra_book.specs.Answers.{Answered, AnswersEach, kept_of, lines_of
 ghost use Rattle.ra_book.specs.BookText.{Form, HasForm, IsEvent, IsFirst, IsUnread};
 ghost use Rattle.ra_book.specs.declared.answering.line_refusal.Refusal.{Refusal};
 ghost use Rattle.ra_book.specs.Laws.{IsCutShort};
-ghost use Rattle.ra_book.specs.Timed.{Timed, opening};
+ghost use Rattle.ra_history.specs.Timed.{Timed, opening};
 
 use ra_frame::{one_spelling, round_trip};
-use ra_node::{events_are_determined, events_leave_other_names};
+use ra_history::timed_nodes_have_histories;
+use ra_node::events_are_determined;
 
 /// The lines that a node accepted are its book. So a node comes back when it is handed its book again, with the same answers as
 /// before.
@@ -41,7 +42,7 @@ pub fn books_determine_nodes()
 {
     lines_are_read_in_one_way();
     events_are_determined();
-    events_leave_other_names();
+    timed_nodes_have_histories();
     one_spelling();
     round_trip();
 }

@@ -13,7 +13,6 @@ mod text_settling;
 
 pub use answering::answer_book;
 pub use answering::line_refusal::Refusal;
-pub use answering::timed_node::TimedNode;
 pub use book_writing::{WriteBookError, push_book};
 pub use error::BookFault;
 pub use laws::node_books::books_say_what_nodes_answered;
@@ -23,5 +22,6 @@ pub use laws::text_verdicts::{
 pub use laws::{books_determine_nodes, lines_are_read_in_one_way};
 pub use next_line::event_line::{MAX_LINE, event_of};
 pub use next_line::first_line::FirstLine;
+pub use ra_history::TimedNode;
 pub use text_settling::settle_error::{SettleTextError, TextCause};
 pub use text_settling::{SettledText, settle_text};

@@ -168,10 +168,8 @@ fn settle_gathered(
 fn settle_lines(alloc: Global, text: &[u8], repeats: bool) -> Result<SettledText, SettleTextError>
     ensures { MatchResult result (IsSettledText repeats text.now) (IsUnsettled repeats text.now) }
 {
-    match read_books(alloc, text) {
-        Ok((gathered, next)) => settle_gathered(alloc, gathered, next, repeats),
-        Err(fault) => Err(fault),
-    }
+    let (gathered, next) = read_books(alloc, text)?;
+    settle_gathered(alloc, gathered, next, repeats)
 }
 
 /// Reads the books of all nodes, one after the other in one text, and settles them into one run. Each begins with its first line,

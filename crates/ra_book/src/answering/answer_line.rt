@@ -3,7 +3,7 @@ ghost use Rattle.std.specs.Prelude.{ℕ, List, IfOk, MatchResult};
 ghost use Rattle.ra_book.specs.Answers.{Answers, Reacts, Stays};
 ghost use Rattle.ra_book.specs.Input.{IsKeptLine};
 ghost use Rattle.ra_book.specs.Output.{Puts};
-ghost use Rattle.ra_book.specs.Timed.{FitAt};
+ghost use Rattle.ra_history.specs.Timed.{FitAt};
 
 use crate::answering::answer_texts::put_outcome;
 use crate::answering::line_refusal::refused_line;
@@ -29,6 +29,7 @@ fn react(alloc: Global, node: &mut TimedNode, line: &KeptLine) -> Result<Outcome
     if line.is_long {
         return Err(Refusal::Line);
     }
+    // A match, since the prover makes no proof of a `?` on a result that holds a frame.
     match event_of(line.bytes.as_slice()) {
         Ok(kind) => match node.take(alloc, &kind) {
             Ok(outcome) => Ok(outcome),

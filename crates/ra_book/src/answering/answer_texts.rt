@@ -8,7 +8,7 @@ ghost use Rattle.ra_text.specs.Lines.{field};
 ghost use Rattle.ra_text.specs.Lines as lines;
 ghost use Rattle.ra_book.specs.Answers.{AreSends, AreShown, IsPosted, IsShown, send_line};
 ghost use Rattle.ra_book.specs.Output.{Puts};
-ghost use Rattle.ra_book.specs.Timed.{FitAt};
+ghost use Rattle.ra_history.specs.Timed.{FitAt};
 
 use crate::answering::waiting_output::{Output, put};
 use itoa::{Buffer, Integer};

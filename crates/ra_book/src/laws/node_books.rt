@@ -10,8 +10,8 @@ ghost use Rattle.ra_book.specs.Texts.{AreBeside, AreRight, IsText};
 ghost use Rattle.ra_book.specs.Verdicts.{IsSettledText};
 
 use crate::laws::lines_are_read_in_one_way;
-use ra_history::histories_are_determined;
-use ra_node::{events_go_on, events_leave_other_names};
+use ra_history::{histories_are_determined, timed_nodes_have_histories};
+use ra_node::events_go_on;
 
 /// The lines that a node accepted are its book, as `settle_text` reads it. The frames that the node answered are those that the
 /// book sent, in order and each with its clock, and the marks that it answered are the book's.
@@ -38,5 +38,5 @@ pub fn books_say_what_nodes_answered()
     lines_are_read_in_one_way();
     histories_are_determined();
     events_go_on();
-    events_leave_other_names();
+    timed_nodes_have_histories();
 }

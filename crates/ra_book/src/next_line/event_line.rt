@@ -1,7 +1,7 @@
 //! A line of a book as the event that it is.
 ghost use Rattle.std.specs.Prelude.{◌≡◌, ◌≤◌, ◌++◌, ℕ, List, length, codes, IfOk, MatchResult};
 ghost use Rattle.ra_book.specs.BookText.{IsEvent, IsUnread};
-ghost use Rattle.ra_book.specs.Timed.{CanCome};
+ghost use Rattle.ra_history.specs.Timed.{CanCome};
 ghost use Rattle.ra_book.specs.declared.answering.line_refusal.Refusal.{Refusal};
 
 use crate::Refusal;

@@ -86,8 +86,6 @@ pub fn read_books(alloc: Global, text: &[u8]) -> Result<(Gathered, u64), SettleT
         last,
         came: CameList::new(alloc),
     };
-    match read_lines(alloc, &mut gathered, rest) {
-        Ok(next) => Ok((gathered, next)),
-        Err(fault) => Err(fault),
-    }
+    let next = read_lines(alloc, &mut gathered, rest)?;
+    Ok((gathered, next))
 }

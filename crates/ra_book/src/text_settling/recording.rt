@@ -1,5 +1,5 @@
 //! An event of a text at the book of its node.
-ghost use Rattle.ra_book.specs.Timed.{CanCome};
+ghost use Rattle.ra_history.specs.Timed.{CanCome};
 ghost use Rattle.ra_book.specs.Gathering.{Comes};
 
 use ra_frame::{encoded, round_trip};

@@ -1,5 +1,5 @@
 //! If a growth is refused, the line is refused for lack of memory, nothing has changed, and the line can come again.
-ghost use Rattle.ra_book.specs.Timed.{CanCome};
+ghost use Rattle.ra_history.specs.Timed.{CanCome};
 
 use crate::text_asserting::assert_same;
 use ra_book::{TimedNode, answer_book, event_of};

@@ -20,4 +20,4 @@ returns-clause-again c =
     (one_answer c.round_trip.ensures.one_frame c.one_spelling.ensures c.events_are_determined.ensures.event)
 
 pub returns-clause-history : goal.returns-clause-history
-returns-clause-history c = history c.events_leave_other_names.ensures.node
+returns-clause-history c = history c.timed_nodes_have_histories.ensures.history

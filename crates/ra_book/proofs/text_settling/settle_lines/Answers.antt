@@ -1,5 +1,6 @@
-use Rattle.ra_book.proofs.Outcome.{unread}
+use Rattle.ra_book.proofs.Outcome.{unread_by}
 use Rattle.ra_book.proofs.text_settling.settle_lines.Goals as goal
 
-pub returns-in-Err : goal.returns-in-Err
-returns-in-Err c = unread c.args.repeats c.args.text.now c.in-Err.fault c.in-Err.ensures
+pub returns-in_err-gathered : goal.returns-in_err-gathered
+returns-in_err-gathered c =
+    unread_by _ c.args.repeats c.args.text.now c.in_err-gathered.field-0.0 c.in_err-gathered.ensures c.from_residual.result c.from_residual.ensures.1

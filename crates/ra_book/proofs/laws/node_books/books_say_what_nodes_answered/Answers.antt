@@ -6,7 +6,7 @@ pub returns-clause-driven : goal.returns-clause-driven
 returns-clause-driven c = driven_by
 
 pub returns-clause-book : goal.returns-clause-book
-returns-clause-book c = book_of c.events_leave_other_names.ensures.node
+returns-clause-book c = book_of c.timed_nodes_have_histories.ensures.history
 
 pub returns-clause-lines : goal.returns-clause-lines
 returns-clause-lines c = told_lines
@@ -16,7 +16,7 @@ returns-clause-right c = are_right
 
 pub returns-clause-read : goal.returns-clause-read
 returns-clause-read c =
-    read_as c.events_leave_other_names.ensures.node (record {
+    read_as c.timed_nodes_have_histories.ensures.history (record {
       first = c.lines_are_read_in_one_way.ensures.first;
       event = c.lines_are_read_in_one_way.ensures.event;
       apart = c.lines_are_read_in_one_way.ensures.apart;
@@ -29,7 +29,7 @@ returns-clause-read c =
 
 pub returns-clause-settled : goal.returns-clause-settled
 returns-clause-settled c =
-    settles_as c.events_leave_other_names.ensures.node (record {
+    settles_as c.timed_nodes_have_histories.ensures.history (record {
       first = c.lines_are_read_in_one_way.ensures.first;
       event = c.lines_are_read_in_one_way.ensures.event;
       apart = c.lines_are_read_in_one_way.ensures.apart;
