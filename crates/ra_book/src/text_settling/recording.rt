@@ -17,24 +17,18 @@ pub fn record_event(alloc: Global, book: &mut Book, kind: &BookKind) -> Result<(
 {
     match kind {
         BookKind::Asked { client, name, mode } => {
-            if let Err(why) = book.ask(alloc, *client, *name, *mode) {
-                return Err(why);
-            }
+            book.ask(alloc, *client, *name, *mode)?;
             Ok(())
         }
         BookKind::Gave { client, name } => {
-            if let Err(why) = book.leave(alloc, *client, *name) {
-                return Err(why);
-            }
+            book.leave(alloc, *client, *name)?;
             Ok(())
         }
         BookKind::Got(frame) => {
             // For the proof: the bytes of a frame are read as this frame.
             round_trip();
             let bytes = encoded(frame);
-            if let Err(why) = book.receive(alloc, bytes.as_slice()) {
-                return Err(why);
-            }
+            book.receive(alloc, bytes.as_slice())?;
             Ok(())
         }
     }
