@@ -10,7 +10,7 @@ use Rattle.ra_schedule.specs.declared.driver.Driver.{Driver}
 use Rattle.ra_schedule.specs.declared.error.DriveError.{DriveError}
 use Rattle.ra_schedule.specs.Script.{ScriptState, IsScript}
 use Rattle.ra_schedule.specs.Drive.{Drives}
-use Rattle.ra_schedule.specs.Driving.{IsAtEnd, IsStopped}
+use Rattle.ra_schedule.specs.Driving.{IsAtEnd, IsStoppedAfter}
 use Rattle.ra_schedule.specs.Progress.{recorded}
 use Rattle.ra_schedule.specs.Schedule.{steps_of}
 use Rattle.ra_schedule.proofs.Endings.{in_time}
@@ -34,10 +34,10 @@ came_to_end script fit policy limit IsMade world driver value at_end within made
     }
 
 -- the policy was stopped for a cause, which is handed on
-pub was_stopped : {X : Type 0} (script : ScriptState) → IsScript script → (policy : Policy) (limit : ℕ) (IsMade : X → Type 0) (fault : DriveError) (result : Result X DriveError)
-    → result ≡ Err fault → IsStopped script policy limit fault → Drives script policy limit IsMade result
-was_stopped {X} script fit policy limit IsMade fault result is stopped =
-    let answers = answers_err {X = X} schedules_rest_on_runs script policy limit fault fit.count stopped in
+pub was_stopped : {X : Type 0} (script : ScriptState) → IsScript script → (policy : Policy) (limit : ℕ) (IsMade : X → Type 0) (moves : List Move) (fault : DriveError) (result : Result X DriveError)
+    → result ≡ Err fault → IsStoppedAfter script policy limit moves fault → Drives script policy limit IsMade result
+was_stopped {X} script fit policy limit IsMade moves fault result is stopped =
+    let answers = answers_err {X = X} schedules_rest_on_runs script policy limit moves fault fit.count stopped in
     subst (Drives script policy limit IsMade) (sym is) (record {
       ok = tt;
       answers = answers;

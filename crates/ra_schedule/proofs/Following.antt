@@ -12,7 +12,7 @@ use Rattle.ra_schedule.specs.declared.error.DriveError.TheVariants.{TurnLimit, B
 use Rattle.ra_schedule.specs.Script.{ScriptState}
 use Rattle.ra_schedule.specs.Schedule.{steps_of, StandsFor, Picks, IsBadPlace, IsNotEnabled, Ends, Follows, Stops}
 use Rattle.ra_schedule.specs.Drive.{Answers}
-use Rattle.ra_schedule.specs.Driving.{IsRefused, IsStopped}
+use Rattle.ra_schedule.specs.Driving.{IsRefused, IsStoppedAfter}
 use Rattle.ra_schedule.specs.Below.{LawsBelow}
 use Rattle.ra_schedule.proofs.Lists.{split_last, at_place}
 use Rattle.ra_schedule.proofs.Waiting.{steps_of-append}
@@ -199,10 +199,10 @@ refused_here script policy limit moves choice fault picks less (inr (is, not)) =
     subst (Stops script policy limit moves) (sym is) (less, (choice, picks, not))
 
 pub stopped_here : (script : ScriptState) (policy : Policy) (limit : ℕ) (moves : List Move) (fault : DriveError)
-    → Follows script policy moves → length moves < limit → IsRefused script policy moves fault → IsStopped script policy limit fault
+    → Follows script policy moves → length moves < limit → IsRefused script policy moves fault → IsStoppedAfter script policy limit moves fault
 stopped_here script policy limit moves fault follows less (choice, picks, inl memory) = inl memory
 stopped_here script policy limit moves fault follows less (choice, picks, inr cause) =
-    inr (moves, follows, refused_here script policy limit moves choice fault picks less cause)
+    inr (follows, refused_here script policy limit moves choice fault picks less cause)
 
 -- ---- What is answered
 
@@ -230,14 +230,14 @@ answers_ok laws script policy limit moves value count follows ends within = reco
 }
 
 -- an end by a refusal
-pub answers_err : {X : Type 0} → LawsBelow → (script : ScriptState) (policy : Policy) (limit : ℕ) (fault : DriveError)
-    → IsNodeNumber script.nodes → IsStopped script policy limit fault → Answers {X = X} script policy limit (Err fault)
-answers_err laws script policy limit fault count (inl memory) = record {
+pub answers_err : {X : Type 0} → LawsBelow → (script : ScriptState) (policy : Policy) (limit : ℕ) (moves : List Move) (fault : DriveError)
+    → IsNodeNumber script.nodes → IsStoppedAfter script policy limit moves fault → Answers {X = X} script policy limit (Err fault)
+answers_err laws script policy limit moves fault count (inl memory) = record {
   refused = λ cause apart is. absurd (apart (sym (err_same is) ∙ memory));
-  exact = λ cause moves follows stops. inr (ap Err memory);
-  allowed = λ moves follows ends within. memory;
+  exact = λ cause other follows stops. inr (ap Err memory);
+  allowed = λ other follows ends within. memory;
 }
-answers_err laws script policy limit fault count (inr (moves, follows, stops)) = record {
+answers_err laws script policy limit moves fault count (inr (follows, stops)) = record {
   refused = λ cause apart is. (moves, follows, subst (Stops script policy limit moves) (err_same is) stops);
   exact = λ cause other follows' stops'.
       inl (ap Err (some_same (one_ending laws script policy limit moves other (Some fault) (Some cause) count follows follows' stops stops')));

@@ -1,5 +1,5 @@
 -- What comes of driving a cluster through a script.
-use Rattle.std.specs.Prelude.{◌≡◌, ◌≢◌, ◌⊎◌, ◌↔◌, ℕ, ◌<◌, ◌≤◌, Bool, List, length, Result, IsTrue, IfOk, IsErrOf, IsOkUnless}
+use Rattle.std.specs.Prelude.{◌≡◌, ◌≢◌, ◌⊎◌, ◌↔◌, ℕ, ◌<◌, ◌≤◌, Bool, List, length, Result, IsTrue, IfOk, IfSome, IsNone, IsErrOf, IsOkUnless}
 use Rattle.ra_world.specs.declared.text.report.Report.{Report}
 use Rattle.ra_world.specs.Traffic.{Move}
 use Rattle.ra_world.specs.World.{Reports}
@@ -7,6 +7,7 @@ use Rattle.ra_world.specs.MainTheorem.{MainTheorem}
 use Rattle.ra_schedule.specs.declared.choice.Policy.{Policy}
 use Rattle.ra_schedule.specs.declared.driver.drive_script.Recording.{Recording}
 use Rattle.ra_schedule.specs.declared.driver.drive_script.Summary.{Summary}
+use Rattle.ra_schedule.specs.declared.driver.until_refused.DrivenPart.{DrivenPart}
 use Rattle.ra_schedule.specs.declared.error.DriveError.{DriveError}
 use Rattle.ra_schedule.specs.declared.error.DriveError.TheVariants.{TurnLimit, Memory}
 use Rattle.ra_schedule.specs.Script.{ScriptState}
@@ -40,6 +41,17 @@ pub record IsSummary (script : ScriptState) (policy : Policy) (limit : ℕ) (sum
   pub moves : List Move
   pub run : IsWholeRun script policy limit moves summary.report summary.finished
   pub turns : summary.turns ≡ length moves
+
+-- What the policy made of the script until no choice was left, or until one was refused: the report of these moves, of which the main
+-- theorem holds, how many they are, and why no other one follows.
+pub record IsDrivenPart (script : ScriptState) (policy : Policy) (limit : ℕ) (part : DrivenPart) : Type 0 where
+  pub moves : List Move
+  pub follows : Follows script policy moves
+  pub reports : Reports script.nodes 0 moves part.report
+  pub main_theorem : MainTheorem script.nodes part.report
+  pub turns : part.turns ≡ length moves
+  pub ends : IsNone part.refusal → Ends script policy moves × (length moves ≤ limit)
+  pub stops : IfSome part.refusal (Stops script policy limit moves)
 
 -- A refusal other than `Memory` comes only if its cause applies. If a cause applies, the answer is its refusal or
 -- `Memory`. If none does, so that the policy is followed to its end within the limit, only `Memory` is refused.

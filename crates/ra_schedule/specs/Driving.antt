@@ -110,10 +110,9 @@ pub record IsThrough (script : ScriptState) (policy : Policy) (limit : ℕ) (rec
   pub within : length cluster.world.moves ≤ limit
   pub records_as : cluster.driver.records ≡ records
 
--- the policy stops for lack of memory, or for a cause that applies
-abbrev pub IsStopped : ScriptState → Policy → ℕ → DriveError → Type 0
-IsStopped script policy limit fault = (fault ≡ Memory)
-    ⊎ ((moves : List Move) × Follows script policy moves × Stops script policy limit moves fault)
+-- the policy stops after these moves for lack of memory, or for a cause that applies there
+abbrev pub IsStoppedAfter : ScriptState → Policy → ℕ → List Move → DriveError → Type 0
+IsStoppedAfter script policy limit moves fault = (fault ≡ Memory) ⊎ (Follows script policy moves × Stops script policy limit moves fault)
 
 -- what is recorded of a policy that has no choice left
 pub record Records (script : ScriptState) (policy : Policy) (limit : ℕ) (records : Bool) (driven : Driven) : Type 0 where

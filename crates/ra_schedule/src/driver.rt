@@ -6,6 +6,7 @@ pub mod drive_script;
 pub mod replaying;
 pub mod showing;
 pub mod shrinking;
+pub mod until_refused;
 
 ghost use Rattle.std.specs.Prelude.{◌≡◌, ◌+◌, ◌++◌, ◌∷◌, [], ◌<◌, ◌≤◌, ◌^◌, ◌⊎◌, ℕ, List, length, IsTrue, IsNone, IfOk, IfErr, IfSome, IsErrOf, OnOk, OnErr};
 ghost use Rattle.ra_world.specs.Traffic.{Move};
@@ -15,7 +16,7 @@ ghost use Rattle.ra_schedule.specs.declared.choice.Choice.{Choice};
 ghost use Rattle.ra_schedule.specs.declared.error.DriveError.{DriveError};
 ghost use Rattle.ra_schedule.specs.Schedule.{StandsFor};
 ghost use Rattle.ra_schedule.specs.Progress.{recorded};
-ghost use Rattle.ra_schedule.specs.Driving.{IsDriven, IsReady, IsAtEnd, IsMeaning, HasChosen, HasTakenStep, CannotBeMade, IsStopped, IsHeldUp};
+ghost use Rattle.ra_schedule.specs.Driving.{IsDriven, IsReady, IsAtEnd, IsMeaning, HasChosen, HasTakenStep, CannotBeMade, IsStoppedAfter, IsHeldUp};
 
 use crate::choice::picking::{Picked, pick};
 use crate::choice::random_state::{RandomState, note_step_in};
@@ -95,7 +96,8 @@ impl Driver {
         requires ready { IsReady script.now policy.now world.old self.old }
         ensures ok { OnOk result (IsAtEnd script.now policy.now world.new self.new × (length world.new.moves ≤ limit)) }
         ensures records { OnOk result (self.new.records ≡ self.old.records) }
-        ensures err { IfErr result (IsStopped script.now policy.now limit) }
+        ensures nodes { (world.new.count ≡ script.now.nodes) × (world.new.start ≡ 0) }
+        ensures err { IfErr result (IsStoppedAfter script.now policy.now limit world.new.moves) }
         // Memory ran out at a turn within the limit whose choice can be made.
         ensures memory { IsErrOf result DriveError.Memory → IsHeldUp script.now policy.now limit world.new.moves }
     {

@@ -15,6 +15,7 @@ pub use choice::{Choice, Choices, Policy};
 pub use driver::drive_script::{Recording, Summary, drive, summarize};
 pub use driver::showing::{Shown, show};
 pub use driver::shrinking::{Shrunk, shrink};
+pub use driver::until_refused::{DrivenPart, drive_until_refused};
 pub use error::{AddClientError, AddOpError, ChoicesError, DriveError, NewScriptError};
 pub use laws::finishing::{
     clients_in_order_never_deadlock, finished_scripts_granted_each_lock, ordered_scripts_finish,

@@ -4,7 +4,7 @@ use Rattle.std.proofs.lemmas.Result.{err_from_is_err_and}
 use Rattle.ra_world.specs.World.{WorldState}
 use Rattle.ra_schedule.specs.declared.choice.picking.Picked.{Picked}
 use Rattle.ra_schedule.specs.declared.error.DriveError.TheVariants.{Memory}
-use Rattle.ra_schedule.specs.Driving.{HasChosen, IsStopped, IsHeldUp}
+use Rattle.ra_schedule.specs.Driving.{HasChosen, IsStoppedAfter, IsHeldUp}
 use Rattle.ra_schedule.proofs.Following.{stopped_here}
 use Rattle.ra_schedule.proofs.HandedOn.{no_ok, no_limit, no_work, one_refusal, countable_turn, all_turns}
 use Rattle.ra_schedule.proofs.Turns.{ready_more, one_longer}
@@ -33,6 +33,9 @@ returns-clause-ok c =
     let (ready, turns, most, records) = c.loop-picked.invariant in
     (c.next_choice.ensures.none (none_is c.next_choice.result c.in_default.not-Some), all_turns _ c.loop-picked.turns c.args.limit turns most)
 
+pub returns-clause-nodes : goal.returns-clause-nodes
+returns-clause-nodes c = let tracks = c.loop-picked.invariant.0.driven.tracks in (tracks.count, tracks.start)
+
 pub returns-clause-records : goal.returns-clause-records
 returns-clause-records c = c.next_choice.ensures.records ∙ c.loop-picked.invariant.3
 
@@ -46,7 +49,10 @@ turn_left turns limit most not = omega (arith, most, not)
 pub returns-then-turns-limit-clause-err : goal.returns-then-turns-limit-clause-err
 returns-then-turns-limit-clause-err c =
     let (ready, turns, most, records) = c.loop-picked.invariant in
-    inr (c.loop-picked.world.moves, ready.follows, (turns ∙ c.if-turns-limit.true, (c.in-Some.picked.choice, (chosen (goal.at.returns-then-turns-limit-clause-err c).In-Some).picks)))
+    inr (ready.follows, (turns ∙ c.if-turns-limit.true, (c.in-Some.picked.choice, (chosen (goal.at.returns-then-turns-limit-clause-err c).In-Some).picks)))
+
+pub returns-then-turns-limit-clause-nodes : goal.returns-then-turns-limit-clause-nodes
+returns-then-turns-limit-clause-nodes c = let tracks = c.loop-picked.invariant.0.driven.tracks in (tracks.count, tracks.start)
 
 pub returns-then-turns-limit-clause-memory : goal.returns-then-turns-limit-clause-memory
 returns-then-turns-limit-clause-memory c is = absurd (no_limit is)
@@ -79,6 +85,11 @@ returns-in_err-take_step-clause-records c =
     let p = err_from_is_err_and c.from_residual.result c.from_residual.ensures.1 in
     no_work _ _ c.from_residual.result p.1
 
+pub returns-in_err-take_step-clause-nodes : goal.returns-in_err-take_step-clause-nodes
+returns-in_err-take_step-clause-nodes c =
+    let tracks = c.loop-picked.invariant.0.driven.tracks in
+    subst (λ (w : WorldState). (w.count ≡ c.args.script.now.nodes) × (w.start ≡ 0)) (sym c.in_err-take_step.ensures.same) (tracks.count, tracks.start)
+
 pub returns-in_err-take_step-clause-err : goal.returns-in_err-take_step-clause-err
 returns-in_err-take_step-clause-err c =
     let script = c.args.script.now in
@@ -87,9 +98,10 @@ returns-in_err-take_step-clause-err c =
     let (ready, turns, most, records) = c.loop-picked.invariant in
     let less : length moves < c.args.limit = subst (λ (n : ℕ). n < c.args.limit) (sym turns) (turn_left c.loop-picked.turns c.args.limit most c.if-turns-limit.false) in
     let p = err_from_is_err_and c.from_residual.result c.from_residual.ensures.1 in
-    subst (λ r. IfErr r (IsStopped script policy c.args.limit)) (sym (p.1 ∙ ap Err p.2))
+    subst (λ r. IfErr r (IsStoppedAfter script policy c.args.limit c.take_step.new.world.moves)) (sym (p.1 ∙ ap Err p.2))
+    (subst (λ (w : WorldState). IsStoppedAfter script policy c.args.limit w.moves c.in_err-take_step.field-0.0) (sym c.in_err-take_step.ensures.same)
     (stopped_here script policy c.args.limit moves c.in_err-take_step.field-0.0 ready.follows less
-    (c.in-Some.picked.choice, (chosen (goal.at.returns-in_err-take_step-clause-err c).In-Some).picks, c.in_err-take_step.ensures.err))
+    (c.in-Some.picked.choice, (chosen (goal.at.returns-in_err-take_step-clause-err c).In-Some).picks, c.in_err-take_step.ensures.err)))
 
 pub returns-in_err-take_step-clause-memory : goal.returns-in_err-take_step-clause-memory
 returns-in_err-take_step-clause-memory c is =

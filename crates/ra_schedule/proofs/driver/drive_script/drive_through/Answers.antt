@@ -31,7 +31,7 @@ returns-in_err-finish c =
     let script = c.args.script.now in
     let policy = c.args.policy.now in
     let limit = c.args.limit in
-    was_stopped script c.in_ok-cluster.ensures.fit policy limit (Records script policy limit c.args.records) _ _ (p.1 ∙ ap Err p.2) c.in_err-finish.ensures.err
+    was_stopped script c.in_ok-cluster.ensures.fit policy limit (Records script policy limit c.args.records) _ _ _ (p.1 ∙ ap Err p.2) c.in_err-finish.ensures.err
 
 pub returns-in_err-cluster : goal.returns-in_err-cluster
 returns-in_err-cluster c =
