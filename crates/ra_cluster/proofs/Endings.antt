@@ -55,7 +55,7 @@ module _ (script : ScriptState) (books : List BookState) (grants : List Grant) w
       → (IsErrOf {T = Settled} (Err e) settling.GrantMissing → BooksFit books × Any (λ g. IsGranted books g.entry → ⊥) grants)
       → (IsErrOf {T = Settled} (Err e) settling.GrantTwice → BooksFit books × Repeats grants × All (λ g. IsGranted books g.entry) grants)
       → (IsErrOf {T = Settled} (Err e) settling.Memory → HasUnsent books → ⊥) → RefusesSound script books grants fault
-  unsettled e fault are (inl (is, of)) unsent twice missing again memory = subst (RefusesSound script books grants) (sym is) (are, memory of)
+  unsettled e fault are (inl (is, of)) unsent twice missing again memory = subst (RefusesSound script books grants) (sym is) (are, memory (ap Err of))
   unsettled e fault are (inr (is, apart)) unsent twice missing again memory =
       subst (RefusesSound script books grants) (sym is) (λ of sound. unsound e apart unsent twice missing again sound)
 
