@@ -36,10 +36,10 @@ abbrev pub IsNotDrawn : InputKind → (old new before after : Option (List ℕ))
 IsNotDrawn kind old new before after = (input text : List ℕ) × IsInput old new input × SaysWhyNot kind input text
     × Appends before after text
 
--- the text is what is printed of the input: a picture if it is of this kind, and otherwise the line that says why it is
--- not
-abbrev pub IsDrawing : InputKind → (input text : List ℕ) → Type 0
-IsDrawing kind input text = (IsOfKind kind input × IsPicture text) ⊎ SaysWhyNot kind input text
+-- the text is what is printed of the input: a picture if it is of this kind and 1 to 4,096 of its lines are in the part, and
+-- the line that says why it is not of this kind otherwise
+abbrev pub IsDrawing : InputKind → Part → (input text : List ℕ) → Type 0
+IsDrawing kind part input text = (IsOfKind kind input × IsDrawable part input × IsPicture text) ⊎ SaysWhyNot kind input text
 
 -- Why a part is not drawn. Before it is judged, the whole input is read, of which fewer bytes came than may be drawn, or
 -- more. If the part is the cause, the input is of this kind, and none of its lines is in the part, or more than 4,096 are.
@@ -74,4 +74,4 @@ pub record Attempts (kind : InputKind) (part : Part) (old new before after : Opt
   pub unfit : IfErr result (λ fault. IsOfPart fault → (input : List ℕ) × IsInput old new input × IsOfKind kind input
       × IsUnfit part input fault)
   pub prefix : IsErrOf result Write → (input prefix rest : List ℕ) × IsInput old new input × IsOfKind kind input
-      × IsPicture (prefix ++ rest) × (rest ≢ []) × Appends before after prefix
+      × IsDrawable part input × IsPicture (prefix ++ rest) × (rest ≢ []) × Appends before after prefix

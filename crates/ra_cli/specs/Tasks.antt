@@ -90,7 +90,7 @@ IsPrintedBy (task.Sim name choices format) input text =
 IsPrintedBy (task.Survey survey) input text = (finished : Bool) × IsTold survey input text finished
 IsPrintedBy task.Check input text = (verdict : Verdict) × IsVerdict input verdict × (text ≡ verdict_text verdict)
 IsPrintedBy task.CheckMarks input text = (verdict : MarksVerdict) × IsMarksVerdict input verdict × (text ≡ marks_verdict_text verdict)
-IsPrintedBy (task.Draw kind part) input text = IsDrawing kind input text
+IsPrintedBy (task.Draw kind part) input text = IsDrawing kind part input text
 IsPrintedBy (task.Cluster printed) input text = IsClusterRun printed input text
 IsPrintedBy (task.Help shown) input text = ⊥
 

@@ -114,7 +114,7 @@ module _ {V Why : Type 0} (IsVerdictOn : List ℕ → V → Type 0) (valid_of : 
         prefix = λ e. absurd cc;
       }
       undrawn Memory same = no_memory same
-      undrawn Write (prefix, rest, picture, left, appends) = record {
+      undrawn Write (drawable, prefix, rest, picture, left, appends) = record {
         ok = tt;
         invalid = λ line why e. absurd cc;
         text = tt;
@@ -123,7 +123,7 @@ module _ {V Why : Type 0} (IsVerdictOn : List ℕ → V → Type 0) (valid_of : 
         unfit = λ of. absurd (write_apart of);
         at_most = (input, omega (arith, whole.at_most), whole.reads.taken);
         unwritten = λ other. absurd (other refl);
-        prefix = λ e. (input, m, n, prefix, rest, whole, is, picture, left, appends);
+        prefix = λ e. (input, m, n, prefix, rest, whole, is, drawable, picture, left, appends);
       }
 
   -- the text was judged, and drawn if it is of the kind

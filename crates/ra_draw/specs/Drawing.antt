@@ -89,9 +89,9 @@ pub record DrawsPart {V Why : Type 0} (IsVerdictOn : List ℕ → V → Type 0) 
   -- however it ends, no more than this was read
   pub at_most : (taken : List ℕ) × (length taken ≤ 16777217) × Consumes old new taken
   pub unwritten : IfErr result (λ fault. fault ≢ Write → Untouched)
-  -- a fault of the writer comes only with something left to write
+  -- a fault of the writer comes only in a picture of the part, with something left to write
   pub prefix : IsErrOf result Write → (input : List ℕ) × (m n : ℕ) × (prefix rest : List ℕ) × IsInput old new input
-      × IsVerdictOn input (valid_of m n) × IsPicture (prefix ++ rest) × (rest ≢ []) × Appends before after prefix
+      × IsVerdictOn input (valid_of m n) × IsDrawable part input × IsPicture (prefix ++ rest) × (rest ≢ []) × Appends before after prefix
 
 -- what came of an attempt to draw a trace
 abbrev pub DrawsTrace : Part → (old new before after : Option (List ℕ)) → (Untouched : Type 0) → (kept : List ℕ) → Result Verdict DrawError → Type 0

@@ -27,5 +27,5 @@ returns-in-Err g c =
     (λ same. fewer _ _ (c.in-Err.ensures.failed (ap Err same))) (λ same. c.in-Err.ensures.limit (ap Err same))
     (λ of. let (input, a, b, read, verdict, why) = c.in-Err.ensures.unfit of in (input, read, (a, b, verdict), why))
     (λ same.
-    let (input, a, b, prefix, rest, read, verdict, picture, left, appends) = c.in-Err.ensures.prefix (ap Err same) in
-    (input, prefix, rest, read, (a, b, verdict), picture, left, appends))
+    let (input, a, b, prefix, rest, read, verdict, drawable, picture, left, appends) = c.in-Err.ensures.prefix (ap Err same) in
+    (input, prefix, rest, read, (a, b, verdict), drawable, picture, left, appends))
