@@ -15,6 +15,7 @@ mod SettleRuns
 mod Helping
 mod PictureLemmas
 mod TaskLemmas
+mod Judging
 mod Orderly
 mod TaskStatuses
 mod KnownStatuses

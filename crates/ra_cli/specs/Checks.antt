@@ -36,15 +36,22 @@ abbrev pub is_valid : Verdict → Bool
 is_valid (Valid requests messages) = true
 is_valid (Invalid line cause) = false
 
--- If the input is known, it has a verdict, valid or not, and exactly the lines of the verdict were written. It was read
--- from its beginning, and to its end if it is valid. If it is not known, a text with such a verdict still exists.
+-- What came of a check, for any kind of text. A kind has its verdicts on an input, `is_right` says which of them say that the
+-- input is of the kind, and `lines_of` has the lines of each. If the input is known, it has a verdict, right or not, and
+-- exactly the lines of the verdict were written. It was read from its beginning, and to its end if the verdict is right. If
+-- it is not known, a text with such a verdict still exists.
+abbrev pub Judges : {V : Type 0} → (IsVerdictOn : List ℕ → V → Type 0) → (is_right : V → Bool) → (lines_of : V → List ℕ)
+    → (old new before after : Option (List ℕ)) → Bool → Type 0
+Judges {V} IsVerdictOn is_right lines_of old new before after right =
+    IfSome old (λ input. (verdict : V) × IsVerdictOn input verdict × (is_right verdict ≡ right)
+    × ((taken : List ℕ) × Consumes old new taken) × (right ≡ true → Consumes old new input)
+    × Appends before after (lines_of verdict))
+    × ((input : List ℕ) × (verdict : V) × IsVerdictOn input verdict × (is_right verdict ≡ right)
+    × Appends before after (lines_of verdict))
+
+-- what came of a check of a trace
 abbrev pub Checks : (old new before after : Option (List ℕ)) → Bool → Type 0
-Checks old new before after valid =
-    IfSome old (λ input. (verdict : Verdict) × IsVerdict input verdict × (is_valid verdict ≡ valid)
-    × ((taken : List ℕ) × Consumes old new taken) × (valid ≡ true → Consumes old new input)
-    × Appends before after (verdict_text verdict))
-    × ((input : List ℕ) × (verdict : Verdict) × IsVerdict input verdict × (is_valid verdict ≡ valid)
-    × Appends before after (verdict_text verdict))
+Checks = Judges IsVerdict is_valid verdict_text
 
 -- ---- Mark logs
 
@@ -70,14 +77,9 @@ abbrev pub is_run : MarksVerdict → Bool
 is_run (marks.Valid requests grants) = true
 is_run (marks.Invalid line cause) = false
 
--- the same as `Checks`, for a mark log
+-- what came of a check of a mark log
 abbrev pub ChecksMarks : (old new before after : Option (List ℕ)) → Bool → Type 0
-ChecksMarks old new before after valid =
-    IfSome old (λ input. (verdict : MarksVerdict) × IsMarksVerdict input verdict × (is_run verdict ≡ valid)
-    × ((taken : List ℕ) × Consumes old new taken) × (valid ≡ true → Consumes old new input)
-    × Appends before after (marks_verdict_text verdict))
-    × ((input : List ℕ) × (verdict : MarksVerdict) × IsMarksVerdict input verdict × (is_run verdict ≡ valid)
-    × Appends before after (marks_verdict_text verdict))
+ChecksMarks = Judges IsMarksVerdict is_run marks_verdict_text
 
 -- ---- Refusals
 
