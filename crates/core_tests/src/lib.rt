@@ -2,8 +2,6 @@
 #![tactic(auto)]
 
 #[cfg(test)]
-mod automaton_tests;
-#[cfg(test)]
 mod core_asserting;
 #[cfg(test)]
 mod growth_in_core;

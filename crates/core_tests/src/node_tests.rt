@@ -1,8 +1,5 @@
-//! How a node serves its clients, answers other nodes and keeps many names apart.
-pub mod many_nodes;
-pub mod node_numbers;
+//! Calls of automata and nodes that no command makes. What a node answers to the lines of a book is in `cases/nodes.toml` and
+//! `cases/test_node.py`.
+pub mod automaton_calls;
+pub mod node_answers;
 pub mod node_refusals;
-pub mod node_steps;
-pub mod nodes;
-pub mod queues;
-pub mod thousand_names;

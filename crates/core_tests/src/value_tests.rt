@@ -1,9 +1,9 @@
 //! Names, stamps, frames, bags of messages and lock tables.
 pub mod bag_copies;
 pub mod bags;
-pub mod changed_bytes;
+pub mod bags_in_order;
+pub mod bags_of_many;
 pub mod costs_of_calls;
-pub mod first_faults;
+pub mod frames;
 pub mod lock_tables;
-pub mod read_frames;
 pub mod stamps;

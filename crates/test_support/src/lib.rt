@@ -3,18 +3,14 @@
 
 mod asserting;
 mod failures;
-mod frames;
 mod messages;
-mod modes;
 mod printing;
 mod reports;
 mod streams;
 mod tried;
 
 pub use failures::{At, Difference, misprint, part, row};
-pub use frames::{ASKS_1, ASKS_2, Change, with};
 pub use messages::{entry, entry_of, id, message_between, q, r, reply, request, writer};
-pub use modes::{Modes, PAIRS};
 pub use printing::printed;
 pub use ra_stamp::Memory;
 pub use reports::ONE_LOCK_LINES;

@@ -1,11 +1,11 @@
-//! If a growth is refused, the call returns `Memory` and changes nothing, and it succeeds when it is made again.
+//! If a growth is refused, the call returns `Memory` and changes nothing, and it succeeds when it is made again. Also what a node shows
+//! after each call.
 use crate::core_asserting::{assert_same, judge};
 use crate::growth_in_core::growth_of_bags::{try_many_pushes, try_many_puts};
-use crate::node_tests::node_steps::{fault_of_ask, fault_of_leave, fault_of_message};
-use crate::node_tests::thousand_names::numbered;
+use crate::node_tests::node_answers::{fault_of_ask, fault_of_leave};
 use Call::{Ask, Leave, Reply, Request};
 use ra_node::{AskError, LeaveError, Node, Outcome, ReceiveError};
-use ra_stamp::{Entry, Memory, Message, Mode, Name};
+use ra_stamp::{Entry, Memory, Message, Name};
 use ra_table::{EnterError, RequestError, Table};
 use std::alloc::Global;
 use std::process::Abort;
@@ -26,16 +26,76 @@ enum Call {
     Leave(u32),
 }
 
+/// A call, and what the node shows after it.
+struct Row {
+    call: Call,
+    /// How many requests wait, and how many clients are queued.
+    waiting: u64,
+    queued: u128,
+    /// The highest number that it has met on `r`.
+    highest: u64,
+    /// The client that holds `r`, and the number of its request.
+    holder: Option<(u32, u64)>,
+}
+
 /// Each call succeeds at its place: the second client queues, and its request is made when the first one leaves.
-const CALLS: [Call; 8] = [
-    Request(3),
-    Ask(1),
-    Ask(2),
-    Reply(4),
-    Request(5),
-    Leave(1),
-    Reply(6),
-    Leave(2),
+const ROWS: &[Row] = &[
+    Row {
+        call: Request(3),
+        waiting: 0,
+        queued: 0,
+        highest: 3,
+        holder: None,
+    },
+    Row {
+        call: Ask(1),
+        waiting: 1,
+        queued: 0,
+        highest: 4,
+        holder: None,
+    },
+    Row {
+        call: Ask(2),
+        waiting: 1,
+        queued: 1,
+        highest: 4,
+        holder: None,
+    },
+    Row {
+        call: Reply(4),
+        waiting: 0,
+        queued: 1,
+        highest: 4,
+        holder: Some((1, 4)),
+    },
+    Row {
+        call: Request(5),
+        waiting: 0,
+        queued: 1,
+        highest: 5,
+        holder: Some((1, 4)),
+    },
+    Row {
+        call: Leave(1),
+        waiting: 1,
+        queued: 0,
+        highest: 6,
+        holder: None,
+    },
+    Row {
+        call: Reply(6),
+        waiting: 0,
+        queued: 0,
+        highest: 6,
+        holder: Some((2, 6)),
+    },
+    Row {
+        call: Leave(2),
+        waiting: 0,
+        queued: 0,
+        highest: 6,
+        holder: None,
+    },
 ];
 
 /// Has a node take a message. If it does not, memory ran out.
@@ -45,8 +105,8 @@ fn take(
     node: &mut Node,
     message: &Message,
 ) -> Result<(), Memory> {
-    let fault = fault_of_message(rt.alloc(), node, message);
-    judge(rt, at, fault, ReceiveError::Memory)
+    let came = node.receive(rt.alloc(), message);
+    judge(rt, at, came.err(), ReceiveError::Memory)
 }
 
 /// Makes a call. If it is refused, memory ran out.
@@ -58,11 +118,11 @@ fn make(
 ) -> Result<(), Memory> {
     match call {
         Ask(client) => {
-            let fault = fault_of_ask(rt.alloc(), node, client, r(), Mode::Exclusive);
+            let fault = fault_of_ask(rt.alloc(), node, client, r());
             judge(rt, at, fault, AskError::Memory)
         }
         Leave(client) => {
-            let fault = fault_of_leave(rt.alloc(), node, client, r());
+            let fault = fault_of_leave(rt.alloc(), node, client);
             judge(rt, at, fault, LeaveError::Memory)
         }
         Reply(seq) => take(rt, at, node, &reply(2, 1, seq)),
@@ -89,12 +149,22 @@ fn try_call(rt: &(impl Abort + AllocGlobal), at: At<'_>, node: &mut Node, call: 
     Tried::RetrySucceeded
 }
 
-/// Makes all calls.
+/// Returns what a node shows after the call of a row.
+fn shown_after(row: &Row) -> ((u64, u128), (u64, Option<Entry>)) {
+    let holder = match row.holder {
+        Some((client, seq)) => Some(writer(1, client, seq)),
+        None => None,
+    };
+    ((row.waiting, row.queued), (row.highest, holder))
+}
+
+/// Makes all calls, and asserts what the node shows after each.
 fn try_calls(rt: &(impl Abort + AllocGlobal), node: &mut Node) -> Tried {
     let mut tried = Tried::NoFailure;
-    for place in 0..CALLS.len() {
+    for place in 0..ROWS.len() {
         let at = At("a node", "call", place + 1);
-        tried = both(tried, try_call(rt, at, node, CALLS[place]));
+        tried = both(tried, try_call(rt, at, node, ROWS[place].call));
+        assert_same(rt, at, &shown(node), &shown_after(&ROWS[place]));
     }
     tried
 }
@@ -128,7 +198,7 @@ fn try_leaving(rt: &(impl Abort + AllocGlobal), node: &mut Node) -> Result<Tried
     };
     assert_same(rt, row(label), &early, &LeaveError::NotHeld);
     for place in 0..BEFORE_LEAVING {
-        make(rt, At(label, "call", place + 1), node, CALLS[place])?;
+        make(rt, At(label, "call", place + 1), node, ROWS[place].call)?;
     }
     let came = match node.leave_into(rt.alloc(), 1, r(), &mut left) {
         Ok(()) => Ok((left.sends.len(), left.marks.len())),
@@ -145,11 +215,16 @@ fn growth_of_a_leave_with_room(rt: HostRuntime) {
     assert_grown!(&rt, again(first, second));
 }
 
+/// Returns the last digit of a number.
+fn digit(number: u16) -> u8 {
+    b'0' + (number % 10) as u8
+}
+
 /// Returns the name of three digits.
 fn three_digits(rt: &impl Abort, number: u16) -> Name {
-    match numbered(number) {
-        Some(name) => name,
-        None => panic!(rt; "there is no name of {number}"),
+    match Name::new(&[digit(number / 100), digit(number / 10), digit(number)]) {
+        Ok(name) => name,
+        Err(fault) => panic!(rt; "the name of {number} is refused: {fault}"),
     }
 }
 

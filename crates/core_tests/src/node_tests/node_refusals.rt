@@ -1,55 +1,226 @@
-//! What is refused: nodes that cannot be, and messages for others or from strangers; and how faults are printed.
+//! What automata and nodes refuse and no command shows: nodes that cannot be, a message of the node itself, which no frame carries, and
+//! calls of an automaton that do not fit its phase; and how faults are printed.
 use crate::core_asserting::{assert_same, node};
-use crate::node_tests::node_steps::{Scene, Step, Wire, follow};
-use Step::{HasHighest, RefusesMessage};
-use Wire::Requests;
-use ra_node::{AskError, LeaveError, NewError, Node, ReceiveError};
+use crate::node_tests::automaton_calls::{leave, leave_and_request, receive, request};
+use Mode::Shared;
+use ra_automaton::{Automaton, LeaveError, Phase, RequestError};
+use ra_node::{AskError, LeaveError as NodeLeaveError, NewError, Node, ReceiveError};
+use ra_stamp::Mode;
 use std::process::Abort;
-use test_support::{assert_words, row};
+use test_support::{assert_words, message_between, q, r, row};
 
-/// A node and how many nodes there are, in words and as numbers, and why there is no such node.
-struct Made(&'static str, u16, u16, NewError);
+/// A node and how many nodes there are, and why there is no such node, or `None` if there is one.
+struct Made {
+    me: u16,
+    nodes: u16,
+    fault: Option<NewError>,
+}
 
 const MADE: &[Made] = &[
-    Made("node 1 of 0", 1, 0, NewError::BadCount),
-    Made("node 1 of 65", 1, 65, NewError::BadCount),
-    Made("node 4 of 3", 4, 3, NewError::BadNode),
+    Made {
+        me: 1,
+        nodes: 1,
+        fault: None,
+    },
+    Made {
+        me: 64,
+        nodes: 64,
+        fault: None,
+    },
+    Made {
+        me: 3,
+        nodes: 3,
+        fault: None,
+    },
+    Made {
+        me: 63,
+        nodes: 63,
+        fault: None,
+    },
+    Made {
+        me: 64,
+        nodes: 63,
+        fault: Some(NewError::BadNode),
+    },
+    Made {
+        me: 4,
+        nodes: 3,
+        fault: Some(NewError::BadNode),
+    },
+    Made {
+        me: 1,
+        nodes: 0,
+        fault: Some(NewError::BadCount),
+    },
+    Made {
+        me: 2,
+        nodes: 0,
+        fault: Some(NewError::BadCount),
+    },
+    Made {
+        me: 1,
+        nodes: 65,
+        fault: Some(NewError::BadCount),
+    },
 ];
 
-/// Asserts that no row's node exists, each for its reason.
-fn assert_none(rt: &(impl Abort + AllocGlobal), rows: &[Made]) {
-    for Made(label, me, nodes, expected) in rows {
-        let fault = Node::new(rt.alloc(), node(rt, *me), *nodes, 0).err();
-        assert_same(rt, row(label), &fault, &Some(*expected));
+#[test]
+fn there_are_one_to_sixty_four_nodes(rt: HostRuntime) {
+    for made in MADE {
+        let (me, nodes) = (node(&rt, made.me), made.nodes);
+        let expected = (made.me, nodes, made.fault);
+        let at = row("an automaton: its node, how many nodes there are, and why there is none");
+        let fault = Automaton::new(rt.alloc(), me, nodes, r(), 0).err();
+        assert_same(&rt, at, &(made.me, nodes, fault), &expected);
+        let at = row("a node, how many nodes there are, and why there is none");
+        let fault = Node::new(rt.alloc(), me, nodes, 0).err();
+        assert_same(&rt, at, &(made.me, nodes, fault), &expected);
+    }
+}
+
+/// A message from a node to another one, and why node 2 of 3 refuses it. The receiver comes first if the sender is wrong, too.
+struct Sent {
+    from: u16,
+    to: u16,
+    fault: ReceiveError,
+}
+
+const SENT: &[Sent] = &[
+    Sent {
+        from: 3,
+        to: 1,
+        fault: ReceiveError::WrongNode,
+    },
+    Sent {
+        from: 4,
+        to: 3,
+        fault: ReceiveError::WrongNode,
+    },
+    Sent {
+        from: 2,
+        to: 2,
+        fault: ReceiveError::Stranger,
+    },
+    Sent {
+        from: 4,
+        to: 2,
+        fault: ReceiveError::Stranger,
+    },
+];
+
+/// Asserts that an automaton and a node refuse a REQUEST in this mode, or a REPLY if no mode is given, and meet no number by it.
+fn assert_refused(
+    rt: &(impl Abort + AllocGlobal),
+    members: (&mut Automaton, &mut Node),
+    sent: &Sent,
+    mode: Option<Mode>,
+) {
+    let (automaton, member) = members;
+    let expected = (sent.from, sent.to, Some(sent.fault), 0);
+    let at = row("an automaton: from, to, why it is refused, and the highest number");
+    let fault = receive(rt, automaton, [sent.from, sent.to], mode, 7).err();
+    assert_same(
+        rt,
+        at,
+        &(sent.from, sent.to, fault, automaton.highest()),
+        &expected,
+    );
+    let at = row("a node: from, to, why it is refused, and the highest number");
+    let message = message_between(node(rt, sent.from), node(rt, sent.to), r(), mode, 7);
+    let fault = member.receive(rt.alloc(), &message).err();
+    assert_same(
+        rt,
+        at,
+        &(sent.from, sent.to, fault, member.highest(&r())),
+        &expected,
+    );
+}
+
+/// Returns the automaton of node `me` of `nodes` for `r`.
+fn new_automaton(rt: &(impl Abort + AllocGlobal), me: u16, nodes: u16, start: u64) -> Automaton {
+    match Automaton::new(rt.alloc(), node(rt, me), nodes, r(), start) {
+        Ok(automaton) => automaton,
+        Err(fault) => panic!(rt; "there is no automaton of node {me} of {nodes}: {fault}"),
     }
 }
 
 #[test]
-fn bad_counts_and_nodes_make_no_node(rt: HostRuntime) {
-    assert_none(&rt, MADE);
+fn messages_come_from_another_node_to_this_one(rt: HostRuntime) {
+    let mut automaton = new_automaton(&rt, 2, 3, 0);
+    match Node::new(rt.alloc(), node(&rt, 2), 3, 0) {
+        Ok(mut member) => {
+            for sent in SENT {
+                assert_refused(&rt, (&mut automaton, &mut member), sent, Some(Shared));
+                assert_refused(&rt, (&mut automaton, &mut member), sent, None);
+            }
+        }
+        Err(fault) => assert_same(&rt, row("node 2 of 3"), &Some(fault), &None),
+    }
 }
 
-const SCENES: &[Scene] = &[Scene(
-    "messages for others and from strangers are refused",
-    2,
-    3,
-    0,
-    &[
-        // The receiver comes first if the sender is wrong, too.
-        RefusesMessage(Requests(1, 3, 7), ReceiveError::WrongNode),
-        RefusesMessage(Requests(4, 1, 7), ReceiveError::WrongNode),
-        RefusesMessage(Requests(2, 2, 7), ReceiveError::Stranger),
-        RefusesMessage(Requests(4, 2, 7), ReceiveError::Stranger),
-        HasHighest(0),
-    ],
-)];
-
+/// Its last request but one has the greatest number but one.
 #[test]
-fn messages_for_others_and_from_strangers_are_refused(rt: HostRuntime) {
-    follow(&rt, SCENES);
+fn an_automaton_makes_one_request_at_a_time_up_to_the_greatest_number(rt: HostRuntime) {
+    let mut automaton = new_automaton(&rt, 1, 1, u64::MAX - 1);
+    assert_same(&rt, row("its node"), &automaton.me().get(), &1);
+    assert_same(
+        &rt,
+        row("its name"),
+        &(automaton.name(), automaton.name() == q()),
+        &(r(), false),
+    );
+    let came = leave_and_request(&rt, &mut automaton, Shared).err();
+    assert_same(
+        &rt,
+        row("it leaves and asks while it is idle"),
+        &came,
+        &Some(LeaveError::NotHeld),
+    );
+    let came = leave(rt.alloc(), &mut automaton).err();
+    assert_same(
+        &rt,
+        row("it leaves while it is idle"),
+        &came,
+        &Some(LeaveError::NotHeld),
+    );
+    let came = request(rt.alloc(), &mut automaton, Shared).err();
+    assert_same(&rt, row("it asks while it is idle"), &came, &None);
+    let came = request(rt.alloc(), &mut automaton, Shared).err();
+    assert_same(
+        &rt,
+        row("it asks while it is inside"),
+        &came,
+        &Some(RequestError::NotIdle),
+    );
+    assert_same(
+        &rt,
+        row("it leaves"),
+        &leave(rt.alloc(), &mut automaton).err(),
+        &None,
+    );
+    let came = request(rt.alloc(), &mut automaton, Shared).err();
+    assert_same(
+        &rt,
+        row("it asks after the greatest number"),
+        &came,
+        &Some(RequestError::Exhausted),
+    );
+    let shown = (automaton.phase(), automaton.highest());
+    assert_same(
+        &rt,
+        row("its phase and the highest number"),
+        &shown,
+        &(Phase::Idle, u64::MAX),
+    );
 }
 
 #[test]
 fn faults_are_printed_as_their_words(rt: HostRuntime) {
-    assert_words!(&rt; AskError: Busy Exhausted Memory; LeaveError: NotHeld Memory);
+    assert_words!(&rt;
+        NewError: BadCount BadNode Memory;
+        RequestError: NotIdle Exhausted Memory;
+        ReceiveError: WrongNode Stranger Memory;
+        LeaveError: NotHeld Memory;
+        AskError: Busy Exhausted Memory;
+        NodeLeaveError: NotHeld Memory);
 }

@@ -1,231 +1,197 @@
-//! The lock table: what it answers, one call after the other.
+//! The lock table: what it answers to each call, and who may enter then. What it says of whole logs is in
+//! `cases/mark_logs_of_table.toml`.
 use crate::core_asserting::assert_same;
-use Call::{Asks, CanEnter, Enters, Leaves};
+use Call::{Asks, Enters, Leaves};
 use Mode::{Exclusive, Shared};
-use ra_stamp::{Entry, Mode, Name, NodeId};
+use ra_stamp::{Entry, Mode};
 use ra_table::{EnterError, LeaveError, RequestError, Table};
 use std::process::Abort;
-use test_support::{At, Modes, PAIRS, assert_prints, assert_words, entry_of};
-
-/// An entry: its mode, the letter that is its name, its node, its client and its number.
-#[derive(Clone, Copy)]
-struct Key(Mode, u8, u16, u32, u64);
+use test_support::{At, assert_prints, assert_words, entry, r};
 
 /// A call of the table about an entry, with the answer that it gives.
 #[derive(Drop)]
 enum Call {
     /// A request is made.
-    Asks(Key, Result<(), RequestError>),
+    Asks(Result<(), RequestError>),
     /// An entry is to be granted.
-    Enters(Key, Result<(), EnterError>),
+    Enters(Result<(), EnterError>),
     /// A hold is to end.
-    Leaves(Key, Result<(), LeaveError>),
-    /// Somebody asks whether an entry may be granted.
-    CanEnter(Key, bool),
+    Leaves(Result<(), LeaveError>),
 }
 
-/// Returns the entry.
-fn entry(rt: &impl Abort, key: Key) -> Entry {
-    match (Name::new(&[key.1]), NodeId::new(key.2)) {
-        (Ok(name), Some(node)) => entry_of(node, key.3, name, key.0, key.4),
-        _ => panic!(rt; "there is no such entry"),
-    }
+/// A call, the place of its entry among the three, and which of them may enter after it.
+struct Row {
+    call: Call,
+    of: usize,
+    may_enter: [bool; 3],
 }
 
-/// Asserts that the table gives this answer.
-fn answers(rt: &impl Abort, at: At<'_>, table: &mut Table, call: &Call) {
+const NOBODY: [bool; 3] = [false, false, false];
+
+/// A reader at node 1, a writer at node 2 and a reader at node 3 ask with the same number. What is refused changes nothing.
+const ROWS: &[Row] = &[
+    Row {
+        call: Enters(Err(EnterError::NotWaiting)),
+        of: 0,
+        may_enter: NOBODY,
+    },
+    Row {
+        call: Leaves(Err(LeaveError::NotHeld)),
+        of: 0,
+        may_enter: NOBODY,
+    },
+    Row {
+        call: Asks(Ok(())),
+        of: 0,
+        may_enter: [true, false, false],
+    },
+    Row {
+        call: Asks(Err(RequestError::NodeBusy)),
+        of: 0,
+        may_enter: [true, false, false],
+    },
+    Row {
+        call: Leaves(Err(LeaveError::NotHeld)),
+        of: 0,
+        may_enter: [true, false, false],
+    },
+    Row {
+        call: Asks(Ok(())),
+        of: 1,
+        may_enter: [true, false, false],
+    },
+    Row {
+        call: Asks(Ok(())),
+        of: 2,
+        may_enter: [true, false, false],
+    },
+    Row {
+        call: Enters(Err(EnterError::Earlier)),
+        of: 1,
+        may_enter: [true, false, false],
+    },
+    Row {
+        call: Enters(Ok(())),
+        of: 0,
+        may_enter: NOBODY,
+    },
+    Row {
+        call: Enters(Err(EnterError::NotWaiting)),
+        of: 0,
+        may_enter: NOBODY,
+    },
+    Row {
+        call: Asks(Err(RequestError::NodeBusy)),
+        of: 0,
+        may_enter: NOBODY,
+    },
+    Row {
+        call: Enters(Err(EnterError::Earlier)),
+        of: 2,
+        may_enter: NOBODY,
+    },
+    Row {
+        call: Enters(Err(EnterError::Held)),
+        of: 1,
+        may_enter: NOBODY,
+    },
+    Row {
+        call: Enters(Err(EnterError::Earlier)),
+        of: 2,
+        may_enter: NOBODY,
+    },
+    Row {
+        call: Enters(Err(EnterError::Held)),
+        of: 1,
+        may_enter: NOBODY,
+    },
+    Row {
+        call: Leaves(Ok(())),
+        of: 0,
+        may_enter: [false, true, false],
+    },
+    Row {
+        call: Leaves(Err(LeaveError::NotHeld)),
+        of: 0,
+        may_enter: [false, true, false],
+    },
+    Row {
+        call: Enters(Err(EnterError::Earlier)),
+        of: 2,
+        may_enter: [false, true, false],
+    },
+    Row {
+        call: Enters(Ok(())),
+        of: 1,
+        may_enter: NOBODY,
+    },
+    Row {
+        call: Enters(Err(EnterError::Held)),
+        of: 2,
+        may_enter: NOBODY,
+    },
+    Row {
+        call: Leaves(Ok(())),
+        of: 1,
+        may_enter: [false, false, true],
+    },
+    Row {
+        call: Enters(Ok(())),
+        of: 2,
+        may_enter: NOBODY,
+    },
+    Row {
+        call: Asks(Err(RequestError::NotAbove)),
+        of: 0,
+        may_enter: NOBODY,
+    },
+    Row {
+        call: Leaves(Ok(())),
+        of: 2,
+        may_enter: NOBODY,
+    },
+    Row {
+        call: Leaves(Err(LeaveError::NotHeld)),
+        of: 2,
+        may_enter: NOBODY,
+    },
+];
+
+/// Asserts that the table gives this answer about an entry.
+fn answers(rt: &impl Abort, at: At<'_>, table: &mut Table, call: &Call, entry: &Entry) {
     match call {
-        Asks(key, answer) => assert_same(rt, at, &table.request(entry(rt, *key)), answer),
-        Enters(key, answer) => assert_same(rt, at, &table.enter(&entry(rt, *key)), answer),
-        Leaves(key, answer) => assert_same(rt, at, &table.leave(&entry(rt, *key)), answer),
-        CanEnter(key, answer) => assert_same(rt, at, &table.can_enter(&entry(rt, *key)), answer),
+        Asks(answer) => assert_same(rt, at, &table.request(*entry), answer),
+        Enters(answer) => assert_same(rt, at, &table.enter(entry), answer),
+        Leaves(answer) => assert_same(rt, at, &table.leave(entry), answer),
     }
 }
 
 /// Asserts that a table gives these answers, one call after the other.
-fn answers_all(rt: &impl Abort, label: &str, table: &mut Table, calls: &[Call]) {
-    for place in 0..calls.len() {
-        answers(rt, At(label, "call", place + 1), table, &calls[place]);
+fn answers_all(rt: &impl Abort, table: &mut Table) {
+    let entries = [
+        entry(1, 1, r(), Shared, 1),
+        entry(2, 2, r(), Exclusive, 1),
+        entry(3, 3, r(), Shared, 1),
+    ];
+    for place in 0..ROWS.len() {
+        let (row, at) = (&ROWS[place], At("a lock table", "call", place + 1));
+        if row.of < 3 {
+            answers(rt, at, table, &row.call, &entries[row.of]);
+        }
+        let may_enter = [
+            table.can_enter(&entries[0]),
+            table.can_enter(&entries[1]),
+            table.can_enter(&entries[2]),
+        ];
+        assert_same(rt, at, &may_enter, &row.may_enter);
     }
 }
-
-/// Asserts that a new table gives these answers, one call after the other.
-fn answered_by_new(rt: &(impl Abort + AllocGlobal), label: &str, calls: &[Call]) {
-    match Table::new(rt.alloc()) {
-        Ok(mut table) => answers_all(rt, label, &mut table, calls),
-        Err(_) => panic!(rt; "there is no table"),
-    }
-}
-
-/// What it shows, and the answers of a table.
-struct Scene(&'static str, &'static [Call]);
-
-const SCENES: &[Scene] = &[
-    Scene(
-        "writers take turns in stamp order",
-        &[
-            Enters(Key(Exclusive, b'r', 1, 1, 1), Err(EnterError::NotWaiting)),
-            Leaves(Key(Exclusive, b'r', 1, 1, 1), Err(LeaveError::NotHeld)),
-            Asks(Key(Exclusive, b'r', 1, 1, 1), Ok(())),
-            Asks(Key(Exclusive, b'r', 1, 2, 2), Err(RequestError::NodeBusy)),
-            Enters(Key(Exclusive, b'r', 1, 2, 2), Err(EnterError::NotWaiting)),
-            Leaves(Key(Exclusive, b'r', 1, 2, 2), Err(LeaveError::NotHeld)),
-            CanEnter(Key(Exclusive, b'r', 1, 1, 1), true),
-            Enters(Key(Exclusive, b'r', 1, 1, 1), Ok(())),
-            CanEnter(Key(Exclusive, b'r', 1, 1, 1), false),
-            Enters(Key(Exclusive, b'r', 1, 1, 1), Err(EnterError::NotWaiting)),
-            Asks(Key(Exclusive, b'r', 1, 2, 2), Err(RequestError::NodeBusy)),
-            Asks(Key(Exclusive, b'r', 2, 2, 1), Err(RequestError::NotAbove)),
-            Enters(Key(Exclusive, b'r', 2, 2, 1), Err(EnterError::NotWaiting)),
-            Leaves(Key(Exclusive, b'r', 2, 2, 1), Err(LeaveError::NotHeld)),
-            Asks(Key(Exclusive, b'r', 2, 2, 2), Ok(())),
-            // What is refused is refused again.
-            CanEnter(Key(Exclusive, b'r', 2, 2, 2), false),
-            Enters(Key(Exclusive, b'r', 2, 2, 2), Err(EnterError::Held)),
-            Leaves(Key(Exclusive, b'r', 2, 2, 2), Err(LeaveError::NotHeld)),
-            CanEnter(Key(Exclusive, b'r', 2, 2, 2), false),
-            Enters(Key(Exclusive, b'r', 2, 2, 2), Err(EnterError::Held)),
-            Leaves(Key(Exclusive, b'r', 2, 2, 2), Err(LeaveError::NotHeld)),
-            Leaves(Key(Exclusive, b'r', 1, 1, 1), Ok(())),
-            Leaves(Key(Exclusive, b'r', 1, 1, 1), Err(LeaveError::NotHeld)),
-            Enters(Key(Exclusive, b'r', 1, 1, 1), Err(EnterError::NotWaiting)),
-            Leaves(Key(Exclusive, b'r', 1, 1, 1), Err(LeaveError::NotHeld)),
-            CanEnter(Key(Exclusive, b'r', 2, 2, 2), true),
-            Enters(Key(Exclusive, b'r', 2, 2, 2), Ok(())),
-            Leaves(Key(Exclusive, b'r', 2, 2, 2), Ok(())),
-            Leaves(Key(Exclusive, b'r', 2, 2, 2), Err(LeaveError::NotHeld)),
-        ],
-    ),
-    Scene(
-        "of equal numbers the lower node goes first",
-        &[
-            Asks(Key(Exclusive, b'r', 1, 1, 1), Ok(())),
-            Enters(Key(Exclusive, b'r', 1, 1, 1), Ok(())),
-            Leaves(Key(Exclusive, b'r', 1, 1, 1), Ok(())),
-            Asks(Key(Exclusive, b'r', 2, 2, 2), Ok(())),
-            Enters(Key(Exclusive, b'r', 2, 2, 2), Ok(())),
-            Leaves(Key(Exclusive, b'r', 2, 2, 2), Ok(())),
-            Asks(Key(Exclusive, b'r', 1, 1, 3), Ok(())),
-            Asks(Key(Exclusive, b'r', 2, 2, 3), Ok(())),
-            CanEnter(Key(Exclusive, b'r', 1, 1, 3), true),
-            CanEnter(Key(Exclusive, b'r', 2, 2, 3), false),
-            Enters(Key(Exclusive, b'r', 2, 2, 3), Err(EnterError::Earlier)),
-            CanEnter(Key(Exclusive, b'r', 3, 3, 3), false),
-            Enters(Key(Exclusive, b'r', 3, 3, 3), Err(EnterError::NotWaiting)),
-            // What is refused is refused again.
-            CanEnter(Key(Exclusive, b'r', 1, 1, 3), true),
-            CanEnter(Key(Exclusive, b'r', 2, 2, 3), false),
-            Enters(Key(Exclusive, b'r', 2, 2, 3), Err(EnterError::Earlier)),
-            CanEnter(Key(Exclusive, b'r', 3, 3, 3), false),
-            Enters(Key(Exclusive, b'r', 3, 3, 3), Err(EnterError::NotWaiting)),
-            Enters(Key(Exclusive, b'r', 1, 1, 3), Ok(())),
-            Enters(Key(Exclusive, b'r', 2, 2, 3), Err(EnterError::Held)),
-            Leaves(Key(Exclusive, b'r', 1, 1, 3), Ok(())),
-            CanEnter(Key(Exclusive, b'r', 2, 2, 3), true),
-        ],
-    ),
-    Scene(
-        "two names are held at once",
-        &[
-            Asks(Key(Exclusive, b'a', 1, 1, 1), Ok(())),
-            Asks(Key(Exclusive, b'b', 2, 2, 1), Ok(())),
-            Enters(Key(Exclusive, b'a', 1, 1, 1), Ok(())),
-            CanEnter(Key(Exclusive, b'b', 2, 2, 1), true),
-            Enters(Key(Exclusive, b'b', 2, 2, 1), Ok(())),
-            Leaves(Key(Exclusive, b'a', 1, 1, 1), Ok(())),
-            Leaves(Key(Exclusive, b'b', 2, 2, 1), Ok(())),
-        ],
-    ),
-    Scene(
-        "a name is asked for again",
-        &[
-            Asks(Key(Exclusive, b'a', 1, 1, 1), Ok(())),
-            Enters(Key(Exclusive, b'a', 1, 1, 1), Ok(())),
-            Leaves(Key(Exclusive, b'a', 1, 1, 1), Ok(())),
-            // Nobody waits or holds on the name, but it was met.
-            Asks(Key(Exclusive, b'b', 1, 1, 1), Ok(())),
-            CanEnter(Key(Exclusive, b'a', 2, 2, 2), false),
-            Asks(Key(Exclusive, b'a', 2, 2, 2), Ok(())),
-            Enters(Key(Exclusive, b'b', 1, 1, 1), Ok(())),
-            CanEnter(Key(Exclusive, b'a', 2, 2, 2), true),
-            Enters(Key(Exclusive, b'a', 2, 2, 2), Ok(())),
-            Leaves(Key(Exclusive, b'b', 1, 1, 1), Ok(())),
-            Leaves(Key(Exclusive, b'a', 2, 2, 2), Ok(())),
-            Leaves(Key(Exclusive, b'a', 2, 2, 2), Err(LeaveError::NotHeld)),
-        ],
-    ),
-    Scene(
-        "a reader waits for an earlier writer",
-        &[
-            Asks(Key(Shared, b'r', 1, 1, 1), Ok(())),
-            Asks(Key(Exclusive, b'r', 2, 2, 1), Ok(())),
-            Asks(Key(Shared, b'r', 3, 3, 1), Ok(())),
-            CanEnter(Key(Shared, b'r', 1, 1, 1), true),
-            Enters(Key(Shared, b'r', 1, 1, 1), Ok(())),
-            Enters(Key(Shared, b'r', 3, 3, 1), Err(EnterError::Earlier)),
-            Enters(Key(Exclusive, b'r', 2, 2, 1), Err(EnterError::Held)),
-            CanEnter(Key(Shared, b'r', 3, 3, 1), false),
-            CanEnter(Key(Exclusive, b'r', 2, 2, 1), false),
-            // What is refused is refused again.
-            Enters(Key(Shared, b'r', 3, 3, 1), Err(EnterError::Earlier)),
-            Enters(Key(Exclusive, b'r', 2, 2, 1), Err(EnterError::Held)),
-            CanEnter(Key(Shared, b'r', 3, 3, 1), false),
-            CanEnter(Key(Exclusive, b'r', 2, 2, 1), false),
-            Leaves(Key(Shared, b'r', 1, 1, 1), Ok(())),
-            Enters(Key(Shared, b'r', 3, 3, 1), Err(EnterError::Earlier)),
-            CanEnter(Key(Exclusive, b'r', 2, 2, 1), true),
-            Enters(Key(Exclusive, b'r', 2, 2, 1), Ok(())),
-            CanEnter(Key(Shared, b'r', 3, 3, 1), false),
-            Enters(Key(Shared, b'r', 3, 3, 1), Err(EnterError::Held)),
-            Leaves(Key(Exclusive, b'r', 2, 2, 1), Ok(())),
-            CanEnter(Key(Shared, b'r', 3, 3, 1), true),
-        ],
-    ),
-    Scene(
-        "readers hold a name together",
-        &[
-            Asks(Key(Shared, b'r', 1, 1, 1), Ok(())),
-            Asks(Key(Shared, b'r', 2, 2, 1), Ok(())),
-            Enters(Key(Shared, b'r', 2, 2, 1), Ok(())),
-            CanEnter(Key(Shared, b'r', 1, 1, 1), true),
-            Enters(Key(Shared, b'r', 1, 1, 1), Ok(())),
-            Leaves(Key(Shared, b'r', 2, 2, 1), Ok(())),
-            Leaves(Key(Shared, b'r', 1, 1, 1), Ok(())),
-        ],
-    ),
-];
 
 #[test]
 fn requests_are_granted_in_stamp_order(rt: HostRuntime) {
-    for scene in SCENES {
-        answered_by_new(&rt, scene.0, scene.1);
-    }
-}
-
-/// A later request goes beside an earlier one, waiting or held, or goes after it, as a pair says.
-fn goes_as_said(rt: &(impl Abort + AllocGlobal), pair: &Modes) {
-    let (earlier, later) = (Key(pair.1, b'r', 1, 1, 1), Key(pair.2, b'r', 2, 2, 2));
-    let held = if pair.3 {
-        Ok(())
-    } else {
-        Err(EnterError::Held)
-    };
-    let calls = [
-        Asks(earlier, Ok(())),
-        Asks(later, Ok(())),
-        CanEnter(later, pair.3),
-        Enters(earlier, Ok(())),
-        CanEnter(later, pair.3),
-        Enters(later, held),
-        Leaves(earlier, Ok(())),
-    ];
-    answered_by_new(rt, pair.0, &calls);
-}
-
-#[test]
-fn nine_pairs_of_modes_are_held_at_once(rt: HostRuntime) {
-    for pair in PAIRS {
-        goes_as_said(&rt, pair);
+    match Table::new(rt.alloc()) {
+        Ok(mut table) => answers_all(&rt, &mut table),
+        Err(_) => panic!(rt; "there is no table"),
     }
 }
 

@@ -1,12 +1,13 @@
 ghost use Rattle.ra_stamp.specs.NodeId.{IsNodeNumber};
 
 use crate::core_asserting::assert_same;
+use Mode::{Exclusive, IntentExclusive, IntentShared, Shared, SharedIntentExclusive};
 use ra_stamp::{
     Entry, Mark, Marks, Memory, Message, Messages, Mode, Name, NameError, NodeId, Stamp, conflicts,
 };
 use std::cmp::Ordering;
 use std::process::Abort;
-use test_support::{At, Modes, PAIRS, assert_prints, id, r, row};
+use test_support::{At, assert_prints, id, r, row};
 
 /// Returns a REQUEST from node 1 to node 2.
 fn request(name: Name, seq: u64) -> Message {
@@ -39,46 +40,91 @@ fn nodes_are_numbered_from_one_to_sixty_four(rt: HostRuntime) {
     }
 }
 
-/// What bytes are, the bytes, and why they are no name, or `None` if they are one.
-struct Named(&'static str, &'static [u8], Option<NameError>);
+/// Bytes, and why they are no name, or `None` if they are one.
+struct Named {
+    shows: &'static str,
+    bytes: &'static [u8],
+    fault: Option<NameError>,
+}
 
 const NAMED: &[Named] = &[
-    Named("letters, digits and three signs", b"AZaz09_-.", None),
-    Named("32 bytes", b"nnnnnnnnnnnnnnnnnnnnnnnnnnnnnnnn", None),
-    Named(
-        "33 bytes",
-        b"nnnnnnnnnnnnnnnnnnnnnnnnnnnnnnnnn",
-        Some(NameError::TooLong),
-    ),
-    Named("nothing", b"", Some(NameError::Empty)),
-    Named("a space", b"a b", Some(NameError::BadByte)),
-    Named("a slash", b"a/b", Some(NameError::BadByte)),
-    Named("a colon", b"a:b", Some(NameError::BadByte)),
-    Named("an at sign", b"a@b", Some(NameError::BadByte)),
-    Named("an opening bracket", b"a[b", Some(NameError::BadByte)),
-    Named("a backquote", b"a`b", Some(NameError::BadByte)),
-    Named("an opening brace", b"a{b", Some(NameError::BadByte)),
-    Named(
-        "a letter beyond ASCII",
-        b"\xc3\xa4",
-        Some(NameError::BadByte),
-    ),
+    Named {
+        shows: "letters, digits and three signs",
+        bytes: b"AZaz09_-.",
+        fault: None,
+    },
+    Named {
+        shows: "32 bytes",
+        bytes: b"nnnnnnnnnnnnnnnnnnnnnnnnnnnnnnnn",
+        fault: None,
+    },
+    Named {
+        shows: "33 bytes",
+        bytes: b"nnnnnnnnnnnnnnnnnnnnnnnnnnnnnnnnn",
+        fault: Some(NameError::TooLong),
+    },
+    Named {
+        shows: "nothing",
+        bytes: b"",
+        fault: Some(NameError::Empty),
+    },
+    Named {
+        shows: "a space",
+        bytes: b"a b",
+        fault: Some(NameError::BadByte),
+    },
+    Named {
+        shows: "a slash",
+        bytes: b"a/b",
+        fault: Some(NameError::BadByte),
+    },
+    Named {
+        shows: "a colon",
+        bytes: b"a:b",
+        fault: Some(NameError::BadByte),
+    },
+    Named {
+        shows: "an at sign",
+        bytes: b"a@b",
+        fault: Some(NameError::BadByte),
+    },
+    Named {
+        shows: "an opening bracket",
+        bytes: b"a[b",
+        fault: Some(NameError::BadByte),
+    },
+    Named {
+        shows: "a backquote",
+        bytes: b"a`b",
+        fault: Some(NameError::BadByte),
+    },
+    Named {
+        shows: "an opening brace",
+        bytes: b"a{b",
+        fault: Some(NameError::BadByte),
+    },
+    Named {
+        shows: "a letter beyond ASCII",
+        bytes: b"\xc3\xa4",
+        fault: Some(NameError::BadByte),
+    },
 ];
 
 #[test]
 fn names_have_one_to_thirty_two_letters_digits_and_three_signs(rt: HostRuntime) {
-    for Named(label, bytes, expected) in NAMED {
-        match Name::new(bytes) {
+    for named in NAMED {
+        let at = row(named.shows);
+        match Name::new(named.bytes) {
             Ok(name) => {
-                assert_same(&rt, row(label), &None, expected);
-                assert_same(&rt, row(label), &name.bytes(), bytes);
+                assert_same(&rt, at, &None, &named.fault);
+                assert_same(&rt, at, &name.bytes(), &named.bytes);
             }
-            Err(fault) => assert_same(&rt, row(label), &Some(fault), expected),
+            Err(fault) => assert_same(&rt, at, &Some(fault), &named.fault),
         }
     }
 }
 
-/// Pairs of names with their label, and how they are ordered.
+/// Pairs of names, what they are, and how they are ordered.
 const NAMES: &[(&str, &[u8], &[u8], Ordering)] = &[
     ("a and ab", b"a", b"ab", Ordering::Less),
     ("ab and b", b"ab", b"b", Ordering::Less),
@@ -96,10 +142,149 @@ fn names_are_ordered_by_their_bytes(rt: HostRuntime) {
     }
 }
 
+/// A mode in which an entry holds, one that another wants, and whether both can be held at once.
+struct Modes {
+    held: Mode,
+    wanted: Mode,
+    go_together: bool,
+}
+
+/// The table of J. N. Gray, R. A. Lorie, G. R. Putzolu and I. L. Traiger (1976), row by row.
+const PAIRS: &[Modes] = &[
+    Modes {
+        held: IntentShared,
+        wanted: IntentShared,
+        go_together: true,
+    },
+    Modes {
+        held: IntentShared,
+        wanted: IntentExclusive,
+        go_together: true,
+    },
+    Modes {
+        held: IntentShared,
+        wanted: Shared,
+        go_together: true,
+    },
+    Modes {
+        held: IntentShared,
+        wanted: SharedIntentExclusive,
+        go_together: true,
+    },
+    Modes {
+        held: IntentShared,
+        wanted: Exclusive,
+        go_together: false,
+    },
+    Modes {
+        held: IntentExclusive,
+        wanted: IntentShared,
+        go_together: true,
+    },
+    Modes {
+        held: IntentExclusive,
+        wanted: IntentExclusive,
+        go_together: true,
+    },
+    Modes {
+        held: IntentExclusive,
+        wanted: Shared,
+        go_together: false,
+    },
+    Modes {
+        held: IntentExclusive,
+        wanted: SharedIntentExclusive,
+        go_together: false,
+    },
+    Modes {
+        held: IntentExclusive,
+        wanted: Exclusive,
+        go_together: false,
+    },
+    Modes {
+        held: Shared,
+        wanted: IntentShared,
+        go_together: true,
+    },
+    Modes {
+        held: Shared,
+        wanted: IntentExclusive,
+        go_together: false,
+    },
+    Modes {
+        held: Shared,
+        wanted: Shared,
+        go_together: true,
+    },
+    Modes {
+        held: Shared,
+        wanted: SharedIntentExclusive,
+        go_together: false,
+    },
+    Modes {
+        held: Shared,
+        wanted: Exclusive,
+        go_together: false,
+    },
+    Modes {
+        held: SharedIntentExclusive,
+        wanted: IntentShared,
+        go_together: true,
+    },
+    Modes {
+        held: SharedIntentExclusive,
+        wanted: IntentExclusive,
+        go_together: false,
+    },
+    Modes {
+        held: SharedIntentExclusive,
+        wanted: Shared,
+        go_together: false,
+    },
+    Modes {
+        held: SharedIntentExclusive,
+        wanted: SharedIntentExclusive,
+        go_together: false,
+    },
+    Modes {
+        held: SharedIntentExclusive,
+        wanted: Exclusive,
+        go_together: false,
+    },
+    Modes {
+        held: Exclusive,
+        wanted: IntentShared,
+        go_together: false,
+    },
+    Modes {
+        held: Exclusive,
+        wanted: IntentExclusive,
+        go_together: false,
+    },
+    Modes {
+        held: Exclusive,
+        wanted: Shared,
+        go_together: false,
+    },
+    Modes {
+        held: Exclusive,
+        wanted: SharedIntentExclusive,
+        go_together: false,
+    },
+    Modes {
+        held: Exclusive,
+        wanted: Exclusive,
+        go_together: false,
+    },
+];
+
 #[test]
 fn nine_pairs_of_modes_go_together(rt: HostRuntime) {
-    for Modes(label, held, wanted, together) in PAIRS {
-        assert_same(&rt, row(label), &!conflicts(*held, *wanted), together);
+    for pair in PAIRS {
+        let (held, wanted) = (pair.held, pair.wanted);
+        let came = (held, wanted, !conflicts(held, wanted));
+        let at = row("two modes, and whether they go together");
+        assert_same(&rt, at, &came, &(held, wanted, pair.go_together));
     }
 }
 
