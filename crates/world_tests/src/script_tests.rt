@@ -1,9 +1,5 @@
-//! Scripts, and how policies drive a cluster through them.
-pub mod drives;
-pub mod faulty_runs;
+//! Scripts, and the policies that drive a cluster through them. What runs show is in `cases/sim*.toml` and `cases/test_sim.py`.
 pub mod listing;
-pub mod refused_drives;
-pub mod schedules;
-pub mod script_limits;
-pub mod script_plans;
-pub mod seeds;
+pub mod policies;
+pub mod scripts;
+pub mod turns;

@@ -1,13 +1,13 @@
 //! Each growth is refused in turn: the call returns `Memory`, leaves everything as it was, and succeeds when made
 //! again.
 use crate::run_tests::reported_runs::run_of;
-use crate::script_tests::drives::{driven, summed};
 use crate::script_tests::listing::{found, lockers};
-use crate::script_tests::script_plans::{fault_of_client, fault_of_op};
+use crate::script_tests::policies::{driven, summed};
+use crate::script_tests::scripts::{fault_of_client, fault_of_op};
 use crate::world_steps::alike_worlds::assert_alike;
 use crate::world_steps::report_totals::totals;
-use crate::world_steps::world_acts::{ASKS, LEAVES, fault_of, new_world, report_of, step};
 use crate::world_steps::world_asserting::assert_same;
+use crate::world_steps::world_calls::{ASKS, LEAVES, fault_of, new_world, report_of, step};
 use Choice::{Client, Message};
 use ra_schedule::{
     AddClientError, AddOpError, Choice, DriveError, Ending, Faults, NewScriptError, Observer, Op,

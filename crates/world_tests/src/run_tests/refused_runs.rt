@@ -1,9 +1,8 @@
 //! Which step of a list `run` refuses, and why: the first step, and one after many others.
 use crate::run_tests::reported_runs::{adds, run_of, steps_of};
-use crate::world_steps::repeats::ANSWERED_TWICE;
 use crate::world_steps::report_totals::totals;
-use crate::world_steps::world_acts::{ASKS, LEAVES, step_of};
 use crate::world_steps::world_asserting::{assert_same, assert_text};
+use crate::world_steps::world_calls::{ASKS, LEAVES, step_of};
 use ra_world::{NodeRefusal, RunError, Step, StepError, Steps, report_text};
 use std::alloc::Global;
 use std::process::Abort;
@@ -35,7 +34,11 @@ fn adds_39_steps(steps: &mut Steps, start: u64) -> bool {
 }
 
 /// The line of a step, the number that each name begins with, and why the step is refused.
-struct Case(&'static str, u64, StepError);
+struct Case {
+    line: &'static str,
+    start: u64,
+    cause: StepError,
+}
 
 /// The greatest start from which ten requests can be made.
 const TEN_LEFT: u64 = u64::MAX - 10;
@@ -53,20 +56,20 @@ fn fault_of(alloc: Global, start: u64, steps: &Steps) -> Option<RunError> {
 
 /// Adds the step of a case, first or after the 39 others, and one more step. Returns whether there was room.
 fn adds_case(steps: &mut Steps, case: &Case, is_late: bool) -> bool {
-    (!is_late || adds_39_steps(steps, case.1))
-        && adds(steps, step_of(case.0))
+    (!is_late || adds_39_steps(steps, case.start))
+        && adds(steps, step_of(case.line))
         && adds(steps, step_of("ask 2 3 r X"))
 }
 
 /// Asserts that two nodes refuse the step of each case at this place, for its cause.
 fn assert_refused(rt: &(impl Abort + AllocGlobal), cases: &[Case], place: u64) {
     for case in cases {
-        let (at, cause) = (part("a run with this step", case.0), case.2);
+        let (at, cause) = (part("a run with this step", case.line), case.cause);
         let mut steps = Steps::new(rt.alloc());
         if !adds_case(&mut steps, case, place == 40) {
             panic!(rt; "{at}: this is no step, or there is no memory for the list");
         }
-        let fault = fault_of(rt.alloc(), case.1, &steps);
+        let fault = fault_of(rt.alloc(), case.start, &steps);
         assert_same(rt, at, &fault, &Some(RunError::Refused { place, cause }));
     }
 }
@@ -74,12 +77,36 @@ fn assert_refused(rt: &(impl Abort + AllocGlobal), cases: &[Case], place: u64) {
 #[test]
 fn the_first_step_of_a_run_is_refused_for_each_cause(rt: HostRuntime) {
     const CASES: &[Case] = &[
-        Case("ask 3 1 r X", 0, StepError::NoNode),
-        Case("deliver request 1 2 r X 1", 0, StepError::NotUnderWay),
-        Case("lose request 1 2 r X 1", 0, StepError::NotUnderWay),
-        Case("repeat reply 2 1 r 1", 0, StepError::NotUnderWay),
-        Case(LEAVES, 0, NOT_HELD),
-        Case(ASKS, u64::MAX, EXHAUSTED),
+        Case {
+            line: "ask 3 1 r X",
+            start: 0,
+            cause: StepError::NoNode,
+        },
+        Case {
+            line: "deliver request 1 2 r X 1",
+            start: 0,
+            cause: StepError::NotUnderWay,
+        },
+        Case {
+            line: "lose request 1 2 r X 1",
+            start: 0,
+            cause: StepError::NotUnderWay,
+        },
+        Case {
+            line: "repeat reply 2 1 r 1",
+            start: 0,
+            cause: StepError::NotUnderWay,
+        },
+        Case {
+            line: LEAVES,
+            start: 0,
+            cause: NOT_HELD,
+        },
+        Case {
+            line: ASKS,
+            start: u64::MAX,
+            cause: EXHAUSTED,
+        },
     ];
     assert_refused(&rt, CASES, 1);
 }
@@ -88,15 +115,51 @@ fn the_first_step_of_a_run_is_refused_for_each_cause(rt: HostRuntime) {
 #[test]
 fn the_fortieth_step_of_a_run_is_refused_for_each_cause(rt: HostRuntime) {
     const CASES: &[Case] = &[
-        Case("ask 3 1 r X", 0, StepError::NoNode),
-        Case("deliver request 1 2 r X 1", 0, StepError::NotUnderWay),
-        Case("lose reply 2 1 r 9", 0, StepError::NotUnderWay),
-        Case("repeat request 1 2 r X 1", 0, StepError::NotUnderWay),
-        Case(ASKS, 0, BUSY),
-        Case(ASKS, TEN_LEFT, BUSY),
-        Case(LEAVES, 0, NOT_HELD),
-        Case("ask 1 2 r X", TEN_LEFT, EXHAUSTED),
-        Case("ask 2 2 r X", TEN_LEFT, EXHAUSTED),
+        Case {
+            line: "ask 3 1 r X",
+            start: 0,
+            cause: StepError::NoNode,
+        },
+        Case {
+            line: "deliver request 1 2 r X 1",
+            start: 0,
+            cause: StepError::NotUnderWay,
+        },
+        Case {
+            line: "lose reply 2 1 r 9",
+            start: 0,
+            cause: StepError::NotUnderWay,
+        },
+        Case {
+            line: "repeat request 1 2 r X 1",
+            start: 0,
+            cause: StepError::NotUnderWay,
+        },
+        Case {
+            line: ASKS,
+            start: 0,
+            cause: BUSY,
+        },
+        Case {
+            line: ASKS,
+            start: TEN_LEFT,
+            cause: BUSY,
+        },
+        Case {
+            line: LEAVES,
+            start: 0,
+            cause: NOT_HELD,
+        },
+        Case {
+            line: "ask 1 2 r X",
+            start: TEN_LEFT,
+            cause: EXHAUSTED,
+        },
+        Case {
+            line: "ask 2 2 r X",
+            start: TEN_LEFT,
+            cause: EXHAUSTED,
+        },
     ];
     assert_refused(&rt, CASES, 40);
 }
@@ -123,6 +186,18 @@ fn the_steps_before_the_fortieth_are_made(rt: HostRuntime) {
     assert_made(&rt, "39 steps from 0", 0);
     assert_made(&rt, "39 steps when ten numbers are left", TEN_LEFT);
 }
+
+/// The report of a run of two nodes, in which the REQUEST of a client that locks and unlocks `r` comes twice.
+const ANSWERED_TWICE: &str = "request 1 1 r X 1
+enter 1 1 r X 1
+leave 1 1 r X 1
+requests 1
+messages 3
+under-way 0
+lost 0
+waiting 0
+queued 0
+";
 
 /// The REQUEST is delivered twice and answered twice; the second REPLY is a stray.
 #[test]

@@ -1,6 +1,6 @@
 //! Runs of a list of steps: what is reported about them, and at which step they are refused.
-use crate::world_steps::world_acts::step_of;
 use crate::world_steps::world_asserting::{assert_same, assert_text};
+use crate::world_steps::world_calls::step_of;
 use Answer::{BadCount, Refused, Reported};
 use ra_world::{
     NewError, NodeRefusal, Report, RunError, Step, StepError, Steps, World, report_text, run,
@@ -20,8 +20,14 @@ enum Answer {
     BadCount,
 }
 
-/// What it shows, the number of nodes, the steps of a run from 0 as lines of a trace, and the answer.
-struct Case(&'static str, u16, &'static [&'static str], Answer);
+/// A run from the number 0, and what `run` answers.
+struct Case {
+    shows: &'static str,
+    nodes: u16,
+    /// Its steps, as lines of a trace.
+    lines: &'static [&'static str],
+    answer: Answer,
+}
 
 /// Adds a step, if there is one. Returns whether there was a step and room for it.
 pub fn adds(steps: &mut Steps, step: Option<Step>) -> bool {
@@ -58,11 +64,11 @@ fn fault_in(answer: Answer) -> Option<RunError> {
 
 /// Asserts that each case has the expected answer.
 fn assert_cases(rt: &(impl Abort + AllocGlobal), cases: &[Case]) {
-    for Case(label, nodes, lines, expected) in cases {
-        let at = row(label);
-        match run_of(rt.alloc(), *nodes, 0, &steps_of(rt, lines)) {
-            Ok(report) => assert_reported(rt, at, &report, *expected),
-            Err(fault) => assert_same(rt, at, &Some(fault), &fault_in(*expected)),
+    for case in cases {
+        let at = row(case.shows);
+        match run_of(rt.alloc(), case.nodes, 0, &steps_of(rt, case.lines)) {
+            Ok(report) => assert_reported(rt, at, &report, case.answer),
+            Err(fault) => assert_same(rt, at, &Some(fault), &fault_in(case.answer)),
         }
     }
 }
@@ -84,36 +90,36 @@ const NOT_HELD: StepError = StepError::Node(NodeRefusal::NotHeld);
 #[test]
 fn a_run_ends_at_the_first_step_that_is_refused(rt: HostRuntime) {
     const CASES: &[Case] = &[
-        Case(
-            "a client asks twice",
-            2,
-            &["ask 1 1 r X", "ask 1 1 r X"],
-            Refused(2, BUSY),
-        ),
-        Case(
-            "a client leaves what it does not hold",
-            2,
-            &["release 1 1 r"],
-            Refused(1, NOT_HELD),
-        ),
-        Case(
-            "there is no such node",
-            2,
-            &["ask 3 1 r X"],
-            Refused(1, StepError::NoNode),
-        ),
-        Case(
-            "it leaves twice what it does not hold",
-            2,
-            &["release 1 1 r", "release 1 1 r"],
-            Refused(1, NOT_HELD),
-        ),
-        Case(
-            "twice there is no such node",
-            2,
-            &["ask 3 1 r X", "ask 3 1 r X"],
-            Refused(1, StepError::NoNode),
-        ),
+        Case {
+            shows: "a client asks twice",
+            nodes: 2,
+            lines: &["ask 1 1 r X", "ask 1 1 r X"],
+            answer: Refused(2, BUSY),
+        },
+        Case {
+            shows: "a client leaves what it does not hold",
+            nodes: 2,
+            lines: &["release 1 1 r"],
+            answer: Refused(1, NOT_HELD),
+        },
+        Case {
+            shows: "there is no such node",
+            nodes: 2,
+            lines: &["ask 3 1 r X"],
+            answer: Refused(1, StepError::NoNode),
+        },
+        Case {
+            shows: "it leaves twice what it does not hold",
+            nodes: 2,
+            lines: &["release 1 1 r", "release 1 1 r"],
+            answer: Refused(1, NOT_HELD),
+        },
+        Case {
+            shows: "twice there is no such node",
+            nodes: 2,
+            lines: &["ask 3 1 r X", "ask 3 1 r X"],
+            answer: Refused(1, StepError::NoNode),
+        },
     ];
     assert_cases(&rt, CASES);
 }
@@ -130,10 +136,30 @@ queued 0
 #[test]
 fn a_cluster_has_one_to_sixty_four_nodes(rt: HostRuntime) {
     const CASES: &[Case] = &[
-        Case("no node", 0, &[], BadCount),
-        Case("65 nodes", 65, &[], BadCount),
-        Case("one node", 1, &[], Reported(NOTHING)),
-        Case("64 nodes", 64, &[], Reported(NOTHING)),
+        Case {
+            shows: "no node",
+            nodes: 0,
+            lines: &[],
+            answer: BadCount,
+        },
+        Case {
+            shows: "65 nodes",
+            nodes: 65,
+            lines: &[],
+            answer: BadCount,
+        },
+        Case {
+            shows: "one node",
+            nodes: 1,
+            lines: &[],
+            answer: Reported(NOTHING),
+        },
+        Case {
+            shows: "64 nodes",
+            nodes: 64,
+            lines: &[],
+            answer: Reported(NOTHING),
+        },
     ];
     assert_cases(&rt, CASES);
     for nodes in [0, 65] {
@@ -145,11 +171,11 @@ fn a_cluster_has_one_to_sixty_four_nodes(rt: HostRuntime) {
 
 #[test]
 fn the_client_of_a_lost_request_waits(rt: HostRuntime) {
-    const CASES: &[Case] = &[Case(
-        "a lost request",
-        2,
-        &["ask 1 1 r X", "lose request 1 2 r X 1"],
-        Reported(
+    const CASES: &[Case] = &[Case {
+        shows: "a lost request",
+        nodes: 2,
+        lines: &["ask 1 1 r X", "lose request 1 2 r X 1"],
+        answer: Reported(
             "request 1 1 r X 1
 requests 1
 messages 1
@@ -159,6 +185,6 @@ waiting 1
 queued 0
 ",
         ),
-    )];
+    }];
     assert_cases(&rt, CASES);
 }

@@ -1,6 +1,6 @@
 //! The choices of a run, and the first seed that comes to an end.
-use crate::script_tests::drives::{Chooser, driven, policy};
-use crate::script_tests::script_plans::adds_locker;
+use crate::script_tests::policies::{Chooser, driven, policy};
+use crate::script_tests::scripts::adds_locker;
 use crate::world_steps::world_asserting::assert_same;
 use Chooser::{Faulty, Newest, Oldest, Seeded};
 use Ending::{Finished, Stuck};
@@ -8,15 +8,15 @@ use ra_schedule::{
     Choice, Ending, Observer, Policy, RunCost, Script, SeedOutcome, SeedRange, Shrunk, first_seed,
     shrink, survey,
 };
-use ra_stamp::{Memory, Mode};
+use ra_stamp::Memory;
 use std::alloc::Global;
 use std::process::Abort;
-use test_support::{At, row};
+use test_support::{At, part, row};
 
 /// Adds this many clients, alternately at the first and the second node, which lock `r` and unlock it.
 fn adds_lockers(alloc: Global, script: &mut Script, clients: u16) -> bool {
     for client in 0..clients {
-        if !adds_locker(alloc, script, 1 + client % 2, Mode::Exclusive) {
+        if !adds_locker(alloc, script, 1 + client % 2) {
             return false;
         }
     }
@@ -37,8 +37,13 @@ pub fn lockers(alloc: Global, clients: u16) -> Option<Script> {
     }
 }
 
-/// What chooses for four clients, with its label, and the choices of the run, each a letter and a digit.
-struct Listed(&'static str, Chooser, &'static str);
+/// What chooses for four clients, and the choices of the run, or of the one that it is shrunk to.
+struct Listed {
+    shows: &'static str,
+    chooser: Chooser,
+    /// Each choice is a letter and a digit.
+    choices: &'static str,
+}
 
 /// Returns the letter and the number of a choice.
 fn letter_and_number(choice: &Choice) -> (u8, u64) {
@@ -125,11 +130,11 @@ fn assert_listed(
     rows: &[Listed],
     is_shrunk: bool,
 ) {
-    for Listed(label, chooser, words) in rows {
-        let at = row(label);
-        match policy(rt.alloc(), *chooser) {
-            Some(policy) if is_shrunk => assert_shrinks(rt, at, script, &policy, words),
-            Some(policy) => assert_chooses(rt, at, script, &policy, words),
+    for each in rows {
+        let at = row(each.shows);
+        match policy(rt.alloc(), each.chooser) {
+            Some(policy) if is_shrunk => assert_shrinks(rt, at, script, &policy, each.choices),
+            Some(policy) => assert_chooses(rt, at, script, &policy, each.choices),
             None => panic!(rt; "{at}: there is no such policy"),
         }
     }
@@ -148,46 +153,58 @@ fn assert_listed_of_four(rt: &(impl Abort + AllocGlobal), rows: &[Listed], is_sh
 #[test]
 fn the_choices_of_a_run_are_those_of_a_model(rt: HostRuntime) {
     const ROWS: &[Listed] = &[
-        Listed(
-            "the oldest choices",
-            Oldest,
-            "c1 c2 c3 c4 m0 m0 m0 c1 m0 c2 m0 m0 m0 c3 m0 c4",
-        ),
-        Listed(
-            "the newest choices",
-            Newest,
-            "c1 c2 c3 c4 m1 m0 m0 c1 m1 m0 c2 m1 m0 c3 m0 c4",
-        ),
-        Listed(
-            "seed 0",
-            Seeded(0),
-            "c4 m0 c2 c1 c3 m1 m0 c4 m0 m0 c1 m0 c2 m0 m0 c3",
-        ),
-        Listed(
-            "seed 7",
-            Seeded(7),
-            "c4 c2 m0 m0 c4 c3 m0 c1 m0 m0 c3 m1 m0 c2 m0 c1",
-        ),
-        Listed(
-            "seed 19",
-            Seeded(19),
-            "c4 c3 c1 m1 c2 m1 c3 m0 m0 m0 c4 m1 m0 c1 m0 c2",
-        ),
-        Listed(
-            "seed 0 with faults",
-            Faulty(0, 100, 300),
-            "c4 l0 c1 c2 m0 r0 c3 m1 c1 m1 m0",
-        ),
-        Listed(
-            "seed 1 with faults",
-            Faulty(1, 100, 300),
-            "c4 m0 m0 c1 c3 m0 c2 c4 r0 r0 m2 r2 l1 c1 l3 m1 r1 m2 l1 m0",
-        ),
-        Listed(
-            "seed 7 with faults",
-            Faulty(7, 100, 300),
-            "c4 c2 m0 m0 c3 m0 c1 c4 m1 r0 r0 r1 l3 r1 m0 m0 m0 c3 m1 m1 l0 c2 m0 c1",
-        ),
+        Listed {
+            shows: "the oldest choices",
+            chooser: Oldest,
+            choices: "c1 c2 c3 c4 m0 m0 m0 c1 m0 c2 m0 m0 m0 c3 m0 c4",
+        },
+        Listed {
+            shows: "the newest choices",
+            chooser: Newest,
+            choices: "c1 c2 c3 c4 m1 m0 m0 c1 m1 m0 c2 m1 m0 c3 m0 c4",
+        },
+        Listed {
+            shows: "seed 0",
+            chooser: Seeded(0),
+            choices: "c4 m0 c2 c1 c3 m1 m0 c4 m0 m0 c1 m0 c2 m0 m0 c3",
+        },
+        Listed {
+            shows: "seed 7",
+            chooser: Seeded(7),
+            choices: "c4 c2 m0 m0 c4 c3 m0 c1 m0 m0 c3 m1 m0 c2 m0 c1",
+        },
+        Listed {
+            shows: "seed 19",
+            chooser: Seeded(19),
+            choices: "c4 c3 c1 m1 c2 m1 c3 m0 m0 m0 c4 m1 m0 c1 m0 c2",
+        },
+        Listed {
+            shows: "seed 0 with faults",
+            chooser: Faulty {
+                seed: 0,
+                lose: 100,
+                repeat: 300,
+            },
+            choices: "c4 l0 c1 c2 m0 r0 c3 m1 c1 m1 m0",
+        },
+        Listed {
+            shows: "seed 1 with faults",
+            chooser: Faulty {
+                seed: 1,
+                lose: 100,
+                repeat: 300,
+            },
+            choices: "c4 m0 m0 c1 c3 m0 c2 c4 r0 r0 m2 r2 l1 c1 l3 m1 r1 m2 l1 m0",
+        },
+        Listed {
+            shows: "seed 7 with faults",
+            chooser: Faulty {
+                seed: 7,
+                lose: 100,
+                repeat: 300,
+            },
+            choices: "c4 c2 m0 m0 c3 m0 c1 c4 m1 r0 r0 r1 l3 r1 m0 m0 m0 c3 m1 m1 l0 c2 m0 c1",
+        },
     ];
     assert_listed_of_four(&rt, ROWS, false);
 }
@@ -196,10 +213,38 @@ fn the_choices_of_a_run_are_those_of_a_model(rt: HostRuntime) {
 #[test]
 fn runs_are_shrunk_to_those_of_a_model(rt: HostRuntime) {
     const ROWS: &[Listed] = &[
-        Listed("the oldest choices", Oldest, "none"),
-        Listed("seed 0 with faults", Faulty(0, 100, 300), "c4 l0"),
-        Listed("seed 1 with faults", Faulty(1, 100, 300), "c3 l0"),
-        Listed("seed 7 with faults", Faulty(7, 100, 300), "none"),
+        Listed {
+            shows: "the oldest choices",
+            chooser: Oldest,
+            choices: "none",
+        },
+        Listed {
+            shows: "seed 0 with faults",
+            chooser: Faulty {
+                seed: 0,
+                lose: 100,
+                repeat: 300,
+            },
+            choices: "c4 l0",
+        },
+        Listed {
+            shows: "seed 1 with faults",
+            chooser: Faulty {
+                seed: 1,
+                lose: 100,
+                repeat: 300,
+            },
+            choices: "c3 l0",
+        },
+        Listed {
+            shows: "seed 7 with faults",
+            chooser: Faulty {
+                seed: 7,
+                lose: 100,
+                repeat: 300,
+            },
+            choices: "none",
+        },
     ];
     assert_listed_of_four(&rt, ROWS, true);
 }
@@ -216,44 +261,81 @@ pub fn found<O: Observer>(
     first_seed(alloc, script, None, ending, seeds, limit, observer)
 }
 
-/// What it shows, an end, the first and the last seed of a range, how many turns there are, and the first seed of the range with
-/// which one client of two nodes comes to this end. It takes four turns.
-#[derive(Clone, Copy)]
-struct First(&'static str, Ending, u64, u64, u64, Option<u64>);
+/// The first seed of a range with which one client of two nodes comes to an end. It takes four turns.
+struct First {
+    shows: &'static str,
+    ending: Ending,
+    /// The range of seeds.
+    first: u64,
+    last: u64,
+    /// The most turns that are allowed.
+    limit: u64,
+    found: Option<u64>,
+}
 
 /// The greatest seed.
 const GREATEST: u64 = 18_446_744_073_709_551_615;
 
 const FIRST: &[First] = &[
-    First("the first of three seeds", Finished, 5, 7, 4, Some(5)),
-    First(
-        "the greatest seed",
-        Finished,
-        GREATEST,
-        GREATEST,
-        4,
-        Some(GREATEST),
-    ),
-    First("no seed gets stuck", Stuck, 5, 7, 4, None),
-    First(
-        "a run that is cut off is not finished",
-        Finished,
-        5,
-        7,
-        3,
-        None,
-    ),
-    First("a run that is cut off is not stuck", Stuck, 5, 7, 3, None),
-    First("no seed", Finished, 7, 5, 4, None),
+    First {
+        shows: "the first of three seeds",
+        ending: Finished,
+        first: 5,
+        last: 7,
+        limit: 4,
+        found: Some(5),
+    },
+    First {
+        shows: "the greatest seed",
+        ending: Finished,
+        first: GREATEST,
+        last: GREATEST,
+        limit: 4,
+        found: Some(GREATEST),
+    },
+    First {
+        shows: "no seed gets stuck",
+        ending: Stuck,
+        first: 5,
+        last: 7,
+        limit: 4,
+        found: None,
+    },
+    First {
+        shows: "a run that is cut off is not finished",
+        ending: Finished,
+        first: 5,
+        last: 7,
+        limit: 3,
+        found: None,
+    },
+    First {
+        shows: "a run that is cut off is not stuck",
+        ending: Stuck,
+        first: 5,
+        last: 7,
+        limit: 3,
+        found: None,
+    },
+    First {
+        shows: "no seed",
+        ending: Finished,
+        first: 7,
+        last: 5,
+        limit: 4,
+        found: None,
+    },
 ];
 
 /// Asserts that the first seed is found for the script of a client.
 fn assert_first(rt: &(impl Abort + AllocGlobal), script: &Script) {
-    for place in 0..FIRST.len() {
-        let First(label, ending, first, last, limit, expected) = FIRST[place];
-        let seeds = SeedRange { first, last };
-        let seed = found(rt.alloc(), script, ending, seeds, limit, &mut ());
-        assert_same(rt, row(label), &seed, &Ok(expected));
+    for row in FIRST {
+        let seeds = SeedRange {
+            first: row.first,
+            last: row.last,
+        };
+        let seed = found(rt.alloc(), script, row.ending, seeds, row.limit, &mut ());
+        assert_same(rt, part(row.shows, "the first seed"), &seed, &Ok(row.found));
     }
 }
 

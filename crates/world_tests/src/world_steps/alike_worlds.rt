@@ -1,7 +1,7 @@
 //! Whether two worlds are alike in all that they show.
 use crate::world_steps::report_totals::totals;
-use crate::world_steps::world_acts::report_of;
 use crate::world_steps::world_asserting::assert_same;
+use crate::world_steps::world_calls::report_of;
 use ra_stamp::Memory;
 use ra_world::{Report, World};
 use std::process::Abort;

@@ -1,12 +1,10 @@
-//! What is printed of worlds and of schedules: refusals, reports and faults.
-use crate::world_steps::world_acts::{Act, Scene, follow};
+//! What is printed of worlds and of schedules: refusals, the greatest mark and faults.
 use crate::world_steps::world_asserting::{assert_same, assert_text};
-use Act::{Lock, Reports};
 use ra_schedule::{AddClientError, AddOpError, DriveError, NewScriptError};
 use ra_stamp::{Mark, Mode, Name};
 use ra_text::mark_line;
 use ra_world::{NewError, NodeRefusal, RunError, StepError};
-use test_support::{ONE_LOCK_LINES, assert_prints, assert_words, entry, row};
+use test_support::{assert_prints, assert_words, entry, row};
 
 /// Why a step is refused, with its word.
 const CAUSES: &[(StepError, &str)] = &[
@@ -29,18 +27,6 @@ fn refusals_are_printed_as_their_words(rt: HostRuntime) {
         assert_prints!(&rt, &[(of_run, *word)]);
     }
     assert_words!(&rt; RunError: BadCount Memory; NewError: BadCount Memory);
-}
-
-const SCENES: &[Scene] = &[Scene(
-    "a report is printed as its lines",
-    2,
-    0,
-    &[Lock(1, 2), Reports(ONE_LOCK_LINES)],
-)];
-
-#[test]
-fn a_report_is_printed_as_its_lines(rt: HostRuntime) {
-    follow(&rt, SCENES);
 }
 
 /// The mark Requested with the longest name and mode and the greatest numbers.
