@@ -13,7 +13,7 @@ ghost use Rattle.ra_frame.specs.Fits.{Fits};
 
 use crate::cluster::all_sites::stop_all;
 use crate::site::closed_book::{is_whole_of, stopped_book};
-use crate::site::desk::{Desk, Halt, Handed, Stepped};
+use crate::site::desk::{Desk, Handed, Stepped};
 use crate::site::request::Request;
 use crate::site::sending::Sending;
 use crate::site::stop_causes::stop_of;
@@ -38,6 +38,17 @@ pub enum SiteError {
     /// The node is stopped, for this cause, and takes no call any more.
     #[error(transparent)]
     Stopped(Stop),
+}
+
+impl From<BookError> for SiteError {
+    ghost use Rattle.std.specs.Prelude.{◌≡◌};
+    ghost use Rattle.ra_site.specs.declared.site.SiteError.TheVariants as site;
+
+    ghost from_gives = { λ refused e. e ≡ site.Refused refused };
+
+    fn from(refused: BookError) -> SiteError {
+        SiteError::Refused(refused)
+    }
 }
 
 /// A node that threads share: its number, and its book under a lock, with the clients that wait. Contracts see the number, and
@@ -165,10 +176,8 @@ impl Site {
                 .ask(alloc, self.node, gate, &request, ticket.as_ref());
             self.finish(rt, alloc, asked, post)
         };
-        match self.answer(rt, made, sites) {
-            Ok(()) => self.wait_for_grant(rt, ticket.as_ref(), &request),
-            Err(refused) => Err(refused),
-        }
+        self.answer(rt, made, sites)?;
+        self.wait_for_grant(rt, ticket.as_ref(), &request)
     }
 
     /// Gives back the name that a client holds. It waits for locks alone.
@@ -226,13 +235,13 @@ impl Site {
             let (are_sent, received) = match inbox.take(rt, &mut taken) {
                 Ok(true) => self.carry(rt, alloc, taken.as_slice(), &mut stepped, post, gate),
                 Ok(false) => break,
-                Err(Memory) => (true, Err(Halt::Refused(BookError::Memory))),
+                Err(Memory) => (true, Err(SiteError::Refused(BookError::Memory))),
             };
             if !are_sent {
                 stop_all(rt, sites, Stop::Send);
             }
-            if let Err(halt) = received {
-                if let Some(stop) = stop_of(self.halt(rt, halt, sites)) {
+            if let Err(refused) = received {
+                if let Some(stop) = stop_of(self.refusal(rt, refused, sites)) {
                     stop_all(rt, sites, stop);
                 }
                 break;
@@ -318,10 +327,8 @@ impl Site {
             let made = self.desk.lock(rt).hand_over(alloc, self.node, after);
             made
         };
-        match made {
-            Ok((handed, _sent)) => Ok(handed),
-            Err(refused) => Err(refused),
-        }
+        let (handed, _sent) = made?;
+        Ok(handed)
     }
 
     /// Gives up the lock, and returns the book. It does not allocate.
@@ -367,7 +374,7 @@ impl Site {
         stepped: &mut Vec<Stepped>,
         post: &Post,
         gate: &G,
-    ) -> (bool, Result<(), Halt>) {
+    ) -> (bool, Result<(), SiteError>) {
         let _share = self.sending.share(rt);
         let received = self
             .desk
@@ -391,13 +398,11 @@ impl Site {
         &self,
         rt: &R,
         alloc: Global,
-        made: Result<Stepped, Halt>,
+        made: Result<Stepped, SiteError>,
         post: &Post,
-    ) -> Result<bool, Halt> {
-        match made {
-            Ok(stepped) => Ok(self.tell_and_send(rt, alloc, &stepped, post)),
-            Err(halt) => Err(halt),
-        }
+    ) -> Result<bool, SiteError> {
+        let stepped = made?;
+        Ok(self.tell_and_send(rt, alloc, &stepped, post))
     }
 
     /// Tells the client that an event let in, and sends the event's frames. Returns whether all were sent.
@@ -423,7 +428,7 @@ impl Site {
     fn answer<R: Wait>(
         &self,
         rt: &R,
-        made: Result<bool, Halt>,
+        made: Result<bool, SiteError>,
         sites: &[Site],
     ) -> Result<(), SiteError> {
         match made {
@@ -432,20 +437,18 @@ impl Site {
                 stop_all(rt, sites, Stop::Send);
                 Ok(())
             }
-            Err(halt) => Err(self.halt(rt, halt, sites)),
+            Err(refused) => Err(self.refusal(rt, refused, sites)),
         }
     }
 
     /// Returns what a call answers that was not made. If the gate stopped it, each site is stopped first.
-    fn halt<R: Wait>(&self, rt: &R, halt: Halt, sites: &[Site]) -> SiteError {
-        match halt {
-            Halt::Gate => {
-                stop_all(rt, sites, Stop::Gate);
-                // It is stopped if it is among the sites, as it should be.
-                SiteError::Stopped(self.fault(rt).unwrap_or(Stop::Gate))
-            }
-            Halt::Refused(refused) => SiteError::Refused(refused),
-        }
+    fn refusal<R: Wait>(&self, rt: &R, refused: SiteError, sites: &[Site]) -> SiteError {
+        let SiteError::Stopped(stop) = refused else {
+            return refused;
+        };
+        stop_all(rt, sites, stop);
+        // It is stopped if it is among the sites, as it should be.
+        SiteError::Stopped(self.fault(rt).unwrap_or(stop))
     }
 
     /// Sends the frames of an event, and flags each that the post refuses as lost. Returns whether there was none.

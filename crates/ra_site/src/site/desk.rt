@@ -9,27 +9,14 @@ ghost use Rattle.ra_site.specs.Losses.{lost_frames};
 use crate::site::refused_frames::lost_of;
 use crate::site::request::Request;
 use crate::site::ticket::SharedTicket;
-use crate::{Book, BookError, Events, Frames, Gate, Grant, Posted, Sent, Stop, TakeError};
+use crate::{
+    Book, BookError, Events, Frames, Gate, Grant, Posted, Sent, SiteError, Stop, TakeError,
+};
 use ra_frame::Frame;
 use ra_stamp::{Entry, Mark, Memory, Name, NodeId};
 use std::alloc::Global;
 use std::mem;
 use std::sync::Arc;
-
-/// Why a node did not make a step.
-#[derive(Clone, Copy)]
-pub enum Halt {
-    /// The gate answered `false`.
-    Gate,
-    /// The book refused it.
-    Refused(BookError),
-}
-
-impl From<BookError> for Halt {
-    fn from(refused: BookError) -> Halt {
-        Halt::Refused(refused)
-    }
-}
 
 /// A client that waits, and the ticket by which its thread is told what came of its request. A client has at most one
 /// request on a name, so the two name the request.
@@ -94,7 +81,7 @@ impl Desk {
     ///
     /// The first that holds:
     ///
-    /// 1. `Gate`: the gate answered `false`.
+    /// 1. `Stopped` with `Gate`: the gate answered `false`.
     /// 2. `Refused`: the book refused it, as [`Book::ask`] says. `Memory` also comes if there is no ticket.
     pub fn ask<G: Gate>(
         &mut self,
@@ -103,16 +90,16 @@ impl Desk {
         gate: &G,
         request: &Request,
         ticket: Option<&SharedTicket>,
-    ) -> Result<Stepped, Halt> {
+    ) -> Result<Stepped, SiteError> {
         if !gate.step(node) {
-            return Err(Halt::Gate);
+            return Err(SiteError::Stopped(Stop::Gate));
         }
         let Some(waiter) = self.waiter(request, ticket) else {
             // Each other cause comes before `Memory`.
             let refused = self
                 .book
                 .ask_refusal(request.client, request.name, request.mode);
-            return Err(Halt::Refused(refused));
+            return Err(SiteError::Refused(refused));
         };
         let posted = self
             .book
@@ -141,7 +128,7 @@ impl Desk {
     ///
     /// The first that holds:
     ///
-    /// 1. `Gate`: the gate answered `false`.
+    /// 1. `Stopped` with `Gate`: the gate answered `false`.
     /// 2. `Refused`: the book refused it, as [`Book::leave`] says.
     pub fn leave<G: Gate>(
         &mut self,
@@ -150,9 +137,9 @@ impl Desk {
         gate: &G,
         client: u32,
         name: Name,
-    ) -> Result<Stepped, Halt> {
+    ) -> Result<Stepped, SiteError> {
         if !gate.step(node) {
-            return Err(Halt::Gate);
+            return Err(SiteError::Stopped(Stop::Gate));
         }
         let posted = self.book.leave(alloc, client, name)?;
         Ok(self.stepped(posted))
@@ -164,7 +151,7 @@ impl Desk {
     ///
     /// The first that holds:
     ///
-    /// 1. `Gate`: the gate answered `false`.
+    /// 1. `Stopped` with `Gate`: the gate answered `false`.
     /// 2. `Refused`: the book refused it, as [`Book::receive`] says.
     fn receive<G: Gate>(
         &mut self,
@@ -172,9 +159,9 @@ impl Desk {
         node: NodeId,
         gate: &G,
         bytes: &[u8],
-    ) -> Result<Stepped, Halt> {
+    ) -> Result<Stepped, SiteError> {
         if !gate.step(node) {
-            return Err(Halt::Gate);
+            return Err(SiteError::Stopped(Stop::Gate));
         }
         let posted = self.book.receive(alloc, bytes)?;
         Ok(self.stepped(posted))
@@ -192,10 +179,10 @@ impl Desk {
         gate: &G,
         taken: &[Vec<u8>],
         stepped: &mut Vec<Stepped>,
-    ) -> Result<(), Halt> {
+    ) -> Result<(), SiteError> {
         for bytes in taken {
             if stepped.reserve(1).is_err() {
-                return Err(Halt::Refused(BookError::Memory));
+                return Err(SiteError::Refused(BookError::Memory));
             }
             let step = self.receive(alloc, node, gate, bytes.as_slice())?;
             stepped.push_reserved(step);
