@@ -1,6 +1,6 @@
-//! Nodes that threads share. A node's book has the node, its event clock, what happened at it, and what it sent. Threads share
-//! the book under the lock of a site, and a post carries the frames between the sites. The books of all nodes settle into
-//! one run of the cluster.
+//! Nodes that threads share. A node's book has the node, its event clock, what happened at it, and what it sent.
+//! Threads share the book under the lock of a site, and a post carries the frames between the sites. The books of all
+//! nodes settle into one run of the cluster.
 //!
 //! The event clock is that of L. Lamport, CACM 21(7), 1978.
 //!
@@ -11,10 +11,11 @@
 //! - The clients lock and unlock names with [`Cluster::with_lock`], or with [`Cluster::lock`] and [`Cluster::unlock`],
 //!   and end if a node is stopped.
 //! - At the end it closes the cluster, and [`settle`] shows the run. A service that runs for long makes its cluster by
-//!   [`Cluster::new_audited`] instead, and has an auditor of the crate `ra_audit` take what has happened from time to time.
+//!   [`Cluster::new_audited`] instead, and has an auditor of the crate `ra_audit` take what has happened from time to
+//!   time.
 //!
-//! docs/EMBEDDING.md explains the shortest such program line by line. It also says how to start the threads of the nodes
-//! yourself, and how to use a [`Site`] for each node and the [`Post`] by themselves.
+//! docs/EMBEDDING.md explains the shortest such program line by line. It also says how to start the threads of the
+//! nodes yourself, and how to use a [`Site`] for each node and the [`Post`] by themselves.
 //!
 //! The crate `ra_cluster` runs scripts on such a cluster.
 #![tactic(auto)]

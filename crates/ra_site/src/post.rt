@@ -53,10 +53,11 @@ pub struct Inbox {
     frames: Receiver<Vec<u8>>,
 }
 
-/// What carries frames between the nodes of a cluster: an inbox for each node, and for each inbox the one sender, until the
-/// post is closed. Threads share it.
+/// What carries frames between the nodes of a cluster: an inbox for each node, and for each inbox the one sender, until
+/// the post is closed. Threads share it.
 pub struct Post {
-    /// In the order of the nodes. There are none once the post is closed. Threads that send share it, and only a close excludes them.
+    /// In the order of the nodes. There are none once the post is closed. Threads that send share it, and only a close
+    /// excludes them.
     senders: RwLock<Option<Vec<FrameSender>>>,
 }
 
@@ -94,8 +95,8 @@ impl Post {
         Ok((Post { senders }, inboxes))
     }
 
-    /// Sends the bytes of a frame, in version 2, to the inbox of the node that it is for. It may wait for other threads that send
-    /// to that node and for a close, but for no thread that reads an inbox.
+    /// Sends the bytes of a frame, in version 2, to the inbox of the node that it is for. It may wait for other threads
+    /// that send to that node and for a close, but for no thread that reads an inbox.
     ///
     /// # Errors
     ///
@@ -151,8 +152,8 @@ impl Post {
         None
     }
 
-    /// Closes the post: no frame is sent from now on, and each inbox is closed once it is empty. It may wait for other calls
-    /// of the post, and does not allocate.
+    /// Closes the post: no frame is sent from now on, and each inbox is closed once it is empty. It may wait for other
+    /// calls of the post, and does not allocate.
     pub fn close<R: Wait>(&self, rt: &R) {
         *self.senders.write(rt) = None;
     }
@@ -184,9 +185,9 @@ fn open_inbox(
 }
 
 impl Inbox {
-    /// Waits for the next frame, and puts its bytes into the list, and those of the frames that have come by then, up to
-    /// [`MOST_AT_ONCE`] in all. Returns `false` if the inbox is empty and the post closed. A frame for which the list has no
-    /// room stays in the inbox.
+    /// Waits for the next frame, and puts its bytes into the list, and those of the frames that have come by then, up
+    /// to [`MOST_AT_ONCE`] in all. Returns `false` if the inbox is empty and the post closed. A frame for which the
+    /// list has no room stays in the inbox.
     ///
     /// # Errors
     ///

@@ -8,8 +8,8 @@ use ra_stamp::{Memory, NodeId};
 use std::alloc::Global;
 use std::sync::Wait;
 
-/// Returns whether these are the sites of nodes 1 to n, in order, and the node of this site is one of them, as the calls of
-/// [`Site`] require. It does not allocate. The cost is linear in the number of sites.
+/// Returns whether these are the sites of nodes 1 to n, in order, and the node of this site is one of them, as the
+/// calls of [`Site`] require. It does not allocate. The cost is linear in the number of sites.
 pub fn is_site_of(site: &Site, sites: &[Site]) -> bool
     ensures { IsTrue result ↔ AreSitesWith site.now sites.now }
 {

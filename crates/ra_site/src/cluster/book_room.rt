@@ -5,8 +5,8 @@ use crate::Book;
 use ra_stamp::{Memory, NodeId};
 use std::alloc::Global;
 
-/// An empty list with room for the books of as many nodes as a cluster can have, so that each cluster can be closed without
-/// allocating.
+/// An empty list with room for the books of as many nodes as a cluster can have, so that each cluster can be closed
+/// without allocating.
 #[derive(Drop)]
 pub struct BookRoom {
     books: Vec<Book>,

@@ -7,7 +7,8 @@ use ra_frame::Frame;
 use ra_stamp::Memory;
 use std::alloc::Global;
 
-/// Returns the frames of a book that are flagged lost, in order of sending. The cost is linear in the frames that it has.
+/// Returns the frames of a book that are flagged lost, in order of sending. The cost is linear in the frames that it
+/// has.
 ///
 /// # Errors
 ///

@@ -4,10 +4,10 @@ ghost use Rattle.std.specs.Prelude.{◌≡◌, ◌↔◌, false, IsNone};
 use std::marker::Model;
 use std::sync::{RwLock, RwLockReadGuard, RwLockWriteGuard, Wait};
 
-/// What the threads that send for an audited site share, and a round of the audit has alone. A thread has its share from before
-/// it calls the book until all frames of the event were tried. So each frame that a round takes from the book was tried, and is
-/// flagged if it was lost. At a site that is not audited nobody waits, and nothing can be had alone. So a site that hands over
-/// anything is one whose threads keep off.
+/// What the threads that send for an audited site share, and a round of the audit has alone. A thread has its share
+/// from before it calls the book until all frames of the event were tried. So each frame that a round takes from the
+/// book was tried, and is flagged if it was lost. At a site that is not audited nobody waits, and nothing can be had
+/// alone. So a site that hands over anything is one whose threads keep off.
 ///
 /// A round that waits comes before threads that have no share yet. So a thread must not take a second one.
 ///
@@ -35,8 +35,8 @@ impl Sending {
         Sending { lock }
     }
 
-    /// Waits until no round is at work here. While the caller keeps the guard, none begins. Returns `None` at once if the site is not
-    /// audited.
+    /// Waits until no round is at work here. While the caller keeps the guard, none begins. Returns `None` at once if
+    /// the site is not audited.
     pub fn share<R: Wait>(&self, rt: &R) -> Option<RwLockReadGuard<'_, ()>> {
         match &self.lock {
             Some(lock) => Some(lock.read(rt)),
@@ -44,8 +44,8 @@ impl Sending {
         }
     }
 
-    /// Waits until no thread is sending. While the caller keeps the guard, none begins. Returns `None` at once if the site is not
-    /// audited.
+    /// Waits until no thread is sending. While the caller keeps the guard, none begins. Returns `None` at once if the
+    /// site is not audited.
     pub fn alone<R: Wait>(&self, rt: &R) -> Option<RwLockWriteGuard<'_, ()>>
         ensures { IsNone result ↔ (self.now ≡ false) }
     {
