@@ -15,4 +15,4 @@ mod AuditLaws
 mod Matching
 mod EnteredOnce
 mod StillLost
-mod EntryPlaces
+mod Places

@@ -1,6 +1,6 @@
 -- Grants and marks are matched one after the other.
 use Rattle.std.proofs.Common.{◌≡◌, ℕ, ◌<◌, Bool, true, false, List, [], ◌∷◌, ◌++◌, length, get_or, refl, sym, ap, ◌∙◌, subst, inl, inr, arith}
-use Rattle.std.specs.Prelude.{if◌then◌else◌, Contains, swap_remove, Result, Ok, Err, is_ok, is_err}
+use Rattle.std.specs.Prelude.{if◌then◌else◌, Contains, swap_remove, Result, Ok, Err, OnErr, is_ok, is_err}
 use Rattle.std.specs.List.Sorted.{IsPermutation}
 use Rattle.std.proofs.lemmas.List.{map-append, append-nil, append_assoc, get_or_default}
 use Rattle.std.proofs.lemmas.List.Elements.{Contains-append_right, Contains-push_cases}
@@ -10,7 +10,7 @@ use Rattle.ra_stamp.specs.declared.entry.Entry.{Entry}
 use Rattle.ra_stamp.specs.declared.entry.Mark.{Mark}
 use Rattle.ra_stamp.specs.declared.entry.Mark.TheVariants.{Requested, Entered, Left}
 use Rattle.ra_history.specs.declared.book.grant.Grant.{Grant}
-use Rattle.ra_audit.specs.Matching.{MatcherState, IsMatcher, IsUnmatched, entered_in, entries_of}
+use Rattle.ra_audit.specs.Matching.{MatcherState, IsMatcher, IsUnmatched, TakesGrant, TakesEntered, entered_in, entries_of}
 
 -- ---- Lists with the same elements
 
@@ -192,3 +192,36 @@ module _ (told : List Mark) (grants : List Grant) (waiting left : List Entry) (f
     is_waiting = waits;
     no_mark = λ there. is.apart e waits (subst (λ (es : List Entry). Contains es e) (ap (λ (es : List Entry). left ++ es) (is.all_kept kept) ∙ append-nil left) there);
   }
+
+-- ---- What becomes of a grant and of a mark
+
+pub takes_matched : (old new : MatcherState) (g : Grant) → Contains old.left g.entry → IsPermutation old.left (g.entry ∷ new.left)
+    → new ≡ record old { grants = old.grants ++ g ∷ []; left = new.left } → TakesGrant old g new
+takes_matched old new g there less is = record { matched = λ _. (less, is); waits = λ none. absurd (none there) }
+
+pub takes_waiting : (old new : MatcherState) (g : Grant) → (Contains old.left g.entry → ⊥)
+    → new ≡ record old { grants = old.grants ++ g ∷ []; waiting = old.waiting ++ g.entry ∷ [] } → TakesGrant old g new
+takes_waiting old new g none is = record { matched = λ there. absurd (none there); waits = λ _. is }
+
+pub enters_matched : (old new : MatcherState) (e : Entry) → Contains old.waiting e → IsPermutation old.waiting (e ∷ new.waiting)
+    → new ≡ record old { told = old.told ++ Entered e ∷ []; waiting = new.waiting } → TakesEntered old e new
+enters_matched old new e there less is = record { matched = λ _. (less, is); left_over = λ none. absurd (none there) }
+
+pub enters_kept : (old new : MatcherState) (e : Entry) → (Contains old.waiting e → ⊥)
+    → new ≡ record old { told = old.told ++ Entered e ∷ []; left = old.left ++ e ∷ [] } → TakesEntered old e new
+enters_kept old new e none is = record { matched = λ there. absurd (none there); left_over = λ _. inl is }
+
+pub enters_forgotten : (old new : MatcherState) (e : Entry) → (Contains old.waiting e → ⊥)
+    → new ≡ record old { told = old.told ++ Entered e ∷ []; forgot = true } → TakesEntered old e new
+enters_forgotten old new e none is = record { matched = λ there. absurd (none there); left_over = λ _. inr is }
+
+-- the same of a matcher that is equal
+pub takes_as : (inside old new : MatcherState) (g : Grant) → inside ≡ old → TakesGrant inside g new → TakesGrant old g new
+takes_as inside old new g same takes = subst (λ (s : MatcherState). TakesGrant s g new) same takes
+
+pub enters_as : (inside old new : MatcherState) (e : Entry) → inside ≡ old → TakesEntered inside e new → TakesEntered old e new
+enters_as inside old new e same takes = subst (λ (s : MatcherState). TakesEntered s e new) same takes
+
+pub if_err : {A E : Type 0} (r : Result (Unit {0}) E) → A → OnErr r A
+if_err (Ok x) a = tt
+if_err (Err e) a = a

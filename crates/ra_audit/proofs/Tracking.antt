@@ -7,7 +7,7 @@ use Rattle.std.specs.List.{range_with_len}
 use Rattle.std.proofs.lemmas.List.{append-nil, length-set, get_or-set_same, get_or-set_other}
 use Rattle.std.proofs.lemmas.List.Concat.{flat_map-append}
 use Rattle.std.proofs.lemmas.List.Elements.{All-nil, All-append, All-weaker, All-set, All-cons, All-head, All-map, All-push}
-use Rattle.std.proofs.lemmas.Option.{none-some, slice_get_within, get_or_from_slice_get}
+use Rattle.std.proofs.lemmas.Option.{none-some, same_Some, slice_get_within, get_or_from_slice_get}
 use Rattle.std.proofs.lemmas.Bool.{cases_eq}
 use Rattle.ra_stamp.specs.declared.message.Message.{Message}
 use Rattle.ra_stamp.specs.contracts.message.MessagePartialEq.TheImpl.{eq-value}
@@ -27,7 +27,7 @@ use Rattle.ra_history.specs.declared.book.event.BookEvent.{BookEvent}
 use Rattle.ra_history.specs.Settled.{step_at, frames_in, received_among}
 use Rattle.ra_site.specs.declared.site.take_error.TakeError.{TakeError}
 use Rattle.ra_history.proofs.Projections.{repeated_in_event}
-use Rattle.ra_audit.specs.Audit.{ProgressState, IsAudited, HasSettled, IsForNumber, WasSentIn, FitsRun, AtNumber, Takes, TakesHanded, with_more, fresh_progress}
+use Rattle.ra_audit.specs.Audit.{ProgressState, IsAudited, HasSettled, IsForNumber, WasSentIn, FitsRun, CanGoOn, IsDue, IsReady, AtNumber, Takes, TakesHanded, with_more, fresh_progress}
 use Rattle.ra_audit.specs.AuditKeeping.{FlightState, LossState, HasClock, IsFlying, NoneFlies, FliesOn, FliesAfter, AreNoted, MessagesAreKnown, IsTracked, StaySent, IsNoted, slot_of}
 use Rattle.ra_audit.proofs.AuditSteps.{number_of, repeated_more}
 use Rattle.ra_audit.proofs.AuditRounds.{length_of}
@@ -137,6 +137,60 @@ does_not_fit known w nodes flights node (Asked client name mode) a tracked none 
 does_not_fit known w nodes flights node (Gave client name) a tracked none not fits = not (All-nil (λ f. IsNoted flights f.message f.clock))
 does_not_fit known w nodes flights node (Got frame) a tracked none not fits =
     not_noted known w nodes flights frame a tracked none not (goes_by_way w frame.message fits.goes_on) (All-head (WasSentIn nodes w.moves) frame [] fits.sent)
+
+-- its message is not under way with this clock, whether or not that is noted
+pub not_flying : (known : MessagesAreKnown) (w : WorldState) (nodes : List ProgressState) (flights : FlightState) (frame : Frame) → IsAudited w nodes → IsTracked nodes w.moves flights
+    → (HasClock flights frame.message frame.clock → ⊥) → IsUnderWay w.moves frame.message → WasSentIn nodes w.moves frame → ⊥
+not_flying known w nodes flights frame a tracked not under sent =
+    let flies = (tracked.under_way frame.message).0 under in
+    let one : flies.0 ≡ frame.clock =
+    one_clock nodes w.count w.moves (record { clock = flies.0; message = frame.message }) frame a.numbers
+    (known.different w.count w.start w.moves a.count a.run a.unrepeated) (tracked.sent frame.message flies.0 flies.1) sent refl
+    in
+    not (subst (HasClock flights frame.message) one flies.1)
+
+-- the frames of an event fly
+abbrev pub Fly : FlightState → BookKind → Type 0
+Fly flights kind = All (λ f. HasClock flights f.message f.clock) (frames_in kind)
+
+pub does_not_fly : (known : MessagesAreKnown) (w : WorldState) (nodes : List ProgressState) (flights : FlightState) (node : ℕ) (kind : BookKind) → IsAudited w nodes → IsTracked nodes w.moves flights
+    → (Fly flights kind → ⊥) → FitsRun w nodes node kind → ⊥
+does_not_fly known w nodes flights node (Asked client name mode) a tracked not fits = not (All-nil (λ f. HasClock flights f.message f.clock))
+does_not_fly known w nodes flights node (Gave client name) a tracked not fits = not (All-nil (λ f. HasClock flights f.message f.clock))
+does_not_fly known w nodes flights node (Got frame) a tracked not fits =
+    let P = λ (f : Frame). HasClock flights f.message f.clock in
+    not_flying known w nodes flights frame a tracked (λ has. not (All-cons P frame [] has (All-nil P)))
+    (goes_by_way w frame.message fits.goes_on) (All-head (WasSentIn nodes w.moves) frame [] fits.sent)
+
+-- an event whose step the run goes on with fits, if its frames fly
+pub fits_run : (w : WorldState) (nodes : List ProgressState) (flights : FlightState) (node : ℕ) (kind : BookKind) → IsTracked nodes w.moves flights
+    → GoesOn w.count w.start w.moves (step_at node kind) → Fly flights kind → FitsRun w nodes node kind
+fits_run w nodes flights node kind tracked goes fly = record {
+  goes_on = goes;
+  sent = All-weaker (λ f. HasClock flights f.message f.clock) (WasSentIn nodes w.moves) (λ f has. tracked.sent f.message f.clock has) (frames_in kind) fly;
+}
+
+pub noted_fly : (flights : FlightState) (kind : BookKind) → AreNoted flights (frames_in kind) → Fly flights kind
+noted_fly flights kind noted = All-weaker (λ f. IsNoted flights f.message f.clock) (λ f. HasClock flights f.message f.clock) (λ f is. inl is) (frames_in kind) noted
+
+-- the next event of the node at this place, which is due, is one with which the run can go on
+pub can_go_on : (w new : WorldState) (nodes nodes' : List ProgressState) (flights : FlightState) (place : ℕ) (p : ProgressState) (node : ℕ) (e : BookEvent) (step : Step)
+    → new ≡ w → nodes' ≡ nodes → place < length nodes → p ≡ get_or nodes place p → node ≡ p.node → slice_get p.waiting 0 ≡ Some e → IsReady nodes p
+    → step ≡ step_at node e.kind → GoesOn w.count w.start w.moves step → IsTracked nodes w.moves flights → Fly flights e.kind → CanGoOn new nodes'
+can_go_on w new nodes nodes' flights place p node e step same same_nodes within at number is ready step_is goes tracked fly =
+    subst (λ (v : WorldState). CanGoOn v nodes') (sym same) (subst (CanGoOn w) (sym same_nodes) (
+      place,
+      p,
+      within,
+      sym at,
+      (
+        e,
+        is,
+        subst (λ (x : BookEvent). IsDue nodes x.kind) (same_Some ready.0 e (sym ready.1 ∙ is)) ready.2,
+        fits_run w nodes flights p.node e.kind tracked
+            (subst (λ (i : ℕ). GoesOn w.count w.start w.moves (step_at i e.kind)) number (subst (GoesOn w.count w.start w.moves) step_is goes)) fly,
+      ),
+    ))
 
 -- ---- An event that is put
 

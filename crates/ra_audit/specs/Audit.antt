@@ -161,6 +161,11 @@ pub record IsMisfit (world : WorldState) (nodes : List ProgressState) (fault : A
   pub due : IsDue nodes fault.event.kind
   pub misfit : FitsRun world nodes fault.node fault.event.kind → ⊥
 
+-- an event is due at its node, and fits after the run
+abbrev pub CanGoOn : WorldState → List ProgressState → Type 0
+CanGoOn world nodes = Any (λ p. (event : BookEvent) × (slice_get p.waiting 0 ≡ Some event) × IsDue nodes event.kind
+    × FitsRun world nodes p.node event.kind) nodes
+
 -- ---- Which loss can be put into the run
 
 -- the run has come to none of the frames whose loss is still to be put into it
@@ -208,8 +213,8 @@ TakenGoOn [] (new ∷ news) = ⊥
 TakenGoOn (old ∷ olds) [] = ⊥
 TakenGoOn (old ∷ olds) (new ∷ news) = GoesOnFrom old new × TakenGoOn olds news
 
--- The node's site handed over all that a book of the node had left after the events that it had handed over before: further events
--- and, as lost, these frames.
+-- The node's site handed over all that a book of the node had left: further events and, as lost, these frames. What was taken from the
+-- book before ends at the clock of the last event that was handed over before. Only the clock is compared.
 abbrev pub HandsOver : ProgressState → ProgressState → List Frame → Type 0
 HandsOver old new lost = (more : List BookEvent) × (handed_over new ≡ handed_over old ++ more)
     × IsLeftOfBook old.node (clock_of (handed_over old)) more lost
@@ -247,8 +252,8 @@ pub record TakesByAnswer {E : Type 0} (old new : AuditState) (answer : Result (U
   pub more : TakesMore old new
   pub asked : OnOk answer (length more.handed ≡ length new.nodes)
 
--- Some of the losses that were still to be put are in the run now, or none more: each only after the run has come to its
--- frame. The others are still to be put, in any order. So no frame is forgotten, and none is lost more often than noted.
+-- Some of the losses that were still to be put are in the run now, or none more. The run has come to the frame of each by the end of
+-- the call. The others are still to be put, in any order. So no frame is forgotten, and none is lost more often than noted.
 pub record PutsLosses (nodes : List ProgressState) (losing lost losing' lost' : List Frame) : Type 0 where
   pub put : List Frame
   pub lost_are : lost' ≡ lost ++ put

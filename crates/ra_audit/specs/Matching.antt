@@ -1,9 +1,9 @@
 -- How grants are matched with the Entered marks of a run.
-use Rattle.std.specs.Prelude.{◌≡◌, ◌≢◌, Bool, false, List, [], ◌++◌, map, All, AllPairs, Contains}
+use Rattle.std.specs.Prelude.{◌≡◌, ◌≢◌, ◌⊎◌, Bool, true, false, List, [], ◌∷◌, ◌++◌, map, All, AllPairs, Contains}
 use Rattle.std.specs.List.Sorted.{IsPermutation}
 use Rattle.ra_stamp.specs.declared.entry.Entry.{Entry}
 use Rattle.ra_stamp.specs.declared.entry.Mark.{Mark}
-use Rattle.ra_stamp.specs.declared.entry.Mark.TheVariants.{Entered}
+use Rattle.ra_stamp.specs.declared.entry.Mark.TheVariants.{Requested, Entered, Left}
 use Rattle.ra_history.specs.declared.book.grant.Grant.{Grant}
 pub use Rattle.ra_history.specs.Keys.{entered_in}
 
@@ -50,6 +50,33 @@ pub record IsMatcher (state : MatcherState) : Type 0 where
   pub matching : AreMatched state.told state.grants state.waiting (state.left ++ forgotten)
   pub all_kept : state.forgot ≡ false → forgotten ≡ []
   pub apart : AreApart state.waiting state.left
+
+-- ---- What becomes of a grant and of a mark
+
+-- A grant was given. If marks of its request are kept, it is matched with one, which is kept no longer; which one does not matter, since
+-- they are equal. Otherwise its request waits, after the others. Nothing else has changed.
+pub record TakesGrant (old : MatcherState) (grant : Grant) (new : MatcherState) : Type 0 where
+  pub matched : Contains old.left grant.entry → IsPermutation old.left (grant.entry ∷ new.left)
+      × (new ≡ record old { grants = old.grants ++ grant ∷ []; left = new.left })
+  pub waits : (Contains old.left grant.entry → ⊥)
+      → new ≡ record old { grants = old.grants ++ grant ∷ []; waiting = old.waiting ++ grant.entry ∷ [] }
+
+-- The Entered mark of this request was told. If grants of the request wait, it is matched with one, which waits no longer. Otherwise
+-- the mark is kept, after the others, or forgotten. Nothing else has changed.
+pub record TakesEntered (old : MatcherState) (entry : Entry) (new : MatcherState) : Type 0 where
+  pub matched : Contains old.waiting entry → IsPermutation old.waiting (entry ∷ new.waiting)
+      × (new ≡ record old { told = old.told ++ Entered entry ∷ []; waiting = new.waiting })
+  pub left_over : (Contains old.waiting entry → ⊥)
+      → (new ≡ record old { told = old.told ++ Entered entry ∷ []; left = old.left ++ entry ∷ [] })
+      ⊎ (new ≡ record old { told = old.told ++ Entered entry ∷ []; forgot = true })
+
+-- A mark was told. A mark that is not Entered is told, and nothing else has changed.
+abbrev pub TakesMark : MatcherState → Mark → MatcherState → Type 0
+TakesMark old (Requested entry) new = new ≡ record old { told = old.told ++ Requested entry ∷ [] }
+TakesMark old (Entered entry) new = TakesEntered old entry new
+TakesMark old (Left entry) new = new ≡ record old { told = old.told ++ Left entry ∷ [] }
+
+-- ---- What was granted
 
 -- each of these grants was granted in a run with these marks, and no two are equal
 pub record AreGrantedOnce (marks : List Mark) (grants : List Grant) : Type 0 where

@@ -9,7 +9,7 @@ pub mod put_events;
 pub mod put_losses;
 pub mod unsettled;
 
-ghost use Rattle.std.specs.Prelude.{◌≡◌, ◌≢◌, ◌↔◌, ◌++◌, true, [], ℕ, List, Some, None, All, length, map, sum_by, IsErrOf, IfOk, IfSome, IsNone, IsTrue, OnOk, OnErr, MatchOption};
+ghost use Rattle.std.specs.Prelude.{◌≡◌, ◌≢◌, ◌↔◌, ◌⊎◌, ◌++◌, true, [], ℕ, List, Some, None, All, length, map, sum_by, IsErrOf, IfOk, IfSome, IsNone, IsTrue, OnOk, OnErr, MatchOption};
 ghost use Rattle.std.specs.List.{range_with_len};
 ghost use Rattle.ra_stamp.specs.NodeId.{IsNodeNumber};
 ghost use Rattle.ra_world.specs.Traffic.{LeavesUnderWay, sent_by};
@@ -87,7 +87,7 @@ impl Model for Auditor {
 }
 
 impl Auditor {
-    ghost use Rattle.ra_audit.specs.Audit.{IsAudited, HasLost, AllWereSent, NoneIsReady, NoneIsReached, IsMisfit, IsNotLost, Advances, PutsLosses, RunTheorem};
+    ghost use Rattle.ra_audit.specs.Audit.{IsAudited, HasLost, AllWereSent, NoneIsReady, NoneIsReached, CanGoOn, IsMisfit, IsNotLost, Advances, PutsLosses, RunTheorem};
 
     /// Makes the auditor of a cluster of this many nodes, in which nothing has happened yet. The highest number of each
     /// resource begins at `start`, 0 to 2^64-1. The cost is linear in the number of pairs of nodes.
@@ -228,8 +228,9 @@ impl Auditor {
     ///    is not under way, or was sent by an event with another clock: it came or was lost before, or the frame was never sent.
     ///    All events that can be put are in the run, and some other losses may not be. The loss of this frame is still to be put,
     ///    so that each later call tries it.
-    /// 3. `Memory`: memory ran out, which may come before the others. The events and losses before are in the run, and the call
-    ///    can be made again.
+    /// 3. `Memory`: memory ran out, and an event is due that fits, or no event can be put and some loss is still to be put. So it may come
+    ///    before the others, and does not come in place of a `Fault` if no event that is due fits. The events and losses before are in the
+    ///    run, and the call can be made again.
     pub fn advance<O: MarkObserver>(
         &mut self,
         alloc: Global,
@@ -251,6 +252,8 @@ impl Auditor {
         ensures fault { (fault : audit_fault.AuditFault) → IsErrOf result (AuditError.Fault fault) ↔ (self.new.fault ≡ Some fault) }
         ensures not_lost { (frame : Frame) → IsErrOf result (AuditError.NotLost frame)
             → NoneIsReady self.new.nodes × IsNotLost self.new.world self.new.nodes self.new.losing frame }
+        ensures memory { IsErrOf result AuditError.Memory → CanGoOn self.new.world self.new.nodes
+            ⊎ (NoneIsReady self.new.nodes × (self.new.losing ≢ [])) }
     {
         if let Some(fault) = self.fault {
             return Err(AuditError::Fault(fault));

@@ -2,7 +2,7 @@
 ghost use Rattle.std.specs.Prelude.{◌≡◌, ◌≢◌, ◌↔◌, ◌<◌, ◌++◌, ◌∷◌, true, false, [], Some, Contains, length, slice_get, slice_index_or, IfSome, IsErrOf, IsNone, IsOk, OnErr, OnOk};
 ghost use Rattle.ra_stamp.specs.declared.entry.Mark as entry_mark;
 ghost use Rattle.ra_history.specs.declared.book.grant.Grant as granted;
-ghost use Rattle.ra_audit.specs.Matching.{AreAllMatched, IsUnmatched};
+ghost use Rattle.ra_audit.specs.Matching.{AreAllMatched, IsUnmatched, TakesGrant, TakesEntered, TakesMark};
 
 use crate::{MarkObserver, Told};
 use ra_site::Grant;
@@ -73,16 +73,18 @@ impl GrantMatcher {
         }
     }
 
-    /// Gives it a grant.
+    /// Gives it a grant. If it keeps a mark of the grant, the two are matched, and it keeps the mark no longer. Otherwise the grant waits.
     ///
     /// # Errors
     ///
-    /// `Memory`: there is no room for the grant. Nothing has changed.
+    /// `Memory`: it keeps no mark of the grant, and there is no room for the grant. Nothing has changed.
     pub fn grant(&mut self, grant: &Grant) -> Result<(), Memory>
         ensures ok { OnOk result (self.new.grants ≡ self.old.grants ++ grant.now ∷ []) }
+        ensures takes { OnOk result (TakesGrant self.old grant.now self.new) }
         ensures told { self.new.told ≡ self.old.told }
         ensures forgot { self.new.forgot ≡ self.old.forgot }
         ensures err { OnErr result (self.new ≡ self.old) }
+        ensures memory { OnErr result (¬ (Contains self.old.left grant.now.entry)) }
     {
         if let Some(place) = place_of(&self.left, &grant.entry) {
             self.left.swap_remove(place);
@@ -133,11 +135,12 @@ impl GrantMatcher {
         self.left.len()
     }
 
-    /// Matches one more `Entered` mark that was told with a grant, or keeps it.
+    /// Is told one more `Entered` mark, and matches it with a grant that waits, or keeps it. If there is no room for it, it is forgotten.
     fn enter(&mut self, mark: &Mark, entry: &Entry)
         requires { mark.now ≡ entry_mark.Mark.Entered entry.now }
         ensures told { self.new.told ≡ self.old.told ++ mark.now ∷ [] }
         ensures grants { self.new.grants ≡ self.old.grants }
+        ensures takes { TakesEntered self.old entry.now self.new }
     {
         self.told.tell(mark);
         if let Some(place) = place_of(&self.waiting, entry) {
@@ -155,7 +158,13 @@ impl MarkObserver for GrantMatcher {
 
     ghost granted = { λ m. m.grants };
 
-    fn tell(&mut self, mark: &Mark) {
+    /// Is told one more mark of the run. An `Entered` mark is matched with a grant of its request that waits. If none does, the mark is
+    /// kept, or forgotten if memory runs out.
+    fn tell(&mut self, mark: &Mark)
+        ensures told { self.new.told ≡ self.old.told ++ mark.now ∷ [] }
+        ensures granted { self.new.grants ≡ self.old.grants }
+        ensures takes { TakesMark self.old mark.now self.new }
+    {
         match mark {
             Mark::Entered(entry) => self.enter(mark, entry),
             Mark::Requested(_) | Mark::Left(_) => self.told.tell(mark),

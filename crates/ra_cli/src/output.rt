@@ -11,8 +11,8 @@ use ra_book::BookFault;
 use ra_draw::DrawError;
 use ra_script::PerformError;
 use ra_task::CommandFault;
-use ra_trace::TraceError;
 use ra_text::write_out;
+use ra_trace::TraceError;
 use std::io::Write;
 
 /// The command did what it was asked.

@@ -1,3 +1,4 @@
 mod SiteNumbers
 mod LostFrames
 mod NoError
+mod GivenGrants

@@ -102,7 +102,7 @@ impl<G> Model for Cluster<G> {
 impl<G: Gate + Drop> Cluster<G> {
     ghost use Rattle.ra_history.specs.Book.{HasHistory};
     ghost use Rattle.ra_history.specs.Settled.{IsCluster, start_of};
-    ghost use Rattle.ra_site.specs.ClientGrant.{IsGrantOf};
+    ghost use Rattle.ra_site.specs.ClientGrant.{IsGrantOf, WasGiven};
     ghost use Rattle.ra_site.specs.Cluster.{MakesCluster};
     ghost use Rattle.ra_site.specs.Sites.{AreSitesWith, site_at};
 
@@ -273,6 +273,7 @@ impl<G: Gate + Drop> Cluster<G> {
         mode: Mode,
     ) -> Result<Grant, CallError>
         ensures grant { IfOk result (IsGrantOf node client name mode) }
+        ensures given { IfOk result WasGiven }
         ensures no_node { IsErrOf result CallError.NoNode ↔ self.now.nodes < node }
     {
         let Some((site, sites)) = self.site_among_all(node) else {
@@ -325,6 +326,7 @@ impl<G: Gate + Drop> Cluster<G> {
     ) -> Result<Held<T>, CallError>
         requires { (grant : Grant) → IsGrantOf node client name mode grant → F.pre does grant }
         ensures grant { IfOk result (λ held. IsGrantOf node client name mode held.grant) }
+        ensures given { IfOk result (λ held. WasGiven held.grant) }
         ensures done { IfOk result (λ held. F.post does held.grant held.value) }
         ensures no_node { IsErrOf result CallError.NoNode ↔ self.now.nodes < node }
     {

@@ -14,19 +14,21 @@
 //!   [`Cluster::new_audited`] instead, and has an auditor of the crate `ra_audit` take what has happened from time to
 //!   time.
 //!
-//! docs/EMBEDDING.md explains the shortest such program line by line. It also says how to start the threads of the
-//! nodes yourself, and how to use a [`Site`] for each node and the [`Post`] by themselves.
+//! docs/EMBEDDING.md explains the parts of the shortest such program. It also says how to start the threads of the nodes
+//! yourself, and how to use a [`Site`] for each node and the [`Post`] by themselves.
 //!
 //! The crate `ra_cluster` runs scripts on such a cluster.
 #![tactic(auto)]
 
 mod cluster;
+mod laws;
 mod post;
 mod site;
 
 pub use cluster::all_sites::is_site_of;
 pub use cluster::gate::{Gate, OpenGate};
 pub use cluster::{CallError, Cluster, Held};
+pub use laws::given_grants_are_in_books;
 pub use post::{Inbox, NewPostError, Post, SendError};
 pub use ra_history::{
     Book, BookError, BookEvent, BookKind, Events, Frames, Grant, MarkLostError, NewError, Posted,

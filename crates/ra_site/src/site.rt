@@ -97,7 +97,7 @@ impl Model for Site {
 impl Site {
     ghost use Rattle.ra_automaton.specs.Members.{ChecksMember};
     ghost use Rattle.ra_history.specs.Book.{HasHistory};
-    ghost use Rattle.ra_site.specs.ClientGrant.{IsGrantOf};
+    ghost use Rattle.ra_site.specs.ClientGrant.{IsGrantOf, WasGiven};
     ghost use Rattle.ra_site.specs.Handing.{IsHandedOver, OnlyTurnOrMemory};
     ghost use Rattle.ra_site.specs.Sites.{AreSitesWith, IsWholeBookOf, site_at};
 
@@ -165,6 +165,7 @@ impl Site {
     ) -> Result<Grant, SiteError>
         requires { AreSitesWith self.now sites.now }
         ensures grant { IfOk result (IsGrantOf self.now.node client name mode) }
+        ensures given { IfOk result WasGiven }
     {
         let request = Request { client, name, mode };
         let ticket = Ticket::new(alloc);
@@ -482,7 +483,8 @@ impl Site {
         ticket: Option<&SharedTicket>,
         request: &Request,
     ) -> Result<Grant, SiteError>
-        ensures { IfOk result (IsGrantOf self.now.node request.now.client request.now.name request.now.mode) }
+        ensures grant { IfOk result (IsGrantOf self.now.node request.now.client request.now.name request.now.mode) }
+        ensures given { IfOk result WasGiven }
     {
         let Some(ticket) = ticket else {
             return Err(SiteError::Refused(BookError::Memory));

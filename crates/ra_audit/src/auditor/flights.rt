@@ -1,8 +1,8 @@
 //! Of the messages under way, the clocks of the events that sent them.
-ghost use Rattle.std.specs.Prelude.{◌≡◌, ◌≢◌, ◌↔◌, ◌<◌, ◌∷◌, [], ℕ, All, None, Some, length, map, slice_index_or, IfOk, IsTrue, IsFalse, OnOk};
+ghost use Rattle.std.specs.Prelude.{◌≡◌, ◌≢◌, ◌↔◌, ◌<◌, ◌∷◌, [], ℕ, All, Contains, None, Some, length, map, slice_index_or, IfOk, IsTrue, IsFalse, OnOk};
 ghost use Rattle.indexmap.specs.IndexMap.{get};
 ghost use Rattle.ra_history.specs.Settled.{frames_in};
-ghost use Rattle.ra_audit.specs.AuditKeeping.{NoneFlies, FliesOn, FliesAfter, AreNoted, NotesSome, IsIn, IsNotedIn, AreApart, slot_of, kind_of};
+ghost use Rattle.ra_audit.specs.AuditKeeping.{HasClock, NoneFlies, FliesOn, FliesAfter, AreNoted, NotesSome, IsIn, IsNotedIn, AreApart, slot_of, kind_of};
 
 use indexmap::IndexMap;
 use ra_frame::Frame;
@@ -101,6 +101,25 @@ impl Flights {
         is_in_slot(&self.slots, slot, frame) || is_among(&self.others, frame)
     }
 
+    /// Returns whether the message of the frame that came by the event, if one did, is under way and was sent by an event with the frame's
+    /// clock, even if that is not noted yet. It does not allocate. The cost is linear in the number of messages that the last event sent.
+    pub fn flies_of(&self, kind: &BookKind) -> bool
+        ensures { IsTrue result ↔ All (λ frame. HasClock self.now frame.message frame.clock) (frames_in kind.now) }
+    {
+        match kind {
+            BookKind::Got(frame) => self.flies(frame),
+            BookKind::Asked { .. } | BookKind::Gave { .. } => true,
+        }
+    }
+
+    /// Returns the same of a frame.
+    pub fn flies(&self, frame: &Frame) -> bool
+        ensures { IsTrue result ↔ HasClock self.now frame.now.message frame.now.clock }
+    {
+        self.has(frame)
+            || (frame.clock == self.clock && is_one_of(self.last.as_slice(), &frame.message))
+    }
+
     /// Goes on after an event that sent these messages: the message of the frame that came by it, if one did, is under way no
     /// longer. It does not allocate.
     pub fn go_on(&mut self, event: &BookEvent, sends: Messages)
@@ -139,6 +158,19 @@ impl Flights {
             self.others.swap_remove(message);
         }
     }
+}
+
+/// Returns whether a message is one of these.
+#[tactic(auto, using(ra_stamp::proofs::StampLaws::same_messages))]
+fn is_one_of(messages: &[Message], message: &Message) -> bool
+    ensures { IsTrue result ↔ Contains messages.now message.now }
+{
+    for other in messages {
+        if other == message {
+            return true;
+        }
+    }
+    false
 }
 
 /// Returns the slot of a message, which may be past the end if its sender or receiver is no node of the run.

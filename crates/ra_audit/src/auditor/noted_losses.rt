@@ -91,11 +91,15 @@ impl Losses {
     ///
     /// # Errors
     ///
-    /// `Memory`: there is no room for them there, and nothing has changed.
+    /// `Memory`: some were noted, and there is no room for them there. Nothing has changed.
     pub fn take_noted(&mut self) -> Result<(), Memory>
         ensures ok { OnOk result (self.new ≡ record self.old { noted = [] }) }
         ensures err { OnErr result (self.new ≡ self.old) }
+        ensures some { OnErr result (0 < length self.new.losing) }
     {
+        if self.noted.is_empty() {
+            return Ok(());
+        }
         move_all(&mut self.noted, &mut self.losing)
     }
 

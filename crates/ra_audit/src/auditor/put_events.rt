@@ -3,7 +3,7 @@ ghost use Rattle.std.specs.Prelude.{◌≡◌, ◌≢◌, ◌↔◌, ◌++◌, �
 ghost use Rattle.std.specs.List.{AllWithin, range_with_len};
 ghost use Rattle.ra_frame.specs.declared.frame.Frame.{Frame};
 ghost use Rattle.ra_world.specs.Traffic.{lost_by};
-ghost use Rattle.ra_audit.specs.Audit.{ProgressState, IsAudited, IsReached, IsDue, IsReady, NoneIsReady, IsMisfit, Advances};
+ghost use Rattle.ra_audit.specs.Audit.{ProgressState, IsAudited, IsReached, IsDue, IsReady, NoneIsReady, CanGoOn, IsMisfit, Advances};
 ghost use Rattle.ra_audit.specs.AuditKeeping.{IsTracked, StaySent};
 
 use crate::auditor::flights::Flights;
@@ -24,7 +24,7 @@ use std::alloc::Global;
 /// Whichever comes first; what was put before stays.
 ///
 /// 1. `Fault`: an event that is due does not fit the run.
-/// 2. `Memory`.
+/// 2. `Memory`: an event is due that fits.
 pub fn put_all<O: MarkObserver>(
     alloc: Global,
     world: &mut MarklessWorld,
@@ -41,6 +41,7 @@ pub fn put_all<O: MarkObserver>(
     ensures unlost { lost_by world.new.moves ≡ lost_by world.old.moves }
     ensures ok { OnOk result (NoneIsReady nodes.new) }
     ensures fault { (fault : AuditFault) → IsErrOf result (AuditError.Fault fault) → IsMisfit world.new nodes.new fault }
+    ensures memory { IsErrOf result AuditError.Memory → CanGoOn world.new nodes.new }
     ensures not_lost { (frame : Frame) → IsErrOf result (AuditError.NotLost frame) → ⊥ }
 {
     let mut near = 0;
@@ -57,8 +58,8 @@ pub fn put_all<O: MarkObserver>(
 ///
 /// Nothing has changed in the run:
 ///
-/// 1. `Memory`, which may also come in place of a `Fault`.
-/// 2. `Fault`: it does not fit the run.
+/// 1. `Fault`: it does not fit the run.
+/// 2. `Memory`: it fits.
 fn put_next<O: MarkObserver>(
     alloc: Global,
     world: &mut MarklessWorld,
@@ -78,9 +79,12 @@ fn put_next<O: MarkObserver>(
     ensures stay { StaySent nodes.old world.old.moves nodes.new world.new.moves }
     ensures fewer { OnOk result (sum_by (λ p. length p.waiting) nodes.new < sum_by (λ p. length p.waiting) nodes.old) }
     ensures fault { (fault : AuditFault) → IsErrOf result (AuditError.Fault fault) → IsMisfit world.new nodes.new fault }
+    ensures memory { IsErrOf result AuditError.Memory → CanGoOn world.new nodes.new }
     ensures not_lost { (frame : Frame) → IsErrOf result (AuditError.NotLost frame) → ⊥ }
 {
-    flights.note_last(alloc)?;
+    if flights.note_last(alloc).is_err() {
+        return Err(refusal_without_room(world, nodes, flights, place));
+    }
     let progress = &mut nodes[place];
     let Some(event) = progress.next() else {
         unreachable!()
@@ -102,9 +106,40 @@ fn put_next<O: MarkObserver>(
     }
 }
 
+/// Returns why the next event of the node at this place is not put if there is no room to note what the last event sent: memory ran out,
+/// unless the event does not fit the run. It does not allocate.
+fn refusal_without_room(
+    world: &MarklessWorld,
+    nodes: &[NodeProgress],
+    flights: &Flights,
+    place: usize,
+) -> AuditError
+    requires audited { IsAudited world.now nodes.now }
+    requires tracked { IsTracked nodes.now world.now.moves flights.now }
+    requires within { place < length nodes.now }
+    requires ready { (d : ProgressState) → IsReady nodes.now (slice_index_or nodes.now place d) }
+    ensures memory { result ≡ AuditError.Memory → CanGoOn world.now nodes.now }
+    ensures fault { (fault : AuditFault) → result ≡ AuditError.Fault fault → IsMisfit world.now nodes.now fault }
+    ensures not_lost { (frame : Frame) → result ≡ AuditError.NotLost frame → ⊥ }
+{
+    let progress = &nodes[place];
+    let Some(event) = progress.next() else {
+        unreachable!()
+    };
+    let node = progress.node();
+    let step = step_of(node, &event.kind);
+    if !flights.flies_of(&event.kind) {
+        return AuditError::Fault(AuditFault { node, event });
+    }
+    if !world.accepts(&step) {
+        return AuditError::Fault(AuditFault { node, event });
+    }
+    AuditError::Memory
+}
+
 /// Returns why an event is not put, if its step is refused: memory ran out, or it does not fit.
 fn error_of(refused: StepError, fault: AuditFault) -> AuditError
-    ensures memory { refused ≡ StepError.Memory → result ≡ AuditError.Memory }
+    ensures memory { refused ≡ StepError.Memory ↔ result ≡ AuditError.Memory }
     ensures fault { refused ≢ StepError.Memory → result ≡ AuditError.Fault fault }
     ensures not_lost { (frame : Frame) → result ≡ AuditError.NotLost frame → ⊥ }
 {

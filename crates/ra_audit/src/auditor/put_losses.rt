@@ -1,9 +1,9 @@
 //! Losses that are put into the run of an auditor.
-ghost use Rattle.std.specs.Prelude.{◌≡◌, ◌≢◌, ◌++◌, ◌∷◌, ◌<◌, ◌^◌, [], ℕ, List, All, length, map, IsErrOf, OnOk, OnErr};
+ghost use Rattle.std.specs.Prelude.{◌≡◌, ◌≢◌, ◌⊎◌, ◌++◌, ◌∷◌, ◌<◌, ◌^◌, [], ℕ, List, All, length, map, IsErrOf, OnOk, OnErr};
 ghost use Rattle.ra_stamp.specs.declared.entry.Mark.{Mark};
 ghost use Rattle.ra_frame.specs.declared.frame.Frame.{Frame};
 ghost use Rattle.ra_world.specs.Traffic.{IsUnderWay, lost_by};
-ghost use Rattle.ra_audit.specs.Audit.{ProgressState, IsAudited, HasLost, Advances, PutsLosses, IsMisfit, IsNotLost, NoneIsReady, NoneIsReached, WasSentIn};
+ghost use Rattle.ra_audit.specs.Audit.{ProgressState, IsAudited, HasLost, Advances, PutsLosses, CanGoOn, IsMisfit, IsNotLost, NoneIsReady, NoneIsReached, WasSentIn};
 ghost use Rattle.ra_audit.specs.AuditKeeping.{LooksAtFirst, IsTracked, StaySent};
 
 use crate::auditor::flights::Flights;
@@ -25,7 +25,7 @@ use std::alloc::Global;
 /// 1. `Fault`: an event that is due does not fit the run.
 /// 2. `NotLost`: all events that can be put are in the run, and it has come to a frame whose loss is still to be put, but the
 ///    message is not under way, or was not sent with the frame's clock.
-/// 3. `Memory`.
+/// 3. `Memory`: an event is due that fits, or all events that can be put are in the run, and some loss is still to be put.
 pub fn put_events_and_losses<O: MarkObserver>(
     alloc: Global,
     world: &mut MarklessWorld,
@@ -46,6 +46,8 @@ pub fn put_events_and_losses<O: MarkObserver>(
     ensures lost { HasLost world.new.moves losses.new.lost }
     ensures ok { OnOk result (NoneIsReady nodes.new × NoneIsReached nodes.new losses.new.losing) }
     ensures fault { (fault : AuditFault) → IsErrOf result (AuditError.Fault fault) → IsMisfit world.new nodes.new fault }
+    ensures memory { IsErrOf result AuditError.Memory
+        → CanGoOn world.new nodes.new ⊎ (NoneIsReady nodes.new × (0 < length losses.new.losing)) }
     ensures not_lost { (frame : Frame) → IsErrOf result (AuditError.NotLost frame)
         → NoneIsReady nodes.new × IsNotLost world.new nodes.new losses.new.losing frame }
 {
@@ -82,6 +84,7 @@ fn put_losses(
     ensures tracked { IsTracked nodes.now world.new.moves flights.new }
     ensures sent { All (WasSentIn nodes.now world.new.moves) losses.new.lost }
     ensures ok { OnOk result (NoneIsReached nodes.now losses.new.losing) }
+    ensures some { OnErr result (0 < length losses.new.losing) }
     ensures not_lost { (frame : Frame) → IsErrOf result (AuditError.NotLost frame)
         → IsNotLost world.new nodes.now losses.new.losing frame }
     ensures no_fault { (fault : AuditFault) → IsErrOf result (AuditError.Fault fault) → ⊥ }

@@ -1,8 +1,12 @@
 //! What is under the lock of a site: the book, and the clients that wait.
-ghost use Rattle.std.specs.Prelude.{◌≡◌, ◌≢◌, ◌↔◌, ◌⊎◌, ◌<◌, false, [], All, IfOk, IfSome, IsErrOf, OnErr, OnOk, vec_len, vec_capacity};
+ghost use Rattle.std.specs.Prelude.{◌≡◌, ◌≢◌, ◌↔◌, ◌⊎◌, ◌<◌, false, [], All, Contains, IfOk, IfSome, IsErrOf, OnErr, OnOk, vec_len, vec_capacity};
+ghost use Rattle.std.specs.Option.{ForSome};
 ghost use Rattle.ra_frame.specs.Fits.{Fits};
 ghost use Rattle.ra_history.specs.History.{clock_of};
 ghost use Rattle.ra_history.specs.Book.{with_all_taken, IsFirst, Loses};
+ghost use Rattle.ra_history.specs.declared.book.grant.Grant as granted;
+ghost use Rattle.ra_stamp.specs.declared.entry.Mark as mark;
+ghost use Rattle.ra_site.specs.ClientGrant.{Gives, WasGiven};
 ghost use Rattle.ra_site.specs.Handing.{IsAllLeft, OnlyTurnOrMemory};
 ghost use Rattle.ra_site.specs.Losses.{lost_frames};
 
@@ -36,6 +40,7 @@ pub struct Stepped {
     /// Whom to tell of a grant.
     pub told: Option<(SharedTicket, Grant)>,
     ghost fit: { All Fits frames.items },
+    ghost given: { ForSome told (λ t. WasGiven t.1) },
 }
 
 /// A book, and the clients of its node whose requests are neither granted nor stopped.
@@ -90,7 +95,9 @@ impl Desk {
         gate: &G,
         request: &Request,
         ticket: Option<&SharedTicket>,
-    ) -> Result<Stepped, SiteError> {
+    ) -> Result<Stepped, SiteError>
+        ensures given { IfOk result (λ stepped. IfSome stepped.told (λ told. Gives self.old.book self.new.book told.1)) }
+    {
         if !gate.step(node) {
             return Err(SiteError::Stopped(Stop::Gate));
         }
@@ -110,7 +117,8 @@ impl Desk {
 
     /// Makes room for one more client that waits, and returns that client, or `None` if there is no memory or no ticket.
     fn waiter(&mut self, request: &Request, ticket: Option<&SharedTicket>) -> Option<Waiter>
-        ensures { IfSome result (λ _. vec_len self.new.waiters < vec_capacity self.new.waiters) }
+        ensures room { IfSome result (λ _. vec_len self.new.waiters < vec_capacity self.new.waiters) }
+        ensures book { self.new.book ≡ self.old.book }
     {
         let ticket = ticket?;
         self.waiters.reserve(1).ok()?;
@@ -137,7 +145,9 @@ impl Desk {
         gate: &G,
         client: u32,
         name: Name,
-    ) -> Result<Stepped, SiteError> {
+    ) -> Result<Stepped, SiteError>
+        ensures given { IfOk result (λ stepped. IfSome stepped.told (λ told. Gives self.old.book self.new.book told.1)) }
+    {
         if !gate.step(node) {
             return Err(SiteError::Stopped(Stop::Gate));
         }
@@ -159,7 +169,9 @@ impl Desk {
         node: NodeId,
         gate: &G,
         bytes: &[u8],
-    ) -> Result<Stepped, SiteError> {
+    ) -> Result<Stepped, SiteError>
+        ensures given { IfOk result (λ stepped. IfSome stepped.told (λ told. Gives self.old.book self.new.book told.1)) }
+    {
         if !gate.step(node) {
             return Err(SiteError::Stopped(Stop::Gate));
         }
@@ -262,9 +274,12 @@ impl Desk {
         lost_of(alloc, &self.book)
     }
 
-    /// Returns what an event of the book made. The client that it let in waits no more.
+    /// Returns what the last event of the book made. The client that it let in waits no more.
     fn stepped(&mut self, posted: Posted) -> Stepped
-        requires { All Fits posted.frames.items }
+        requires fit { All Fits posted.frames.items }
+        requires given { (grant : granted.Grant) → Contains posted.marks.items (mark.Mark.Entered grant.entry) → WasGiven grant }
+        ensures entered { IfSome result.told (λ told. Contains posted.marks.items (mark.Mark.Entered told.1.entry)) }
+        ensures book { self.new.book ≡ self.old.book }
     {
         let Posted { frames, marks } = posted;
         let told = match entry_let_in(marks.as_slice()) {
@@ -276,7 +291,8 @@ impl Desk {
 
     /// Takes the client that waits for this request to be granted out of those that wait, if it is among them.
     fn take(&mut self, entry: Entry) -> Option<(SharedTicket, Grant)>
-        ensures { IfSome result (λ told. told.1.entry ≡ entry) }
+        ensures entry { IfSome result (λ told. told.1.entry ≡ entry) }
+        ensures book { self.new.book ≡ self.old.book }
     {
         let place = self.place_of(&entry)?;
         let Waiter {
@@ -303,7 +319,9 @@ impl Desk {
 }
 
 /// Returns the request that an event granted, if there is one: an event lets in at most one client.
-fn entry_let_in(marks: &[Mark]) -> Option<Entry> {
+fn entry_let_in(marks: &[Mark]) -> Option<Entry>
+    ensures { IfSome result (λ entry. Contains marks.now (mark.Mark.Entered entry)) }
+{
     for mark in marks {
         if let Mark::Entered(entry) = mark {
             return Some(*entry);

@@ -1,5 +1,5 @@
-use Rattle.std.proofs.Common.{◌≡◌, ◌∙◌, All, List, ◌++◌, length, take, drop, vec_len, arith, ap, sym, subst}
-use Rattle.ra_audit.specs.Audit.{ProgressState, AuditState, IsAudited, AllWereSent, WasSentIn, HasLost, PutsLosses, NoneIsReady, NoneIsReached, IsNotLost, RunTheorem}
+use Rattle.std.proofs.Common.{◌≡◌, ◌<◌, ◌∙◌, All, List, [], ◌∷◌, ◌++◌, inl, inr, length, take, drop, vec_len, arith, ap, sym, subst}
+use Rattle.ra_audit.specs.Audit.{ProgressState, AuditState, IsAudited, AllWereSent, WasSentIn, HasLost, PutsLosses, NoneIsReady, NoneIsReached, CanGoOn, IsNotLost, RunTheorem}
 use Rattle.ra_audit.specs.AuditKeeping.{IsTracked}
 use Rattle.ra_audit.proofs.AuditLaws.{runs_meet_the_theorem}
 use Rattle.ra_audit.proofs.AuditLosses.{puts_none}
@@ -123,3 +123,23 @@ invariant_of-self g c =
       subst (λ (ns : List ProgressState). IsTracked ns world.moves flights) (sym same) puts.tracked,
       subst (λ (ns : List ProgressState). All (WasSentIn ns world.moves) losses.lost) (sym same) puts.sent,
     )
+
+not_none : {X : Type 0} (xs : List X) → 0 < length xs → xs ≡ [] → ⊥
+not_none [] some is = omega (arith, some)
+not_none (x ∷ xs) some is = cc
+
+pub returns-clause-memory : goal.returns-clause-memory
+returns-clause-memory g c is =
+    let items = c.self.inside.nodes.items in
+    let new = c.put_events_and_losses-answer.new.nodes in
+    let world = c.put_events_and_losses-answer.new.world in
+    let losses = c.put_events_and_losses-answer.new.losses in
+    let len = ap (λ (xs : List ProgressState). length xs) c.as_mut_slice.ensures.value in
+    let back = take (vec_len c.self.inside.nodes) (new ++ drop (length new) items) in
+    let same : back ≡ new =
+    slice_back (vec_len c.self.inside.nodes) new items (omega (arith, c.as_mut_slice.ensures.len, len)) (omega (arith, c.put_events_and_losses-answer.auto.nodes, len))
+    in
+    elim (c.put_events_and_losses-answer.ensures.memory is) [
+      | inl more ↦ inl (subst (CanGoOn world) (sym same) more)
+      | inr none ↦ inr (subst NoneIsReady (sym same) none.0, not_none losses.losing none.1)
+    ]

@@ -1,4 +1,4 @@
-use Rattle.std.proofs.Common.{◌<◌, [], arith, subst, sym, ◌∙◌}
+use Rattle.std.proofs.Common.{◌<◌, [], length, arith, subst, sym, ◌∙◌}
 use Rattle.ra_audit.specs.AuditKeeping.{LossState}
 use Rattle.ra_audit.specs.Audit.{PutsLosses}
 use Rattle.ra_audit.proofs.AuditSteps.{advances_none, advances_then}
@@ -58,3 +58,8 @@ returns-in-Err-clause-losses c =
 pub returns-clause-ok : goal.returns-clause-ok
 returns-clause-ok c =
     all_looked_at c.args.nodes.now c.loop-left.left c.loop-left.losses.losing (omega (arith, c.loop-left-test.false)) c.loop-left.invariant.looked
+
+pub returns-in-Err-clause-some : goal.returns-in-Err-clause-some
+returns-in-Err-clause-some c =
+    let some : 0 < c.loop-left.left = omega (arith, c.loop-left-test.true) in
+    subst (λ (l : LossState). 0 < length l.losing) (sym c.in-Err.ensures.err) (some_left c.args.nodes.now c.loop-left.left c.loop-left.losses.losing c.loop-left.invariant.looked some)
