@@ -61,18 +61,17 @@ pub enum Step {
     RefusesToUnlock(u16, u32, SiteError),
     /// The site of this node takes the frames from the inbox at its place.
     Pumps(u16),
-    /// This many frames are left in the inbox at this place, that of this node. Another site of the node takes them.
-    /// The post has to be closed before.
+    /// After the post is closed, a second site of this node takes all that is left in the inbox at this place: so many frames.
     HasLeft(usize, u16, u64),
-    /// Only the REQUEST with clock 1 from node 1 to node 2 is left in the inbox of node 2, which another site of node 2
-    /// takes. The post has to be closed before.
+    /// After the post is closed, a second site of node 2 takes all that is left in its inbox: one REQUEST, which node 1 sent with
+    /// clock 1.
     HasLeftOne,
     /// The gate has counted this many steps.
     HasStepped(u64),
     /// A thread of its own does this.
     Starts(Task),
-    /// The gate comes to count this many steps. It is told of a step under the lock of the node, so what comes from now on comes
-    /// after that step.
+    /// The scene goes on when the gate has counted this many steps. A site counts a step while its desk is locked, so what follows
+    /// comes after that step.
     ComesToStep(u64),
     /// The threads yield a few hundred times, so that a client of node 1 which is about to sleep most likely does.
     LetsSleep,

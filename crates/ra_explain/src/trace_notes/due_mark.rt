@@ -6,8 +6,8 @@ use ra_stamp::Mark;
 use ra_text::{Note, mark_line};
 use std::alloc::Global;
 
-/// Adds which mark is due at a line of a trace. If none is, it adds that. If the line grants a request that waits, it then adds
-/// that the client still awaits the REPLY of a node, and of how many others.
+/// Adds which mark is due at a line of a trace, or that none is. In that case, if the line grants a request that waits, it adds
+/// whose REPLY the client still awaits.
 pub fn push_due(alloc: Global, note: &mut Note, replay: &Replay, due: &Option<Mark>) {
     if let Some(mark) = due {
         match mark_line(alloc, mark) {
@@ -24,21 +24,16 @@ pub fn push_due(alloc: Global, note: &mut Note, replay: &Replay, due: &Option<Ma
     if let Some(Mark::Entered(entry)) = &replay.mark
         && let Some(request) = replay.open.request_of(entry)
         && request.stage.is(Stage::Waits)
+        && let Some((first, others)) = replay.missing(entry)
     {
-        let (first, count) = replay.missing(entry);
-        if count > 0 {
-            note.push(": ");
-            note.client(entry.client);
-            push_numbered(note, " at node ", entry.stamp.node.get());
-            push_numbered(note, " still awaits the REPLY of node ", first);
-        }
-        if count > 1 {
-            let others = if count == 2 {
-                " other node"
-            } else {
-                " other nodes"
-            };
-            push_number_in(note, ", and of ", count - 1, others);
+        note.push(": ");
+        note.client(entry.client);
+        push_numbered(note, " at node ", entry.stamp.node.get());
+        push_numbered(note, " still awaits the REPLY of node ", first);
+        match others {
+            0 => {}
+            1 => note.push(", and of 1 other node"),
+            _ => push_number_in(note, ", and of ", others, " other nodes"),
         }
     }
 }

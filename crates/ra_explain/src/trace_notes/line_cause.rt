@@ -21,8 +21,8 @@ pub enum LineCause {
     Marks(MarkCause),
 }
 
-/// Adds why a line is wrong that has the form of one, or `other` if nothing more precise is found. It is a step that is refused, a
-/// message that is not under way, or a mark. For most causes, the lines before it are gone through once more.
+/// Adds why a line is wrong that has a right form: its step is refused, its message is not under way, or its mark is wrong. If
+/// nothing more precise is found, it adds `other`. For most causes it reads the lines before it once more.
 fn push_after(alloc: Global, note: &mut Note, line: &TextLine<'_>, cause: LineCause, other: &str) {
     let before = match cause {
         // These lines tell of a grant alone why it is not due.
@@ -41,15 +41,15 @@ fn push_after(alloc: Global, note: &mut Note, line: &TextLine<'_>, cause: LineCa
     }
 }
 
-/// Returns what is said of the first wrong line of a trace or of a mark log, the one with the number `line`, counted from 1. It
-/// says which line it is, quotes it, and says what is wrong with it, which is one of these:
+/// Returns the note on the first wrong line of a trace or of a mark log, the one with the number `line`, counted from 1. The note
+/// quotes the line, and says what is wrong with it, which is one of these:
 ///
 /// - what is in the way of a mark, or which mark is due;
 /// - whose REPLY a client still awaits;
 /// - why a node refuses a step, or why a message is not under way.
 ///
-/// It says `other` in place of what is wrong if nothing more precise is found, or if there is no memory for what waits, is queued
-/// and holds before that line. The text need go no further than the line. The cost is linear in the text up to there.
+/// It says `other` in place of that if nothing more precise is found, or if there is no memory for the requests before that line.
+/// The text may end after the line. The cost is linear in the text up to there.
 ///
 /// # Errors
 ///

@@ -29,16 +29,16 @@ fn push_awaited(note: &mut Note, replay: &Replay, reply: &Message, answered: &Op
             );
         }
         // Only another node of the trace sends it.
-        (None, _) if from != to && from.get() <= replay.nodes => {
+        (None, _) if from != to && from.get() <= replay.nodes.unwrap_or(0) => {
             push_numbered(note, "its request has not come to node ", from.get());
         }
         _ => note.push(NEVER_SENT),
     }
 }
 
-/// Adds why the message is not under way that a line of a trace delivers, loses or repeats, or `other` if the line does none of these: in
-/// which line it was last delivered or lost, or why it was never sent. Of a REPLY it adds why it was not, although the request that
-/// it answers waits or holds.
+/// Adds why a message is not under way that a line of a trace delivers, loses or repeats: in which line it was last delivered or
+/// lost, or that it was never sent. Of a REPLY to a request that waits or holds, it adds why it was never sent. If the line has
+/// no message, it adds `other`.
 pub fn push_not_under_way(note: &mut Note, line: &TextLine<'_>, replay: &Replay, other: &str) {
     let Some(message) = &replay.message else {
         note.push(other);

@@ -33,9 +33,10 @@ fn push_other(note: &mut Note, joint: &str, open: &OpenRequests, sought: &Sought
     request.is_some()
 }
 
-/// Adds what became of an entry that should wait or hold and does not: it already holds, still waits, was released, or
-/// was never requested. If it was not, a request like it is named in its place: the one of its node that waits or holds, the first
-/// of its client that does, or the last one that its node released. If none is, and it should hold, who holds its name.
+/// Adds what became of an entry that should wait or hold and does not: it already holds, still waits, was released, or was
+/// never requested. In place of that last, it names a request like it if there is one: on its name the one of its node that
+/// waits or holds, the first of its client that does, or the last one that its node released. If there is none, and the entry
+/// should hold, it adds who holds the name.
 fn push_fate(note: &mut Note, entry: &Entry, replay: &Replay, cause: MarkCause) {
     let open = &replay.open;
     if let Some(request) = open.request_of(entry) {
@@ -45,8 +46,8 @@ fn push_fate(note: &mut Note, entry: &Entry, replay: &Replay, cause: MarkCause) 
             ": it has waited since line "
         };
         push_numbered(note, text, request.since);
-    } else if replay.released_at > 0 {
-        push_numbered(note, ": it was released in line ", replay.released_at);
+    } else if let Some(line) = replay.released_at {
+        push_numbered(note, ": it was released in line ", line);
     } else if !push_other(
         note,
         ": ",
@@ -71,9 +72,11 @@ fn push_fate(note: &mut Note, entry: &Entry, replay: &Replay, cause: MarkCause) 
 fn push_details(note: &mut Note, entry: &Entry, replay: &Replay, cause: MarkCause) {
     let sought = match cause {
         MarkCause::NotAbove => {
-            if replay.granted >= entry.stamp.seq {
-                push_number_in(note, ": ", replay.granted, " was granted in line ");
-                note.number(replay.granted_at);
+            if let Some(granted) = replay.granted
+                && granted.number >= entry.stamp.seq
+            {
+                push_number_in(note, ": ", granted.number, " was granted in line ");
+                note.number(granted.line);
             }
             return;
         }
@@ -92,9 +95,9 @@ fn push_details(note: &mut Note, entry: &Entry, replay: &Replay, cause: MarkCaus
     }
 }
 
-/// Adds why the mark in a line is wrong and what is in its way, or `other` if that is not known since there was no memory for what waits,
-/// is queued and holds before it. In a mark log, `other` says why, and this is the cause; in a trace, the lock table after the marks
-/// before it says the cause. The cost is linear in what waits, is queued and holds, and in a trace that of a lock table for the marks.
+/// Adds why the mark in a line is wrong, and what is in its way. In a mark log, `log_cause` is the cause, and `other` says it. In a
+/// trace, a lock table that takes the marks before it finds the cause. If there is no memory for the requests before the line, it
+/// adds `other` alone. The cost is linear in these requests, and in a trace that of a lock table for the marks.
 pub fn push_obstacle(
     alloc: Global,
     note: &mut Note,

@@ -8,8 +8,8 @@ use ra_text::Note;
 use ra_trace::Line;
 use ra_world::Step;
 
-/// Adds how far a client is with a name, in which mode and since which line, or that it does not hold the name if it is at no stage. It adds
-/// at which node that is, if one is told.
+/// Adds what a client has done with a name, in which mode and since which line: for example that it has waited for it. Without
+/// `reached`, it adds that the client does not hold the name. With `node`, it adds at which node.
 pub fn push_stage(
     note: &mut Note,
     client: u32,
@@ -40,8 +40,8 @@ pub fn push_exhausted(note: &mut Note, name: &Name) {
     note.push(": the greatest is 18446744073709551615");
 }
 
-/// Adds why the step in a line of a trace is refused, in which a client asks for a name or leaves it, or `other` if that is not known
-/// since there was no memory for what waits, is queued and holds before it.
+/// Adds why the step in a line of a trace is refused, in which a client asks for a name or leaves it. If that is not known, since
+/// there was no memory for the requests before it, it adds `other`.
 pub fn push_refused(note: &mut Note, line: &TextLine<'_>, replay: &Replay, other: &str) {
     let (node, client, name, is_ask) = match &Line::parse(line.bytes) {
         Some(
@@ -60,10 +60,14 @@ pub fn push_refused(note: &mut Note, line: &TextLine<'_>, replay: &Replay, other
             return;
         }
     };
-    if replay.nodes > 0 && node.get() > replay.nodes {
+    let Some(nodes) = replay.nodes else {
+        note.push(other);
+        return;
+    };
+    if node.get() > nodes {
         push_numbered(note, "there is no node ", node.get());
-        push_numbered(note, ": the highest node of the trace is ", replay.nodes);
-    } else if replay.nodes == 0 || !replay.open.is_whole {
+        push_numbered(note, ": the highest node of the trace is ", nodes);
+    } else if !replay.open.is_whole {
         note.push(other);
     } else if let Some(open) = replay.open.clients.get(&(node, client, name)) {
         let reached = Reached {

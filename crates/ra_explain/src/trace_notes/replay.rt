@@ -10,34 +10,42 @@ use std::alloc::Global;
 /// The numbers of nodes, and 0.
 const NUMBERS: usize = 65;
 
+/// A number that was granted for a name.
+#[derive(Clone, Copy)]
+pub struct Granted {
+    pub number: u64,
+    /// The line of its mark, counted from 1.
+    pub line: u64,
+}
+
 /// What the lines before a wrong line say of it.
 #[derive(Drop)]
 pub struct Replay {
-    /// How many nodes there are, as the first line of a trace says, or 0.
-    pub nodes: u16,
-    /// Which clients wait, are queued and hold after them.
+    /// How many nodes there are, if the first line is that of a trace.
+    pub nodes: Option<u16>,
+    /// Which clients wait, are queued and hold after these lines.
     pub open: OpenRequests,
-    /// The mark that the line is, if it is one. Its entry is meant by what follows.
+    /// The mark in the wrong line, if there is one. The next four fields are about its entry.
     pub mark: Option<Mark>,
-    /// The greatest number that was granted for the name of the entry, and its line. Both are 0 if none was.
-    pub granted: u64,
-    pub granted_at: u64,
-    /// The line in which the entry was released, or 0 if it was not.
-    pub released_at: u64,
-    /// The last entry that its node released on the name, if there is one, and the line in which it did.
+    /// The greatest number that was granted for its name.
+    pub granted: Option<Granted>,
+    /// The line in which it was released.
+    pub released_at: Option<u64>,
+    /// The last entry that its node released on its name, and the line in which it did.
     pub released: Option<(Entry, u64)>,
-    /// Which nodes have a REPLY to the request of the entry delivered, by their numbers.
+    /// For each number of a node, whether a REPLY of that node to its request was delivered.
     replied: [bool; NUMBERS],
-    /// The message that the line delivers, loses or repeats, if it does.
+    /// The message that the wrong line delivers, loses or repeats, if it does.
     pub message: Option<Message>,
-    /// The last line that delivered or lost the message, and whether it was lost.
+    /// The last line that delivered or lost this message, and whether it was lost.
     pub taken: Option<(u64, bool)>,
-    /// The last line that delivered the REQUEST which the message answers.
+    /// The last line that delivered the REQUEST which this message answers.
     pub came: Option<u64>,
 }
 
 impl Replay {
-    /// Goes through these lines for what they say of the one after them, or of their end if that is empty. The cost is linear in them.
+    /// Goes through these lines for what they say of the wrong line after them, which is empty if the text ends there. The cost
+    /// is linear in them.
     pub fn of(alloc: Global, lines: &[u8], subject: &[u8]) -> Replay {
         let (mark, message) = match &Line::parse(subject) {
             Some(Line::Marked(mark)) => (Some(*mark), None),
@@ -47,12 +55,11 @@ impl Replay {
             _ => (None, None),
         };
         let mut replay = Replay {
-            nodes: 0,
+            nodes: None,
             open: OpenRequests::new(alloc),
             mark,
-            granted: 0,
-            granted_at: 0,
-            released_at: 0,
+            granted: None,
+            released_at: None,
             released: None,
             replied: [false; NUMBERS],
             message,
@@ -73,7 +80,7 @@ impl Replay {
     /// Takes the line with this number. Until its request is made, a client that asks is queued.
     fn take(&mut self, line: &[u8], number: u64) {
         match &Line::parse(line) {
-            Some(Line::First { nodes, .. }) => self.nodes = nodes.get(),
+            Some(Line::First { nodes, .. }) => self.nodes = Some(nodes.get()),
             Some(
                 Line::Stepped(
                     Step::Ask {
@@ -107,8 +114,11 @@ impl Replay {
         }
     }
 
-    /// Takes that a message is delivered or lost in the line with this number. If it is delivered, it may be the REQUEST that the sought
-    /// message answers, or a REPLY to the request of the entry.
+    /// Notes what the line with this number says of the wrong one by the message that it delivers or loses:
+    ///
+    /// - The wrong line has the same message: which line took it, and whether it was lost.
+    /// - The message in the wrong line answers it, and it is delivered: in which line it came.
+    /// - It is a REPLY to the request of the mark in the wrong line, and it is delivered: that its sender has replied.
     fn take_message(&mut self, message: &Message, number: u64, is_lost: bool) {
         if let Some(sought) = self.message {
             if *message == sought {
@@ -149,7 +159,8 @@ impl Replay {
         }
     }
 
-    /// Takes the mark in the line with this number, for what is over on the name of the entry.
+    /// Notes what the mark in the line with this number says of the mark in the wrong line: a grant for the same name, or a
+    /// release of it by the same node.
     fn take_mark(&mut self, mark: &Mark, number: u64) {
         let Some(subject) = self.mark else {
             return;
@@ -160,13 +171,15 @@ impl Replay {
             return;
         }
         match mark {
-            Mark::Entered(_) if made.stamp.seq > self.granted => {
-                self.granted = made.stamp.seq;
-                self.granted_at = number;
+            Mark::Entered(_) if self.is_greatest(made.stamp.seq) => {
+                self.granted = Some(Granted {
+                    number: made.stamp.seq,
+                    line: number,
+                });
             }
             Mark::Left(_) if made.stamp.node == entry.stamp.node => {
                 if *made == entry {
-                    self.released_at = number;
+                    self.released_at = Some(number);
                 }
                 self.released = Some((*made, number));
             }
@@ -174,19 +187,32 @@ impl Replay {
         }
     }
 
-    /// Returns the first node, other than that of an entry, that has no REPLY to its request delivered, and how many such nodes there
-    /// are. If there is none, both are 0.
-    pub fn missing(&self, entry: &Entry) -> (u16, u16) {
-        let (mut first, mut count) = (0, 0);
-        for before in 0..self.nodes {
+    /// Returns whether this number is above each one that was granted before.
+    fn is_greatest(&self, number: u64) -> bool {
+        match self.granted {
+            Some(granted) => number > granted.number,
+            None => true,
+        }
+    }
+
+    /// Returns the first of the other nodes whose REPLY to the request of an entry was not delivered, and how many there are after
+    /// it. Returns `None` if each other node has replied.
+    pub fn missing(&self, entry: &Entry) -> Option<(u16, u16)> {
+        let (mut first, mut others) = (None, 0);
+        for before in 0..self.nodes.unwrap_or(0) {
             let node = before + 1;
             if node != entry.stamp.node.get()
                 && matches!(self.replied.get(usize::from(node)), Some(false))
             {
-                first = if count == 0 { node } else { first };
-                count = u16::saturating_add(count, 1);
+                match first {
+                    None => first = Some(node),
+                    Some(_) => others = u16::saturating_add(others, 1),
+                }
             }
         }
-        (first, count)
+        match first {
+            Some(first) => Some((first, others)),
+            None => None,
+        }
     }
 }
