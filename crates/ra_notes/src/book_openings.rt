@@ -23,18 +23,18 @@ pub struct Openings<'a> {
     pub first: Option<Opening<'a>>,
     /// The last of them, if there is one.
     pub last: Option<Opening<'a>>,
-    /// The line at which the book of each node begins, by its number, or 0 if it has none.
-    lines: [u64; NODE_NUMBERS],
+    /// For each number of a node, the line at which its book begins, if it has one.
+    lines: [Option<u64>; NODE_NUMBERS],
 }
 
 impl<'a> Openings<'a> {
-    /// Returns the first lines of books before the line of this number, counted from 1, and the text from there on, or from its last
-    /// line on if it ends before.
+    /// Returns the first lines of books before the line with this number, counted from 1, and the text from that line on. If the
+    /// text ends before, this is its last line.
     pub fn before(text: &'a [u8], number: u64) -> (Openings<'a>, &'a [u8]) {
         let mut openings = Openings {
             first: None,
             last: None,
-            lines: [0; NODE_NUMBERS],
+            lines: [None; NODE_NUMBERS],
         };
         let mut rest = text;
         for line in 1..number {
@@ -56,15 +56,18 @@ impl<'a> Openings<'a> {
                     line,
                     after,
                 });
-                openings.lines[usize::from(first.member.node().get())] = line;
+                openings.lines[usize::from(first.member.node().get())] = Some(line);
             }
             rest = after;
         }
         (openings, rest)
     }
 
-    /// Returns the line at which the book of a node begins, or 0 if it has none.
-    pub fn line_of(&self, node: u16) -> u64 {
-        *self.lines.get(usize::from(node)).unwrap_or(&0)
+    /// Returns the line at which the book of a node begins, or `None` if it has none.
+    pub fn line_of(&self, node: u16) -> Option<u64> {
+        match self.lines.get(usize::from(node)) {
+            Some(line) => *line,
+            None => None,
+        }
     }
 }

@@ -10,7 +10,7 @@ use ra_draw::DrawError;
 use ra_explain::{end_note, push_number_in, push_numbered};
 use ra_schedule::{ChoicesError, DriveError};
 use ra_script::PerformError;
-use ra_task::{Command, CommandFault, UsageFault};
+use ra_task::{Command, CommandFault, Task, UsageFault};
 use ra_text::Note;
 use ra_trace::TraceError;
 use std::alloc::Global;
@@ -112,22 +112,26 @@ pub fn of_check(why: TraceError) -> Notice {
     })
 }
 
+/// Returns what there is to say about a part that has none of so many lines.
+fn of_part(alloc: Global, asked: &Command<'_>, lines: u64) -> Notice {
+    let mut note = Note::new(alloc);
+    match asked {
+        Command::Task(Task::Draw { part, .. }) if lines > 0 => {
+            push_numbered(&mut note, "--from is ", part.from);
+        }
+        _ => note.push("there is nothing to draw"),
+    }
+    let unit = if lines == 1 { " line" } else { " lines" };
+    push_number_in(&mut note, ": standard input has ", lines, unit);
+    Notice::of(note)
+}
+
 /// Returns what there is to say about an input that is not drawn.
 pub fn of_drawing(alloc: Global, asked: &Command<'_>, why: DrawError) -> Notice {
     Notice::Text(match why {
         DrawError::Read => NO_INPUT,
         DrawError::Limit => TOO_MANY_BYTES,
-        DrawError::NoLines { lines } => {
-            let mut note = Note::new(alloc);
-            if lines == 0 {
-                note.push("there is nothing to draw");
-            } else {
-                push_numbered(&mut note, "--from is ", asked.first_line());
-            }
-            let unit = if lines == 1 { " line" } else { " lines" };
-            push_number_in(&mut note, ": standard input has ", lines, unit);
-            return Notice::of(note);
-        }
+        DrawError::NoLines { lines } => return of_part(alloc, asked, lines),
         DrawError::TooLong => TOO_LONG,
         DrawError::Memory => NO_MEMORY,
         DrawError::Write => return Notice::Nothing,

@@ -1,19 +1,21 @@
 //! What there is to say of the place in what was read that a note is about, and otherwise of the cause alone.
 use crate::command_notes::of_performance;
+use crate::note_source::{JudgedText, NoteSource};
 use crate::note_texts::{UNEXPLAINED, cause_text, cluster_text, mark_cause_text, text_cause_text};
 use crate::notice::Notice;
 use crate::run_notes::unfinished::unfinished_note;
 use crate::script_notes::choosing::choices_note;
 use crate::script_notes::order_note::order_note;
+use crate::script_notes::script_fault::script_note;
 use crate::settle_notes::unsettled_note;
 use ra_book::TextCause;
 use ra_cluster::ClusterError;
 use ra_explain::{LineCause, Unanswered, digits_note, frame_note, line_note, unanswered_note};
 use ra_frame::FrameError;
 use ra_schedule::{Policy, chance};
-use ra_script::{PerformError, explain_script};
+use ra_script::PerformError;
 use ra_stamp::{Mark, Memory};
-use ra_task::{Command, Task, policy_of, text_of};
+use ra_task::{Command, PolicyName, Task, policy_of, text_of};
 use ra_trace::{Cause, MarkCause, check_buffered_with_due};
 use std::alloc::Global;
 
@@ -31,31 +33,34 @@ fn placed(place: PlaceNote, otherwise: Notice) -> Notice {
 /// Returns what there is to say about a text that is no script: where it is wrong.
 pub fn script_notice(alloc: Global, script: Option<&[u8]>) -> Notice {
     let place = match script {
-        Some(script) => explain_script(alloc, script),
+        Some(script) => script_note(alloc, script),
         None => Ok(None),
     };
     placed(place, Notice::Text(UNEXPLAINED))
 }
 
-/// Returns what there is to say about a script that is not performed: where it is wrong, or which choice is, and otherwise why.
-pub fn perform_notice(
-    alloc: Global,
-    choices: &str,
-    script: Option<&[u8]>,
-    why: PerformError,
-) -> Notice {
-    match (script, why) {
-        (_, PerformError::Script(_)) => script_notice(alloc, script),
-        (Some(script), PerformError::Drive(_)) => placed(
-            choices_note(alloc, script, choices),
-            of_performance(why),
-        ),
+/// Returns what there is to say about a script that is not performed: where it is wrong, or which of the choices that are listed is,
+/// and otherwise why.
+pub fn perform_notice(alloc: Global, source: &NoteSource<'_>, why: PerformError) -> Notice {
+    match (source.asked, source.seen, why) {
+        (_, script, PerformError::Script(_)) => script_notice(alloc, script),
+        (
+            Command::Task(
+                Task::Sim {
+                    policy: PolicyName::Listed,
+                    choices,
+                    ..
+                },
+            ),
+            Some(script),
+            PerformError::Drive(_),
+        ) => placed(choices_note(alloc, script, choices), of_performance(why)),
         _ => of_performance(why),
     }
 }
 
-/// Returns what there is to say about a script that threads may not run, or did not bring to its end: which lock is out of order or
-/// is never given back, and otherwise why.
+/// Returns what there is to say about a script that threads may not run, or did not bring to its end: which lock is out of order
+/// or is never given back, and otherwise why.
 pub fn cluster_notice(alloc: Global, script: Option<&[u8]>, why: ClusterError) -> Notice {
     let place = match (script, why) {
         (Some(script), ClusterError::OutOfOrder | ClusterError::Unreleased) => {
@@ -78,18 +83,13 @@ pub enum FrameCause {
 }
 
 /// Returns what there is to say about a frame that a node does not answer.
-pub fn frame_notice(
-    alloc: Global,
-    arguments: &[String],
-    input: Option<&[u8]>,
-    why: FrameCause,
-) -> Notice {
-    let place = match (input, why) {
+pub fn frame_notice(alloc: Global, source: &NoteSource<'_>, why: FrameCause) -> Notice {
+    let place = match (source.seen, why) {
         (Some(input), FrameCause::Digits) => digits_note(alloc, input),
         (Some(input), FrameCause::Frame(fault)) => frame_note(alloc, input, fault),
         (Some(input), FrameCause::Node(why)) => {
-            let node = text_of(arguments, "--node").unwrap_or("");
-            let nodes = text_of(arguments, "--nodes").unwrap_or("");
+            let node = text_of(source.arguments, "--node").unwrap_or("");
+            let nodes = text_of(source.arguments, "--nodes").unwrap_or("");
             unanswered_note(alloc, input, node, nodes, why)
         }
         (None, _) => Ok(None),
@@ -98,8 +98,8 @@ pub fn frame_notice(
 }
 
 /// Returns the policy by which a run was made, of many seeds by the last one that was tried, or `None` if none was.
-pub fn policy_by(alloc: Global, asked: &Command<'_>, last_seed: Option<u64>) -> Option<Policy> {
-    let Command::Task(task) = asked else {
+pub fn policy_by(alloc: Global, source: &NoteSource<'_>) -> Option<Policy> {
+    let Command::Task(task) = source.asked else {
         return None;
     };
     match *task {
@@ -108,7 +108,7 @@ pub fn policy_by(alloc: Global, asked: &Command<'_>, last_seed: Option<u64>) -> 
             choices,
             ..
         } => policy_of(alloc, policy, choices).ok(),
-        Task::Survey(ref survey) => match last_seed {
+        Task::Survey(ref survey) => match source.last_seed {
             Some(seed) => Some(chance(survey.faults, seed)),
             None => None,
         },
@@ -117,13 +117,8 @@ pub fn policy_by(alloc: Global, asked: &Command<'_>, last_seed: Option<u64>) -> 
 }
 
 /// Returns what there is to say about a run that ended with something left to do.
-pub fn unfinished_notice(
-    alloc: Global,
-    asked: &Command<'_>,
-    script: Option<&[u8]>,
-    last_seed: Option<u64>,
-) -> Notice {
-    let place = match (script, &policy_by(alloc, asked, last_seed)) {
+pub fn unfinished_notice(alloc: Global, source: &NoteSource<'_>) -> Notice {
+    let place = match (source.seen, &policy_by(alloc, source)) {
         (Some(script), Some(policy)) => unfinished_note(alloc, script, policy),
         _ => Ok(None),
     };
@@ -131,63 +126,55 @@ pub fn unfinished_notice(
 }
 
 /// Returns why a line of a trace is wrong, with the mark that is due there. A text that was to be drawn is checked once
-/// more for that. If memory runs out for it, the mark is not known. Without such a text, `due` is that mark.
-fn cause_in(alloc: Global, text: &[u8], cause: Cause, due: Option<Mark>) -> LineCause {
-    if !matches!(cause, Cause::Marks) {
-        return LineCause::Trace(cause);
-    }
-    if text.is_empty() {
-        return LineCause::Due(due);
-    }
-    let (mut rest, mut due) = (text, None);
-    match check_buffered_with_due(alloc, &mut rest, &mut due) {
-        Ok(_) => LineCause::Due(due),
-        Err(_) => LineCause::Trace(cause),
+/// more for that. If memory runs out for it, the mark is not known. Of a text that was checked, `due` is that mark.
+fn cause_in(alloc: Global, text: JudgedText<'_>, cause: Cause, due: Option<Mark>) -> LineCause {
+    match (cause, text) {
+        (Cause::Marks, JudgedText::Checked(_)) => LineCause::Due(due),
+        (Cause::Marks, JudgedText::Drawn(text)) => {
+            let (mut rest, mut due) = (text, None);
+            match check_buffered_with_due(alloc, &mut rest, &mut due) {
+                Ok(_) => LineCause::Due(due),
+                Err(_) => LineCause::Trace(cause),
+            }
+        }
+        _ => LineCause::Trace(cause),
     }
 }
 
-/// Returns what there is to say about a wrong line of the text that was checked or was to be drawn. One that was to be drawn is
-/// `text`. The cause alone is `said`.
+/// Returns what there is to say about the wrong line of a text. The cause alone is `said`.
 fn line_notice(
     alloc: Global,
-    seen: Option<&[u8]>,
-    text: &[u8],
+    text: JudgedText<'_>,
     line: u64,
     why: LineCause,
     said: &'static str,
 ) -> Notice {
-    let place = match seen {
-        _ if !text.is_empty() => line_note(alloc, text, line, why, said),
-        Some(seen) => line_note(alloc, seen, line, why, said),
-        None => Ok(None),
+    let place = match text {
+        JudgedText::Checked(Some(text)) | JudgedText::Drawn(text) => {
+            line_note(alloc, text, line, why, said)
+        }
+        JudgedText::Checked(None) => Ok(None),
     };
     placed(place, Notice::Line { line, text: said })
 }
 
-/// Returns what there is to say about a text that is not a trace, by its first wrong line. One that was to be drawn is `text`. If the line
-/// is wrong for its marks, `due` is the mark that is due there, if one is; of a text that was to be drawn it is looked for.
+/// Returns what there is to say about a text that is not a trace, by its first wrong line. If the line is wrong for its marks, `due` is
+/// the mark that is due there, if one is; of a text that was to be drawn it is looked for.
 pub fn trace_notice(
     alloc: Global,
-    seen: Option<&[u8]>,
-    text: &[u8],
+    text: JudgedText<'_>,
     line: u64,
     cause: Cause,
     due: Option<Mark>,
 ) -> Notice {
     let why = cause_in(alloc, text, cause, due);
-    line_notice(alloc, seen, text, line, why, cause_text(cause))
+    line_notice(alloc, text, line, why, cause_text(cause))
 }
 
-/// Returns what there is to say about a text that is not a mark log, by its first wrong line. One that was to be drawn is `text`.
-pub fn log_notice(
-    alloc: Global,
-    seen: Option<&[u8]>,
-    text: &[u8],
-    line: u64,
-    cause: MarkCause,
-) -> Notice {
+/// Returns what there is to say about a text that is not a mark log, by its first wrong line.
+pub fn log_notice(alloc: Global, text: JudgedText<'_>, line: u64, cause: MarkCause) -> Notice {
     let why = LineCause::Marks(cause);
-    line_notice(alloc, seen, text, line, why, mark_cause_text(cause))
+    line_notice(alloc, text, line, why, mark_cause_text(cause))
 }
 
 /// Returns what there is to say about a text of books that does not settle, by its wrong line.

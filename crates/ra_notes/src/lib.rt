@@ -5,6 +5,7 @@ mod book_openings;
 mod command_notes;
 mod end_reader;
 mod input_places;
+mod note_source;
 mod note_texts;
 mod notice;
 mod recording_reader;
@@ -29,6 +30,7 @@ pub use input_places::{
     FrameCause, cluster_notice, frame_notice, log_notice, perform_notice, script_notice,
     trace_notice, unfinished_notice, unsettled_notice,
 };
+pub use note_source::{JudgedText, NoteSource};
 pub use note_texts::{BOOKS_TOO_LONG, NO_BOOK, NO_INPUT, NO_SEED_DONE, NO_WORD, SEEDS_LEFT};
 pub use notice::{NO_MEMORY, Notice, write_line};
 pub use ra_explain::Unanswered;
@@ -40,6 +42,7 @@ pub use run_notes::unfinished::unfinished_note;
 pub use script_notes::choosing::choices_note;
 pub use script_notes::order_note::order_note;
 pub use script_notes::script_end::script_end_note;
+pub use script_notes::script_fault::script_note;
 pub use seed_progress::SeedProgress;
 pub use unused_options::write_unused_options;
 pub use usage_notes::{is_choice, usage_note};

@@ -12,8 +12,8 @@ use std::alloc::Global;
 pub struct ClientState {
     pub client: u32,
     pub name: Name,
-    /// How far it is, or `None` if it neither waits, nor is queued, nor holds. If it waits, the line is the one at which it asked. Lines are
-    /// counted over the whole text.
+    /// How far it is, or `None` if it neither waits, nor is queued, nor holds. Of a client that waits, the line is that of its ask.
+    /// Lines are counted over the whole text.
     pub reached: Option<Reached>,
 }
 
@@ -51,8 +51,8 @@ impl ClientState {
     }
 }
 
-/// Has a node take the lines of its book to the one of this number, and notes what they did to a client. Returns why it does not take
-/// one of them, or `None` if it takes them all.
+/// Gives a node the lines of its book up to the one with this number, and notes how far they bring a client. Returns why the node
+/// refuses one of them, or `None` if it takes them all.
 fn first_refusal(
     alloc: Global,
     node: &mut TimedNode,
@@ -82,8 +82,9 @@ fn first_refusal(
     None
 }
 
-/// Returns why the node of a book refuses the line of this number, after the lines of the book before it, and the client that asks or
-/// leaves by it, before the line, if one does. Returns `None` if there is no memory to tell. The cost is that of the lines at a node.
+/// Returns why the node of a book refuses the line with this number, after the lines of the book before it. If a client asks or
+/// leaves by the line, it also returns how far that client is before it. Returns `None` if there is no memory to tell. The cost is
+/// that of the lines at a node.
 pub fn refused_event(
     alloc: Global,
     opening: &Opening<'_>,

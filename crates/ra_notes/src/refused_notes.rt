@@ -12,8 +12,7 @@ use ra_text::Note;
 /// What comes before the digits of a frame.
 const RECEIVE: &[u8] = b"receive ";
 
-/// Adds why a client may not do what it does at the line: how far it is, and what is expected before it asks again or leaves, or that no
-/// number is left.
+/// Adds why a client may not ask or leave at the line: how far it is and what is expected first, or that no number is left.
 fn push_client(note: &mut Note, why: BookError, state: &ClientState) {
     let asks = match why {
         BookError::Busy => true,
@@ -34,8 +33,8 @@ fn push_client(note: &mut Note, why: BookError, state: &ClientState) {
     });
 }
 
-/// Adds why this node of a book does not take a line, and what would be right. The frame comes by the line, if one does, and the client
-/// asks or leaves by it, if one does.
+/// Adds why the node of a book does not take a line, and what would be right. `frame` comes by the line, or a client asks or leaves
+/// by it, which is at `state`.
 pub fn push_refused(
     note: &mut Note,
     line: &[u8],

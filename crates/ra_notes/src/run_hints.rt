@@ -1,6 +1,7 @@
 //! Hints for the user when nothing was refused but something may surprise: options that have no effect, names that stay
 //! locked, and which seed was found.
 use crate::input_places::PlaceNote;
+use crate::note_source::NoteSource;
 use crate::notice::write_line;
 use crate::script_notes::script_end::script_end_note;
 use crate::unused_options::write_unused_options;
@@ -33,36 +34,28 @@ fn seed_note(alloc: Global, shrinks: bool, seed: u64) -> PlaceNote {
     note.finish()
 }
 
-/// Writes the hints on a command that was done, or ended with something left to do. With many seeds, `last_seed` is the
-/// last one that was tried. The arguments tell which options have no effect. It ignores a failure of the writer.
-pub fn write_hints<N: Write>(
-    alloc: Global,
-    arguments: &[String],
-    asked: &Command<'_>,
-    script: Option<&[u8]>,
-    is_done: bool,
-    last_seed: Option<u64>,
-    notes: &mut N,
-) {
-    let Command::Task(task) = asked else {
+/// Writes the hints on a command that was done, or ended with something left to do. The arguments tell which options have no effect.
+/// It ignores a failure of the writer.
+pub fn write_hints<N: Write>(alloc: Global, source: &NoteSource<'_>, is_done: bool, notes: &mut N) {
+    let Command::Task(task) = source.asked else {
         return;
     };
     let told = match task {
-        Task::Sim { .. } => match script {
+        Task::Sim { .. } => match source.seen {
             Some(script) if is_done => script_end_note(alloc, script),
             _ => Ok(None),
         },
         // A run was found if a finished one was looked for and the command was done, or a stuck one and it was not.
-        Task::Survey(survey) => match (survey.find, last_seed) {
+        Task::Survey(survey) => match (survey.find, source.last_seed) {
             (Some(Search { ending, .. }), Some(seed))
                 if matches!(ending, Ending::Finished) == is_done => {
-                seed_note(alloc, asked.shrinks(), seed)
+                seed_note(alloc, source.asked.shrinks(), seed)
             }
             _ => Ok(None),
         },
         _ => return,
     };
-    write_unused_options(arguments, notes);
+    write_unused_options(source.arguments, notes);
     if let Ok(Some(text)) = &told {
         write_line(notes, text.as_str());
     }

@@ -10,17 +10,16 @@ use ra_history::BookKind;
 use ra_text::{Note, cut};
 use std::alloc::Global;
 
-/// Adds why the books of these first lines are not those of all nodes. If another one begins at a line, its node has a book already, or it
-/// has another number of nodes or another start. Otherwise it adds which one is missing of as many as the first one says. Returns
-/// whether it adds why.
+/// Adds why the books with these first lines are not those of all nodes. If the wrong line begins another book, its node has a book
+/// already, or it has another number of nodes or another start. Otherwise the book of a node is missing. Returns whether it adds
+/// anything.
 fn push_books(note: &mut Note, openings: &Openings<'_>, another: &Option<FirstLine>) -> bool {
     let Some(opening) = &openings.first else {
         return false;
     };
     let nodes = opening.member.nodes();
     if let Some(another) = another {
-        let again = openings.line_of(another.member.node().get());
-        if again > 0 {
+        if let Some(again) = openings.line_of(another.member.node().get()) {
             let text = ": this node has a book already, which begins at line ";
             push_number_in(note, text, again, ": expected one book of each node");
         } else {
@@ -32,7 +31,7 @@ fn push_books(note: &mut Note, openings: &Openings<'_>, another: &Option<FirstLi
     }
     for before in 0..nodes {
         let node = before + 1;
-        if openings.line_of(node) == 0 {
+        if openings.line_of(node).is_none() {
             push_numbered(note, ": the book of node ", node);
             let text = " is missing: expected one book of each of ";
             push_number_in(note, text, nodes, " nodes");
@@ -42,8 +41,8 @@ fn push_books(note: &mut Note, openings: &Openings<'_>, another: &Option<FirstLi
     false
 }
 
-/// Adds in which book a line is, and which frame comes by it, if one does, and why the node of the book refuses it, if that is the
-/// cause. Returns whether it adds why.
+/// Adds in which book a line is, and which frame comes by it, if one does. If the node of the book refuses the line, it adds why.
+/// Returns whether it adds why.
 fn push_event(
     alloc: Global,
     note: &mut Note,
@@ -74,9 +73,9 @@ fn push_event(
     false
 }
 
-/// Returns what is said of the wrong line of this number of a text of books: its text, its book, its frame, and what would be
-/// right. It allocates, beside the note, only for a line that a node refuses: then the node takes the lines of its book once more.
-/// Otherwise the cost is linear in the text up to there.
+/// Returns the note on the wrong line of a text of books, the one with this number: its text, its book, its frame, and what would
+/// be right. The cost is linear in the text up to there. For a line that a node refuses, the node takes the lines of its book once
+/// more, which takes memory.
 ///
 /// # Errors
 ///

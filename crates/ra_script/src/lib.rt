@@ -13,5 +13,5 @@ pub use laws::{choices_have_words_unless_messages_are_repeated, read_scripts_com
 pub use performing::find_run::find_run;
 pub use performing::printed::Printed;
 pub use performing::{MAX_TURNS, perform, perform_as, perform_trace};
-pub use script_reading::explaining::explain_script;
-pub use script_reading::{MAX_SCRIPT, read_script};
+pub use script_reading::document::{ClientRef, DocumentRef, client_of, document_of};
+pub use script_reading::{MAX_SCRIPT, add_op, read_script};

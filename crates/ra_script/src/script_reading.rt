@@ -1,7 +1,5 @@
 pub mod document;
-pub mod explaining;
 pub mod operation;
-pub mod shape_note;
 
 ghost use Rattle.std.specs.Prelude.{◌≡◌, ◌<◌, ◌≤◌, ℕ, List, [], ◌∷◌, ◌++◌, Ok, length, map, IsTrue, OnOk, IfOk, IfErr, IsErrOf, MatchResult};
 ghost use Rattle.toml.specs.View.{table_view};

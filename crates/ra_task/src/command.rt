@@ -39,30 +39,6 @@ impl<'a> Command<'a> {
             _ => false,
         }
     }
-
-    /// Returns the node and the number of nodes of `answer`, or 0 and 0. It does not allocate.
-    pub fn answering_node(&self) -> (u16, u16) {
-        match *self {
-            Command::Task(Task::Answer { node, nodes }) => (node, nodes),
-            _ => (0, 0),
-        }
-    }
-
-    /// Returns the first line that `draw` is to draw, or 1. It does not allocate.
-    pub fn first_line(&self) -> u64 {
-        match *self {
-            Command::Task(Task::Draw { part, .. }) => part.from,
-            _ => 1,
-        }
-    }
-
-    /// Returns the text of the choices of `sim`, or no text. It does not allocate.
-    pub fn choices(&self) -> &str {
-        match self {
-            Command::Task(Task::Sim { choices, .. }) => choices,
-            _ => "",
-        }
-    }
 }
 
 /// What a command line says.

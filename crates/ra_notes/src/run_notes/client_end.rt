@@ -8,11 +8,13 @@ use ra_text::Note;
 use ra_world::Report;
 use std::alloc::Global;
 
-/// The end of a run.
+/// The end of a run, or of its first part.
 #[derive(Drop)]
 pub struct RunEnd<'a> {
     pub script: &'a Script,
     pub policy: &'a Policy,
+    /// How many turns were made.
+    pub turns: u64,
     pub report: &'a Report,
     /// The requests that wait and hold then, each with the place of the mark of its request.
     pub requests: OpenRequests,
@@ -54,13 +56,14 @@ impl ClientEnd {
 }
 
 impl<'a> RunEnd<'a> {
-    /// Returns the end of a run of a script by a policy, given the report of that run. Each request is there since the place of its
+    /// Returns the end of so many turns of a script by a policy, given their report. Each request is there since the place of its
     /// mark, counted from 1. If memory ran out, the note records it. The cost is linear in the marks.
     pub fn new(
         alloc: Global,
         note: &mut Note,
         script: &'a Script,
         policy: &'a Policy,
+        turns: u64,
         report: &'a Report,
     ) -> RunEnd<'a> {
         let mut requests = OpenRequests::new(alloc);
@@ -77,6 +80,7 @@ impl<'a> RunEnd<'a> {
         RunEnd {
             script,
             policy,
+            turns,
             report,
             requests,
         }
@@ -89,8 +93,8 @@ impl<'a> RunEnd<'a> {
             return true;
         };
         let mut begun = 0;
-        for choice in choices.as_slice() {
-            if *choice == Choice::Client(client) {
+        for place in 0..self.turns {
+            if choices.at(place) == Some(Choice::Client(client)) {
                 begun = u64::saturating_add(begun, 1);
             }
         }

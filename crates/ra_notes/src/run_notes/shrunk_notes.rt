@@ -1,5 +1,6 @@
 //! The notes on a run that was shrunk: by how much, and what is left to do in the shorter run, whose choices were printed.
 use crate::input_places::policy_by;
+use crate::note_source::NoteSource;
 use crate::note_texts::UNEXPLAINED;
 use crate::notice::write_line;
 use crate::run_notes::unfinished::push_run;
@@ -8,7 +9,6 @@ use ra_explain::push_number_in;
 use ra_schedule::{DriveError, Policy, Script, Shrunk, shrink};
 use ra_script::MAX_TURNS;
 use ra_stamp::Memory;
-use ra_task::Command;
 use ra_text::Note;
 use std::alloc::Global;
 use std::io::Write;
@@ -28,9 +28,9 @@ fn push_shorter(alloc: Global, note: &mut Note, script: &Script, policy: &Policy
     }
 }
 
-/// Returns what is said of a policy's run of the script in a text. If it is stuck, it is shrunk, and a line says by how much. Then comes,
-/// as [`unfinished_note`](crate::unfinished_note) says it, what is left to do in the shorter run or, if it is not stuck, in the run itself.
-/// It costs as much as to shrink the run.
+/// Returns the note on a policy's run of the script in a text. If the run is stuck, it is shrunk: a line says by how much, and
+/// another one what is left to do in the shorter run. Otherwise one line says what is left to do in the run itself. Of that,
+/// [`unfinished_note`](crate::unfinished_note) says more. It costs as much as to shrink the run.
 ///
 /// # Errors
 ///
@@ -56,17 +56,11 @@ fn shrunk_note(alloc: Global, script: &[u8], policy: &Policy) -> Result<Option<S
     note.finish()
 }
 
-/// Writes by how much a run was shrunk that is not finished, and what is left to do in the shorter one. If it was not stuck, it writes
-/// what is left to do in the run itself. With many seeds, `last_seed` made the run. If memory runs out, or the script or the run is
-/// not known, it writes that. It ignores a failure of the writer.
-pub fn write_shrunk_notes<N: Write>(
-    alloc: Global,
-    asked: &Command<'_>,
-    script: Option<&[u8]>,
-    last_seed: Option<u64>,
-    notes: &mut N,
-) {
-    let told = match (script, &policy_by(alloc, asked, last_seed)) {
+/// Writes by how much an unfinished run was shrunk, and what is left to do in the shorter one. Of a run that is not stuck, it
+/// writes what is left to do in the run itself. If memory runs out, or the script or the run is not known, it writes that. It
+/// ignores a failure of the writer.
+pub fn write_shrunk_notes<N: Write>(alloc: Global, source: &NoteSource<'_>, notes: &mut N) {
+    let told = match (source.seen, &policy_by(alloc, source)) {
         (Some(script), Some(policy)) => shrunk_note(alloc, script, policy),
         _ => Err(Memory),
     };

@@ -9,8 +9,8 @@ use ra_stamp::{Memory, NodeId};
 use ra_text::Note;
 use std::alloc::Global;
 
-/// Adds what is in the way of a client of a node that has something left to do, if it waits or is queued: which requests block it, or
-/// which client is ahead of it.
+/// Adds what is in the way of a client of a node: of one that waits, which requests block it, and of one that is queued, which
+/// client is ahead of it.
 fn push_reason(note: &mut Note, ending: &RunEnd<'_>, node: NodeId, client_end: &ClientEnd) {
     match client_end {
         ClientEnd::Waits(entry) => {
@@ -33,8 +33,8 @@ fn push_reason(note: &mut Note, ending: &RunEnd<'_>, node: NodeId, client_end: &
     }
 }
 
-/// Adds the states of the first clients with something left to do that wait or are queued, or of those that do not, after this many
-/// others. Returns how many clients have something left to do so far.
+/// Adds the states of the first clients with something left to do: if `waits`, of those that wait or are queued, and otherwise of
+/// the others. Clients that were counted `before` are among the first. Returns how many clients were counted so far.
 fn push_clients(note: &mut Note, ending: &RunEnd<'_>, waits: bool, before: u64) -> u64 {
     let mut count = before;
     for place in 0..ending.script.clients() {
@@ -66,7 +66,7 @@ pub fn push_run(alloc: Global, note: &mut Note, script: &Script, policy: &Policy
     if let Some(summary) = run_of(alloc, note, script, policy)
         && !summary.finished
     {
-        let ending = RunEnd::new(alloc, note, script, policy, &summary.report);
+        let ending = RunEnd::new(alloc, note, script, policy, summary.turns, &summary.report);
         note.push("the run did not finish: ");
         let waiting = push_clients(note, &ending, true, 0);
         let count = push_clients(note, &ending, false, waiting);

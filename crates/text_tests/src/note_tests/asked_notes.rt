@@ -1,12 +1,11 @@
-//! What `ra_explain` and `ra_script` tell a person: what is asked of them, and what is to be said.
+//! What `ra_explain` and `ra_notes` tell a person: what is asked of them, and what is to be said.
 use crate::script_texts::choice_words::choices_of;
 use crate::text_asserting::assert_same;
 use Asked::{Choice, Digits, Field, Frame, Kept, Order, Script, Unanswered, Unfinished};
 use ra_explain::{LineCause, digits_note, frame_note, line_note, unanswered_note};
 use ra_frame::FrameError;
-use ra_notes::{choices_note, order_note, script_end_note, unfinished_note};
+use ra_notes::{choices_note, order_note, script_end_note, script_note, unfinished_note};
 use ra_schedule::Policy;
-use ra_script::explain_script;
 use ra_stamp::{Mark, Memory};
 use ra_trace::{Cause, MarkCause, TraceError, Verdict, check_buffered_with_due};
 use std::alloc::Global;
@@ -131,7 +130,7 @@ fn said_of_unanswered(alloc: Global, frame: &str, why: ra_explain::Unanswered) -
 
 /// Returns what is said of a script that cannot be read.
 fn said_of_script(alloc: Global, script: &str) -> Told {
-    explain_script(alloc, script.as_bytes())
+    script_note(alloc, script.as_bytes())
 }
 
 /// Returns what is said of a script, of its runs or of its end.

@@ -1,6 +1,5 @@
-//! Explains to a person why a document does not have the shape of a script. No clause covers what is said.
-use crate::ScriptError;
-use crate::script_reading::document::{array_at, client_of, integer_at};
+//! Why a document does not have the shape of a script.
+use ra_script::{ScriptError, client_of};
 use ra_text::Note;
 use std::alloc::Global;
 use toml::value::Array;
@@ -11,6 +10,22 @@ const SCRIPT: &str = "a script has nodes (an integer) and client (an array of ta
 
 /// What the table of a client has.
 const CLIENT: &str = "a client has node (an integer) and ops (an array of strings)";
+
+/// Returns whether the value at a key is an integer.
+fn has_integer(table: &Table, key: &str) -> bool {
+    match table.get(key) {
+        Some(value) => value.as_integer().is_some(),
+        None => false,
+    }
+}
+
+/// Returns the array at a key, if there is one.
+fn array_at<'a>(table: &'a Table, key: &str) -> Option<&'a Array> {
+    match table.get(key) {
+        Some(value) => value.as_array(),
+        None => None,
+    }
+}
 
 /// Returns the first key of a table that is neither of these two, if there is one. It does not allocate.
 fn unknown_key<'a>(table: &'a Table, first: &str, second: &str) -> Option<&'a str> {
@@ -40,7 +55,7 @@ fn array_in<'a>(
         return None;
     }
     let found = array_at(table, array);
-    let wanting = if integer_at(table, integer).is_none() {
+    let wanting = if !has_integer(table, integer) {
         integer
     } else if found.is_none() {
         array

@@ -1,9 +1,7 @@
-//! Explains to a person, on one line, why a text is not a script. No clause covers what is said.
-use crate::ScriptError;
-use crate::script_reading::document::{ClientRef, DocumentRef, document_of};
-use crate::script_reading::shape_note::say_shape;
-use crate::script_reading::{MAX_SCRIPT, add_op};
+//! Why a text is not a script.
+use crate::script_notes::shape_note::say_shape;
 use ra_schedule::Script;
+use ra_script::{ClientRef, DocumentRef, MAX_SCRIPT, ScriptError, add_op, document_of};
 use ra_stamp::{Memory, NodeId};
 use ra_text::Note;
 use std::alloc::Global;
@@ -181,14 +179,14 @@ fn say_bytes(alloc: Global, note: &mut Note, text: &[u8]) {
     }
 }
 
-/// Explains to a person why a text is not a script, on one line without its end: what is wrong, where, and what would
+/// Returns a note on why a text is not a script, on one line without its end: what is wrong, where, and what would
 /// be right. Returns `None` if nothing is found, for example if the text is a script. It checks in the order of
-/// [`read_script`](crate::script_reading), and costs as much.
+/// [`read_script`](ra_script::read_script), and costs as much.
 ///
 /// # Errors
 ///
 /// `Memory`: there is no room for it.
-pub fn explain_script(alloc: Global, text: &[u8]) -> Result<Option<String>, Memory> {
+pub fn script_note(alloc: Global, text: &[u8]) -> Result<Option<String>, Memory> {
     let mut note = Note::new(alloc);
     if text.len() > MAX_SCRIPT {
         note.push("the script has more than 65536 bytes");
