@@ -1,4 +1,4 @@
--- What comes of a script that threads ran.
+-- Into what the books of a script's nodes settle, and why they may not.
 use Rattle.std.specs.Prelude.{◌≡◌, ◌≢◌, ◌↔◌, ◌*◌, ◌-◌, false, List, [], ◌∷◌, All, AllPairs, map, length, Option, Some, None, Result, IsErrOf}
 use Rattle.ra_schedule.specs.Script.{ScriptState}
 use Rattle.ra_schedule.specs.LockOrder.{IsOutOfOrder, IsUnreleased}

@@ -24,7 +24,7 @@ pub enum ClusterError {
     Fault(Stop),
     /// The nodes did not record a run of the cluster, or not one in which each grant was given exactly once.
     Settle,
-    /// What became of the clients' requests is not what the script says.
+    /// The marks of a client are not those of its operations in order, or a client is queued.
     PlanUnmet,
     /// A message was lost.
     Lost,
@@ -127,8 +127,8 @@ pub fn record_cluster<R: Threads + Wait + Sync, G: Gate>(
     }
 }
 
-/// Checks whether threads can run a script: whether each client takes its names in ascending order and holds none at its
-/// end. It does not allocate. The cost is that of [`first_out_of_order`] and [`first_unreleased`].
+/// Checks whether threads can run a script: whether each client takes its names in ascending order and holds none at
+/// its end. It does not allocate. The cost is that of [`first_out_of_order`] and [`first_unreleased`].
 ///
 /// # Errors
 ///
@@ -148,8 +148,8 @@ fn check_script(script: &Script) -> Result<(), ClusterError>
     Ok(())
 }
 
-/// Runs a script by threads in a cluster of its own. Returns the books of the nodes, in order, and what the clients were
-/// granted.
+/// Runs a script by threads in a cluster of its own. Returns the books of the nodes, in order, and what the clients
+/// were granted.
 fn books_of<R: Threads + Wait + Sync, G: Gate>(
     rt: &R,
     alloc: Global,

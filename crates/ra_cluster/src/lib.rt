@@ -1,5 +1,6 @@
-//! Scripts on threads. [`run_cluster`] runs a script with a thread for each node and each client, and [`record_cluster`]
-//! returns the books, too. [`run_threads`] and [`settle_script`] are its two halves, for a caller that makes the cluster.
+//! Scripts on threads. [`run_cluster`] runs a script with a thread for each node and each client, and
+//! [`record_cluster`] returns the books, too. [`run_threads`] and [`settle_script`] are its two halves, for a caller
+//! that makes the cluster.
 //!
 //! The cluster itself, with its sites and its post, is in the crate `ra_site`. Its names are here, too. A service that
 //! runs no scripts needs `ra_site` alone.

@@ -6,8 +6,9 @@ ghost use Rattle.ra_cluster.specs.Plan.{MeetsPlan, IsFollowed, IsNextMark, IsReq
 use ra_schedule::{Op, Script};
 use ra_stamp::{Entry, Mark, Name, NodeId};
 
-/// Returns whether the marks that name each client are those of its operations, in order, at its node, and no mark names a
-/// client that the script does not have. It does not allocate. The cost is the number of clients times that of marks.
+/// Returns whether the marks that name each client are those of its operations, in order, at its node, and no mark
+/// names a client that the script does not have. It does not allocate. The cost is the number of clients times that of
+/// marks.
 pub fn meets_plan(script: &Script, marks: &[Mark]) -> bool
     ensures { IsTrue result ↔ MeetsPlan script.now marks.now }
 {

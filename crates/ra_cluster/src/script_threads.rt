@@ -18,13 +18,13 @@ pub struct ScriptRun<'a, G> {
     pub grants: &'a Mutex<Vec<Grant>>,
 }
 
-/// Runs a thread for each node and one for each client. Returns when the clients' threads and then the nodes' threads have
-/// ended. The grants are kept. [`settle_script`](crate::settle_script) tells what came of it, once the cluster is closed.
+/// Runs a thread for each node and one for each client. Returns when the clients' threads and then the nodes' threads
+/// have ended. The grants are kept. Once the cluster is closed, [`settle_script`](crate::settle_script) settles its books.
 ///
-/// A client whose node is stopped ends. If a thread cannot be started, or a client's call is refused for another cause, the
-/// cluster is stopped. A client does nothing if the cluster does not have its node. Nothing bounds how long the threads
-/// wait; a script that [`run_cluster`](crate::run_cluster) refuses may keep them waiting forever. The cost is that of a
-/// thread for each node and each client, and of the calls of the sites.
+/// A client whose node is stopped ends. If a thread cannot be started, or a client's call is refused for another cause,
+/// the cluster is stopped. A client does nothing if the cluster does not have its node. Nothing bounds how long the
+/// threads wait; a script that [`run_cluster`](crate::run_cluster) refuses may keep them waiting forever. The cost is
+/// that of a thread for each node and each client, and of the calls of the sites.
 pub fn run_threads<R: Threads + Wait + Sync, G: Gate + Drop>(
     rt: &R,
     alloc: Global,
@@ -90,10 +90,7 @@ fn do_op<R: Wait, G: Gate + Drop>(
     let cluster = run.cluster;
     match op {
         Op::Lock(name, mode) => {
-            let grant = match cluster.lock(rt, alloc, node, client, name, mode) {
-                Ok(grant) => grant,
-                Err(refused) => return Err(refused),
-            };
+            let grant = cluster.lock(rt, alloc, node, client, name, mode)?;
             // It is kept, and shown to the gate.
             let stop = if run.grants.lock(rt).push(grant).is_err() {
                 Stop::Memory

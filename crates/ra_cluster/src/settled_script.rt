@@ -1,4 +1,4 @@
-//! What comes of a script that threads ran.
+//! Settles what threads recorded of a script.
 ghost use Rattle.std.specs.Prelude.{◌≡◌, ◌≢◌, ◌⊎◌, ◌↔◌, All, Some, None, IsTrue, IsErrOf, IfOk, IfErr, MatchResult};
 ghost use Rattle.ra_cluster.specs.Plan.{MeetsPlan, IsQuietEnd};
 ghost use Rattle.ra_cluster.specs.Outcome as spec;
