@@ -37,14 +37,15 @@ use std::alloc::Global;
 use std::marker::Model;
 use std::sync::Wait;
 
-/// Puts what happens at the nodes of a cluster together into one run while the nodes go on. From time to time each node's
-/// book hands over the events since the last time, which [`take`](Auditor::take) takes, and then
-/// [`advance`](Auditor::advance) puts all that it can into the run. So a cluster can run for long: an auditor keeps the nodes at the end
-/// of the run, the messages under way, and the events and losses that can't be put yet, and nothing of the others.
+/// Puts what happens at the nodes of a cluster together into one run while the nodes go on. From time to time each
+/// node's book hands over the events since the last time, which [`take`](Auditor::take) takes, and then
+/// [`advance`](Auditor::advance) puts all that it can into the run. So a cluster can run for long: an auditor keeps the
+/// nodes at the end of the run, the messages under way, and the events and losses that can't be put yet, and nothing of
+/// the others.
 ///
 /// Contracts see the run so far, and of each node the events that were taken from it: first those that are in the run,
-/// then those that are not yet. They also see the frames that were noted as lost: those whose loss is still to be put into the
-/// run, and those whose loss is in it.
+/// then those that are not yet. They also see the frames that were noted as lost: those whose loss is still to be put
+/// into the run, and those whose loss is in it.
 pub struct Auditor {
     world: MarklessWorld,
     /// Of how many nodes the run is, and the start beyond which the numbers of requests begin.
@@ -123,8 +124,8 @@ impl Auditor {
         })
     }
 
-    /// Takes the next events of a node, which come after an event with the clock `after`, or are its first ones if `after` is
-    /// 0. `advance` puts them into the run. The cost is linear in their number.
+    /// Takes the next events of a node, which come after an event with the clock `after`, or are its first ones if
+    /// `after` is 0. `advance` puts them into the run. The cost is linear in their number.
     ///
     /// # Errors
     ///
@@ -143,10 +144,11 @@ impl Auditor {
         take_into(self.nodes.as_mut_slice(), node, after, events)
     }
 
-    /// Notes that these frames are lost, such as those that could not be sent. `advance` puts their losses into the run, each once
-    /// all events of the frame's sender up to the frame's clock are in it. Note each frame once, and of each node only frames that
-    /// it sent. One whose sender is no node of the cluster has no such events, so the next `advance` says `NotLost` of it. A round
-    /// notes the frames that the nodes hand over as lost by itself. The cost is linear in their number.
+    /// Notes that these frames are lost, such as those that could not be sent. `advance` puts their losses into the
+    /// run, each once all events of the frame's sender up to the frame's clock are in it. Note each frame once, and of
+    /// each node only frames that it sent. One whose sender is no node of the cluster has no such events, so the next
+    /// `advance` says `NotLost` of it. A round notes the frames that the nodes hand over as lost by itself. The cost is
+    /// linear in their number.
     ///
     /// # Errors
     ///
@@ -197,9 +199,9 @@ impl Auditor {
         clocks_of(alloc, &self.nodes)
     }
 
-    /// Looks for a frame that is the next event of its node and was never sent, and notes it as the fault. The nodes had these
-    /// clocks before their last events were taken. Returns `None` if each frame that waits as the next event of its node may still
-    /// be put.
+    /// Looks for a frame that is the next event of its node and was never sent, and notes it as the fault. The nodes
+    /// had these clocks before their last events were taken. Returns `None` if each frame that waits as the next event
+    /// of its node may still be put.
     pub(crate) fn find_unsent(&mut self, clocks: &[u64]) -> Option<AuditFault>
         requires { NoneIsReady self.old.nodes }
         ensures none { IsNone result → (self.new ≡ self.old) × All (MayBePut clocks.now self.old.nodes) self.old.nodes }
@@ -212,25 +214,27 @@ impl Auditor {
     }
 
     /// Puts each event that can be put into the run, and tells the observer its marks: an ask or a leave at once after
-    /// the node's earlier events, and a frame that came once all events of its sender up to the frame's clock are in the run.
-    /// Then it puts the loss of each frame that was noted as lost, once all events of its sender up to its clock are in the run.
+    /// the node's earlier events, and a frame that came once all events of its sender up to the frame's clock are in
+    /// the run. Then it puts the loss of each frame that was noted as lost, once all events of its sender up to its
+    /// clock are in the run.
     ///
-    /// The cost of each event and of each loss is that of a step of a [`MarklessWorld`]. In a round each event is looked at once,
-    /// and each node is looked at once each time a node can't go on. Each loss that can't be put yet is looked at once.
+    /// The cost of each event and of each loss is that of a step of a [`MarklessWorld`]. In a round each event is
+    /// looked at once, and each node is looked at once each time a node can't go on. Each loss that can't be put yet is
+    /// looked at once.
     ///
     /// # Errors
     ///
-    /// 1. `Fault`: an event does not fit, which was found by this call or an earlier one. The node would have
-    ///    refused it; or it is a frame, and all that its sender sent up to the frame's clock is in the run, but its message is not
-    ///    under way, or was sent by an event with another clock. Or a round found a frame that was never sent. From then on
-    ///    nothing is put.
-    /// 2. `NotLost`: a frame was noted as lost, and all that its sender sent up to the frame's clock is in the run, but its message
-    ///    is not under way, or was sent by an event with another clock: it came or was lost before, or the frame was never sent.
-    ///    All events that can be put are in the run, and some other losses may not be. The loss of this frame is still to be put,
-    ///    so that each later call tries it.
-    /// 3. `Memory`: memory ran out, and an event is due that fits, or no event can be put and some loss is still to be put. So it may come
-    ///    before the others, and does not come in place of a `Fault` if no event that is due fits. The events and losses before are in the
-    ///    run, and the call can be made again.
+    /// 1. `Fault`: an event does not fit, which was found by this call or an earlier one. The node would have refused
+    ///    it; or it is a frame, and all that its sender sent up to the frame's clock is in the run, but its message is
+    ///    not under way, or was sent by an event with another clock. Or a round found a frame that was never sent. From
+    ///    then on nothing is put.
+    /// 2. `NotLost`: a frame was noted as lost, and all that its sender sent up to the frame's clock is in the run, but
+    ///    its message is not under way, or was sent by an event with another clock: it came or was lost before, or the
+    ///    frame was never sent. All events that can be put are in the run, and some other losses may not be. The loss
+    ///    of this frame is still to be put, so that each later call tries it.
+    /// 3. `Memory`: memory ran out, and an event is due that fits, or no event can be put and some loss is still to be
+    ///    put. So it may come before the others, and does not come in place of a `Fault` if no event that is due fits.
+    ///    The events and losses before are in the run, and the call can be made again.
     pub fn advance<O: MarkObserver>(
         &mut self,
         alloc: Global,
@@ -270,9 +274,9 @@ impl Auditor {
         answer
     }
 
-    /// Returns the event with the least clock of those that were taken and are not in the run, or `None` if all are in it.
-    /// Call it once the last events of all nodes were taken, and `advance` has answered `Ok`. Then the event is a frame
-    /// that came and was never sent. It does not allocate. The cost is linear in the number of nodes.
+    /// Returns the event with the least clock of those that were taken and are not in the run, or `None` if all are in
+    /// it. Call it once the last events of all nodes were taken, and `advance` has answered `Ok`. Then the event is a
+    /// frame that came and was never sent. It does not allocate. The cost is linear in the number of nodes.
     pub fn unsettled(&self) -> Option<AuditFault>
         requires { NoneIsReady self.now.nodes }
         ensures left { MatchOption result (NoneWaits self.now.nodes) (IsNeverSent self.now.nodes) }
@@ -282,9 +286,10 @@ impl Auditor {
         least_waiting(&self.nodes)
     }
 
-    /// Returns a frame that was noted as lost and whose loss is not in the run, or `None` if all losses are in it. Call it once the
-    /// last events of all nodes were taken, and `advance` has answered `Ok`. Then the frame was never sent, as far as these events
-    /// say: the clock of each event of its sender in the run is less than the frame's. It does not allocate.
+    /// Returns a frame that was noted as lost and whose loss is not in the run, or `None` if all losses are in it. Call
+    /// it once the last events of all nodes were taken, and `advance` has answered `Ok`. Then the frame was never sent,
+    /// as far as these events say: the clock of each event of its sender in the run is less than the frame's. It does
+    /// not allocate.
     pub fn unsettled_loss(&self) -> Option<Frame>
         requires { NoneIsReached self.now.nodes self.now.losing }
         ensures left { MatchOption result (self.now.losing ≡ []) (IsAhead self.now.nodes self.now.losing) }
@@ -293,10 +298,11 @@ impl Auditor {
         self.losses.first()
     }
 
-    /// Tells whether the run has come to the end of each node's book, by the clock: the last event of the book has the clock of the
-    /// node's last event in the run. Give it the books of the nodes from 1 up, in their order, once all threads have ended; what
-    /// was taken from a book still counts in its clock. It compares neither the events one by one, nor the frames that a book
-    /// still has as lost. It does not allocate. The cost is linear in the number of nodes.
+    /// Tells whether the run has come to the end of each node's book, by the clock: the last event of the book has the
+    /// clock of the node's last event in the run. Give it the books of the nodes from 1 up, in their order, once all
+    /// threads have ended; what was taken from a book still counts in its clock. It compares neither the events one by
+    /// one, nor the frames that a book still has as lost. It does not allocate. The cost is linear in the number of
+    /// nodes.
     ///
     /// # Errors
     ///
@@ -322,8 +328,9 @@ impl Auditor {
         self.fault
     }
 
-    /// Returns how many events were taken and are not in the run yet. After a round that is Ok, these are frames whose senders were
-    /// looked at too early in the round, or that were never sent and are not found yet, and the events after them.
+    /// Returns how many events were taken and are not in the run yet. After a round that is Ok, these are frames whose
+    /// senders were looked at too early in the round, or that were never sent and are not found yet, and the events
+    /// after them.
     pub fn waiting(&self) -> u128
         ensures value { result ≡ sum_by (λ p. length p.waiting) self.now.nodes }
         ensures audited { IsAudited self.now.world self.now.nodes }
@@ -340,8 +347,8 @@ impl Auditor {
         self.losses.lost()
     }
 
-    /// Returns how many frames were noted as lost whose losses are not in the run yet. After an `advance` that is Ok, these are
-    /// frames whose senders' events are not all in the run up to the frame's clock.
+    /// Returns how many frames were noted as lost whose losses are not in the run yet. After an `advance` that is Ok,
+    /// these are frames whose senders' events are not all in the run up to the frame's clock.
     pub fn losing(&self) -> usize
         ensures value { result ≡ length self.now.losing }
         ensures audited { IsAudited self.now.world self.now.nodes }
@@ -435,7 +442,8 @@ fn take_into(
     progress.take(after, events)
 }
 
-/// Has an audited site hand over what has happened since the last time, and one of these takes it, as `take_handed` does.
+/// Has an audited site hand over what has happened since the last time, and one of these takes it, as `take_handed`
+/// does.
 fn take_handed_into<R: Wait>(
     rt: &R,
     alloc: Global,

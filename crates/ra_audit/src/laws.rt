@@ -1,4 +1,5 @@
-//! What is true of grants that were matched with the marks of a run. The function does nothing, and its contract is the law.
+//! What is true of grants that were matched with the marks of a run. The function does nothing, and its contract is the
+//! law.
 ghost use Rattle.std.specs.Prelude.{ℕ, List};
 ghost use Rattle.ra_stamp.specs.NodeId.{IsNodeNumber};
 ghost use Rattle.ra_history.specs.declared.book.grant.Grant.{Grant};

@@ -5,8 +5,9 @@ ghost use Rattle.ra_history.specs.declared.book.grant.Grant as granted;
 use ra_stamp::{GhostList, Mark};
 use std::marker::Model;
 
-/// Is told the marks of a run in their order, each once. Contracts see the marks that it was told so far, and the grants that it
-/// was given, if it is one that takes them. An observer that does not keep the marks has a [`Told`], which takes no memory.
+/// Is told the marks of a run in their order, each once. Contracts see the marks that it was told so far, and the
+/// grants that it was given, if it is one that takes them. An observer that does not keep the marks has a [`Told`],
+/// which takes no memory.
 pub trait MarkObserver {
     ghost told: { Self → List mark.Mark };
 

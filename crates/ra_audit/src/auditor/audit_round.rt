@@ -13,21 +13,22 @@ use std::alloc::Global;
 use std::sync::Wait;
 
 impl Auditor {
-    /// Takes what has happened at each node since the round before, from node 1 up, and notes the frames that it hands over as
-    /// lost. Then it puts all that it can into the run of the auditor, events first and then losses, and tells the observer its
-    /// marks, as [`Auditor::advance`] does. The cluster goes on meanwhile: a round has one node's lock at a time, for a time that
-    /// does not grow with the history unless a frame was lost, and puts with no lock held. A frame whose sender was looked at too
-    /// early in the round is put in the next one.
+    /// Takes what has happened at each node since the round before, from node 1 up, and notes the frames that it hands
+    /// over as lost. Then it puts all that it can into the run of the auditor, events first and then losses, and tells
+    /// the observer its marks, as [`Auditor::advance`] does. The cluster goes on meanwhile: a round has one node's lock
+    /// at a time, for a time that does not grow with the history unless a frame was lost, and puts with no lock held. A
+    /// frame whose sender was looked at too early in the round is put in the next one.
     ///
-    /// A frame that waits was never sent if an earlier round took it and its sender's events don't come to its clock yet, or if
-    /// they go beyond it and none has it. So a frame can't hold up the audit by a clock that is ahead of its sender's: the second
-    /// round after the one that took it finds it at the latest, if no other frame is at fault and no round is refused.
+    /// A frame that waits was never sent if an earlier round took it and its sender's events don't come to its clock
+    /// yet, or if they go beyond it and none has it. So a frame can't hold up the audit by a clock that is ahead of its
+    /// sender's: the second round after the one that took it finds it at the latest, if no other frame is at fault and
+    /// no round is refused.
     ///
-    /// Each round is to have the auditor of the one before. Once the threads of the cluster have ended, a round takes all that is
-    /// left, and [`Auditor::unsettled`] says whether all of it is in the run.
+    /// Each round is to have the auditor of the one before. Once the threads of the cluster have ended, a round takes
+    /// all that is left, and [`Auditor::unsettled`] says whether all of it is in the run.
     ///
-    /// The cost is that of [`Auditor::take`] and [`Auditor::advance`] for the events since the round before. A list of a clock for
-    /// each node is allocated.
+    /// The cost is that of [`Auditor::take`] and [`Auditor::advance`] for the events since the round before. A list of
+    /// a clock for each node is allocated.
     ///
     /// # Errors
     ///
@@ -35,16 +36,17 @@ impl Auditor {
     ///
     /// 1. `NotAudited`: the cluster was made by [`Cluster::new`], and is settled at its end. Nothing has changed.
     /// 2. `OtherCluster`: the auditor was made for another number of nodes, or with another start. Nothing has changed.
-    /// 3. `Fault`: an event does not fit, as [`Auditor::advance`] says. If it was found by an earlier round, nothing has
-    ///    changed.
+    /// 3. `Fault`: an event does not fit, as [`Auditor::advance`] says. If it was found by an earlier round, nothing
+    ///    has changed.
     /// 4. `NotLost`: a frame that was handed over or noted as lost came or was lost before, or was never sent, as
-    ///    [`Auditor::advance`] says. All events that were taken and can be put are in the run. The loss of the frame still waits, so
-    ///    that each later round tries it.
+    ///    [`Auditor::advance`] says. All events that were taken and can be put are in the run. The loss of the frame
+    ///    still waits, so that each later round tries it.
     /// 5. `Memory`: memory ran out before events were taken, or while they or losses were put. The next round goes on.
-    /// 6. `NotTaken`: the events of a node were not taken, nor those of the nodes after it. What was taken or noted as lost is in
-    ///    the run, as far as it can be. If the cause is `Memory`, the next round takes them. If it is `OutOfTurn`, the auditor is
-    ///    not that of the round before, and the node still has its events and losses. If it is `NotNext`, what the node handed
-    ///    over is kept and can't be its next events, so that no later round takes events of it. `NoNode` never comes.
+    /// 6. `NotTaken`: the events of a node were not taken, nor those of the nodes after it. What was taken or noted as
+    ///    lost is in the run, as far as it can be. If the cause is `Memory`, the next round takes them. If it is
+    ///    `OutOfTurn`, the auditor is not that of the round before, and the node still has its events and losses. If it
+    ///    is `NotNext`, what the node handed over is kept and can't be its next events, so that no later round takes
+    ///    events of it. `NoNode` never comes.
     /// 7. `Fault`: a frame that waits as the next event of its node was never sent.
     pub fn audit<R: Wait, G: Gate + Drop, O: MarkObserver>(
         &mut self,
@@ -62,9 +64,9 @@ impl Auditor {
         }
     }
 
-    /// Ends the audit of a cluster that its caller alone has, so that all threads have ended: takes what is left at the nodes, as
-    /// a round does. If it is Ok, all that was taken is in the run, and the losses of all frames that were handed over or noted as
-    /// lost. After `NotTaken` for `Memory`, and after `Memory`, it can be called again.
+    /// Ends the audit of a cluster that its caller alone has, so that all threads have ended: takes what is left at the
+    /// nodes, as a round does. If it is Ok, all that was taken is in the run, and the losses of all frames that were
+    /// handed over or noted as lost. After `NotTaken` for `Memory`, and after `Memory`, it can be called again.
     ///
     /// The cost is that of a round, and then linear in the number of nodes.
     ///
@@ -233,7 +235,7 @@ fn go_round<R: Wait, G: Gate + Drop, O: MarkObserver>(
     }
 }
 
-/// Returns what a round answers, by what came of taking events, if not all were taken, and of putting them into the run.
+/// Returns what a round answers after it took events and put them into the run.
 fn answer_of(
     taken: Result<(), (NodeId, TakeError)>,
     advanced: Result<(), AuditError>,

@@ -25,21 +25,23 @@ pub struct NotClosed<G> {
 }
 
 impl Auditor {
-    /// Ends the audit of a cluster as [`Auditor::finish`] does, closes the cluster as [`Cluster::close_audited`] does, and checks the
-    /// books as [`Auditor::check_books`] does. If it is Ok, all that the books say is in the run, by the clock, and none of the frames
-    /// that they still have is flagged lost. It returns the books of the nodes, in their order.
+    /// Ends the audit of a cluster as [`Auditor::finish`] does, closes the cluster as [`Cluster::close_audited`] does,
+    /// and checks the books as [`Auditor::check_books`] does. If it is Ok, all that the books say is in the run, by the
+    /// clock, and none of the frames that they still have is flagged lost. It returns the books of the nodes, in their
+    /// order.
     ///
-    /// The cost is that of these calls, and linear in the number of frames that the books still have: none, after a round.
+    /// The cost is that of these calls, and linear in the number of frames that the books still have: none, after a
+    /// round.
     ///
     /// # Errors
     ///
     /// The first that holds:
     ///
-    /// 1. `NotFinished`: the audit did not end, as [`Auditor::finish`] says. The cluster is returned, so that the call can be made
-    ///    again after `NotTaken` for `Memory`, and after `Memory`.
+    /// 1. `NotFinished`: the audit did not end, as [`Auditor::finish`] says. The cluster is returned, so that the call
+    ///    can be made again after `NotTaken` for `Memory`, and after `Memory`.
     /// 2. `Behind`: the first node of which not all that its book says is in the run, as [`Auditor::check_books`] says.
-    /// 3. `StillLost`: the first frame, by node and in order of sending, that a book still has flagged lost, so that its loss is
-    ///    not in the run.
+    /// 3. `StillLost`: the first frame, by node and in order of sending, that a book still has flagged lost, so that
+    ///    its loss is not in the run.
     pub fn close<R: Wait, G: Gate + Drop, O: MarkObserver>(
         &mut self,
         rt: &R,

@@ -11,15 +11,15 @@ use ra_stamp::{Memory, Message, Messages};
 use std::alloc::Global;
 use std::marker::Model;
 
-/// Of each message under way, the clock of the event that sent it. What an event sends is noted before the next event, so that
-/// nothing is left to fail once an event is in the run. The memory is linear in the number of messages under way, beside two slots
-/// for each sender and receiver.
+/// Of each message under way, the clock of the event that sent it. What an event sends is noted before the next event,
+/// so that nothing is left to fail once an event is in the run. The memory is linear in the number of messages under
+/// way, beside two slots for each sender and receiver.
 #[derive(Drop)]
 pub struct Flights {
     /// Of how many nodes the run is.
     nodes: u16,
-    /// For each sender and receiver a slot for a REQUEST and one for a REPLY. Mostly no more are under way between them, and
-    /// what is in its slot is found without hashing it.
+    /// For each sender and receiver a slot for a REQUEST and one for a REPLY. Mostly no more are under way between
+    /// them, and what is in its slot is found without hashing it.
     slots: Vec<Option<Frame>>,
     /// The clocks of the messages that found their slot taken.
     others: IndexMap<Message, u64>,
@@ -40,7 +40,8 @@ impl Model for Flights {
 }
 
 impl Flights {
-    /// Makes those of a run of this many nodes in which nothing happened. The cost is linear in the number of pairs of nodes.
+    /// Makes those of a run of this many nodes in which nothing happened. The cost is linear in the number of pairs of
+    /// nodes.
     ///
     /// # Errors
     ///
@@ -120,8 +121,8 @@ impl Flights {
             || (frame.clock == self.clock && is_one_of(self.last.as_slice(), &frame.message))
     }
 
-    /// Goes on after an event that sent these messages: the message of the frame that came by it, if one did, is under way no
-    /// longer. It does not allocate.
+    /// Goes on after an event that sent these messages: the message of the frame that came by it, if one did, is under
+    /// way no longer. It does not allocate.
     pub fn go_on(&mut self, event: &BookEvent, sends: Messages)
         ensures { FliesAfter self.old (map (λ f. f.message) (frames_in event.now.kind)) event.now.clock sends.items self.new }
     {

@@ -25,9 +25,9 @@ pub fn clocks_of(alloc: Global, nodes: &[NodeProgress]) -> Result<Vec<u64>, Memo
     Ok(clocks)
 }
 
-/// Returns a frame that is the next event of its node and was never sent, or `None` if each frame that waits as the next event of
-/// its node may still be put. The nodes had these clocks before their last events were taken. The cost is linear in the number of
-/// nodes.
+/// Returns a frame that is the next event of its node and was never sent, or `None` if each frame that waits as the
+/// next event of its node may still be put. The nodes had these clocks before their last events were taken. The cost is
+/// linear in the number of nodes.
 pub fn first_unsent(nodes: &[NodeProgress], clocks: &[u64]) -> Option<AuditFault>
     requires numbers { (count : ℕ) × (map (λ p. p.node) nodes.now ≡ range_with_len 1 count) }
     requires none_ready { NoneIsReady nodes.now }
@@ -51,8 +51,8 @@ fn clock_at(clocks: &[u64], place: usize) -> u64
     }
 }
 
-/// Returns the next event of a node if it is a frame that was never sent. The node had the clock `known` before the last events
-/// of all nodes were taken.
+/// Returns the next event of a node if it is a frame that was never sent. The node had the clock `known` before the
+/// last events of all nodes were taken.
 fn unsent_of(nodes: &[NodeProgress], progress: &NodeProgress, known: u64) -> Option<AuditFault>
     requires numbers { (count : ℕ) × (map (λ p. p.node) nodes.now ≡ range_with_len 1 count) }
     requires not_ready { IsReady nodes.now progress.now → ⊥ }
@@ -71,8 +71,8 @@ fn unsent_of(nodes: &[NodeProgress], progress: &NodeProgress, known: u64) -> Opt
     Some(AuditFault { node, event })
 }
 
-/// Returns whether a frame that came at this clock of its node may have been sent by an event that is still to be put into the
-/// run. Other events are not frames.
+/// Returns whether a frame that came at this clock of its node may have been sent by an event that is still to be put
+/// into the run. Other events are not frames.
 fn may_come(nodes: &[NodeProgress], kind: &BookKind, came: u64, known: u64) -> bool
     requires { (count : ℕ) × (map (λ p. p.node) nodes.now ≡ range_with_len 1 count) }
     ensures may { IsTrue result → MayCome nodes.now (known < came) kind.now }
@@ -89,8 +89,8 @@ fn may_come(nodes: &[NodeProgress], kind: &BookKind, came: u64, known: u64) -> b
     }
 }
 
-/// Returns whether the event of the sender that has this clock may still be put into the run. The frame came at the clock `came`
-/// of its node, and is new if that is above `known`.
+/// Returns whether the event of the sender that has this clock may still be put into the run. The frame came at the
+/// clock `came` of its node, and is new if that is above `known`.
 fn may_come_from(sender: &NodeProgress, clock: u64, came: u64, known: u64) -> bool
     ensures may { IsTrue result → MayComeFrom clock (known < came) sender.now }
     ensures none { result ≡ false → clock_of sender.now.settled < clock → HasNone clock (came ≤ known) sender.now }

@@ -16,8 +16,8 @@ use std::marker::Model;
 use std::mem;
 use std::sync::Wait;
 
-/// The events of a node, in three parts, one after the other: those that are in the run, of which only proofs know; those that
-/// can't be put into the run yet; and those that its book handed over and that were not taken yet.
+/// The events of a node, in three parts, one after the other: those that are in the run, of which only proofs know;
+/// those that can't be put into the run yet; and those that its book handed over and that were not taken yet.
 #[derive(Drop)]
 pub struct NodeProgress {
     node: NodeId,
@@ -112,7 +112,8 @@ impl NodeProgress {
         self.settled = self.settled.and(&event);
     }
 
-    /// Takes the node's next events, which come after an event with the clock `after`, or are its first ones if `after` is 0.
+    /// Takes the node's next events, which come after an event with the clock `after`, or are its first ones if `after`
+    /// is 0.
     ///
     /// # Errors
     ///
@@ -145,14 +146,16 @@ impl NodeProgress {
 }
 
 impl NodeProgress {
-    /// Has the site of the node hand over what has happened since the last time, and takes it. What it handed over before and was
-    /// not taken for lack of memory comes first. The frames that it hands over as lost are noted.
+    /// Has the site of the node hand over what has happened since the last time, and takes it. What it handed over
+    /// before and was not taken for lack of memory comes first. The frames that it hands over as lost are noted.
     ///
     /// # Errors
     ///
-    /// The first that holds. What was handed over is noted, and kept if it was not taken, and the site still has what was not:
+    /// The first that holds. What was handed over is noted, and kept if it was not taken, and the site still has what
+    /// was not:
     ///
-    /// 1. `NotNext`: of the events that are kept, a clock does not follow the one before, or a frame is for another node.
+    /// 1. `NotNext`: of the events that are kept, a clock does not follow the one before, or a frame is for another
+    ///    node.
     /// 2. `Memory`: there is no room for these, or for the frames that were noted last.
     /// 3. `OutOfTurn`: the site has handed over its last events elsewhere.
     /// 4. `Memory`: the site has none to hand them over.

@@ -8,14 +8,14 @@ use std::alloc::Global;
 use std::collections::VecDeque;
 use std::marker::Model;
 
-/// The frames that were noted as lost: those whose loss is in the run, which are counted and of which only proofs know more,
-/// and those whose loss is still to be put into it.
+/// The frames that were noted as lost: those whose loss is in the run, which are counted and of which only proofs know
+/// more, and those whose loss is still to be put into it.
 #[derive(Drop)]
 pub struct Losses {
     /// Those that are looked at in turn.
     losing: VecDeque<Frame>,
-    /// Those that were noted last and are still to be put after these. A list that was handed over is taken as it is, so that
-    /// noting it takes no memory.
+    /// Those that were noted last and are still to be put after these. A list that was handed over is taken as it is,
+    /// so that noting it takes no memory.
     noted: Vec<Frame>,
     /// How many losses are in the run.
     count: u64,

@@ -16,8 +16,9 @@ use ra_stamp::Mark;
 use ra_world::{MarklessWorld, StepError};
 use std::alloc::Global;
 
-/// Puts each event that can be put into the run, and tells the observer the marks. Each turn looks at the nodes from the
-/// one of the turn before on, so that it mostly looks at that one alone. If none from there on can go on, it looks at all.
+/// Puts each event that can be put into the run, and tells the observer the marks. Each turn looks at the nodes from
+/// the one of the turn before on, so that it mostly looks at that one alone. If none from there on can go on, it looks
+/// at all.
 ///
 /// # Errors
 ///
@@ -159,8 +160,8 @@ fn tell_all<O: MarkObserver>(observer: &mut O, marks: &[Mark])
     }
 }
 
-/// Returns the place of a node whose next event can be put, the first one from this place on, and then from the first node
-/// on. Returns `None` if there is none.
+/// Returns the place of a node whose next event can be put, the first one from this place on, and then from the first
+/// node on. Returns `None` if there is none.
 fn ready_near(nodes: &[NodeProgress], near: usize) -> Option<usize>
     requires { (count : ℕ) × (map (λ p. p.node) nodes.now ≡ range_with_len 1 count) }
     ensures { MatchOption result (NoneIsReady nodes.now) (λ place. (place < length nodes.now)

@@ -15,16 +15,16 @@ use ra_frame::Frame;
 use ra_world::{MarklessWorld, Step, StepError};
 use std::alloc::Global;
 
-/// Puts each event that can be put into the run, and tells the observer the marks. Then it puts the loss of each frame to
-/// which the run has come.
+/// Puts each event that can be put into the run, and tells the observer the marks. Then it puts the loss of each frame
+/// to which the run has come.
 ///
 /// # Errors
 ///
 /// Whichever comes first; what was put before stays.
 ///
 /// 1. `Fault`: an event that is due does not fit the run.
-/// 2. `NotLost`: all events that can be put are in the run, and it has come to a frame whose loss is still to be put, but the
-///    message is not under way, or was not sent with the frame's clock.
+/// 2. `NotLost`: all events that can be put are in the run, and it has come to a frame whose loss is still to be put,
+///    but the message is not under way, or was not sent with the frame's clock.
 /// 3. `Memory`: an event is due that fits, or all events that can be put are in the run, and some loss is still to be put.
 pub fn put_events_and_losses<O: MarkObserver>(
     alloc: Global,
@@ -63,8 +63,8 @@ pub fn put_events_and_losses<O: MarkObserver>(
 ///
 /// Whichever comes first; what was put before stays.
 ///
-/// 1. `NotLost`: the run has come to a frame, but its message is not under way, or was not sent with the frame's clock. Its loss
-///    is still to be put.
+/// 1. `NotLost`: the run has come to a frame, but its message is not under way, or was not sent with the frame's clock.
+///    Its loss is still to be put.
 /// 2. `Memory`.
 fn put_losses(
     alloc: Global,
@@ -100,7 +100,8 @@ fn put_losses(
     Ok(())
 }
 
-/// Puts the first loss into the run if the run has come to its frame, and otherwise leaves it for later, after the others.
+/// Puts the first loss into the run if the run has come to its frame, and otherwise leaves it for later, after the
+/// others.
 ///
 /// # Errors
 ///
