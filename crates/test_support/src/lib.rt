@@ -5,7 +5,6 @@ mod asserting;
 mod failures;
 mod messages;
 mod printing;
-mod reports;
 mod streams;
 mod tried;
 
@@ -13,6 +12,5 @@ pub use failures::{At, Difference, misprint, part, row};
 pub use messages::{entry, entry_of, id, message_between, q, r, reply, request, writer};
 pub use printing::printed;
 pub use ra_stamp::Memory;
-pub use reports::ONE_LOCK_LINES;
 pub use streams::{FailingReader, FailingWriter, failing_writer};
 pub use tried::{Tried, again, both};

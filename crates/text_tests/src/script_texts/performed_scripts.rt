@@ -9,7 +9,19 @@ use ra_text::OutputKind;
 use std::alloc::Global;
 use std::io;
 use std::process::Abort;
-use test_support::{At, FailingReader, FailingWriter, ONE_LOCK_LINES, row};
+use test_support::{At, FailingReader, FailingWriter, row};
+
+/// The report of a run of two nodes, in which a client of the first one locks and unlocks `r`.
+const ONE_LOCK_LINES: &str = "request 1 1 r X 1
+enter 1 1 r X 1
+leave 1 1 r X 1
+requests 1
+messages 2
+under-way 0
+lost 0
+waiting 0
+queued 0
+";
 
 /// How many bytes the lines of the run have of which the trace is [`ONE_LOCK`].
 const ONE_LOCK_LINES_LENGTH: usize = 110;

@@ -29,8 +29,14 @@ fn adds_39_steps(steps: &mut Steps, start: u64) -> bool {
     adds_entry(steps, start.saturating_add(10))
 }
 
-/// The line of the step that is refused, the number that each name begins with, and the cause.
-struct Case(&'static str, u64, StepError);
+/// A step that is refused.
+struct Case {
+    /// Its line.
+    line: &'static str,
+    /// The number that each name begins with.
+    start: u64,
+    cause: StepError,
+}
 
 /// The greatest start from which ten requests can be made.
 const TEN_LEFT: u64 = u64::MAX - 10;
@@ -49,7 +55,7 @@ fn assert_no_trace(
     steps: &Steps,
     place: u64,
 ) {
-    let (alloc, start, cause) = (rt.alloc(), case.1, case.2);
+    let (alloc, start, cause) = (rt.alloc(), case.start, case.cause);
     let refused = Some(WriteTraceError::Run(RunError::Refused { place, cause }));
     let mut writer = failing("", 0, None);
     let fault = fault_of_steps(alloc, 2, start, steps, &mut writer);
@@ -62,15 +68,18 @@ fn assert_no_trace(
 
 /// Adds the step of a case, as the first step or after 39 others, and one more step. Returns whether there was room.
 fn adds_case(steps: &mut Steps, case: &Case, place: u64) -> bool {
-    (place < 40 || adds_39_steps(steps, case.1))
-        && adds_line(steps, case.0)
+    (place < 40 || adds_39_steps(steps, case.start))
+        && adds_line(steps, case.line)
         && adds_line(steps, "ask 2 3 r X")
 }
 
 /// Asserts that the step of each case is refused at this place.
 fn assert_refused(rt: &(impl Abort + AllocGlobal), cases: &[Case], place: u64) {
     for case in cases {
-        let (at, mut steps) = (part("a run with this step", case.0), Steps::new(rt.alloc()));
+        let (at, mut steps) = (
+            part("a run with this step", case.line),
+            Steps::new(rt.alloc()),
+        );
         if !adds_case(&mut steps, case, place) {
             panic!(rt; "{at}: this is no step, or there is no memory for the list");
         }
@@ -81,12 +90,36 @@ fn assert_refused(rt: &(impl Abort + AllocGlobal), cases: &[Case], place: u64) {
 #[test]
 fn the_first_step_of_a_trace_is_refused_for_each_cause(rt: HostRuntime) {
     const CASES: &[Case] = &[
-        Case("ask 3 1 r X", 0, StepError::NoNode),
-        Case("deliver request 1 2 r X 1", 0, StepError::NotUnderWay),
-        Case("lose request 1 2 r X 1", 0, StepError::NotUnderWay),
-        Case("repeat request 1 2 r X 1", 0, StepError::NotUnderWay),
-        Case(LEAVES, 0, NOT_HELD),
-        Case("ask 1 1 r X", u64::MAX, EXHAUSTED),
+        Case {
+            line: "ask 3 1 r X",
+            start: 0,
+            cause: StepError::NoNode,
+        },
+        Case {
+            line: "deliver request 1 2 r X 1",
+            start: 0,
+            cause: StepError::NotUnderWay,
+        },
+        Case {
+            line: "lose request 1 2 r X 1",
+            start: 0,
+            cause: StepError::NotUnderWay,
+        },
+        Case {
+            line: "repeat request 1 2 r X 1",
+            start: 0,
+            cause: StepError::NotUnderWay,
+        },
+        Case {
+            line: LEAVES,
+            start: 0,
+            cause: NOT_HELD,
+        },
+        Case {
+            line: "ask 1 1 r X",
+            start: u64::MAX,
+            cause: EXHAUSTED,
+        },
     ];
     assert_refused(&rt, CASES, 1);
 }
@@ -95,14 +128,46 @@ fn the_first_step_of_a_trace_is_refused_for_each_cause(rt: HostRuntime) {
 #[test]
 fn the_fortieth_step_of_a_trace_is_refused_for_each_cause(rt: HostRuntime) {
     const CASES: &[Case] = &[
-        Case("ask 3 1 r X", 0, StepError::NoNode),
-        Case("deliver request 1 2 r X 1", 0, StepError::NotUnderWay),
-        Case("lose request 1 2 r X 1", 0, StepError::NotUnderWay),
-        Case("repeat request 1 2 r X 1", 0, StepError::NotUnderWay),
-        Case("release 1 2 r", 0, NOT_HELD),
-        Case("ask 1 1 r X", 0, BUSY),
-        Case("ask 1 1 r X", TEN_LEFT, BUSY),
-        Case("ask 1 2 r X", TEN_LEFT, EXHAUSTED),
+        Case {
+            line: "ask 3 1 r X",
+            start: 0,
+            cause: StepError::NoNode,
+        },
+        Case {
+            line: "deliver request 1 2 r X 1",
+            start: 0,
+            cause: StepError::NotUnderWay,
+        },
+        Case {
+            line: "lose request 1 2 r X 1",
+            start: 0,
+            cause: StepError::NotUnderWay,
+        },
+        Case {
+            line: "repeat request 1 2 r X 1",
+            start: 0,
+            cause: StepError::NotUnderWay,
+        },
+        Case {
+            line: "release 1 2 r",
+            start: 0,
+            cause: NOT_HELD,
+        },
+        Case {
+            line: "ask 1 1 r X",
+            start: 0,
+            cause: BUSY,
+        },
+        Case {
+            line: "ask 1 1 r X",
+            start: TEN_LEFT,
+            cause: BUSY,
+        },
+        Case {
+            line: "ask 1 2 r X",
+            start: TEN_LEFT,
+            cause: EXHAUSTED,
+        },
     ];
     assert_refused(&rt, CASES, 40);
 }

@@ -48,10 +48,26 @@ end
 #[test]
 fn repeats_have_their_lines(rt: HostRuntime) {
     const WRITTEN: &[Written] = &[
-        Written("a REQUEST that is repeated", 2, REPEATED_REQUEST),
-        Written("a late copy", 2, LATE_COPY),
-        Written("lost copies", 2, LOST_COPIES),
-        Written("a REPLY that is repeated", 2, REPEATED_REPLY),
+        Written {
+            shows: "a REQUEST that is repeated",
+            nodes: 2,
+            trace: REPEATED_REQUEST,
+        },
+        Written {
+            shows: "a late copy",
+            nodes: 2,
+            trace: LATE_COPY,
+        },
+        Written {
+            shows: "lost copies",
+            nodes: 2,
+            trace: LOST_COPIES,
+        },
+        Written {
+            shows: "a REPLY that is repeated",
+            nodes: 2,
+            trace: REPEATED_REPLY,
+        },
     ];
     assert_written(&rt, WRITTEN);
 }
@@ -104,11 +120,31 @@ end
 #[test]
 fn each_step_is_written(rt: HostRuntime) {
     const WRITTEN: &[Written] = &[
-        Written("each kind of byte in a name", 64, ALL_KINDS),
-        Written("each mode", 1, EACH_MODE),
-        Written("one lock", 2, ONE_LOCK),
-        Written("a lost REQUEST", 2, LOST_REQUEST),
-        Written("a lost REPLY", 2, LOST_REPLY),
+        Written {
+            shows: "each kind of byte in a name",
+            nodes: 64,
+            trace: ALL_KINDS,
+        },
+        Written {
+            shows: "each mode",
+            nodes: 1,
+            trace: EACH_MODE,
+        },
+        Written {
+            shows: "one lock",
+            nodes: 2,
+            trace: ONE_LOCK,
+        },
+        Written {
+            shows: "a lost REQUEST",
+            nodes: 2,
+            trace: LOST_REQUEST,
+        },
+        Written {
+            shows: "a lost REPLY",
+            nodes: 2,
+            trace: LOST_REPLY,
+        },
     ];
     assert_written(&rt, WRITTEN);
 }
@@ -150,8 +186,16 @@ end
 #[test]
 fn a_leave_and_the_next_request_are_written_under_one_release(rt: HostRuntime) {
     const WRITTEN: &[Written] = &[
-        Written("at two nodes", 2, AT_TWO_NODES),
-        Written("alone", 1, ALONE),
+        Written {
+            shows: "at two nodes",
+            nodes: 2,
+            trace: AT_TWO_NODES,
+        },
+        Written {
+            shows: "alone",
+            nodes: 1,
+            trace: ALONE,
+        },
     ];
     assert_written(&rt, WRITTEN);
 }

@@ -105,12 +105,20 @@ pub fn assert_left(rt: &impl Abort, at: At<'_>, writer: &FailingWriter<'_>, left
     assert_same(rt, at, &came, &(left, None));
 }
 
-/// What it shows, how many nodes there are, and a trace.
-pub struct Written(pub &'static str, pub u16, pub &'static str);
+/// A trace, and how many nodes there are.
+pub struct Written {
+    pub shows: &'static str,
+    pub nodes: u16,
+    pub trace: &'static str,
+}
 
 /// Asserts that of the steps that each trace tells just this trace is written.
 pub fn assert_written(rt: &(impl Abort + AllocGlobal), rows: &[Written]) {
-    for Written(label, nodes, trace) in rows {
+    for Written {
+        shows: label,
+        nodes,
+        trace,
+    } in rows {
         let mut writer = failing(trace, 1000, None);
         let fault = fault_of(rt.alloc(), *nodes, trace, &mut writer);
         assert_same(rt, row(label), &fault, &None);

@@ -10,12 +10,22 @@ use std::io;
 use std::process::Abort;
 use test_support::{At, row};
 
-/// What it shows, how many nodes there are, lines of steps, and why they are no run.
-struct Refused(&'static str, u16, &'static str, RunError);
+/// Lines of steps, and why they are no run.
+struct Refused {
+    shows: &'static str,
+    nodes: u16,
+    lines: &'static str,
+    cause: RunError,
+}
 
 /// Asserts that nothing is written of steps that are no run.
 fn assert_no_runs(rt: &(impl Abort + AllocGlobal), rows: &[Refused]) {
-    for Refused(label, nodes, lines, cause) in rows {
+    for Refused {
+        shows: label,
+        nodes,
+        lines,
+        cause,
+    } in rows {
         let mut writer = failing("", 0, None);
         let fault = fault_of(rt.alloc(), *nodes, lines, &mut writer);
         assert_same(rt, row(label), &fault, &Some(WriteTraceError::Run(*cause)));
@@ -27,9 +37,21 @@ fn assert_no_runs(rt: &(impl Abort + AllocGlobal), rows: &[Refused]) {
 #[test]
 fn runs_have_their_traces(rt: HostRuntime) {
     const WRITTEN: &[Written] = &[
-        Written("one lock", 2, ONE_LOCK),
-        Written("two locks", 3, TWO_LOCKS),
-        Written("a lost REPLY", 2, LOST_REPLY),
+        Written {
+            shows: "one lock",
+            nodes: 2,
+            trace: ONE_LOCK,
+        },
+        Written {
+            shows: "two locks",
+            nodes: 3,
+            trace: TWO_LOCKS,
+        },
+        Written {
+            shows: "a lost REPLY",
+            nodes: 2,
+            trace: LOST_REPLY,
+        },
     ];
     assert_written(&rt, WRITTEN);
     let at = row("the bytes of ONE_LOCK");
@@ -38,49 +60,59 @@ fn runs_have_their_traces(rt: HostRuntime) {
 
 /// What can't happen.
 const NO_RUNS: &[Refused] = &[
-    Refused(
-        "there is no such node",
-        2,
-        "ask 3 1 r X\n",
-        RunError::Refused {
+    Refused {
+        shows: "there is no such node",
+        nodes: 2,
+        lines: "ask 3 1 r X\n",
+        cause: RunError::Refused {
             place: 1,
             cause: StepError::NoNode,
         },
-    ),
-    Refused("65 nodes", 65, "ask 3 1 r X\n", RunError::BadCount),
-    Refused("no node", 0, "", RunError::BadCount),
-    Refused(
-        "a message is delivered twice",
-        2,
-        "ask 1 1 r X\ndeliver request 1 2 r X 1\ndeliver request 1 2 r X 1\n",
-        RunError::Refused {
+    },
+    Refused {
+        shows: "65 nodes",
+        nodes: 65,
+        lines: "ask 3 1 r X\n",
+        cause: RunError::BadCount,
+    },
+    Refused {
+        shows: "no node",
+        nodes: 0,
+        lines: "",
+        cause: RunError::BadCount,
+    },
+    Refused {
+        shows: "a message is delivered twice",
+        nodes: 2,
+        lines: "ask 1 1 r X\ndeliver request 1 2 r X 1\ndeliver request 1 2 r X 1\n",
+        cause: RunError::Refused {
             place: 3,
             cause: StepError::NotUnderWay,
         },
-    ),
-    Refused(
-        "a message is repeated when it and its copy are lost",
-        2,
-        "ask 1 1 r X
+    },
+    Refused {
+        shows: "a message is repeated when it and its copy are lost",
+        nodes: 2,
+        lines: "ask 1 1 r X
 repeat request 1 2 r X 1
 lose request 1 2 r X 1
 lose request 1 2 r X 1
 repeat request 1 2 r X 1
 ",
-        RunError::Refused {
+        cause: RunError::Refused {
             place: 5,
             cause: StepError::NotUnderWay,
         },
-    ),
-    Refused(
-        "a client asks twice",
-        2,
-        "ask 1 1 r X\nask 1 1 r X\n",
-        RunError::Refused {
+    },
+    Refused {
+        shows: "a client asks twice",
+        nodes: 2,
+        lines: "ask 1 1 r X\nask 1 1 r X\n",
+        cause: RunError::Refused {
             place: 2,
             cause: StepError::Node(NodeRefusal::Busy),
         },
-    ),
+    },
 ];
 
 #[test]
