@@ -2,6 +2,7 @@
 use Rattle.std.proofs.Common.{◌≡◌, ◌≢◌, ℕ, ◌+◌, ◌<◌, ◌≤◌, Bool, true, false, List, [], ◌∷◌, ◌++◌, length, take, refl, sym, ap, subst, ◌∙◌, append_assoc, length-append, arith, Option, Result, Ok, Err}
 use Rattle.std.proofs.Math.Seq.{take-append_seam}
 use Rattle.std.proofs.lemmas.Bool.{false≢true}
+use Rattle.std.specs.Prelude.{IsErrAnd}
 use Rattle.std.specs.Result.{is_err, is_ok}
 use Rattle.std.proofs.lemmas.List.{append-nil}
 use Rattle.std.proofs.lemmas.List.Elements.{All-nil, All-append}
@@ -12,6 +13,7 @@ use Rattle.ra_book.specs.declared.next_line.input_piece.Piece.{Piece}
 use Rattle.ra_book.specs.declared.next_line.input_piece.Piece.TheVariants.{Part, Over, End}
 use Rattle.ra_book.specs.declared.next_line.input_piece.TakenBytes.{TakenBytes}
 use Rattle.ra_text.specs.declared.error.ReadFault.{ReadFault}
+use Rattle.ra_world.specs.declared.error.ReadFault.TheVariants.{Read}
 use Rattle.ra_book.specs.Input.{HasNoFeed, IsKeptLine, IsPiece, Keeps, TakesShown, TakesPiece, TakesLine, TakesOpen}
 
 -- more bytes than there is room for
@@ -111,3 +113,9 @@ is_more old mid new line kept line' taken r goes_on zero h p =
     let piece : IsPiece h.0 false h.1 = subst (λ (b : Bool). IsPiece h.0 b h.1) goes_on h.4 in
     let none : h.0 ≡ [] = empty h.0 (h.3 ∙ zero) in
     none_first old mid new line kept line' r (subst (Consumes old mid) none h.2) (subst (Keeps line kept) (sym piece.0 ∙ none) h.5) p
+
+-- nothing is taken if the reader failed
+pub no_piece : (old new : Option (List ℕ)) (line line' : KeptLine) (fault : ReadFault) → fault ≡ Read → Consumes old new [] → (r : Result Piece ReadFault)
+    → IsErrAnd r (λ x. x ≡ fault) → TakesPiece old new line line' r
+no_piece old new line line' fault is none (Ok piece) h = absurd h
+no_piece old new line line' fault is none (Err x) h = (h ∙ is, none)

@@ -100,10 +100,7 @@ pub fn take_piece<B: BufRead>(
 ) -> Result<Piece, ReadFault>
     ensures { TakesPiece (B.remaining reader.old) (B.remaining reader.new) line.old line.new result }
 {
-    let taken = match take_shown(reader, line) {
-        Ok(taken) => taken,
-        Err(fault) => return Err(fault),
-    };
+    let taken = take_shown(reader, line)?;
     *is_drained = taken.is_all;
     if taken.is_over {
         Ok(Piece::Over)
