@@ -122,9 +122,18 @@ fn frames_left<R: AllocGlobal + Wait + Abort>(rt: &R, inbox: &Inbox) -> Option<u
 
 /// The books of three nodes, of which the first has lost a frame.
 const LOST: &[Ended] = &[
-    Ended(Some(Stop::Send), 1),
-    Ended(Some(Stop::Send), 0),
-    Ended(Some(Stop::Send), 0),
+    Ended {
+        fault: Some(Stop::Send),
+        events: 1,
+    },
+    Ended {
+        fault: Some(Stop::Send),
+        events: 0,
+    },
+    Ended {
+        fault: Some(Stop::Send),
+        events: 0,
+    },
 ];
 
 /// Asserts that the books have lost the frame for node 2, and that the one for node 3 is either left in its inbox, or is lost, too, as

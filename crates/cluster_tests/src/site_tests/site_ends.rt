@@ -10,9 +10,13 @@ use std::alloc::Global;
 use std::process::Abort;
 use test_support::{At, part, r, request};
 
-/// A book at the end: its fault, and how many events it has.
+/// A book at the end.
 #[derive(Clone, Copy)]
-pub struct Ended(pub Option<Stop>, pub u64);
+pub struct Ended {
+    pub fault: Option<Stop>,
+    /// How many events it has.
+    pub events: u64,
+}
 
 /// What is shown at the end.
 #[derive(Clone, Copy)]
@@ -58,7 +62,7 @@ fn end_of(books: &[Book], place: usize) -> Option<(Option<Stop>, u64)> {
 /// Asserts that all the books end as expected, and that there are no others.
 pub fn assert_ended(rt: &impl Abort, words: &str, books: &[Book], ended: &[Ended]) {
     for place in 0..ended.len() {
-        let Ended(fault, events) = ended[place];
+        let Ended { fault, events } = ended[place];
         let at = At(words, "the end of book", place + 1);
         assert_same(rt, at, &end_of(books, place), &Some((fault, events)));
     }

@@ -40,7 +40,16 @@ fn a_post_has_1_to_64_nodes(rt: HostRuntime) {
 }
 
 /// The books of two nodes in which nothing has happened.
-const BOTH_RUN: &[Shown] = &[Shown::Books(&[Ended(None, 0), Ended(None, 0)])];
+const BOTH_RUN: &[Shown] = &[Shown::Books(&[
+    Ended {
+        fault: None,
+        events: 0,
+    },
+    Ended {
+        fault: None,
+        events: 0,
+    },
+])];
 
 /// A client is refused since its gate is closed.
 const GATE: SiteError = SiteError::Stopped(Stop::Gate);
@@ -106,7 +115,10 @@ const ALONE: &[Row] = &[Row {
         RefusesToLock(1, 1, SiteError::Refused(BookError::Failed)),
         RefusesToUnlock(1, 1, SiteError::Refused(BookError::Failed)),
     ],
-    shown: &[Shown::Books(&[Ended(Some(Stop::Gate), 2)])],
+    shown: &[Shown::Books(&[Ended {
+        fault: Some(Stop::Gate),
+        events: 2,
+    }])],
     ..TWO_NODES
 }];
 
@@ -119,7 +131,16 @@ const NOT_TAKEN: &[Row] = &[Row {
     words: "a closed post does not take the frame",
     steps: &[ClosesPost, RefusesToLock(1, 1, SEND)],
     shown: &[
-        Shown::Books(&[Ended(Some(Stop::Send), 1), Ended(Some(Stop::Send), 0)]),
+        Shown::Books(&[
+            Ended {
+                fault: Some(Stop::Send),
+                events: 1,
+            },
+            Ended {
+                fault: Some(Stop::Send),
+                events: 0,
+            },
+        ]),
         Shown::OneLoss,
     ],
     ..TWO_NODES
@@ -132,9 +153,18 @@ fn a_frame_that_is_not_taken_is_lost_and_stops_all(rt: HostRuntime) {
 
 /// The books of three nodes, of which the first has lost a frame.
 const THREE_STOPPED: Shown = Shown::Books(&[
-    Ended(Some(Stop::Send), 1),
-    Ended(Some(Stop::Send), 0),
-    Ended(Some(Stop::Send), 0),
+    Ended {
+        fault: Some(Stop::Send),
+        events: 1,
+    },
+    Ended {
+        fault: Some(Stop::Send),
+        events: 0,
+    },
+    Ended {
+        fault: Some(Stop::Send),
+        events: 0,
+    },
 ]);
 
 /// An inbox is gone, and the one after node 1's that is left has a frame.
@@ -172,13 +202,31 @@ const STRANGE: &[Row] = &[
             ClosesPost,
             Pumps(2),
         ],
-        shown: &[Shown::Books(&[Ended(Some(Stop::Refused), 0), Ended(Some(Stop::Refused), 0)])],
+        shown: &[Shown::Books(&[
+            Ended {
+                fault: Some(Stop::Refused),
+                events: 0,
+            },
+            Ended {
+                fault: Some(Stop::Refused),
+                events: 0,
+            },
+        ])],
         ..TWO_NODES
     },
     Row {
         words: "the post stays open",
         steps: &[Sends(1, 5, 2), Pumps(2)],
-        shown: &[Shown::Books(&[Ended(Some(Stop::Refused), 0), Ended(Some(Stop::Refused), 0)])],
+        shown: &[Shown::Books(&[
+            Ended {
+                fault: Some(Stop::Refused),
+                events: 0,
+            },
+            Ended {
+                fault: Some(Stop::Refused),
+                events: 0,
+            },
+        ])],
         ..TWO_NODES
     },
     Row {
@@ -191,7 +239,16 @@ const STRANGE: &[Row] = &[
             ClosesPost,
             HasLeft(0, 1, 1),
         ],
-        shown: &[Shown::Books(&[Ended(Some(Stop::Refused), 0), Ended(Some(Stop::Refused), 1)])],
+        shown: &[Shown::Books(&[
+            Ended {
+                fault: Some(Stop::Refused),
+                events: 0,
+            },
+            Ended {
+                fault: Some(Stop::Refused),
+                events: 1,
+            },
+        ])],
         ..TWO_NODES
     },
 ];
@@ -204,7 +261,16 @@ fn a_strange_frame_stops_all_and_ends_the_pump(rt: HostRuntime) {
 const AT_THE_LAST_CLOCK: &[Row] = &[Row {
     words: "a frame at the last clock",
     steps: &[Sends(LAST_CLOCK, 1, 2), ClosesPost, Pumps(2)],
-    shown: &[Shown::Books(&[Ended(Some(Stop::Clock), 0), Ended(Some(Stop::Clock), 0)])],
+    shown: &[Shown::Books(&[
+        Ended {
+            fault: Some(Stop::Clock),
+            events: 0,
+        },
+        Ended {
+            fault: Some(Stop::Clock),
+            events: 0,
+        },
+    ])],
     ..TWO_NODES
 }];
 
@@ -222,7 +288,16 @@ const STOPPED_NODE: &[Row] = &[Row {
         // The post is open, so it ended at a frame.
         Pumps(2),
     ],
-    shown: &[Shown::Books(&[Ended(None, 0), Ended(Some(Stop::Gate), 0)])],
+    shown: &[Shown::Books(&[
+        Ended {
+            fault: None,
+            events: 0,
+        },
+        Ended {
+            fault: Some(Stop::Gate),
+            events: 0,
+        },
+    ])],
     ..TWO_NODES
 }];
 
@@ -241,7 +316,16 @@ const NOBODY_ASKS: &[Row] = &[
             ClosesPost,
             HasLeft(1, 2, 0),
         ],
-        shown: &[Shown::Books(&[Ended(Some(Stop::Gate), 0), Ended(Some(Stop::Gate), 0)])],
+        shown: &[Shown::Books(&[
+            Ended {
+                fault: Some(Stop::Gate),
+                events: 0,
+            },
+            Ended {
+                fault: Some(Stop::Gate),
+                events: 0,
+            },
+        ])],
         ..TWO_NODES
     },
     Row {
@@ -254,7 +338,16 @@ const NOBODY_ASKS: &[Row] = &[
             ClosesPost,
             HasLeft(1, 2, 0),
         ],
-        shown: &[Shown::Books(&[Ended(Some(Stop::Send), 0), Ended(Some(Stop::Gate), 0)])],
+        shown: &[Shown::Books(&[
+            Ended {
+                fault: Some(Stop::Send),
+                events: 0,
+            },
+            Ended {
+                fault: Some(Stop::Gate),
+                events: 0,
+            },
+        ])],
         ..TWO_NODES
     },
 ];
@@ -269,7 +362,13 @@ const NOBODY_LEAVES: &[Row] = &[Row {
     nodes: 1,
     most: 1,
     steps: &[Locks(1), RefusesToUnlock(1, 1, GATE), HasStepped(2)],
-    shown: &[Shown::Books(&[Ended(Some(Stop::Gate), 1)]), Shown::Held],
+    shown: &[
+        Shown::Books(&[Ended {
+            fault: Some(Stop::Gate),
+            events: 1,
+        }]),
+        Shown::Held,
+    ],
     ..TWO_NODES
 }];
 
@@ -289,7 +388,16 @@ const NO_FRAME: &[Row] = &[
             Pumps(2),
             HasStepped(1),
         ],
-        shown: &[Shown::Books(&[Ended(Some(Stop::Gate), 0), Ended(Some(Stop::Gate), 0)])],
+        shown: &[Shown::Books(&[
+            Ended {
+                fault: Some(Stop::Gate),
+                events: 0,
+            },
+            Ended {
+                fault: Some(Stop::Gate),
+                events: 0,
+            },
+        ])],
         ..TWO_NODES
     },
     Row {
@@ -304,7 +412,16 @@ const NO_FRAME: &[Row] = &[
             ClosesPost,
             HasLeft(0, 1, 1),
         ],
-        shown: &[Shown::Books(&[Ended(Some(Stop::Gate), 0), Ended(Some(Stop::Gate), 1)])],
+        shown: &[Shown::Books(&[
+            Ended {
+                fault: Some(Stop::Gate),
+                events: 0,
+            },
+            Ended {
+                fault: Some(Stop::Gate),
+                events: 1,
+            },
+        ])],
         ..TWO_NODES
     },
 ];

@@ -93,7 +93,16 @@ const LEAVES: &[Row] = &[Row {
         Shown::Sent(0, false),
         Shown::Sent(1, true),
         // Two asks, a REPLY and a leave; and a REQUEST.
-        Shown::Books(&[Ended(Some(Stop::Send), 4), Ended(Some(Stop::Send), 1)]),
+        Shown::Books(&[
+            Ended {
+                fault: Some(Stop::Send),
+                events: 4,
+            },
+            Ended {
+                fault: Some(Stop::Send),
+                events: 1,
+            },
+        ]),
     ],
     ..TWO_NODES
 }];
@@ -148,7 +157,10 @@ const NO_NUMBER_LEFT: &[Row] = &[Row {
     shown: &[
         Shown::Refused(SiteError::Stopped(Stop::Refused)),
         // The asks of three clients, and the leaves of two.
-        Shown::Books(&[Ended(Some(Stop::Refused), 5)]),
+        Shown::Books(&[Ended {
+            fault: Some(Stop::Refused),
+            events: 5,
+        }]),
         Shown::OneQueued,
     ],
     ..ONE_NODE

@@ -100,36 +100,45 @@ impl Gate for Meets {
     }
 }
 
-/// What it shows, how two clients meet, how many nodes there are, the clients, how many messages are sent, and the steps of node 1 and
-/// of node 2.
-struct Met(
-    &'static str,
-    Meeting,
-    u16,
-    &'static [Client],
-    u128,
-    u64,
-    u64,
-);
+/// How two clients meet.
+struct Met {
+    shows: &'static str,
+    meeting: Meeting,
+    nodes: u16,
+    clients: &'static [Client],
+    /// How many messages are sent.
+    sent: u128,
+    /// How many steps node 1 makes, and node 2.
+    one: u64,
+    two: u64,
+}
 
 /// Ends the test unless two clients meet, and come to their end.
 fn assert_meet<R: AllocGlobal + Threads + Wait + Abort + Sync>(rt: &R, met: &Met) {
-    let Met(label, meeting, nodes, clients, sent, one, two) = met;
+    let Met {
+        shows: label,
+        meeting,
+        nodes,
+        clients,
+        sent,
+        one,
+        two,
+    } = met;
     let (gate, end) = (Meets::new(*meeting), End::Done(2, *sent));
     assert_ends(rt, row(label), *nodes, clients, &gate, end);
     gate.assert_seen(rt, label, *one, *two);
 }
 
 /// Readers of two nodes.
-const READERS: &Met = &Met(
-    "readers of two nodes are inside together",
-    Meeting::Inside,
-    2,
-    &[Client(1, READS_R), Client(2, READS_R)],
-    4,
-    4,
-    4,
-);
+const READERS: &Met = &Met {
+    shows: "readers of two nodes are inside together",
+    meeting: Meeting::Inside,
+    nodes: 2,
+    clients: &[Client(1, READS_R), Client(2, READS_R)],
+    sent: 4,
+    one: 4,
+    two: 4,
+};
 
 #[test]
 fn readers_of_two_nodes_are_inside_together(rt: HostRuntime) {
@@ -137,15 +146,15 @@ fn readers_of_two_nodes_are_inside_together(rt: HostRuntime) {
 }
 
 /// Writers of two names at two nodes.
-const STEPPING: &Met = &Met(
-    "two nodes step at once",
-    Meeting::Steps,
-    2,
-    &[Client(1, USES_A), Client(2, USES_B)],
-    4,
-    4,
-    4,
-);
+const STEPPING: &Met = &Met {
+    shows: "two nodes step at once",
+    meeting: Meeting::Steps,
+    nodes: 2,
+    clients: &[Client(1, USES_A), Client(2, USES_B)],
+    sent: 4,
+    one: 4,
+    two: 4,
+};
 
 #[test]
 fn two_nodes_step_at_once(rt: HostRuntime) {
@@ -153,15 +162,15 @@ fn two_nodes_step_at_once(rt: HostRuntime) {
 }
 
 /// Writers of two names at a single node.
-const BESIDE: &Met = &Met(
-    "two clients of one node are inside together",
-    Meeting::Both,
-    1,
-    &[Client(1, USES_A), Client(1, USES_B)],
-    0,
-    4,
-    0,
-);
+const BESIDE: &Met = &Met {
+    shows: "two clients of one node are inside together",
+    meeting: Meeting::Both,
+    nodes: 1,
+    clients: &[Client(1, USES_A), Client(1, USES_B)],
+    sent: 0,
+    one: 4,
+    two: 0,
+};
 
 /// While a client is inside, others of its node ask and are let in.
 #[test]
@@ -214,9 +223,16 @@ fn a_node_steps_under_its_lock(rt: HostRuntime) {
     assert_ends(&rt, at, 2, FOUR_WRITERS, &gate, End::Done(4, 8));
 }
 
-/// What it shows, how many nodes two writers have, how many of their steps a gate lets pass, whether it lets everybody be inside or
-/// nobody, and how the script ends.
-struct Stopped(&'static str, u16, u64, bool, End);
+/// A gate of two writers.
+struct Stopped {
+    shows: &'static str,
+    nodes: u16,
+    /// How many steps it lets pass.
+    steps: u64,
+    /// Whether it lets everybody be inside, or nobody.
+    lets_in: bool,
+    end: End,
+}
 
 /// The gate stops the script.
 const STOPS: End = End::Fails(ClusterError::Fault(Stop::Gate));
@@ -224,25 +240,67 @@ const STOPS: End = End::Fails(ClusterError::Fault(Stop::Gate));
 /// Gates that stop two writers, and one that does not: with three nodes the run takes 12 steps, two asks, two leaves and eight frames
 /// that come.
 const STOPPED: &[Stopped] = &[
-    Stopped(
-        "nobody is inside, of three nodes",
-        3,
-        u64::MAX,
-        false,
-        STOPS,
-    ),
-    Stopped("no step passes", 3, 0, true, STOPS),
-    Stopped("one step passes", 3, 1, true, STOPS),
-    Stopped("five steps pass", 3, 5, true, STOPS),
-    Stopped("eleven steps pass", 3, 11, true, STOPS),
-    Stopped("nobody is inside, of two nodes", 2, u64::MAX, false, STOPS),
-    Stopped("twelve steps pass", 3, 12, true, End::Done(2, 8)),
+    Stopped {
+        shows: "nobody is inside, of three nodes",
+        nodes: 3,
+        steps: u64::MAX,
+        lets_in: false,
+        end: STOPS,
+    },
+    Stopped {
+        shows: "no step passes",
+        nodes: 3,
+        steps: 0,
+        lets_in: true,
+        end: STOPS,
+    },
+    Stopped {
+        shows: "one step passes",
+        nodes: 3,
+        steps: 1,
+        lets_in: true,
+        end: STOPS,
+    },
+    Stopped {
+        shows: "five steps pass",
+        nodes: 3,
+        steps: 5,
+        lets_in: true,
+        end: STOPS,
+    },
+    Stopped {
+        shows: "eleven steps pass",
+        nodes: 3,
+        steps: 11,
+        lets_in: true,
+        end: STOPS,
+    },
+    Stopped {
+        shows: "nobody is inside, of two nodes",
+        nodes: 2,
+        steps: u64::MAX,
+        lets_in: false,
+        end: STOPS,
+    },
+    Stopped {
+        shows: "twelve steps pass",
+        nodes: 3,
+        steps: 12,
+        lets_in: true,
+        end: End::Done(2, 8),
+    },
 ];
 
 #[test]
 fn a_gate_stops_the_cluster(rt: HostRuntime) {
     for place in 0..STOPPED.len() {
-        let Stopped(label, nodes, steps, inside, end) = STOPPED[place];
+        let Stopped {
+            shows: label,
+            nodes,
+            steps,
+            lets_in: inside,
+            end,
+        } = STOPPED[place];
         let gate = Counting::new(steps, inside);
         assert_ends(&rt, row(label), nodes, TWO_WRITERS, &gate, end);
     }

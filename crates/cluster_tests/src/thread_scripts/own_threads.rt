@@ -15,9 +15,14 @@ use std::sync::{Mutex, Wait};
 use std::thread::Threads;
 use test_support::{At, part};
 
-/// The grant of `r` that is kept of a request: its node, client, mode and number.
+/// The grant of `r` that is kept of a request.
 #[derive(Clone, Copy)]
-pub struct Granted(u16, u32, Mode, u64);
+pub struct Granted {
+    node: u16,
+    client: u32,
+    mode: Mode,
+    seq: u64,
+}
 
 /// Has threads do a script in this cluster, and returns the grants that are kept.
 pub fn run_in<R: Threads + Wait + Sync>(
@@ -39,7 +44,12 @@ pub fn run_in<R: Threads + Wait + Sync>(
 /// Asserts that the grants are these.
 fn assert_granted(rt: &impl Abort, words: &str, came: &[Grant], all: &[Granted]) {
     for place in 0..all.len() {
-        let Granted(node, client, mode, seq) = all[place];
+        let Granted {
+            node,
+            client,
+            mode,
+            seq,
+        } = all[place];
         let entry = entry(rt, node, client, mode, seq);
         let at = At(words, "grant", place + 1);
         assert_same(rt, at, &came.get(place).copied(), &Some(Grant { entry }));
@@ -109,11 +119,30 @@ const KEPT: &Row = &Row {
         &[Locks(b'r'), Unlocks(b'r'), Shares(b'r'), Unlocks(b'r')],
     ),
     granted: &[
-        Granted(1, 1, Mode::Exclusive, 1),
-        Granted(1, 1, Mode::Shared, 2),
+        Granted {
+            node: 1,
+            client: 1,
+            mode: Mode::Exclusive,
+            seq: 1,
+        },
+        Granted {
+            node: 1,
+            client: 1,
+            mode: Mode::Shared,
+            seq: 2,
+        },
     ],
     // Node 1 asks, gets a REPLY and leaves, twice, and node 2 gets two REQUESTs.
-    ended: &[Ended(None, 6), Ended(None, 2)],
+    ended: &[
+        Ended {
+            fault: None,
+            events: 6,
+        },
+        Ended {
+            fault: None,
+            events: 2,
+        },
+    ],
 };
 
 #[test]
@@ -127,7 +156,16 @@ const STOPPED_NODE: &Row = &Row {
     stopped: Some((2, Stop::Clock)),
     client: Client(2, USES_R),
     granted: &[],
-    ended: &[Ended(None, 0), Ended(Some(Stop::Clock), 0)],
+    ended: &[
+        Ended {
+            fault: None,
+            events: 0,
+        },
+        Ended {
+            fault: Some(Stop::Clock),
+            events: 0,
+        },
+    ],
 };
 
 #[test]
@@ -142,8 +180,14 @@ const REFUSED: &Row = &Row {
     client: Client(1, USES_R),
     granted: &[],
     ended: &[
-        Ended(Some(Stop::Exhausted), 0),
-        Ended(Some(Stop::Exhausted), 0),
+        Ended {
+            fault: Some(Stop::Exhausted),
+            events: 0,
+        },
+        Ended {
+            fault: Some(Stop::Exhausted),
+            events: 0,
+        },
     ],
 };
 

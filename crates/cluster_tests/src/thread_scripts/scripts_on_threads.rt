@@ -11,12 +11,24 @@ use std::sync::atomic::Ordering;
 use std::thread::Threads;
 use test_support::{assert_prints, assert_words, row};
 
-/// What the only client does, also in a few words, how the script ends, and how often the node steps.
-struct Alone(&'static str, &'static [Does], End, u64);
+/// A script with one client.
+struct Alone {
+    shows: &'static str,
+    /// What the client does.
+    ops: &'static [Does],
+    end: End,
+    /// How often its node steps.
+    steps: u64,
+}
 
 /// Asserts that the scripts of all rows end so.
 fn assert_alone<R: AllocGlobal + Threads + Wait + Abort + Sync>(rt: &R, rows: &[Alone]) {
-    for Alone(words, ops, end, steps) in rows {
+    for Alone {
+        shows: words,
+        ops,
+        end,
+        steps,
+    } in rows {
         let gate = Counting::open();
         let at = row(words);
         assert_ends(rt, at, 1, &[Client(1, ops)], &gate, *end);
@@ -35,20 +47,30 @@ const ONE_OF_TWO: &[Does] = &[Locks(b'a'), Locks(b'b'), Unlocks(b'b')];
 
 /// Scripts that are refused before any step.
 const REFUSED: &[Alone] = &[
-    Alone("falling", FALLING, End::Fails(ClusterError::OutOfOrder), 0),
-    Alone(
-        "falling later",
-        FALLING_LATER,
-        End::Fails(ClusterError::OutOfOrder),
-        0,
-    ),
-    Alone("kept", LOCKS_R, End::Fails(ClusterError::Unreleased), 0),
-    Alone(
-        "one of two is kept",
-        ONE_OF_TWO,
-        End::Fails(ClusterError::Unreleased),
-        0,
-    ),
+    Alone {
+        shows: "falling",
+        ops: FALLING,
+        end: End::Fails(ClusterError::OutOfOrder),
+        steps: 0,
+    },
+    Alone {
+        shows: "falling later",
+        ops: FALLING_LATER,
+        end: End::Fails(ClusterError::OutOfOrder),
+        steps: 0,
+    },
+    Alone {
+        shows: "kept",
+        ops: LOCKS_R,
+        end: End::Fails(ClusterError::Unreleased),
+        steps: 0,
+    },
+    Alone {
+        shows: "one of two is kept",
+        ops: ONE_OF_TWO,
+        end: End::Fails(ClusterError::Unreleased),
+        steps: 0,
+    },
 ];
 
 #[test]
@@ -71,8 +93,18 @@ const OVERLAPPING: &[Does] = &[
 
 /// The node steps once for each operation.
 const IN_ORDER: &[Alone] = &[
-    Alone("one by one", ONE_BY_ONE, End::Done(2, 0), 4),
-    Alone("overlapping", OVERLAPPING, End::Done(3, 0), 6),
+    Alone {
+        shows: "one by one",
+        ops: ONE_BY_ONE,
+        end: End::Done(2, 0),
+        steps: 4,
+    },
+    Alone {
+        shows: "overlapping",
+        ops: OVERLAPPING,
+        end: End::Done(3, 0),
+        steps: 6,
+    },
 ];
 
 #[test]

@@ -15,19 +15,46 @@ use test_support::{At, assert_prints, r, row};
 /// What a client meets that locks and unlocks a name: whether it is let in and, if it is, whether it gives the name back.
 type Met = Result<Result<(), SiteError>, CallError>;
 
-/// How many steps the gate of two nodes lets pass, what a client of node 1 meets then, and how many events each node has.
-pub struct Passed(u64, Met, (u64, u64));
+/// A gate of two nodes.
+pub struct Passed {
+    /// How many steps it lets pass.
+    steps: u64,
+    /// What a client of node 1 meets then.
+    met: Met,
+    /// How many events each node has.
+    events: (u64, u64),
+}
 
 /// A client that the gate did not let in.
 const NOT_LET_IN: Met = Err(CallError::Site(SiteError::Stopped(Stop::Gate)));
 
 /// The steps are the ask, the REQUEST that comes to node 2, the REPLY that comes to node 1, and the leave.
 const PASSED: &[Passed] = &[
-    Passed(0, NOT_LET_IN, (0, 0)),
-    Passed(1, NOT_LET_IN, (1, 0)),
-    Passed(2, NOT_LET_IN, (1, 1)),
-    Passed(3, Ok(Err(SiteError::Stopped(Stop::Gate))), (2, 1)),
-    Passed(4, Ok(Ok(())), (3, 1)),
+    Passed {
+        steps: 0,
+        met: NOT_LET_IN,
+        events: (0, 0),
+    },
+    Passed {
+        steps: 1,
+        met: NOT_LET_IN,
+        events: (1, 0),
+    },
+    Passed {
+        steps: 2,
+        met: NOT_LET_IN,
+        events: (1, 1),
+    },
+    Passed {
+        steps: 3,
+        met: Ok(Err(SiteError::Stopped(Stop::Gate))),
+        events: (2, 1),
+    },
+    Passed {
+        steps: 4,
+        met: Ok(Ok(())),
+        events: (3, 1),
+    },
 ];
 
 /// Has client 1 of node 1 lock the name and unlock it.
@@ -60,7 +87,11 @@ fn events_of(books: &[Book]) -> Option<(u64, u64)> {
 /// Asserts that a client of two nodes meets what a row says, that the nodes have as many events, and that the gate was asked about each step,
 /// and about the one that it refuses, too.
 pub fn pass<R: AllocGlobal + Threads + Wait + Abort + Sync>(rt: &R, row: &Passed) {
-    let Passed(steps, met, due) = *row;
+    let Passed {
+        steps,
+        met,
+        events: due,
+    } = *row;
     let at = At("the gate of a cluster", "steps that pass:", steps as usize);
     let gate = Counting::new(steps, true);
     let clusters = clusters_of(rt.alloc(), 2, 0, &gate);
