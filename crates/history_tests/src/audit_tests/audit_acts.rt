@@ -28,9 +28,13 @@ use test_support::{At, Tried, assert_memory, both, row as row_at};
 /// The answer of a call that found no memory and did nothing.
 const WANTING: SiteError = SiteError::Refused(BookError::Memory);
 
-/// A frame: its clock, and a line of a trace that delivers its message.
+/// A frame.
 #[derive(Clone, Copy)]
-pub struct Sends(pub u64, pub &'static str);
+pub struct Sends {
+    pub clock: u64,
+    /// A line of a trace that delivers its message.
+    pub message: &'static str,
+}
 
 /// What a round answers, or the end of an audit.
 #[derive(Clone, Copy)]
@@ -117,10 +121,16 @@ pub const TWO_NODES: Made = Made {
 };
 
 /// The book of a node from which a round took all events, and which is stopped since a frame was lost.
-pub const LOST: Ended = Ended(Some(Stop::Send), 0);
+pub const LOST: Ended = Ended {
+    fault: Some(Stop::Send),
+    events: 0,
+};
 
 /// The book of a node from which a round took all events, and which was not stopped before it was closed.
-pub const TAKEN: Ended = Ended(Some(Stop::Refused), 0);
+pub const TAKEN: Ended = Ended {
+    fault: Some(Stop::Refused),
+    events: 0,
+};
 
 /// What is done with a cluster and its auditor, in a few words, and how its books end.
 pub struct Row {
@@ -183,7 +193,10 @@ fn last_round<R: Wait>(
 
 /// Returns the frame.
 fn frame_of(rt: &impl Abort, sends: Sends) -> Frame {
-    let Sends(clock, line) = sends;
+    let Sends {
+        clock,
+        message: line,
+    } = sends;
     match message_of(line) {
         Some(message) => Frame { clock, message },
         None => panic!(rt; "{line:?} delivers no message"),
@@ -363,7 +376,13 @@ fn hands_over<R: AllocGlobal + Wait + Abort>(
 
 /// Asserts that the auditor has this run.
 fn assert_run(rt: &impl Abort, at: At<'_>, auditor: &Auditor, shown: Shown) {
-    let Shown(steps, requests, sent, under_way, _marks) = shown;
+    let Shown {
+        steps,
+        requests,
+        sent,
+        under_way,
+        ..
+    } = shown;
     let run = (auditor.steps(), auditor.requests(), auditor.sent());
     assert_same(rt, at, &run, &(steps, requests, sent));
     assert_same(rt, at, &auditor.under_way(), &under_way);

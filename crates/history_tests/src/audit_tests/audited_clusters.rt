@@ -35,16 +35,20 @@ pub fn clusters_of(alloc: Global, nodes: u16, is_audited: bool) -> Vec<Cluster<O
     all
 }
 
-/// How the book of a node ends: its fault, and how many events it has.
+/// How the book of a node ends.
 #[derive(Clone, Copy)]
-pub struct Ended(pub Option<Stop>, pub u64);
+pub struct Ended {
+    pub fault: Option<Stop>,
+    /// How many events it has.
+    pub events: u64,
+}
 
 /// Asserts that there are as many books, and that each ends so.
 pub fn assert_ended(rt: &impl Abort, words: &str, books: &[Book], ended: &[Ended]) {
     let at = part(words, "how many books");
     assert_same(rt, at, &books.len(), &ended.len());
     for place in 0..ended.len() {
-        let (at, Ended(fault, events)) = (At(words, "the end of book", place + 1), ended[place]);
+        let (at, Ended { fault, events }) = (At(words, "the end of book", place + 1), ended[place]);
         match books.get(place) {
             Some(book) => assert_same(
                 rt,

@@ -1,10 +1,6 @@
 //! An auditor, which takes what has happened at books and puts it into one run, round after round. A trace cannot tell in which parts it
 //! takes the events, nor which of them do not fit.
-use crate::growth_in_histories::growth_of_settling::ONE_LOCK;
-use crate::kept_books::book_steps::Call::{Ask, Receive};
-use crate::kept_books::book_steps::Step::Takes;
-use crate::kept_books::book_steps::{ASK, ASKS, Wire, frame};
-use crate::kept_books::histories::Done::AtNode;
+use crate::kept_books::book_steps::{Wire, frame};
 use crate::kept_books::histories::{Done, ONE, TWO, books_after};
 use crate::kept_books::history_asserting::{assert_same, fail_at};
 use crate::kept_books::history_values::{entry, node};
@@ -17,17 +13,39 @@ use std::alloc::Global;
 use std::process::Abort;
 use test_support::{At, Tried, both};
 
-/// Events of a node's book: those from the one place on, up to the other, and the clock of the event before them.
+/// Events of a node's book.
 #[derive(Clone, Copy)]
-pub struct Part(pub u16, pub usize, pub usize, pub u64);
+pub struct Part {
+    pub node: u16,
+    /// From this place on, up to the other one.
+    pub first: usize,
+    pub until: usize,
+    /// The clock of the event before them.
+    pub after: u64,
+}
 
-/// The event that a message came to this node at this clock, in a frame with the other clock.
+/// The event that a message came to a node.
 #[derive(Clone, Copy)]
-pub struct Came(pub u16, pub u64, pub u64, pub Wire);
+pub struct Came {
+    pub node: u16,
+    /// The clock of the event.
+    pub clock: u64,
+    /// The clock of the frame.
+    pub sent_at: u64,
+    pub message: Wire,
+}
 
-/// How many steps, requests and sent messages the run has, how many messages are under way, and how many marks were told.
+/// How much the run has of each.
 #[derive(Clone, Copy)]
-pub struct Shown(pub u64, pub u128, pub u128, pub u64, pub usize);
+pub struct Shown {
+    pub steps: u64,
+    pub requests: u128,
+    /// The messages that were sent, and those that are under way.
+    pub sent: u128,
+    pub under_way: u64,
+    /// How many marks were told.
+    pub marks: usize,
+}
 
 /// What an auditor does or shows. A call that finds no memory has to leave all as it was, and is made again.
 #[derive(Clone, Copy)]
@@ -128,7 +146,12 @@ fn gets_part(
     books: &[Book],
     part: Part,
 ) -> Tried {
-    let Part(number, first, until, after) = part;
+    let Part {
+        node: number,
+        first,
+        until,
+        after,
+    } = part;
     let Some(book) = books.get(usize::from(number).wrapping_sub(1)) else {
         fail_at(rt, at, "there is no such book");
     };
@@ -172,7 +195,12 @@ fn advances(
 
 /// Returns the event with its node.
 pub fn fault_of(rt: &impl Abort, came: Came) -> AuditFault {
-    let Came(number, clock, sent, wire) = came;
+    let Came {
+        node: number,
+        clock,
+        sent_at: sent,
+        message: wire,
+    } = came;
     let kind = BookKind::Got(frame(sent, wire));
     AuditFault {
         node: node(rt, number),
@@ -223,7 +251,13 @@ pub fn loses(rt: &impl Abort, at: At<'_>, auditor: &mut Auditor, frame: &Frame) 
 
 /// Asserts that an auditor and its observer show this.
 fn assert_shown(rt: &impl Abort, at: At<'_>, auditor: &Auditor, observer: &Compares, shown: Shown) {
-    let Shown(steps, requests, sent, under_way, marks) = shown;
+    let Shown {
+        steps,
+        requests,
+        sent,
+        under_way,
+        marks,
+    } = shown;
     let due = ((steps, requests, sent), (under_way, marks, true));
     assert_same(rt, at, &figures(auditor, observer), &due);
 }
@@ -309,141 +343,26 @@ pub fn audited(
     }
 }
 
-/// What is done, in a few words; what that does to the books of two nodes; and what an auditor does and shows then.
-pub struct Row(pub &'static str, pub &'static [Done], pub &'static [Act]);
+/// What an auditor makes of the books of two nodes.
+pub struct Row {
+    pub shows: &'static str,
+    /// What is done to the books.
+    pub done: &'static [Done],
+    /// What the auditor does and shows then.
+    pub acts: &'static [Act],
+}
 
 /// Does all of each row, and asserts that an auditor does and shows all of it.
 pub fn assert_audited<R: Abort + AllocGlobal>(rt: &R, rows: &[Row]) {
     for row in rows {
-        let Row(words, done, acts) = *row;
+        let Row {
+            shows: words,
+            done,
+            acts,
+        } = *row;
         let books = books_after(rt, rt.alloc(), words, &[ONE, TWO], done);
         let tried = audited(rt, rt.alloc(), words, &books, acts);
         let at = At(words, "after act", acts.len());
         assert_same(rt, at, &tried, &Some(Tried::NoFailure));
     }
-}
-
-/// The lock of [`ONE_LOCK`], event by event: the ask of node 1, the REQUEST that comes to node 2, the REPLY that comes
-/// back, and the leave.
-pub const EVENT_BY_EVENT: &[Act] = &[
-    Gets(Part(1, 0, 1, 0)),
-    Advances,
-    Has(Shown(1, 1, 1, 1, 1)),
-    Gets(Part(2, 0, 1, 0)),
-    Advances,
-    Has(Shown(2, 1, 2, 1, 1)),
-    Gets(Part(1, 1, 2, 1)),
-    Advances,
-    Has(Shown(3, 1, 2, 0, 2)),
-    Gets(Part(1, 2, 3, 3)),
-    Advances,
-    Has(Shown(4, 1, 2, 0, 3)),
-    Leaves(None),
-];
-
-/// The REQUEST of [`ASKS`], which comes to node 2 first.
-const FIRST: Came = Came(2, 2, 1, Wire::Asks);
-
-/// The REQUEST of the lock comes to the auditor before the event that sent it.
-const WAITS: &[Act] = &[
-    Gets(Part(2, 0, 1, 0)),
-    Advances,
-    Has(Shown(0, 0, 0, 0, 0)),
-    Leaves(Some(FIRST)),
-    Gets(Part(1, 0, 3, 0)),
-    AdvancesInParts,
-    Has(Shown(4, 1, 2, 0, 3)),
-];
-
-/// Client 1 asks for `r` in shared mode at node 1, but node 2 gets the REQUEST of an exclusive one.
-const NEVER_SENT: &[Done] = &[
-    AtNode(1, Takes(Ask(1, Mode::Shared))),
-    AtNode(2, Takes(Receive(&ASKS))),
-];
-
-/// The frame is found in the round in which the sender's events come, and in each later one.
-const FOUND: &[Act] = &[
-    Gets(Part(2, 0, 1, 0)),
-    Advances,
-    Leaves(Some(FIRST)),
-    Gets(Part(1, 0, 1, 0)),
-    Finds(FIRST),
-    Finds(FIRST),
-];
-
-/// The same frame, which comes again.
-const SECOND: Came = Came(2, 3, 1, Wire::Asks);
-
-/// The same frame comes to node 2 twice.
-const CAME_TWICE: &[Done] = &[
-    AtNode(1, Takes(ASK)),
-    AtNode(2, Takes(Receive(&ASKS))),
-    AtNode(2, Takes(Receive(&ASKS))),
-];
-
-/// The second frame is found in the round in which it comes, and in each later one.
-const FOUND_TWICE: &[Act] = &[
-    Gets(Part(1, 0, 1, 0)),
-    Gets(Part(2, 0, 1, 0)),
-    AdvancesInParts,
-    Has(Shown(2, 1, 2, 1, 1)),
-    Gets(Part(2, 1, 2, 2)),
-    Finds(SECOND),
-    Finds(SECOND),
-    Has(Shown(2, 1, 2, 1, 1)),
-];
-
-/// The REQUEST of the lock is lost before the auditor has the event that sent it, and is noted again.
-pub const LOST: &[Act] = &[
-    Loses(1, Wire::Asks),
-    Advances,
-    HasLosses(0, 1),
-    Has(Shown(0, 0, 0, 0, 0)),
-    Gets(Part(1, 0, 1, 0)),
-    AdvancesInParts,
-    HasLosses(1, 0),
-    Has(Shown(2, 1, 1, 0, 1)),
-    Loses(1, Wire::Asks),
-    FindsNotLost(1, Wire::Asks),
-    FindsNotLost(1, Wire::Asks),
-    HasLosses(1, 1),
-    Has(Shown(2, 1, 1, 0, 1)),
-];
-
-/// The REQUEST of the lock came, and is noted as lost.
-const CAME: &[Act] = &[
-    Gets(Part(1, 0, 1, 0)),
-    Gets(Part(2, 0, 1, 0)),
-    Loses(1, Wire::Asks),
-    FindsNotLost(1, Wire::Asks),
-    HasLosses(0, 1),
-    Has(Shown(2, 1, 2, 1, 1)),
-];
-
-/// The REQUEST of the lock comes after its loss is in the run.
-const COMES: &[Act] = &[
-    Loses(1, Wire::Asks),
-    Gets(Part(1, 0, 1, 0)),
-    AdvancesInParts,
-    HasLosses(1, 0),
-    Gets(Part(2, 0, 1, 0)),
-    Finds(FIRST),
-    HasLosses(1, 0),
-    Has(Shown(2, 1, 1, 0, 1)),
-];
-
-/// What auditors find.
-const AUDITS: &[Row] = &[
-    Row("a lock event by event", ONE_LOCK, EVENT_BY_EVENT),
-    Row("a frame waits for its sender", ONE_LOCK, WAITS),
-    Row("a frame was never sent", NEVER_SENT, FOUND),
-    Row("a frame came twice", CAME_TWICE, FOUND_TWICE),
-    Row("a frame was lost", ONE_LOCK, LOST),
-    Row("a frame came before its loss", ONE_LOCK, CAME),
-    Row("a frame came after its loss", ONE_LOCK, COMES),
-];
-
-#[test]
-fn audits_put_what_happened_into_one_run_and_find_what_does_not_fit(rt: HostRuntime) {
-    assert_audited(&rt, AUDITS);
 }

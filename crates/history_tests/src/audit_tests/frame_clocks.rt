@@ -29,26 +29,74 @@ const CAME_LATE: &[Done] = &[
 ];
 
 /// It comes to node 2 at clock 3.
-const LATE: Came = Came(2, 3, 2, Wire::Asks);
+const LATE: Came = Came {
+    node: 2,
+    clock: 3,
+    sent_at: 2,
+    message: Wire::Asks,
+};
 
 /// It is found in the round in which it comes, and in each later one.
 const FOUND_LATE: &[Act] = &[
-    Gets(Part(1, 0, 2, 0)),
-    Gets(Part(2, 0, 1, 0)),
+    Gets(Part {
+        node: 1,
+        first: 0,
+        until: 2,
+        after: 0,
+    }),
+    Gets(Part {
+        node: 2,
+        first: 0,
+        until: 1,
+        after: 0,
+    }),
     Finds(LATE),
     Finds(LATE),
-    Has(Shown(2, 1, 1, 1, 1)),
+    Has(Shown {
+        steps: 2,
+        requests: 1,
+        sent: 1,
+        under_way: 1,
+        marks: 1,
+    }),
 ];
 
 /// It is found only once the event is in the run that has its clock.
 const WAITS_LATE: &[Act] = &[
-    Gets(Part(1, 0, 1, 0)),
-    Gets(Part(2, 0, 1, 0)),
+    Gets(Part {
+        node: 1,
+        first: 0,
+        until: 1,
+        after: 0,
+    }),
+    Gets(Part {
+        node: 2,
+        first: 0,
+        until: 1,
+        after: 0,
+    }),
     Advances,
-    Has(Shown(1, 1, 1, 1, 1)),
-    Gets(Part(1, 1, 2, 1)),
+    Has(Shown {
+        steps: 1,
+        requests: 1,
+        sent: 1,
+        under_way: 1,
+        marks: 1,
+    }),
+    Gets(Part {
+        node: 1,
+        first: 1,
+        until: 2,
+        after: 1,
+    }),
     Finds(LATE),
-    Has(Shown(2, 1, 1, 1, 1)),
+    Has(Shown {
+        steps: 2,
+        requests: 1,
+        sent: 1,
+        under_way: 1,
+        marks: 1,
+    }),
 ];
 
 /// The REPLY that node 2 sends at clock 2 comes with clock 1.
@@ -59,15 +107,36 @@ const CAME_EARLY: &[Done] = &[
 ];
 
 /// It comes to node 1 at clock 2.
-const EARLY: Came = Came(1, 2, 1, Wire::Replies);
+const EARLY: Came = Came {
+    node: 1,
+    clock: 2,
+    sent_at: 1,
+    message: Wire::Replies,
+};
 
 /// It is found in the round in which it comes.
 const FOUND_EARLY: &[Act] = &[
-    Gets(Part(1, 0, 2, 0)),
-    Gets(Part(2, 0, 1, 0)),
+    Gets(Part {
+        node: 1,
+        first: 0,
+        until: 2,
+        after: 0,
+    }),
+    Gets(Part {
+        node: 2,
+        first: 0,
+        until: 1,
+        after: 0,
+    }),
     Finds(EARLY),
     Finds(EARLY),
-    Has(Shown(2, 1, 2, 1, 1)),
+    Has(Shown {
+        steps: 2,
+        requests: 1,
+        sent: 2,
+        under_way: 1,
+        marks: 1,
+    }),
 ];
 
 /// The REQUEST comes with its own clock, after a later event of its sender.
@@ -79,52 +148,79 @@ const CAME_RIGHT: &[Done] = &[
 
 /// It passes.
 const PASSES_RIGHT: &[Act] = &[
-    Gets(Part(1, 0, 2, 0)),
-    Gets(Part(2, 0, 1, 0)),
+    Gets(Part {
+        node: 1,
+        first: 0,
+        until: 2,
+        after: 0,
+    }),
+    Gets(Part {
+        node: 2,
+        first: 0,
+        until: 1,
+        after: 0,
+    }),
     AdvancesInParts,
-    Has(Shown(3, 1, 2, 1, 1)),
+    Has(Shown {
+        steps: 3,
+        requests: 1,
+        sent: 2,
+        under_way: 1,
+        marks: 1,
+    }),
     Leaves(None),
 ];
 
 /// The REQUEST, which was sent at clock 1, is noted as lost with clock 2, and then with clock 1.
 const LOST_LATE: &[Act] = &[
-    Gets(Part(1, 0, 2, 0)),
+    Gets(Part {
+        node: 1,
+        first: 0,
+        until: 2,
+        after: 0,
+    }),
     AdvancesInParts,
     Loses(2, Wire::Asks),
     FindsNotLost(2, Wire::Asks),
     Loses(1, Wire::Asks),
     FindsNotLost(2, Wire::Asks),
     HasLosses(0, 2),
-    Has(Shown(2, 1, 1, 1, 1)),
+    Has(Shown {
+        steps: 2,
+        requests: 1,
+        sent: 1,
+        under_way: 1,
+        marks: 1,
+    }),
 ];
 
 /// What auditors find.
 const CLOCKS: &[Row] = &[
-    Row(
-        "a frame came with a later clock than its own",
-        CAME_LATE,
-        FOUND_LATE,
-    ),
-    Row(
-        "a frame came with a later clock, and waits until the run comes to it",
-        CAME_LATE,
-        WAITS_LATE,
-    ),
-    Row(
-        "a frame came with an earlier clock than its own",
-        CAME_EARLY,
-        FOUND_EARLY,
-    ),
-    Row(
-        "a frame came with its own clock after later events",
-        CAME_RIGHT,
-        PASSES_RIGHT,
-    ),
-    Row(
-        "a frame was lost with a later clock than its own",
-        CAME_LATE,
-        LOST_LATE,
-    ),
+    Row {
+        shows: "a frame came with a later clock than its own",
+        done: CAME_LATE,
+        acts: FOUND_LATE,
+    },
+    Row {
+        shows: "a frame came with a later clock, and waits until the run comes to it",
+        done: CAME_LATE,
+        acts: WAITS_LATE,
+    },
+    Row {
+        shows: "a frame came with an earlier clock than its own",
+        done: CAME_EARLY,
+        acts: FOUND_EARLY,
+    },
+    Row {
+        shows: "a frame came with its own clock after later events",
+        done: CAME_RIGHT,
+        acts: PASSES_RIGHT,
+    },
+    Row {
+        shows: "a frame was lost with a later clock than its own",
+        done: CAME_LATE,
+        acts: LOST_LATE,
+    },
 ];
 
 #[test]

@@ -9,7 +9,10 @@ use crate::audit_tests::audits::Shown;
 use ra_stamp::Mode;
 
 /// The REQUEST with number 2 of node 1.
-const SECOND: Sends = Sends(5, "deliver request 1 2 r X 2");
+const SECOND: Sends = Sends {
+    clock: 5,
+    message: "deliver request 1 2 r X 2",
+};
 
 /// Client 1 of node 1 locks the name and unlocks it, and asks again in vain. Each node hands over what happened: first all of it, then
 /// what came after that, and then nothing more.
@@ -46,7 +49,17 @@ const AUDITED: &[Row] = &[Row {
         Asks(1, Mode::Exclusive),
         Audits(Fine),
     ],
-    acts: &[Ends(Fine), HasLosses(1, 0), Shows(Shown(6, 2, 3, 0, 0))],
+    acts: &[
+        Ends(Fine),
+        HasLosses(1, 0),
+        Shows(Shown {
+            steps: 6,
+            requests: 2,
+            sent: 3,
+            under_way: 0,
+            marks: 0,
+        }),
+    ],
     ..LOSING
 }];
 

@@ -19,7 +19,10 @@ use ra_stamp::Mode;
 const LAST_CLOCK: u64 = 1 << 62;
 
 /// The book of a node from which no round took anything.
-const WHOLE: Ended = Ended(None, 2);
+const WHOLE: Ended = Ended {
+    fault: None,
+    events: 2,
+};
 
 /// A cluster of three nodes, and its auditor.
 const THREE_NODES: Made = Made {
@@ -29,25 +32,52 @@ const THREE_NODES: Made = Made {
 };
 
 /// The REQUEST with clock 1 comes to node 2 first.
-const FIRST: Came = Came(2, 2, 1, Wire::Asks);
+const FIRST: Came = Came {
+    node: 2,
+    clock: 2,
+    sent_at: 1,
+    message: Wire::Asks,
+};
 
 /// That REQUEST is the first frame that node 1 sends.
-const REQUEST: Sends = Sends(1, "deliver request 1 2 r X 1");
+const REQUEST: Sends = Sends {
+    clock: 1,
+    message: "deliver request 1 2 r X 1",
+};
 
 /// The same frame comes to it again.
-const SECOND: Came = Came(2, 3, 1, Wire::Asks);
+const SECOND: Came = Came {
+    node: 2,
+    clock: 3,
+    sent_at: 1,
+    message: Wire::Asks,
+};
 
 /// The REQUEST with clock 100, which is ahead of that of node 1.
-const TOO_EARLY: Sends = Sends(100, "deliver request 1 2 r X 1");
+const TOO_EARLY: Sends = Sends {
+    clock: 100,
+    message: "deliver request 1 2 r X 1",
+};
 
 /// It comes to node 2 first.
-const AHEAD: Came = Came(2, 101, 100, Wire::Asks);
+const AHEAD: Came = Came {
+    node: 2,
+    clock: 101,
+    sent_at: 100,
+    message: Wire::Asks,
+};
 
 /// A REQUEST of node 2, with a clock after that.
-const LATER: Sends = Sends(102, "deliver request 2 1 r X 1");
+const LATER: Sends = Sends {
+    clock: 102,
+    message: "deliver request 2 1 r X 1",
+};
 
 /// The REQUEST with the last clock but one.
-const LAST: Sends = Sends(LAST_CLOCK - 1, "deliver request 1 2 r X 1");
+const LAST: Sends = Sends {
+    clock: LAST_CLOCK - 1,
+    message: "deliver request 1 2 r X 1",
+};
 
 /// Frames that come to nodes.
 const FRAMES: &[Row] = &[
@@ -57,12 +87,24 @@ const FRAMES: &[Row] = &[
             Comes(REQUEST),
             Audits(Fine),
             Waits(1),
-            Shows(Shown(0, 0, 0, 0, 0)),
+            Shows(Shown {
+                steps: 0,
+                requests: 0,
+                sent: 0,
+                under_way: 0,
+                marks: 0,
+            }),
             Asks(1, Mode::Exclusive),
             // It is flagged lost, and came.
             Audits(NotLost(REQUEST)),
             Waits(0),
-            Shows(Shown(2, 1, 2, 1, 0)),
+            Shows(Shown {
+                steps: 2,
+                requests: 1,
+                sent: 2,
+                under_way: 1,
+                marks: 0,
+            }),
             Ends(NotLost(REQUEST)),
         ],
         ..LOSING
@@ -75,7 +117,13 @@ const FRAMES: &[Row] = &[
             Audits(Finds(FIRST)),
             Audits(Finds(FIRST)),
             Ends(Finds(FIRST)),
-            Shows(Shown(1, 1, 1, 1, 0)),
+            Shows(Shown {
+                steps: 1,
+                requests: 1,
+                sent: 1,
+                under_way: 1,
+                marks: 0,
+            }),
         ],
         ..LOSING
     },
@@ -87,7 +135,13 @@ const FRAMES: &[Row] = &[
             Asks(1, Mode::Exclusive),
             Audits(Finds(SECOND)),
             Ends(Finds(SECOND)),
-            Shows(Shown(2, 1, 2, 1, 0)),
+            Shows(Shown {
+                steps: 2,
+                requests: 1,
+                sent: 2,
+                under_way: 1,
+                marks: 0,
+            }),
         ],
         ..LOSING
     },
@@ -109,7 +163,13 @@ const FRAMES: &[Row] = &[
             Asks(1, Mode::Exclusive),
             Audits(Fine),
             // The ask, and the loss of its REQUEST.
-            Shows(Shown(2, 1, 1, 0, 0)),
+            Shows(Shown {
+                steps: 2,
+                requests: 1,
+                sent: 1,
+                under_way: 0,
+                marks: 0,
+            }),
             Audits(Finds(AHEAD)),
         ],
         ..LOSING
@@ -123,7 +183,13 @@ const FRAMES: &[Row] = &[
             Audits(Finds(AHEAD)),
             Ends(Finds(AHEAD)),
             Waits(3),
-            Shows(Shown(0, 0, 0, 0, 0)),
+            Shows(Shown {
+                steps: 0,
+                requests: 0,
+                sent: 0,
+                under_way: 0,
+                marks: 0,
+            }),
         ],
         ..LOSING
     },
@@ -145,10 +211,16 @@ fn rounds_find_frames_that_no_node_sent(rt: HostRuntime) {
 }
 
 /// The REQUEST with clock 7 of node 1, which sends no such frame.
-const UNSENT: Sends = Sends(7, "deliver request 1 2 r X 1");
+const UNSENT: Sends = Sends {
+    clock: 7,
+    message: "deliver request 1 2 r X 1",
+};
 
 /// The REQUEST with clock 1 of node 3, of which there are two.
-const OF_NOBODY: Sends = Sends(1, "deliver request 3 1 r X 1");
+const OF_NOBODY: Sends = Sends {
+    clock: 1,
+    message: "deliver request 3 1 r X 1",
+};
 
 /// Frames that are lost.
 const LOSSES: &[Row] = &[
@@ -160,11 +232,23 @@ const LOSSES: &[Row] = &[
             Asks(1, Mode::Exclusive),
             Audits(Fine),
             HasLosses(1, 0),
-            Shows(Shown(2, 1, 1, 0, 0)),
+            Shows(Shown {
+                steps: 2,
+                requests: 1,
+                sent: 1,
+                under_way: 0,
+                marks: 0,
+            }),
             Audits(Fine),
             Ends(Fine),
             HasLosses(1, 0),
-            Shows(Shown(2, 1, 1, 0, 0)),
+            Shows(Shown {
+                steps: 2,
+                requests: 1,
+                sent: 1,
+                under_way: 0,
+                marks: 0,
+            }),
         ],
         ..LOSING
     },
@@ -175,7 +259,13 @@ const LOSSES: &[Row] = &[
             Asks(3, Mode::Exclusive),
             Audits(Fine),
             HasLosses(2, 0),
-            Shows(Shown(3, 1, 2, 0, 0)),
+            Shows(Shown {
+                steps: 3,
+                requests: 1,
+                sent: 2,
+                under_way: 0,
+                marks: 0,
+            }),
         ],
         ended: &[LOST, LOST, LOST],
         ..LOSING
@@ -186,7 +276,13 @@ const LOSSES: &[Row] = &[
             Asks(1, Mode::Exclusive),
             Ends(Fine),
             HasLosses(1, 0),
-            Shows(Shown(2, 1, 1, 0, 0)),
+            Shows(Shown {
+                steps: 2,
+                requests: 1,
+                sent: 1,
+                under_way: 0,
+                marks: 0,
+            }),
         ],
         ..LOSING
     },
@@ -223,7 +319,13 @@ const LOSSES: &[Row] = &[
             Asks(1, Mode::Exclusive),
             Audits(NotLost(REQUEST)),
             HasLosses(1, 1),
-            Shows(Shown(2, 1, 1, 0, 0)),
+            Shows(Shown {
+                steps: 2,
+                requests: 1,
+                sent: 1,
+                under_way: 0,
+                marks: 0,
+            }),
         ],
         ..LOSING
     },
@@ -281,7 +383,13 @@ const AUDITORS: &[Row] = &[
             Leaves(1),
             Audits(NotAudited),
             Ends(NotAudited),
-            Shows(Shown(0, 0, 0, 0, 0)),
+            Shows(Shown {
+                steps: 0,
+                requests: 0,
+                sent: 0,
+                under_way: 0,
+                marks: 0,
+            }),
         ],
         ended: &[WHOLE],
         ..LOSING
@@ -339,7 +447,13 @@ const AUDITORS: &[Row] = &[
             AuditsAnew(OutOfTurn(1)),
             HasAt(1, 4, 2),
             Ends(Fine),
-            Shows(Shown(4, 2, 0, 0, 0)),
+            Shows(Shown {
+                steps: 4,
+                requests: 2,
+                sent: 0,
+                under_way: 0,
+                marks: 0,
+            }),
         ],
         ..OF_ONE
     },
@@ -366,7 +480,13 @@ const BOOKS: &[Row] = &[
             HasAt(1, 2, 1),
             Audits(Fine),
             HasAt(1, 2, 0),
-            Shows(Shown(2, 1, 0, 0, 0)),
+            Shows(Shown {
+                steps: 2,
+                requests: 1,
+                sent: 0,
+                under_way: 0,
+                marks: 0,
+            }),
         ],
         ..OF_ONE
     },
@@ -377,10 +497,19 @@ const BOOKS: &[Row] = &[
             Leaves(1),
             Stops(Stop::Gate),
             Audits(Fine),
-            Shows(Shown(2, 1, 0, 0, 0)),
+            Shows(Shown {
+                steps: 2,
+                requests: 1,
+                sent: 0,
+                under_way: 0,
+                marks: 0,
+            }),
             Ends(Fine),
         ],
-        ended: &[Ended(Some(Stop::Gate), 0)],
+        ended: &[Ended {
+            fault: Some(Stop::Gate),
+            events: 0,
+        }],
         ..OF_ONE
     },
     Row {
@@ -391,7 +520,16 @@ const BOOKS: &[Row] = &[
             IsRefused(2, BookError::ClockFull),
             HasAt(2, LAST_CLOCK, 1),
         ],
-        ended: &[Ended(None, 0), Ended(None, 1)],
+        ended: &[
+            Ended {
+                fault: None,
+                events: 0,
+            },
+            Ended {
+                fault: None,
+                events: 1,
+            },
+        ],
         ..OF_TWO
     },
     Row {
@@ -419,7 +557,16 @@ const RUNNING: &[Row] = &[Row {
         Leaves(2),
         Audits(Fine),
     ],
-    acts: &[Ends(Fine), Shows(Shown(8, 2, 4, 0, 0))],
+    acts: &[
+        Ends(Fine),
+        Shows(Shown {
+            steps: 8,
+            requests: 2,
+            sent: 4,
+            under_way: 0,
+            marks: 0,
+        }),
+    ],
     ..OF_TWO
 }];
 

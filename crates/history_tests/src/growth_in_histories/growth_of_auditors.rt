@@ -1,7 +1,8 @@
 //! Each growth of an auditor is refused: its call answers that memory ran out, leaves everything as it was, and does what
 //! it should when it is made again. If that happens in the middle of a round, the events before are in the run.
 use crate::audit_tests::audits::Act::{AdvancesInParts, Gets, Has, Leaves};
-use crate::audit_tests::audits::{Act, EVENT_BY_EVENT, LOST, Part, Shown, audited};
+use crate::audit_tests::audits::{Act, Part, Shown, audited};
+use crate::audit_tests::audits_of_locks::{EVENT_BY_EVENT, LOST};
 use crate::growth_in_histories::growth_of_settling::ONE_LOCK;
 use crate::kept_books::histories::{ONE, TWO, books_after};
 use ra_stamp::Memory;
@@ -30,10 +31,26 @@ fn growth_of_an_auditor(rt: HostRuntime) {
 
 /// The whole lock in one round.
 const ONE_ROUND: &[Act] = &[
-    Gets(Part(1, 0, 3, 0)),
-    Gets(Part(2, 0, 1, 0)),
+    Gets(Part {
+        node: 1,
+        first: 0,
+        until: 3,
+        after: 0,
+    }),
+    Gets(Part {
+        node: 2,
+        first: 0,
+        until: 1,
+        after: 0,
+    }),
     AdvancesInParts,
-    Has(Shown(4, 1, 2, 0, 3)),
+    Has(Shown {
+        steps: 4,
+        requests: 1,
+        sent: 2,
+        under_way: 0,
+        marks: 3,
+    }),
     Leaves(None),
 ];
 

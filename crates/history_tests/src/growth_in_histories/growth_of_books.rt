@@ -34,14 +34,27 @@ fn try_call(
     Tried::RetrySucceeded
 }
 
-/// A call of a book, and what the book has before the call: this many events and sent frames, and this clock.
-struct Row(Call<'static>, (u64, u64, u64));
+/// A call of a book.
+struct Row {
+    call: Call<'static>,
+    /// How many events and sent frames the book has before it, and its clock.
+    kept: (u64, u64, u64),
+}
 
 /// Client 1 of node 1 asks for `r`, enters and leaves.
 const LOCKS: &[Row] = &[
-    Row(ASK, (0, 0, 0)),
-    Row(Receive(&REPLIES), (1, 1, 1)),
-    Row(LEAVE, (2, 1, 3)),
+    Row {
+        call: ASK,
+        kept: (0, 0, 0),
+    },
+    Row {
+        call: Receive(&REPLIES),
+        kept: (1, 1, 1),
+    },
+    Row {
+        call: LEAVE,
+        kept: (2, 1, 3),
+    },
 ];
 
 /// The REQUEST of node 1 to node 2 for `r`, exclusively, with number 3 and at clock 5.
@@ -57,12 +70,30 @@ const REPLIES_TO_SECOND: [u8; 25] = [
 /// Node 2 answers a REQUEST, asks, defers the next REQUEST and is let in; then a second client queues. When the first
 /// client leaves, the deferred REPLY and the REQUEST of the second client are sent.
 const ANSWERS: &[Row] = &[
-    Row(Receive(&ASKS), (0, 0, 0)),
-    Row(ASK, (1, 1, 2)),
-    Row(Receive(&ASKS_AFTER), (2, 2, 3)),
-    Row(Receive(&REPLIES_TO_SECOND), (3, 2, 6)),
-    Row(Ask(2, Mode::Exclusive), (4, 2, 8)),
-    Row(LEAVE, (5, 2, 9)),
+    Row {
+        call: Receive(&ASKS),
+        kept: (0, 0, 0),
+    },
+    Row {
+        call: ASK,
+        kept: (1, 1, 2),
+    },
+    Row {
+        call: Receive(&ASKS_AFTER),
+        kept: (2, 2, 3),
+    },
+    Row {
+        call: Receive(&REPLIES_TO_SECOND),
+        kept: (3, 2, 6),
+    },
+    Row {
+        call: Ask(2, Mode::Exclusive),
+        kept: (4, 2, 8),
+    },
+    Row {
+        call: LEAVE,
+        kept: (5, 2, 9),
+    },
 ];
 
 /// Makes all calls of a book, which has this at the end.
@@ -75,7 +106,7 @@ fn try_rows(
 ) -> Tried {
     let (mut tried, words) = (Tried::NoFailure, "events, sent frames and clock");
     for place in 0..rows.len() {
-        let Row(call, kept) = rows[place];
+        let Row { call, kept } = rows[place];
         let at = At(words, "before call", place + 1);
         assert_same(rt, at, &counts_of(book), &kept);
         let at = At("a book", "call", place + 1);

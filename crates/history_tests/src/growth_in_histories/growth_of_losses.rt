@@ -146,7 +146,15 @@ const HANDED_OVER: &Row = &Row {
     words: "a loss is handed over once",
     acts: &[
         ASKS,
-        HandsOver(1, 0, 1, Some(Sends(1, "deliver request 1 2 r X 1"))),
+        HandsOver(
+            1,
+            0,
+            1,
+            Some(Sends {
+                clock: 1,
+                message: "deliver request 1 2 r X 1",
+            }),
+        ),
         HandsOver(2, 0, 0, None),
         HandsOver(1, 1, 1, None),
         HandsOver(2, 0, 0, None),
@@ -168,7 +176,13 @@ const AUDITED: &Row = &Row {
         Audits(Fine),
         Ends(Fine),
         HasLosses(1, 0),
-        Shows(Shown(2, 1, 1, 0, 0)),
+        Shows(Shown {
+            steps: 2,
+            requests: 1,
+            sent: 1,
+            under_way: 0,
+            marks: 0,
+        }),
     ],
     ..LOSING
 };

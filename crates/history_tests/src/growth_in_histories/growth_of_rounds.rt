@@ -26,7 +26,13 @@ const ROUNDS: &Row = &Row {
         Audits(Fine),
         Leaves(1),
         Ends(Fine),
-        Shows(Shown(4, 2, 0, 0, 0)),
+        Shows(Shown {
+            steps: 4,
+            requests: 2,
+            sent: 0,
+            under_way: 0,
+            marks: 0,
+        }),
     ],
     ..OF_ONE
 };

@@ -91,7 +91,16 @@ const LOSING_RUN: Due = (6, (2, 3), (1, 1));
 /// Settles two books with a grant, and with the last REQUEST lost. If that is refused, memory ran out.
 fn try_settling_a_loss(rt: &impl Abort, alloc: Global) -> Result<Tried, Memory> {
     let books = books_after(rt, alloc, "a loss", &[ONE, TWO], ASKS_AGAIN);
-    let grants = grants_of(rt, alloc, &[Granted(1, 1, Mode::Exclusive, 1)]);
+    let grants = grants_of(
+        rt,
+        alloc,
+        &[Granted {
+            node: 1,
+            client: 1,
+            mode: Mode::Exclusive,
+            seq: 1,
+        }],
+    );
     if grants.len() == 1 && books.len() == 2 {
         try_to_settle(rt, alloc, &books, &grants, LOSING_RUN)
     } else {

@@ -90,15 +90,29 @@ pub enum Step<'a> {
     /// It refuses to do so, for this reason.
     RefusesToLose(u64, MarkLostError),
     /// It has this many events and sent frames, and this clock.
-    Has(u64, u64, u64),
+    Has {
+        events: u64,
+        sent: u64,
+        clock: u64,
+    },
     /// It sent the message at this place and clock, with this flag.
-    WasSent(u64, u64, Wire, bool),
+    WasSent {
+        place: u64,
+        clock: u64,
+        message: Wire,
+        lost: bool,
+    },
     /// Client 1 asked for `r`, exclusively, at this place and clock.
     Asked(u64, u64),
     /// Client 1 left `r` at this place and clock.
     Gave(u64, u64),
-    /// The message arrived at this place and clock, in a frame with the other clock.
-    Got(u64, u64, u64, Wire),
+    /// The message arrived at this place and clock, in a frame with the clock `sent_at`.
+    Got {
+        place: u64,
+        clock: u64,
+        sent_at: u64,
+        message: Wire,
+    },
     /// Nobody holds `r`.
     IsFree,
     /// Client 1 holds it.
@@ -248,7 +262,12 @@ fn assert_new(rt: &impl Abort, at: At<'_>, book: &Book) {
 fn assert_happened(rt: &impl Abort, at: At<'_>, book: &Book, step: Step<'_>) {
     let (client, name, mode) = (1, r(), Mode::Exclusive);
     match step {
-        WasSent(place, clock, wire, lost) => {
+        WasSent {
+            place,
+            clock,
+            message: wire,
+            lost,
+        } => {
             let frame = frame(clock, wire);
             assert_same(rt, at, &book.sent(place), &Some(Sent { frame, lost }));
         }
@@ -265,7 +284,12 @@ fn assert_happened(rt: &impl Abort, at: At<'_>, book: &Book, step: Step<'_>) {
         Gave(place, clock) => {
             assert_event(rt, at, book, place, clock, BookKind::Gave { client, name })
         }
-        Got(place, clock, other, wire) => {
+        Got {
+            place,
+            clock,
+            sent_at: other,
+            message: wire,
+        } => {
             let frame = frame(other, wire);
             assert_event(rt, at, book, place, clock, BookKind::Got(frame));
         }
@@ -277,7 +301,11 @@ fn assert_happened(rt: &impl Abort, at: At<'_>, book: &Book, step: Step<'_>) {
 fn shows(rt: &impl Abort, at: At<'_>, book: &Book, step: Step<'_>) {
     match step {
         HasFault(stop) => assert_same(rt, at, &book.fault(), &Some(stop)),
-        Has(events, sent, clock) => assert_same(rt, at, &counts_of(book), &(events, sent, clock)),
+        Has {
+            events,
+            sent,
+            clock,
+        } => assert_same(rt, at, &counts_of(book), &(events, sent, clock)),
         IsFree => assert_same(rt, at, &book.holder(&r()), &None),
         IsHeld => assert_same(rt, at, &book.holder(&r()), &Some(entry())),
         IsNew => assert_new(rt, at, book),

@@ -82,8 +82,17 @@ const TAKEN: &[Row] = &[
             Posts(Receive(&ASKS), Some(&REPLIES), None),
             // A frame that arrives twice is taken twice: no book knows what was sent.
             Takes(Receive(&ASKS)),
-            WasSent(1, 3, Replies, false),
-            Has(2, 2, 3),
+            WasSent {
+                place: 1,
+                clock: 3,
+                message: Replies,
+                lost: false,
+            },
+            Has {
+                events: 2,
+                sent: 2,
+                clock: 3,
+            },
         ],
     },
     Row {
@@ -91,7 +100,12 @@ const TAKEN: &[Row] = &[
         made: TWO,
         steps: &[
             Posts(Receive(&ASKS_1), Some(&REPLIES), None),
-            Got(0, 2, 1, Asks),
+            Got {
+                place: 0,
+                clock: 2,
+                sent_at: 1,
+                message: Asks,
+            },
         ],
     },
     Row {
@@ -100,7 +114,12 @@ const TAKEN: &[Row] = &[
         steps: &[
             Takes(ASK),
             Posts(Receive(&REPLIES_1), None, Some(Turn::Entered)),
-            Got(1, 3, 2, Replies),
+            Got {
+                place: 1,
+                clock: 3,
+                sent_at: 2,
+                message: Replies,
+            },
         ],
     },
     Row {
@@ -113,7 +132,11 @@ const TAKEN: &[Row] = &[
             IsHeld,
             Posts(LEAVE, None, Some(Turn::Left)),
             IsFree,
-            Has(3, 1, 4),
+            Has {
+                events: 3,
+                sent: 1,
+                clock: 4,
+            },
         ],
     },
     Row {
@@ -124,10 +147,24 @@ const TAKEN: &[Row] = &[
             Takes(Receive(&REPLIES)),
             Takes(LEAVE),
             Asked(0, 1),
-            Got(1, 3, 2, Replies),
+            Got {
+                place: 1,
+                clock: 3,
+                sent_at: 2,
+                message: Replies,
+            },
             Gave(2, 4),
-            WasSent(0, 1, Asks, false),
-            Has(3, 1, 4),
+            WasSent {
+                place: 0,
+                clock: 1,
+                message: Asks,
+                lost: false,
+            },
+            Has {
+                events: 3,
+                sent: 1,
+                clock: 4,
+            },
         ],
     },
     Row {
@@ -135,9 +172,23 @@ const TAKEN: &[Row] = &[
         made: TWO,
         steps: &[
             Takes(Receive(&ASKS)),
-            Got(0, 2, 1, Asks),
-            WasSent(0, 2, Replies, false),
-            Has(1, 1, 2),
+            Got {
+                place: 0,
+                clock: 2,
+                sent_at: 1,
+                message: Asks,
+            },
+            WasSent {
+                place: 0,
+                clock: 2,
+                message: Replies,
+                lost: false,
+            },
+            Has {
+                events: 1,
+                sent: 1,
+                clock: 2,
+            },
         ],
     },
 ];
@@ -170,12 +221,26 @@ const REFUSED: &[Row] = &[
         steps: &[
             Takes(ASK),
             RefusesToLose(9, MarkLostError::NotSent),
-            WasSent(0, 1, Asks, false),
+            WasSent {
+                place: 0,
+                clock: 1,
+                message: Asks,
+                lost: false,
+            },
             Loses(1),
             RefusesToLose(1, MarkLostError::AlreadyLost),
             RefusesToLose(9, MarkLostError::NotSent),
-            WasSent(0, 1, Asks, true),
-            Has(1, 1, 1),
+            WasSent {
+                place: 0,
+                clock: 1,
+                message: Asks,
+                lost: true,
+            },
+            Has {
+                events: 1,
+                sent: 1,
+                clock: 1,
+            },
         ],
     },
     Row {
@@ -191,7 +256,11 @@ const REFUSED: &[Row] = &[
             Refuses(Receive(&REPLIES), BookError::Failed),
             // It refuses before it looks at the bytes.
             Refuses(Receive(&[]), BookError::Failed),
-            Has(1, 1, 1),
+            Has {
+                events: 1,
+                sent: 1,
+                clock: 1,
+            },
             Loses(1),
         ],
     },
@@ -200,15 +269,32 @@ const REFUSED: &[Row] = &[
         made: TWO_OF_THREE,
         steps: &[
             Refuses(Receive(&ASKS_LAST), BookError::ClockFull),
-            Has(0, 0, 0),
+            Has {
+                events: 0,
+                sent: 0,
+                clock: 0,
+            },
             Takes(Receive(&ASKS_LATE)),
-            WasSent(0, LAST, Replies, false),
-            Has(1, 1, LAST),
+            WasSent {
+                place: 0,
+                clock: LAST,
+                message: Replies,
+                lost: false,
+            },
+            Has {
+                events: 1,
+                sent: 1,
+                clock: LAST,
+            },
             // A book at the last clock takes nothing more, but a refusal of the node comes first.
             Refuses(ASK, BookError::ClockFull),
             Refuses(Receive(&ASKS), BookError::ClockFull),
             Refuses(LEAVE, BookError::NotHeld),
-            Has(1, 1, LAST),
+            Has {
+                events: 1,
+                sent: 1,
+                clock: LAST,
+            },
         ],
     },
     Row {
@@ -219,7 +305,11 @@ const REFUSED: &[Row] = &[
             Refuses(Receive(&ASKS_3), BookError::Frame(FrameError::Version)),
             Refuses(Receive(&ASKS_NODE_3), BookError::WrongNode),
             Refuses(Receive(&ASKS_AS_NODE_5), BookError::Stranger),
-            Has(0, 0, 0),
+            Has {
+                events: 0,
+                sent: 0,
+                clock: 0,
+            },
         ],
     },
     Row {
@@ -229,10 +319,18 @@ const REFUSED: &[Row] = &[
             Refuses(LEAVE, BookError::NotHeld),
             Takes(ASK),
             Refuses(ASK, BookError::Busy),
-            Has(1, 1, 1),
+            Has {
+                events: 1,
+                sent: 1,
+                clock: 1,
+            },
             // Another client of the node queues, which is an event.
             Posts(Ask(2, Mode::Shared), None, None),
-            Has(2, 1, 2),
+            Has {
+                events: 2,
+                sent: 1,
+                clock: 2,
+            },
         ],
     },
     Row {
@@ -241,7 +339,14 @@ const REFUSED: &[Row] = &[
             start: u64::MAX,
             ..ONE
         },
-        steps: &[Refuses(ASK, BookError::Exhausted), Has(0, 0, 0)],
+        steps: &[
+            Refuses(ASK, BookError::Exhausted),
+            Has {
+                events: 0,
+                sent: 0,
+                clock: 0,
+            },
+        ],
     },
 ];
 

@@ -56,9 +56,14 @@ pub enum Done {
     Loses(u16, u64),
 }
 
-/// The grant of a request: its node, client, mode and number.
+/// The grant of a request.
 #[derive(Clone, Copy)]
-pub struct Granted(pub u16, pub u32, pub Mode, pub u64);
+pub struct Granted {
+    pub node: u16,
+    pub client: u32,
+    pub mode: Mode,
+    pub seq: u64,
+}
 
 /// Adds a book to the others. Returns whether that succeeds.
 fn adds_book(alloc: Global, books: &mut Vec<Book>, made: Made) -> bool {
@@ -179,7 +184,12 @@ pub fn assert_follows(rt: &impl Abort, alloc: Global, words: &str, made: Made, s
 pub fn grants_of(rt: &impl Abort, alloc: Global, all: &[Granted]) -> Vec<Grant> {
     let mut grants = Vec::new(alloc);
     for granted in all {
-        let Granted(node, client, mode, seq) = *granted;
+        let Granted {
+            node,
+            client,
+            mode,
+            seq,
+        } = *granted;
         let entry = entry(rt, node, client, mode, seq);
         if grants.push(Grant { entry }).is_err() {
             break;

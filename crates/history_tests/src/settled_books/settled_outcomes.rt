@@ -260,10 +260,20 @@ const LEAVES: Done = AtNode(1, Takes(LEAVE));
 const ENDS: Done = AtNode(1, Takes(Leave(2)));
 
 /// The grant of client 1.
-const FIRST: Granted = Granted(1, 1, Mode::Exclusive, 1);
+const FIRST: Granted = Granted {
+    node: 1,
+    client: 1,
+    mode: Mode::Exclusive,
+    seq: 1,
+};
 
 /// The grant of client 2.
-const SECOND: Granted = Granted(1, 2, Mode::Exclusive, 2);
+const SECOND: Granted = Granted {
+    node: 1,
+    client: 2,
+    mode: Mode::Exclusive,
+    seq: 2,
+};
 
 /// A script of a single node, whose plan is met.
 const MET: Case = Case {
@@ -388,7 +398,12 @@ const GRANTS: &[Case] = &[
         shows: "another one",
         clients: &[Locks],
         done: &[ENTERS],
-        granted: &[Granted(1, 1, Mode::Exclusive, 2)],
+        granted: &[Granted {
+            node: 1,
+            client: 1,
+            mode: Mode::Exclusive,
+            seq: 2,
+        }],
         refusal: Some(ClusterError::Settle),
         ..MET
     },

@@ -141,7 +141,12 @@ const LOCKS_ONCE: &[Done] = &[
 ];
 
 /// The exclusive grant of node 1.
-const FIRST: Granted = Granted(1, 1, Exclusive, 1);
+const FIRST: Granted = Granted {
+    node: 1,
+    client: 1,
+    mode: Exclusive,
+    seq: 1,
+};
 
 /// The run into which this settles.
 const LOCKED_ONCE: &[&str] = &[
@@ -204,7 +209,20 @@ const SETTLED: &[Row] = &[
     Row {
         words: "events of one clock are settled by node",
         done: READ_AT_ONCE,
-        granted: &[Granted(1, 1, Shared, 1), Granted(2, 2, Shared, 1)],
+        granted: &[
+            Granted {
+                node: 1,
+                client: 1,
+                mode: Shared,
+                seq: 1,
+            },
+            Granted {
+                node: 2,
+                client: 2,
+                mode: Shared,
+                seq: 1,
+            },
+        ],
         outcome: Settles(
             READS_AT_ONCE,
             "request 1 1 r S 1\nrequest 2 2 r S 1\nenter 1 1 r S 1\nenter 2 2 r S 1\n\
@@ -268,7 +286,16 @@ const NOT_SETTLED: &[Row] = &[
     Row {
         words: "a missing grant takes precedence over a grant twice",
         done: LOCKS_ONCE,
-        granted: &[FIRST, FIRST, Granted(1, 1, Shared, 1)],
+        granted: &[
+            FIRST,
+            FIRST,
+            Granted {
+                node: 1,
+                client: 1,
+                mode: Shared,
+                seq: 1,
+            },
+        ],
         outcome: Refused(SettleError::GrantMissing),
     },
     Row {
