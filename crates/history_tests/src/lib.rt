@@ -1,4 +1,4 @@
-//! Tests of `ra_history` and `ra_audit` through their public calls: what books keep, how they settle, and audits.
+//! Tests of `ra_book` and `ra_audit` through their public calls: what books keep, how they settle, and audits.
 #![tactic(auto)]
 
 #[cfg(test)]

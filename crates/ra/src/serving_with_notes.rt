@@ -5,12 +5,12 @@ ghost use Rattle.ra_cli.specs.Refusals.{command_word, refused_line};
 ghost use Rattle.ra_cli.specs.Statuses.{Writes};
 
 use crate::user_notes::write_notes;
+use ra_arguments::{Command, Task, read_command_line};
 use ra_cli::{CommandFault, do_alone, refuse_arguments, run_by_threads};
 use ra_notes::{
     NoteSource, RecordingReader, RecordingWriter, SeedProgress, write_arguments_note,
     write_output_note, write_waiting_note,
 };
-use ra_task::{Command, Task, read_command_line};
 use std::alloc::Global;
 use std::io::{BufRead, Write};
 use std::sync::Wait;

@@ -1,4 +1,5 @@
 //! The note that tells the user what came of a command: one line, which begins with `ra: `.
+use ra_arguments::{Command, Task};
 use ra_cli::{
     AnswerError, BookFault, CommandOutcome, CommandRefusal, Remark, RunScriptError, SettleFault,
     UNFINISHED,
@@ -10,7 +11,6 @@ use ra_notes::{
     unfinished_notice, unsettled_notice, write_hints, write_shrunk_notes,
 };
 use ra_stamp::NodeId;
-use ra_task::{Command, Task};
 use std::alloc::Global;
 use std::io::Write;
 

@@ -20,7 +20,7 @@ use Rattle.ra_world.specs.Traffic.{Move, IsUnderWay, lost_in, lost_by, repeated_
 use Rattle.ra_world.specs.Run.{IsRun, happened_at}
 use Rattle.ra_world.specs.World.{WorldState, HasCause, with_move}
 use Rattle.ra_world.proofs.Moves.{fits_split}
-use Rattle.ra_history.specs.History.{clock_of}
+use Rattle.ra_book.specs.History.{clock_of}
 use Rattle.ra_audit.specs.declared.audit_error.AuditError.{AuditError}
 use Rattle.ra_audit.specs.declared.audit_error.AuditError.TheVariants as audit
 use Rattle.ra_audit.specs.Audit.{ProgressState, IsAudited, HasLost, Advances, PutsLosses, IsReached, NoneIsReached, IsNotLost, IsAhead, WasSentIn}

@@ -16,8 +16,8 @@ use Rattle.ra_audit.specs.declared.audit_error.RoundError.TheVariants as round
 use Rattle.ra_site.specs.declared.site.take_error.TakeError.{TakeError}
 use Rattle.ra_site.specs.declared.site.take_error.TakeError.TheVariants.{NoNode, OutOfTurn, NotNext, Memory}
 use Rattle.ra_frame.specs.declared.frame.Frame.{Frame}
-use Rattle.ra_history.specs.declared.book.event.BookEvent.{BookEvent}
-use Rattle.ra_history.specs.History.{clock_of}
+use Rattle.ra_book.specs.declared.book.event.BookEvent.{BookEvent}
+use Rattle.ra_book.specs.History.{clock_of}
 use Rattle.ra_audit.specs.Audit.{ProgressState, AuditState, NoneIsReady, NoneIsReached, MayBePut, IsAudited, HasLost, AllWereSent, Advances, PutsLosses, Audits, TakenGoOn, HandsOver, HandsNothing, MayHandOver, AllHandOver, TakesMore, TakesMoreAt, AuditsByAnswer, AtNumber, TakesHanded, TakesOver, TakesAllAt, NotTakenAt, IsNotTaken, IsCauseAt, KeptAreNext, AreNextAt, NoneIsKept, GoesOnFrom, taken_of, handed_over}
 use Rattle.ra_site.specs.Handing.{IsLeftOfBook}
 use Rattle.ra_world.specs.World.{WorldState}

@@ -20,19 +20,19 @@ use Rattle.ra_world.specs.declared.step.Step.{Step}
 use Rattle.ra_world.specs.Traffic.{Move, lost_in, lost_by, repeated_in, repeated_by}
 use Rattle.ra_world.specs.Run.{IsRun, GoesOn, events_at, happened_at, marks_of}
 use Rattle.ra_world.specs.World.{WorldState, with_move}
-use Rattle.ra_history.specs.declared.book.event.BookEvent.{BookEvent}
+use Rattle.ra_book.specs.declared.book.event.BookEvent.{BookEvent}
 use Rattle.ra_audit.specs.declared.audit_error.AuditError.{AuditError}
 use Rattle.ra_audit.specs.declared.audit_error.AuditError.TheVariants as audit
 use Rattle.ra_audit.specs.declared.audit_error.AuditError.TheVariants.{Fault}
 use Rattle.ra_audit.specs.declared.audit_error.AuditFault.{AuditFault}
 use Rattle.ra_site.specs.declared.site.take_error.TakeError.{TakeError}
 use Rattle.ra_site.specs.declared.site.take_error.TakeError.TheVariants.{NoNode, OutOfTurn, NotNext}
-use Rattle.ra_history.specs.declared.book.event.BookKind.{BookKind}
-use Rattle.ra_history.specs.declared.book.event.BookKind.TheVariants.{Got}
-use Rattle.ra_history.specs.History.{node_event, clock_of}
-use Rattle.ra_history.specs.Settled.{step_at}
+use Rattle.ra_book.specs.declared.book.event.BookKind.{BookKind}
+use Rattle.ra_book.specs.declared.book.event.BookKind.TheVariants.{Got}
+use Rattle.ra_book.specs.History.{node_event, clock_of}
+use Rattle.ra_book.specs.Settled.{step_at}
 use Rattle.ra_audit.specs.Audit.{ProgressState, IsAudited, HasSettled, IsForNumber, IsDue, IsReady, IsMisfit, FitsRun, Advances, AreNextAt, AtNumber, Takes, TakesHanded, fresh_progress, taken_of, with_more}
-use Rattle.ra_history.proofs.Projections.{events_by, lost_in_event, repeated_in_event, one_event}
+use Rattle.ra_book.proofs.Projections.{events_by, lost_in_event, repeated_in_event, one_event}
 
 -- the node at a place has the number after it
 pub number_of : (nodes : List ProgressState) (n k : ℕ) (d : ProgressState) → map (λ p. p.node) nodes ≡ range_with_len 1 n → k < length nodes → (get_or nodes k d).node ≡ k + 1

@@ -3,7 +3,7 @@ use Rattle.std.proofs.Common.{◌≡◌, ◌⊎◌, ℕ, ◌+◌, ◌<◌, ◌�
 use Rattle.std.specs.Prelude.{slice_get}
 use Rattle.std.proofs.lemmas.Bool.{cases_lt}
 use Rattle.std.proofs.lemmas.Option.{same_Some, slice_get_read, slice_get_within}
-use Rattle.ra_history.specs.Book.{BookState}
+use Rattle.ra_book.specs.Book.{BookState}
 use Rattle.ra_audit.specs.Audit.{ProgressState, IsAllIn, IsAllInAt, AreAllIn, IsFirstNotAllIn}
 
 -- one place more

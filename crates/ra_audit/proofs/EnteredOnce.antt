@@ -11,7 +11,7 @@ use Rattle.std.proofs.lemmas.Option.{same_Some, none-some, slice_get_read}
 use Rattle.ra_stamp.specs.declared.entry.Entry.{Entry}
 use Rattle.ra_stamp.specs.declared.entry.Mark.{Mark}
 use Rattle.ra_stamp.specs.declared.entry.Mark.TheVariants.{Requested, Entered, Left}
-use Rattle.ra_history.specs.declared.book.grant.Grant.{Grant}
+use Rattle.ra_book.specs.declared.book.grant.Grant.{Grant}
 use Rattle.ra_table.specs.Table.{LockTable, empty_table, TableRun}
 use Rattle.ra_table.specs.Laws.{IsAt}
 use Rattle.ra_table.proofs.Apart.{Apart, AllPairs-apart, All-from_contains}

@@ -9,7 +9,7 @@ use Rattle.std.proofs.lemmas.Bool.{true≢false}
 use Rattle.ra_stamp.specs.declared.entry.Entry.{Entry}
 use Rattle.ra_stamp.specs.declared.entry.Mark.{Mark}
 use Rattle.ra_stamp.specs.declared.entry.Mark.TheVariants.{Requested, Entered, Left}
-use Rattle.ra_history.specs.declared.book.grant.Grant.{Grant}
+use Rattle.ra_book.specs.declared.book.grant.Grant.{Grant}
 use Rattle.ra_audit.specs.Matching.{MatcherState, IsMatcher, IsUnmatched, TakesGrant, TakesEntered, entered_in, entries_of}
 
 -- ---- Lists with the same elements

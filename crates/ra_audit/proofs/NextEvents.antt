@@ -4,12 +4,12 @@ use Rattle.std.proofs.lemmas.List.{append_assoc}
 use Rattle.std.specs.Prelude.{All, slice_get}
 use Rattle.std.proofs.lemmas.List.Elements.{All-nil, All-cons, All-append, All-weaker}
 use Rattle.ra_frame.specs.declared.frame.Frame.{Frame}
-use Rattle.ra_history.specs.declared.book.event.BookKind.{BookKind}
-use Rattle.ra_history.specs.declared.book.event.BookKind.TheVariants.{Asked, Gave, Got}
-use Rattle.ra_history.specs.declared.book.event.BookEvent.{BookEvent}
+use Rattle.ra_book.specs.declared.book.event.BookKind.{BookKind}
+use Rattle.ra_book.specs.declared.book.event.BookKind.TheVariants.{Asked, Gave, Got}
+use Rattle.ra_book.specs.declared.book.event.BookEvent.{BookEvent}
 use Rattle.ra_audit.specs.declared.auditor.node_progress.NodeProgress.TheInside.{Inside}
-use Rattle.ra_history.specs.History.{clock_from, clock_of, clock_after}
-use Rattle.ra_history.proofs.Clocks.{clock_append}
+use Rattle.ra_book.specs.History.{clock_from, clock_of, clock_after}
+use Rattle.ra_book.proofs.Clocks.{clock_append}
 use Rattle.ra_audit.specs.Audit.{ProgressState, AreNextAt, IsNextAt, IsForNumber, taken_of}
 use Rattle.ra_audit.specs.AuditKeeping.{progress_of, IsKeptProgress}
 

@@ -17,10 +17,10 @@ use Rattle.ra_world.specs.Traffic.{Move, sent_by}
 use Rattle.ra_world.specs.Run.{events_at, happened_at}
 use Rattle.ra_world.specs.Fitting.{sent_in}
 use Rattle.ra_world.proofs.Moves.{happened_more}
-use Rattle.ra_history.specs.declared.book.event.BookEvent.{BookEvent}
-use Rattle.ra_history.specs.History.{frames_at, node_event}
-use Rattle.ra_history.specs.Settled.{step_at}
-use Rattle.ra_history.proofs.Projections.{one_event}
+use Rattle.ra_book.specs.declared.book.event.BookEvent.{BookEvent}
+use Rattle.ra_book.specs.History.{frames_at, node_event}
+use Rattle.ra_book.specs.Settled.{step_at}
+use Rattle.ra_book.proofs.Projections.{one_event}
 use Rattle.ra_audit.specs.Audit.{ProgressState, HasSettled, IsForNumber, WasSentIn, frames_sent}
 use Rattle.ra_audit.specs.AuditKeeping.{StaySent}
 use Rattle.ra_audit.proofs.AuditSteps.{number_of}

@@ -4,8 +4,8 @@ use Rattle.std.specs.Prelude.{slice_get}
 use Rattle.std.proofs.lemmas.List.{take_all}
 use Rattle.std.proofs.lemmas.Option.{none-some, same_Some}
 use Rattle.ra_frame.specs.declared.frame.Frame.{Frame}
-use Rattle.ra_history.specs.declared.book.sent.Sent.{Sent}
-use Rattle.ra_history.specs.Book.{BookState}
+use Rattle.ra_book.specs.declared.book.sent.Sent.{Sent}
+use Rattle.ra_book.specs.Book.{BookState}
 use Rattle.ra_site.specs.Losses.{lost_frames}
 use Rattle.ra_audit.specs.Audit.{still_lost}
 

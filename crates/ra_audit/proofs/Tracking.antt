@@ -21,12 +21,12 @@ use Rattle.ra_world.specs.Traffic.{Move, IsUnderWay, taken_in, repeated_by}
 use Rattle.ra_world.specs.Run.{IsRun, GoesOn}
 use Rattle.ra_world.proofs.Moves.{fits_split}
 use Rattle.ra_world.specs.World.{WorldState, with_move}
-use Rattle.ra_history.specs.declared.book.event.BookKind.{BookKind}
-use Rattle.ra_history.specs.declared.book.event.BookKind.TheVariants.{Asked, Gave, Got}
-use Rattle.ra_history.specs.declared.book.event.BookEvent.{BookEvent}
-use Rattle.ra_history.specs.Settled.{step_at, frames_in, received_among}
+use Rattle.ra_book.specs.declared.book.event.BookKind.{BookKind}
+use Rattle.ra_book.specs.declared.book.event.BookKind.TheVariants.{Asked, Gave, Got}
+use Rattle.ra_book.specs.declared.book.event.BookEvent.{BookEvent}
+use Rattle.ra_book.specs.Settled.{step_at, frames_in, received_among}
 use Rattle.ra_site.specs.declared.site.take_error.TakeError.{TakeError}
-use Rattle.ra_history.proofs.Projections.{repeated_in_event}
+use Rattle.ra_book.proofs.Projections.{repeated_in_event}
 use Rattle.ra_audit.specs.Audit.{ProgressState, IsAudited, HasSettled, IsForNumber, WasSentIn, FitsRun, CanGoOn, IsDue, IsReady, AtNumber, Takes, TakesHanded, with_more, fresh_progress}
 use Rattle.ra_audit.specs.AuditKeeping.{FlightState, LossState, HasClock, IsFlying, NoneFlies, FliesOn, FliesAfter, AreNoted, MessagesAreKnown, IsTracked, StaySent, IsNoted, slot_of}
 use Rattle.ra_audit.proofs.AuditSteps.{number_of, repeated_more}

@@ -9,14 +9,14 @@ use Rattle.std.proofs.lemmas.Option.{none-some, same_Some}
 use Rattle.ra_stamp.specs.Message.{from_of}
 use Rattle.ra_frame.specs.declared.frame.Frame.{Frame}
 use Rattle.ra_audit.specs.declared.audit_error.AuditFault.{AuditFault}
-use Rattle.ra_history.specs.declared.book.event.BookKind.{BookKind}
-use Rattle.ra_history.specs.declared.book.event.BookKind.TheVariants.{Got}
-use Rattle.ra_history.specs.declared.book.event.BookEvent.{BookEvent}
-use Rattle.ra_history.specs.History.{clock_of, clock_from}
+use Rattle.ra_book.specs.declared.book.event.BookKind.{BookKind}
+use Rattle.ra_book.specs.declared.book.event.BookKind.TheVariants.{Got}
+use Rattle.ra_book.specs.declared.book.event.BookEvent.{BookEvent}
+use Rattle.ra_book.specs.History.{clock_of, clock_from}
 use Rattle.ra_audit.specs.Audit.{ProgressState, AreNextAt, IsDue, MayCome, MayComeFrom, MayBePut, IsUnsent, taken_of, clock_at}
 use Rattle.ra_audit.specs.AuditKeeping.{HasNone, IsOfNone}
 use Rattle.ra_audit.proofs.AuditSteps.{due_at, number_of}
-use Rattle.ra_history.proofs.Clocks.{clock_append}
+use Rattle.ra_book.proofs.Clocks.{clock_append}
 use Rattle.ra_audit.proofs.NextEvents.{next_right, none_between, up_to_last}
 
 -- ---- Of the sender

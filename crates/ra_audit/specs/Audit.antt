@@ -24,12 +24,12 @@ use Rattle.ra_audit.specs.declared.audit_error.RoundError.{RoundError}
 use Rattle.ra_audit.specs.declared.audit_error.RoundError.TheVariants.{NotAudited, OtherCluster, Fault, NotLost, NotTaken}
 use Rattle.ra_site.specs.declared.site.take_error.TakeError.{TakeError}
 use Rattle.ra_site.specs.declared.site.take_error.TakeError.TheVariants.{NoNode, OutOfTurn, NotNext, Memory}
-use Rattle.ra_history.specs.declared.book.event.BookKind.{BookKind}
-use Rattle.ra_history.specs.declared.book.event.BookKind.TheVariants.{Asked, Gave, Got}
-use Rattle.ra_history.specs.declared.book.event.BookEvent.{BookEvent}
-use Rattle.ra_history.specs.History.{clock_after, clock_of, frames_at, node_event}
-use Rattle.ra_history.specs.Book.{BookState, HasHistory, whole_events}
-use Rattle.ra_history.specs.Settled.{step_at, frames_in, received_among}
+use Rattle.ra_book.specs.declared.book.event.BookKind.{BookKind}
+use Rattle.ra_book.specs.declared.book.event.BookKind.TheVariants.{Asked, Gave, Got}
+use Rattle.ra_book.specs.declared.book.event.BookEvent.{BookEvent}
+use Rattle.ra_book.specs.History.{clock_after, clock_of, frames_at, node_event}
+use Rattle.ra_book.specs.Book.{BookState, HasHistory, whole_events}
+use Rattle.ra_book.specs.Settled.{step_at, frames_in, received_among}
 use Rattle.ra_site.specs.Cluster.{ClusterState}
 use Rattle.ra_site.specs.Handing.{IsLeftOfBook}
 use Rattle.ra_site.specs.Losses.{lost_frames}

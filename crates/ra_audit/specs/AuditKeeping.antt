@@ -15,11 +15,11 @@ use Rattle.ra_world.specs.Run.{IsRun, happened_at}
 use Rattle.ra_world.specs.Fitting.{sent_in}
 use Rattle.ra_frame.specs.declared.frame.Frame.{Frame}
 use Rattle.ra_audit.specs.declared.audit_error.AuditFault.{AuditFault}
-use Rattle.ra_history.specs.declared.book.event.BookKind.{BookKind}
-use Rattle.ra_history.specs.declared.book.event.BookKind.TheVariants.{Got}
-use Rattle.ra_history.specs.declared.book.event.BookEvent.{BookEvent}
-use Rattle.ra_history.specs.History.{clock_of}
-use Rattle.ra_history.specs.Settled.{received_among}
+use Rattle.ra_book.specs.declared.book.event.BookKind.{BookKind}
+use Rattle.ra_book.specs.declared.book.event.BookKind.TheVariants.{Got}
+use Rattle.ra_book.specs.declared.book.event.BookEvent.{BookEvent}
+use Rattle.ra_book.specs.History.{clock_of}
+use Rattle.ra_book.specs.Settled.{received_among}
 use Rattle.ra_audit.specs.Audit.{ProgressState, AreNextAt, IsReached, NoneIsReached, NoneWaits, WasSentIn, taken_of}
 
 -- what the fields represent

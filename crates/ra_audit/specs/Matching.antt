@@ -4,8 +4,8 @@ use Rattle.std.specs.List.Sorted.{IsPermutation}
 use Rattle.ra_stamp.specs.declared.entry.Entry.{Entry}
 use Rattle.ra_stamp.specs.declared.entry.Mark.{Mark}
 use Rattle.ra_stamp.specs.declared.entry.Mark.TheVariants.{Requested, Entered, Left}
-use Rattle.ra_history.specs.declared.book.grant.Grant.{Grant}
-pub use Rattle.ra_history.specs.Keys.{entered_in}
+use Rattle.ra_book.specs.declared.book.grant.Grant.{Grant}
+pub use Rattle.ra_book.specs.Keys.{entered_in}
 
 -- the requests of these grants, in order
 abbrev pub entries_of : List Grant → List Entry

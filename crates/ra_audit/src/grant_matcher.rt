@@ -1,7 +1,7 @@
 //! Whether each grant that clients were given is in the run that an observer is told.
 ghost use Rattle.std.specs.Prelude.{◌≡◌, ◌≢◌, ◌↔◌, ◌<◌, ◌++◌, ◌∷◌, true, false, [], Some, Contains, length, slice_get, slice_index_or, IfSome, IsErrOf, IsNone, IsOk, OnErr, OnOk};
 ghost use Rattle.ra_stamp.specs.declared.entry.Mark as entry_mark;
-ghost use Rattle.ra_history.specs.declared.book.grant.Grant as granted;
+ghost use Rattle.ra_book.specs.declared.book.grant.Grant as granted;
 ghost use Rattle.ra_audit.specs.Matching.{AreAllMatched, IsUnmatched, TakesGrant, TakesEntered, TakesMark};
 
 use crate::{MarkObserver, Told};

@@ -2,7 +2,7 @@
 //! law.
 ghost use Rattle.std.specs.Prelude.{ℕ, List};
 ghost use Rattle.ra_stamp.specs.NodeId.{IsNodeNumber};
-ghost use Rattle.ra_history.specs.declared.book.grant.Grant.{Grant};
+ghost use Rattle.ra_book.specs.declared.book.grant.Grant.{Grant};
 ghost use Rattle.ra_world.specs.Traffic.{Move};
 ghost use Rattle.ra_world.specs.Run.{IsRun, marks_of};
 ghost use Rattle.ra_audit.specs.Matching.{AreAllMatched, AreGrantedOnce};

@@ -1,6 +1,6 @@
 ghost use Rattle.std.specs.Prelude.{◌≡◌, List, [], ◌∷◌, ◌++◌};
 ghost use Rattle.ra_stamp.specs.declared.entry.Mark as mark;
-ghost use Rattle.ra_history.specs.declared.book.grant.Grant as granted;
+ghost use Rattle.ra_book.specs.declared.book.grant.Grant as granted;
 
 use ra_stamp::{GhostList, Mark};
 use std::marker::Model;

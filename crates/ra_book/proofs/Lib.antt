@@ -1,27 +1,47 @@
-pub mod Forms
-pub mod Put
-pub mod Sends
-pub mod Taking
-pub mod Pieces
-pub mod Faults
-pub mod Served
-pub mod Told
-pub mod Replay
-pub mod NodeBooks
-pub mod ToldLines
-pub mod WrittenLines
-mod Last
-mod Lines
-mod BookTexts
-mod Order
-mod Sent
-mod Taken
-mod Outcome
-mod Settlements
-mod ListPieces
-mod OneReading
-mod OneHistory
-mod OneBooks
-mod OneCame
-mod OneVerdict
-mod Exact
+pub mod Clocks
+mod Histories
+mod Kept
+mod Running
+mod Adding
+mod Accepting
+mod EventChecked
+mod TimedTaking
+mod TimedHistories
+mod Losing
+mod Ascending
+mod FrameSearch
+mod KeyOrders
+mod Parts
+mod KeySets
+mod GrantMarks
+mod Received
+mod WasSent
+mod LostSteps
+mod Taking
+pub mod Merging
+mod NextEvents
+pub mod Whole
+pub mod Projections
+pub mod NodeMarks
+mod NodeSends
+pub mod SettledNodes
+mod SettledGrants
+mod Clusters
+pub mod SettledReport
+pub mod Causes
+pub mod Truth
+mod Distinct
+mod Unsent
+mod Happened
+mod Deliveries
+mod LossesApart
+mod SentApart
+pub mod BooksFit
+mod Copied
+mod CopiesFit
+pub mod CopiesBack
+mod CopiesSettled
+mod Departing
+mod TakenEvents
+mod KeptLaws
+mod SettlingLaws

@@ -1,13 +1,13 @@
-pub mod BookText
-pub mod Fields
-pub mod Answers
-pub mod Laws
-pub mod Output
-pub mod Input
-pub mod NextLine
+pub mod History
 pub mod Book
-pub mod Serving
-pub mod Written
-pub mod Texts
-pub mod Verdicts
-pub mod Gathering
+pub mod Departures
+pub mod Keeping
+pub mod Refused
+pub mod EventChecks
+pub mod Timed
+pub mod Settled
+pub mod Repeats
+pub mod SettlingParts
+pub mod EventMerge
+mod TakenKeeping
+pub mod Keys

@@ -1,62 +1,46 @@
-//! What is true of books, for hosts. Each function does nothing, and its contract is the law.
-pub mod node_books;
-pub mod text_verdicts;
+//! What is true of histories, for the crates above. Each function does nothing, and its contract is the law.
+pub mod settled_fairness;
+pub mod settling_with_copies;
+pub mod timed_histories;
 
-ghost use Rattle.std.specs.Prelude.{◌≡◌, ◌⊎◌, ℕ, List, map};
-ghost use Rattle.std.specs.List.{AllZip};
-ghost use Rattle.ra_history.specs.declared.book.event.BookEvent.{BookEvent};
-ghost use Rattle.ra_history.specs.declared.book.sent.Sent.{Sent};
-ghost use Rattle.ra_history.specs.History.{IsHistory, clock_of};
-ghost use Rattle.ra_history.specs.declared.book.event.BookKind.{BookKind};
-ghost use Rattle.ra_book.specs.Answers.{Answered, AnswersEach, kept_of, lines_of, text_of};
-ghost use Rattle.ra_book.specs.BookText.{Form, HasForm, IsEvent, IsFirst, IsUnread};
-ghost use Rattle.ra_book.specs.declared.answering.line_refusal.Refusal.{Refusal};
-ghost use Rattle.ra_book.specs.Laws.{IsCutShort};
-ghost use Rattle.ra_history.specs.Timed.{Timed, opening};
+ghost use Rattle.std.specs.Prelude.{◌≡◌, ◌≤◌, ◌^◌, ◌++◌, ◌∷◌, [], ℕ, List, map};
+ghost use Rattle.ra_stamp.specs.declared.entry.Mark.{Mark};
+ghost use Rattle.ra_stamp.specs.declared.message.Message.{Message};
+ghost use Rattle.ra_node.specs.Node.{NodeState, opening_node};
+ghost use Rattle.ra_node.specs.Events.{NodeEvent, IsForThisNode};
+ghost use Rattle.ra_book.specs.declared.book.event.BookEvent.{BookEvent};
+ghost use Rattle.ra_book.specs.declared.book.event.BookKind.{BookKind};
+ghost use Rattle.ra_book.specs.declared.book.sent.Sent.{Sent};
+ghost use Rattle.ra_book.specs.History.{IsHistory, node_event, clock_after, clock_of, frames_at};
+ghost use Rattle.ra_book.specs.Book.{as_sent};
 
-use ra_frame::{one_spelling, round_trip};
-use ra_history::timed_nodes_have_histories;
-use ra_node::events_are_determined;
+/// A node that has met nothing has the empty history. A history goes on with each event of its node for which a clock
+/// is left; what the event sends comes after the frames so far.
+pub fn histories_go_on()
+    ensures opening { (me n start : ℕ) → IsHistory me n start [] [] (opening_node me n start) }
+    ensures event { (me n start : ℕ) (events : List BookEvent) (sent : List Sent) (old new : NodeState)
+        (kind : BookKind) (sends : List Message) (marks : List Mark)
+        → IsHistory me n start events sent old
+        → IsForThisNode (opening_node me n start) (node_event kind)
+        → NodeEvent old (node_event kind) sends marks new
+        → clock_after (clock_of events) kind ≤ 2 ^ 62
+        → IsHistory me n start
+        (events ++ record { clock = clock_after (clock_of events) kind; kind = kind } ∷ [])
+        (sent ++ as_sent (frames_at (clock_after (clock_of events) kind) sends)) new }
+    // What is known to be lost does not matter to the history.
+    ensures flags { (me n start : ℕ) (events : List BookEvent) (sent sent' : List Sent) (node : NodeState)
+        → IsHistory me n start events sent node → map (λ s. s.frame) sent' ≡ map (λ s. s.frame) sent
+        → IsHistory me n start events sent' node }
+{}
 
-/// The lines that a node accepted are its book. So a node comes back when it is handed its book again, with the same answers as
-/// before.
-pub fn books_determine_nodes()
-    // The answers to lines tell which of them were accepted, and what the node is after them.
-    ensures told { (old a b : Timed) (all others : List Answered) → AnswersEach old all a → AnswersEach old others b
-        → lines_of all ≡ lines_of others → text_of all ≡ text_of others → (all ≡ others) × (a ≡ b) }
-    // The lines that were accepted are accepted without the others, with the very same answers, and lead to the same node with the
-    // same clock.
-    ensures kept { (old new : Timed) (all : List Answered) → AnswersEach old all new → AnswersEach old (kept_of all) new }
-    // If the same lines were accepted, the answers to them are the same, and so are the node and its clock, whatever was refused.
-    ensures determined { (old a b : Timed) (all others : List Answered) → AnswersEach old all a → AnswersEach old others b
-        → lines_of (kept_of all) ≡ lines_of (kept_of others) → (kept_of all ≡ kept_of others) × (a ≡ b) }
-    // A node that is handed the book again answers each line as before, and is the same then; or memory runs out, and the first
-    // line with another answer is refused for that.
-    ensures again { (old a b : Timed) (all others : List Answered) → AnswersEach old all a → AnswersEach old others b
-        → lines_of others ≡ lines_of (kept_of all)
-        → ((others ≡ kept_of all) × (b ≡ a)) ⊎ IsCutShort (kept_of all) others }
-    // The lines that were accepted are the events of a history.
-    ensures history { (me n start : ℕ) (new : Timed) (all : List Answered) → AnswersEach (opening me n start) all new
-        → (events : List BookEvent) × (sent : List Sent) × IsHistory me n start events sent new.node
-        × AllZip IsEvent (lines_of (kept_of all)) (map (λ e. e.kind) events) × (clock_of events ≡ new.clock) }
-{
-    lines_are_read_in_one_way();
-    events_are_determined();
-    timed_nodes_have_histories();
-    one_spelling();
-    round_trip();
-}
-
-/// No line can be read in two ways: it is the first line of one book, or one event, or neither.
-pub fn lines_are_read_in_one_way()
-    ensures first { (line : List ℕ) (node other nodes nodes' start start' : ℕ)
-        → IsFirst line node nodes start → IsFirst line other nodes' start'
-        → (node ≡ other) × (nodes ≡ nodes') × (start ≡ start') }
-    ensures event { (line : List ℕ) (a b : BookKind) → IsEvent line a → IsEvent line b → a ≡ b }
-    // A first line has none of the forms of events, and an event is not refused as a line.
-    ensures apart { (line : List ℕ) (node nodes start : ℕ) (form : Form)
-        → IsFirst line node nodes start → HasForm line form → ⊥ }
-    ensures is_read { (line : List ℕ) (kind : BookKind) (why : Refusal) → IsEvent line kind → IsUnread line why → ⊥ }
-{
-    round_trip();
-}
+/// The events of a node determine what each of them sent and marked, the node after them, and so the frames.
+pub fn histories_are_determined()
+    ensures postings { (me n start : ℕ) (events : List BookEvent) (sent sent' : List Sent) (a b : NodeState)
+        → (left : IsHistory me n start events sent a) → (right : IsHistory me n start events sent' b)
+        → left.postings ≡ right.postings }
+    ensures node { (me n start : ℕ) (events : List BookEvent) (sent sent' : List Sent) (a b : NodeState)
+        → IsHistory me n start events sent a → IsHistory me n start events sent' b → a ≡ b }
+    ensures frames { (me n start : ℕ) (events : List BookEvent) (sent sent' : List Sent) (a b : NodeState)
+        → IsHistory me n start events sent a → IsHistory me n start events sent' b
+        → map (λ s. s.frame) sent ≡ map (λ s. s.frame) sent' }
+{}

@@ -1,27 +1,35 @@
-//! Books: what was handed to a node, as text. [`answer_book`] reads a book line by line, hands each event to a node, and
-//! writes what the node answers. So a program in any language can drive a node over any carrier. [`settle_text`] reads the
-//! books of all nodes in one text, one after the other, and settles them into the one run of the cluster that they record; or
-//! it says at which line they are wrong, and why.
+//! The history of a node, and the run into which the histories of all nodes settle.
+//!
+//! A [`TimedNode`] is a node with an event clock, and no history. A node's book has the node, its event clock, what happened
+//! at it, and what it sent. [`settle`] makes one run of the cluster out of the books of all nodes, or says why they do not
+//! settle. Nothing here knows of threads: `ra_site` shares books among threads, and `ra_book_text` writes them as text.
+//!
+//! The event clock is that of L. Lamport, CACM 21(7), 1978.
 #![tactic(auto)]
 
-mod answering;
-mod book_writing;
+mod book;
 mod error;
 mod laws;
-mod next_line;
-mod text_settling;
+mod settle_books;
+mod timed_node;
 
-pub use answering::answer_book;
-pub use answering::line_refusal::Refusal;
-pub use book_writing::{WriteBookError, push_book};
-pub use error::BookFault;
-pub use laws::node_books::books_say_what_nodes_answered;
-pub use laws::text_verdicts::{
-    each_text_of_books_has_one_verdict, texts_of_books_are_read_in_one_way,
-};
-pub use laws::{books_determine_nodes, lines_are_read_in_one_way};
-pub use next_line::event_line::{MAX_LINE, event_of};
-pub use next_line::first_line::FirstLine;
-pub use ra_history::TimedNode;
-pub use text_settling::settle_error::{SettleTextError, TextCause};
-pub use text_settling::{SettledText, settle_text};
+pub use book::Book;
+pub use book::event::{BookEvent, BookKind, Events};
+pub use book::event_check::event_refusal;
+pub use book::event_effect::Posted;
+pub use book::grant::Grant;
+pub use book::kept_events::clock_after;
+pub use book::sent::{Frames, Sent};
+pub use book::stop::Stop;
+pub use error::{BookError, MarkLostError, SettleError};
+pub use laws::settled_fairness::settled_runs_are_fair;
+pub use laws::settling_with_copies::books_settle_with_copies;
+pub use laws::timed_histories::timed_nodes_have_histories;
+pub use laws::{histories_are_determined, histories_go_on};
+pub use ra_node::NewError;
+pub use settle_books::copies::settle_with_copies;
+pub use settle_books::event_merge::step_of;
+pub use settle_books::receipts::was_sent;
+pub use settle_books::settled::Settled;
+pub use settle_books::{is_cluster, settle};
+pub use timed_node::TimedNode;

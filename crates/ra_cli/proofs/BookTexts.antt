@@ -4,9 +4,9 @@ use Rattle.std.proofs.lemmas.List.{append-nil}
 use Rattle.std.proofs.lemmas.List.Concat.{flat_map-append}
 use Rattle.std.specs.List.{AllZip}
 use Rattle.std.specs.Prelude.{flat_map}
-use Rattle.ra_history.specs.Book.{BookState}
-use Rattle.ra_book.specs.Book.{lines_text}
-use Rattle.ra_book.specs.Written.{AddsLines, IsWrittenBook}
+use Rattle.ra_book.specs.Book.{BookState}
+use Rattle.ra_book_text.specs.Book.{lines_text}
+use Rattle.ra_book_text.specs.Written.{AddsLines, IsWrittenBook}
 use Rattle.ra_cli.specs.ClusterRun.{AreWrittenBooks}
 
 zip_push : (written : List (List (List ℕ))) (books : List BookState) (lines : List (List ℕ)) (book : BookState) → AllZip IsWrittenBook written books

@@ -8,7 +8,7 @@ use Rattle.ra_cluster.specs.declared.cluster_run.ClusterError.{ClusterError}
 use Rattle.ra_cluster.specs.declared.cluster_run.ClusterError.TheVariants as cluster
 use Rattle.ra_schedule.specs.LockOrder.{IsOutOfOrder, IsUnreleased}
 use Rattle.ra_cli.specs.ClusterRun.{IsClusterRun, RunsCluster, RefusesRun, MayRun, SaysScript, of_cluster}
-use Rattle.ra_task.specs.declared.cluster_output.ClusterOutput.{ClusterOutput}
+use Rattle.ra_arguments.specs.declared.cluster_output.ClusterOutput.{ClusterOutput}
 
 -- a fact on the known bytes leads to another one
 pub of_known : (old : Option (List ℕ)) (P Q : List ℕ → Type 0) → ((input : List ℕ) → P input → Q input) → IfSome old P → IfSome old Q

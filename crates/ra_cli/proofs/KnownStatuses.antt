@@ -1,14 +1,14 @@
 -- Which statuses a command may have, and what was written with status 2.
 use Rattle.std.proofs.Common.{◌≡◌, ◌⊎◌, ℕ, ◌≤◌, List, Option, Ok, Err, codes, subst, inl, inr, arith}
 use Rattle.std.specs.Io.KnownBytes.{Appends}
-use Rattle.ra_book.specs.declared.error.BookFault.TheVariants as book
+use Rattle.ra_book_text.specs.declared.error.BookFault.TheVariants as book
 use Rattle.ra_cli.specs.declared.error.SettleFault.TheVariants as settle
-use Rattle.ra_task.specs.declared.command.Command.{Command}
-use Rattle.ra_task.specs.declared.command.Command.TheVariants.{Node, Settle, Task, Unknown}
-use Rattle.ra_task.specs.declared.command_line.CommandFault.{CommandFault}
-use Rattle.ra_task.specs.declared.command_line.Task.{Task as AskedTask}
-use Rattle.ra_task.specs.declared.command_line.Task.TheVariants as task
-use Rattle.ra_task.specs.declared.settle_arguments.SettleTask.{SettleTask}
+use Rattle.ra_arguments.specs.declared.command.Command.{Command}
+use Rattle.ra_arguments.specs.declared.command.Command.TheVariants.{Node, Settle, Task, Unknown}
+use Rattle.ra_arguments.specs.declared.command_line.CommandFault.{CommandFault}
+use Rattle.ra_arguments.specs.declared.command_line.Task.{Task as AskedTask}
+use Rattle.ra_arguments.specs.declared.command_line.Task.TheVariants as task
+use Rattle.ra_arguments.specs.declared.settle_arguments.SettleTask.{SettleTask}
 use Rattle.ra_cli.specs.declared.refusal_lines.CommandRefusal.TheVariants as refusal
 use Rattle.ra_cli.specs.Commands.{DoesCommand}
 use Rattle.ra_cli.specs.NodeRun.{ServesNode}

@@ -3,8 +3,8 @@ use Rattle.std.proofs.Common.{◌≡◌, ◌⊎◌, ℕ, zero, suc, ◌≤◌, L
 use Rattle.std.proofs.KnownBytes.{Appends-trans}
 use Rattle.std.proofs.lemmas.List.{append-nil}
 use Rattle.std.specs.Io.KnownBytes.{Appends}
-use Rattle.ra_book.specs.Book.{IsOwed, IsWritten}
-use Rattle.ra_book.specs.declared.error.BookFault.TheVariants.{Read, Write}
+use Rattle.ra_book_text.specs.Book.{IsOwed, IsWritten}
+use Rattle.ra_book_text.specs.declared.error.BookFault.TheVariants.{Read, Write}
 use Rattle.ra_cli.specs.declared.refusal_lines.CommandRefusal.TheVariants.{Node}
 use Rattle.ra_cli.specs.NodeRun.{ServesNode}
 use Rattle.ra_cli.specs.Refusals.{IsOfWriter}

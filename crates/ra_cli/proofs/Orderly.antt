@@ -26,16 +26,16 @@ use Rattle.ra_script.specs.declared.error.ScriptError.{ScriptError}
 use Rattle.ra_script.specs.Finding.{IsFirstUnwritten, NoneEndsSo}
 use Rattle.ra_script.specs.Performed.{RefusesAs, IsPerformedAs, IsOrderly, Unwritten}
 use Rattle.ra_script.specs.ScriptText.{script_of}
-use Rattle.ra_task.specs.declared.command_line.PolicyName.{PolicyName}
-use Rattle.ra_task.specs.declared.command_line.PolicyName.TheVariants.{Oldest, Newest, Seeded, Faulty, Listed}
-use Rattle.ra_task.specs.declared.command_line.Task.{Task}
-use Rattle.ra_task.specs.declared.command_line.Task.TheVariants as task
-use Rattle.ra_task.specs.declared.command_line.search.Search.{Search}
-use Rattle.ra_task.specs.declared.command_line.search.SurveyTask.{SurveyTask}
+use Rattle.ra_arguments.specs.declared.command_line.PolicyName.{PolicyName}
+use Rattle.ra_arguments.specs.declared.command_line.PolicyName.TheVariants.{Oldest, Newest, Seeded, Faulty, Listed}
+use Rattle.ra_arguments.specs.declared.command_line.Task.{Task}
+use Rattle.ra_arguments.specs.declared.command_line.Task.TheVariants as task
+use Rattle.ra_arguments.specs.declared.command_line.search.Search.{Search}
+use Rattle.ra_arguments.specs.declared.command_line.search.SurveyTask.{SurveyTask}
 use Rattle.ra_cli.specs.declared.refusal_lines.CommandRefusal.{CommandRefusal}
 use Rattle.ra_cli.specs.declared.refusal_lines.CommandRefusal.TheVariants as refusal
-use Rattle.ra_task.specs.Finishing.{HasNoChoices, IsFaithful, RunsFaithfully}
-use Rattle.ra_task.specs.Named.{IsNamed}
+use Rattle.ra_arguments.specs.Finishing.{HasNoChoices, IsFaithful, RunsFaithfully}
+use Rattle.ra_arguments.specs.Named.{IsNamed}
 use Rattle.ra_cli.specs.Refusals.{IsOfReader, IsOfWriter, choices_word, perform_word, refused_line, run_word, word_of}
 use Rattle.ra_cli.specs.Surveyed.{IsFound, IsSurveyed, RefusesSurvey, none_found_is_success}
 use Rattle.ra_cli.specs.Tasks.{Does, IsCauseFor, IsLeftBy}

@@ -10,9 +10,9 @@ use Rattle.ra_draw.specs.Drawing.{IsDrawable, IsInput, IsOfPart, IsPicture, IsUn
 use Rattle.ra_cli.specs.Pictures.{Attempts, IsOfKind, SaysWhyNot, Shows}
 use Rattle.ra_cli.specs.InputOutput.{StopsBefore}
 use Rattle.ra_cli.specs.Tasks.{IsCutBy, IsPrintedBy}
-use Rattle.ra_task.specs.declared.command_line.Task.TheVariants as task
+use Rattle.ra_arguments.specs.declared.command_line.Task.TheVariants as task
 use Rattle.ra_cli.specs.declared.commands.draw_command.Denial.{Denial}
-use Rattle.ra_task.specs.declared.command_line.input_kind.InputKind.{InputKind}
+use Rattle.ra_arguments.specs.declared.command_line.input_kind.InputKind.{InputKind}
 
 pub same_input : (input taken : List ℕ) (new : Option (List ℕ)) → IsInput (Some input) new taken → input ≡ taken
 same_input input taken None h = absurd h.reads.taken

@@ -7,7 +7,7 @@ use Rattle.ra_text.specs.declared.error.ReadFault.TheVariants as read
 use Rattle.ra_cli.specs.InputOutput.{StopsBefore}
 use Rattle.ra_cli.specs.declared.error.SettleFault.{SettleFault}
 use Rattle.ra_cli.specs.declared.error.SettleFault.TheVariants as fault
-use Rattle.ra_task.specs.declared.settle_arguments.SettleTask.{SettleTask}
+use Rattle.ra_arguments.specs.declared.settle_arguments.SettleTask.{SettleTask}
 use Rattle.ra_cli.specs.declared.refusal_lines.CommandRefusal.TheVariants.{Settle}
 use Rattle.ra_cli.specs.Refusals.{IsOfWriter, refused_line, settle_word}
 use Rattle.ra_cli.specs.SettleRun.{Contradicts, ReadsBooks, RefusesBooks, ServesSettle, Settles, TellsSettled, of_unread}

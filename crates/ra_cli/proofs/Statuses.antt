@@ -3,9 +3,9 @@ use Rattle.std.proofs.Common.{◌≡◌, ◌⊎◌, ℕ, zero, suc, ◌≤◌, L
 use Rattle.std.specs.Io.KnownBytes.{Appends}
 use Rattle.ra_script.specs.declared.error.PerformError.{PerformError}
 use Rattle.ra_draw.specs.declared.error.DrawError.{DrawError}
-use Rattle.ra_book.specs.declared.error.BookFault.{BookFault}
+use Rattle.ra_book_text.specs.declared.error.BookFault.{BookFault}
 use Rattle.ra_trace.specs.declared.error.TraceError.{TraceError}
-use Rattle.ra_task.specs.declared.command_line.CommandFault.{CommandFault}
+use Rattle.ra_arguments.specs.declared.command_line.CommandFault.{CommandFault}
 use Rattle.ra_cli.specs.declared.error.AnswerError.{AnswerError}
 use Rattle.ra_cli.specs.declared.error.RunScriptError.{RunScriptError}
 use Rattle.ra_cli.specs.declared.error.SettleFault.{SettleFault}

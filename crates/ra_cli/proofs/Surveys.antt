@@ -12,7 +12,7 @@ use Rattle.ra_script.specs.ScriptText.{script_of}
 use Rattle.ra_cluster.specs.declared.cluster_run.ClusterError.{ClusterError}
 use Rattle.ra_cli.specs.declared.error.RunScriptError.{RunScriptError}
 use Rattle.ra_cli.specs.declared.error.RunScriptError.TheVariants as fault
-use Rattle.ra_task.specs.declared.command_line.search.SurveyTask.{SurveyTask}
+use Rattle.ra_arguments.specs.declared.command_line.search.SurveyTask.{SurveyTask}
 use Rattle.ra_cli.specs.ClusterRun.{RefusesRun, of_choices}
 use Rattle.ra_cli.specs.Surveyed.{AllFinished, FoundHasNoWords, IsSurveyed, IsTold, RefusesSurvey, SurveysBy, survey_text}
 use Rattle.ra_cli.proofs.ClusterRuns.{of_known}

@@ -12,10 +12,10 @@ use Rattle.ra_script.specs.Performed.{IsPerformedAs}
 use Rattle.ra_draw.specs.declared.error.DrawError.{DrawError}
 use Rattle.ra_draw.specs.declared.error.DrawError.TheVariants as draw
 use Rattle.ra_text.specs.declared.drawn_part.Part.{Part}
-use Rattle.ra_task.specs.Named.{IsNamed}
-use Rattle.ra_task.specs.declared.command_line.PolicyName.{PolicyName}
-use Rattle.ra_task.specs.declared.command_line.Task.TheVariants as task
-use Rattle.ra_task.specs.declared.command_line.input_kind.InputKind.{InputKind}
+use Rattle.ra_arguments.specs.Named.{IsNamed}
+use Rattle.ra_arguments.specs.declared.command_line.PolicyName.{PolicyName}
+use Rattle.ra_arguments.specs.declared.command_line.Task.TheVariants as task
+use Rattle.ra_arguments.specs.declared.command_line.input_kind.InputKind.{InputKind}
 use Rattle.ra_cli.specs.declared.error.AnswerError.{AnswerError}
 use Rattle.ra_cli.specs.declared.error.AnswerError.TheVariants as answer
 use Rattle.ra_cli.specs.Answer.{IsAnswered, Refuses}

@@ -2,7 +2,7 @@
 use Rattle.std.proofs.Common.{◌≡◌, ℕ, ◌⊎◌, List, Option, subst, sym, inl, inr}
 use Rattle.std.specs.Prelude.{IfSome}
 use Rattle.std.specs.Io.KnownBytes.{Appends}
-use Rattle.ra_task.specs.declared.command_line.Task.{Task}
+use Rattle.ra_arguments.specs.declared.command_line.Task.{Task}
 use Rattle.ra_cli.specs.declared.refusal_lines.CommandRefusal.{CommandRefusal}
 use Rattle.ra_cli.specs.InputOutput.{BreaksOff}
 use Rattle.ra_cli.specs.Refusals.{IsOfReader, IsOfWriter, refused_line, word_of}

@@ -18,12 +18,12 @@ use Rattle.ra_cluster.specs.declared.cluster_run.ClusterError.{ClusterError}
 use Rattle.ra_cluster.specs.declared.cluster_run.ClusterError.TheVariants as cluster
 use Rattle.ra_schedule.specs.LockOrder.{IsOutOfOrder, IsUnreleased}
 use Rattle.ra_cluster.specs.Outcome.{IsRecord}
-use Rattle.ra_history.specs.declared.settle_books.settled.Settled.{Settled}
-use Rattle.ra_history.specs.Book.{BookState}
-use Rattle.ra_book.specs.Book.{lines_text}
-use Rattle.ra_book.specs.Written.{IsWrittenBook}
-use Rattle.ra_task.specs.declared.cluster_output.ClusterOutput.{ClusterOutput}
-use Rattle.ra_task.specs.declared.cluster_output.ClusterOutput.TheVariants.{Lines, Trace, Books}
+use Rattle.ra_book.specs.declared.settle_books.settled.Settled.{Settled}
+use Rattle.ra_book.specs.Book.{BookState}
+use Rattle.ra_book_text.specs.Book.{lines_text}
+use Rattle.ra_book_text.specs.Written.{IsWrittenBook}
+use Rattle.ra_arguments.specs.declared.cluster_output.ClusterOutput.{ClusterOutput}
+use Rattle.ra_arguments.specs.declared.cluster_output.ClusterOutput.TheVariants.{Lines, Trace, Books}
 use Rattle.ra_cli.specs.declared.error.RunScriptError.{RunScriptError}
 use Rattle.ra_cli.specs.declared.error.RunScriptError.TheVariants as fault
 

@@ -2,11 +2,11 @@
 use Rattle.std.specs.Prelude.{◌≡◌, ◌≢◌, ⊤, ℕ, List, Option, None, string_bytes}
 use Rattle.ra_stamp.specs.Member.{IsMember}
 use Rattle.ra_schedule.specs.ChoicesText.{choices_of}
-use Rattle.ra_task.specs.Asked.{Asks}
-use Rattle.ra_task.specs.declared.cluster_output.ClusterOutput.{ClusterOutput}
-use Rattle.ra_task.specs.declared.command.Command.{Command}
-use Rattle.ra_task.specs.declared.command.Command.TheVariants.{Node, Settle, Task, Unknown}
-use Rattle.ra_task.specs.declared.command_line.Task.TheVariants as task
+use Rattle.ra_arguments.specs.Asked.{Asks}
+use Rattle.ra_arguments.specs.declared.cluster_output.ClusterOutput.{ClusterOutput}
+use Rattle.ra_arguments.specs.declared.command.Command.{Command}
+use Rattle.ra_arguments.specs.declared.command.Command.TheVariants.{Node, Settle, Task, Unknown}
+use Rattle.ra_arguments.specs.declared.command_line.Task.TheVariants as task
 use Rattle.ra_cli.specs.NodeRun.{ServesNode}
 use Rattle.ra_cli.specs.Refusals.{command_word, refused_line}
 use Rattle.ra_cli.specs.SettleRun.{ServesSettle}

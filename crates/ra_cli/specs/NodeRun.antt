@@ -1,9 +1,9 @@
 -- What `ra node` reads and writes, and its exit status.
 use Rattle.std.specs.Prelude.{◌≡◌, ℕ, List, ◌++◌, Option, Result, Ok, Err, codes}
 use Rattle.std.specs.Io.KnownBytes.{Appends}
-use Rattle.ra_book.specs.Book.{IsOwed}
-use Rattle.ra_book.specs.declared.error.BookFault.{BookFault}
-use Rattle.ra_book.specs.declared.error.BookFault.TheVariants.{Line, Read, Write}
+use Rattle.ra_book_text.specs.Book.{IsOwed}
+use Rattle.ra_book_text.specs.declared.error.BookFault.{BookFault}
+use Rattle.ra_book_text.specs.declared.error.BookFault.TheVariants.{Line, Read, Write}
 
 -- the status, by how the book ended: at the end of the input, at a line that is no first line, or by a fault of the
 -- reader or the writer

@@ -14,8 +14,8 @@ use Rattle.ra_draw.specs.Drawing.{IsDrawable, IsInput, IsOfPart, IsPicture, IsUn
 use Rattle.ra_cli.specs.Checks.{verdict_text, marks_verdict_text}
 use Rattle.ra_cli.specs.InputOutput.{StopsBefore}
 use Rattle.ra_cli.specs.declared.commands.draw_command.Denial.{Denial}
-use Rattle.ra_task.specs.declared.command_line.input_kind.InputKind.{InputKind}
-use Rattle.ra_task.specs.declared.command_line.input_kind.InputKind.TheVariants.{Trace, Marks}
+use Rattle.ra_arguments.specs.declared.command_line.input_kind.InputKind.{InputKind}
+use Rattle.ra_arguments.specs.declared.command_line.input_kind.InputKind.TheVariants.{Trace, Marks}
 
 -- the input is of this kind: the trace of a run, or the log of a run of the lock table
 abbrev pub IsOfKind : InputKind → (input : List ℕ) → Type 0

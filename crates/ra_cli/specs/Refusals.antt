@@ -7,8 +7,8 @@ use Rattle.ra_schedule.specs.declared.error.DriveError.{DriveError}
 use Rattle.ra_schedule.specs.declared.error.DriveError.TheVariants as drive
 use Rattle.ra_cluster.specs.declared.cluster_run.ClusterError.{ClusterError}
 use Rattle.ra_cluster.specs.declared.cluster_run.ClusterError.TheVariants as cluster
-use Rattle.ra_task.specs.declared.command_line.CommandFault.{CommandFault}
-use Rattle.ra_task.specs.declared.command_line.CommandFault.TheVariants as command
+use Rattle.ra_arguments.specs.declared.command_line.CommandFault.{CommandFault}
+use Rattle.ra_arguments.specs.declared.command_line.CommandFault.TheVariants as command
 use Rattle.ra_cli.specs.declared.error.AnswerError.{AnswerError}
 use Rattle.ra_cli.specs.declared.error.AnswerError.TheVariants as answer
 use Rattle.ra_schedule.specs.declared.error.ChoicesError.{ChoicesError}
@@ -23,8 +23,8 @@ use Rattle.ra_cli.specs.declared.error.RunScriptError.{RunScriptError}
 use Rattle.ra_cli.specs.declared.error.RunScriptError.TheVariants as run
 use Rattle.ra_cli.specs.declared.error.SettleFault.{SettleFault}
 use Rattle.ra_cli.specs.declared.error.SettleFault.TheVariants as settle
-use Rattle.ra_book.specs.declared.error.BookFault.{BookFault}
-use Rattle.ra_book.specs.declared.error.BookFault.TheVariants as book
+use Rattle.ra_book_text.specs.declared.error.BookFault.{BookFault}
+use Rattle.ra_book_text.specs.declared.error.BookFault.TheVariants as book
 use Rattle.ra_cli.specs.declared.refusal_lines.CommandRefusal.{CommandRefusal}
 use Rattle.ra_cli.specs.declared.refusal_lines.CommandRefusal.TheVariants.{Command, Answer, Choices, Perform, Check, Draw, Cluster, Survey, Settle, Node}
 

@@ -5,17 +5,17 @@ use Rattle.ra_text.specs.Lines.{field}
 use Rattle.ra_world.specs.Lines.{report_text}
 use Rattle.ra_world.specs.Traffic.{Move}
 use Rattle.ra_trace.specs.TraceText.{IsTrace}
-use Rattle.ra_book.specs.declared.text_settling.settle_error.TextCause.{TextCause}
-use Rattle.ra_book.specs.declared.text_settling.settle_error.TextCause.TheVariants as cause
-use Rattle.ra_book.specs.declared.text_settling.SettledText.{SettledText}
-use Rattle.ra_book.specs.Verdicts.{IsSettledText, IsWrong}
+use Rattle.ra_book_text.specs.declared.text_settling.settle_error.TextCause.{TextCause}
+use Rattle.ra_book_text.specs.declared.text_settling.settle_error.TextCause.TheVariants as cause
+use Rattle.ra_book_text.specs.declared.text_settling.SettledText.{SettledText}
+use Rattle.ra_book_text.specs.Verdicts.{IsSettledText, IsWrong}
 use Rattle.ra_text.specs.declared.error.ReadFault.{ReadFault}
 use Rattle.ra_text.specs.declared.error.ReadFault.TheVariants as read
 use Rattle.ra_cli.specs.declared.error.SettleFault.{SettleFault}
 use Rattle.ra_cli.specs.declared.error.SettleFault.TheVariants as fault
-use Rattle.ra_task.specs.declared.settle_arguments.SettleOutput.{SettleOutput}
-use Rattle.ra_task.specs.declared.settle_arguments.SettleOutput.TheVariants.{Lines, Trace}
-use Rattle.ra_task.specs.declared.settle_arguments.SettleTask.{SettleTask}
+use Rattle.ra_arguments.specs.declared.settle_arguments.SettleOutput.{SettleOutput}
+use Rattle.ra_arguments.specs.declared.settle_arguments.SettleOutput.TheVariants.{Lines, Trace}
+use Rattle.ra_arguments.specs.declared.settle_arguments.SettleTask.{SettleTask}
 use Rattle.ra_cli.specs.InputOutput.{StopsBefore}
 use Rattle.ra_cli.specs.Refusals.{refused_line, settle_word}
 

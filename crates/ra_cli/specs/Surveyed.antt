@@ -14,8 +14,8 @@ use Rattle.ra_script.specs.Performed.{turn_limit}
 use Rattle.ra_script.specs.ScriptText.{script_of}
 use Rattle.ra_cli.specs.declared.error.RunScriptError.{RunScriptError}
 use Rattle.ra_cli.specs.declared.error.RunScriptError.TheVariants as fault
-use Rattle.ra_task.specs.declared.command_line.search.Search.{Search}
-use Rattle.ra_task.specs.declared.command_line.search.SurveyTask.{SurveyTask}
+use Rattle.ra_arguments.specs.declared.command_line.search.Search.{Search}
+use Rattle.ra_arguments.specs.declared.command_line.search.SurveyTask.{SurveyTask}
 
 -- the line of an end: how many seeds came to it, and the first of them; no line if no seed did
 abbrev pub tally_line : List ℕ → Option Tally → List ℕ

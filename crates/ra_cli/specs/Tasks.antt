@@ -25,18 +25,18 @@ use Rattle.ra_cli.specs.Checks.{Checks, ChecksMarks, RefusesCheck, RefusesCheckO
 use Rattle.ra_cli.specs.ClusterRun.{IsClusterRun, RunsCluster, RefusesRun}
 use Rattle.ra_cli.specs.InputOutput.{BreaksOff, OfInput, StopsBefore}
 use Rattle.ra_cli.specs.Performs.{PerformsBy}
-use Rattle.ra_task.specs.Named.{IsNamed}
+use Rattle.ra_arguments.specs.Named.{IsNamed}
 use Rattle.ra_cli.specs.Pictures.{IsDrawing, IsNotDrawn, RefusesPart, Shows}
 use Rattle.ra_cli.specs.Refusals.{IsOfReader, IsOfWriter, refused_line, word_of}
 use Rattle.ra_cli.specs.Surveyed.{IsTold, SurveysBy, RefusesSurvey}
-use Rattle.ra_task.specs.declared.command_line.PolicyName.{PolicyName}
-use Rattle.ra_task.specs.declared.command_line.Task.{Task}
-use Rattle.ra_task.specs.declared.command_line.Task.TheVariants as task
+use Rattle.ra_arguments.specs.declared.command_line.PolicyName.{PolicyName}
+use Rattle.ra_arguments.specs.declared.command_line.Task.{Task}
+use Rattle.ra_arguments.specs.declared.command_line.Task.TheVariants as task
 use Rattle.ra_cli.specs.declared.error.AnswerError.{AnswerError}
 use Rattle.ra_cli.specs.declared.error.AnswerError.TheVariants as answer
 use Rattle.ra_cli.specs.declared.error.RunScriptError.{RunScriptError}
 use Rattle.ra_cli.specs.declared.error.RunScriptError.TheVariants as run
-use Rattle.ra_task.specs.declared.command_line.input_kind.InputKind.{InputKind}
+use Rattle.ra_arguments.specs.declared.command_line.input_kind.InputKind.{InputKind}
 use Rattle.ra_cli.specs.declared.refusal_lines.CommandRefusal.{CommandRefusal}
 use Rattle.ra_cli.specs.declared.refusal_lines.CommandRefusal.TheVariants as refusal
 

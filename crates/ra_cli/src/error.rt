@@ -19,7 +19,7 @@ pub enum AnswerError {
     BadNode,
     /// The reader failed.
     Read,
-    /// There are more than [`ra_book::MAX_LINE`] bytes before a line feed, or bytes after it.
+    /// There are more than [`ra_book_text::MAX_LINE`] bytes before a line feed, or bytes after it.
     Line,
     /// The line is no even number of hexadecimal digits.
     Hex,

@@ -1,7 +1,7 @@
 ghost use Rattle.std.specs.Prelude.{List, ℕ, IfSome, IfNone};
 ghost use Rattle.ra_cli.specs.Line.{IsLine};
 
-use ra_book::MAX_LINE;
+use ra_book_text::MAX_LINE;
 use ra_text::cut;
 
 /// Returns the input's one line without its line feed, or `None` if the input is no line. It does not allocate.

@@ -5,12 +5,12 @@ ghost use Rattle.ra_cli.specs.Refusals as spec;
 
 use crate::AnswerError;
 use crate::error::{RunScriptError, SettleFault};
-use ra_book::BookFault;
+use ra_arguments::CommandFault;
+use ra_book_text::BookFault;
 use ra_cluster::ClusterError;
 use ra_draw::DrawError;
 use ra_schedule::{ChoicesError, DriveError};
 use ra_script::{PerformError, ScriptError};
-use ra_task::CommandFault;
 use ra_trace::TraceError;
 
 /// Why a command was not done.

@@ -1,6 +1,6 @@
 //! What there is to say to a person of what came of a command.
 use crate::refusal_lines::CommandRefusal;
-use ra_book::TextCause;
+use ra_book_text::TextCause;
 use ra_stamp::Mark;
 use ra_trace::{Cause, MarkCause};
 

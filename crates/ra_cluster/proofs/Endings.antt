@@ -9,17 +9,17 @@ use Rattle.ra_world.specs.World.{Reports}
 use Rattle.ra_world.specs.MainTheorem.{MainTheorem}
 use Rattle.ra_cluster.specs.declared.cluster_run.ClusterError.{ClusterError}
 use Rattle.ra_cluster.specs.declared.cluster_run.ClusterError.TheVariants.{OutOfOrder, Unreleased, Fault, Settle, PlanUnmet, Lost, UnderWay, Memory}
-use Rattle.ra_history.specs.declared.error.SettleError.{SettleError}
-use Rattle.ra_history.specs.declared.error.SettleError.TheVariants as settling
-use Rattle.ra_history.specs.declared.book.grant.Grant.{Grant}
-use Rattle.ra_history.specs.declared.settle_books.settled.Settled.{Settled}
-use Rattle.ra_history.specs.declared.book.stop.Stop.{Stop}
-use Rattle.ra_history.specs.Book.{BookState}
+use Rattle.ra_book.specs.declared.error.SettleError.{SettleError}
+use Rattle.ra_book.specs.declared.error.SettleError.TheVariants as settling
+use Rattle.ra_book.specs.declared.book.grant.Grant.{Grant}
+use Rattle.ra_book.specs.declared.settle_books.settled.Settled.{Settled}
+use Rattle.ra_book.specs.declared.book.stop.Stop.{Stop}
+use Rattle.ra_book.specs.Book.{BookState}
 use Rattle.ra_cluster.specs.Plan.{MeetsPlan, IsQuietEnd}
-use Rattle.ra_history.specs.Settled.{IsSettledOrder, IsSettledRun, Placed, IsGranted, BooksFit, HasUnsent, HasTwice, Repeats, settled_steps, start_of}
+use Rattle.ra_book.specs.Settled.{IsSettledOrder, IsSettledRun, Placed, IsGranted, BooksFit, HasUnsent, HasTwice, Repeats, settled_steps, start_of}
 use Rattle.ra_cluster.specs.Outcome.{first_fault, AreOf, AreSound, ChecksScript, IsOutcome, IsDone, IsOfThreads, RefusesReport, RefusesSound}
-use Rattle.ra_history.proofs.Causes.{not_all, not_apart}
-use Rattle.ra_history.proofs.SettledReport.{from_zero}
+use Rattle.ra_book.proofs.Causes.{not_all, not_apart}
+use Rattle.ra_book.proofs.SettledReport.{from_zero}
 use Rattle.ra_cluster.proofs.LockCounts.{waits_for_none, requests_are_locks, messages_are}
 
 -- ---- Refusals

@@ -20,18 +20,18 @@ use Rattle.ra_world.specs.MainTheorem.{IsQuietReport}
 use Rattle.ra_world.proofs.Moves.{at_node, fits_split}
 use Rattle.ra_schedule.specs.Orderly.{HoldsName, WaitsForName, IsInOrder, TakeNamesInOrder}
 use Rattle.ra_schedule.specs.Orderly as any
-use Rattle.ra_history.specs.declared.book.event.BookEvent.{BookEvent}
-use Rattle.ra_history.specs.declared.book.event.BookKind.{BookKind}
-use Rattle.ra_history.specs.declared.book.event.BookKind.TheVariants.{Asked, Gave, Got}
-use Rattle.ra_history.specs.declared.book.sent.Sent.{Sent}
-use Rattle.ra_history.specs.History.{IsHistory, node_event}
-use Rattle.ra_history.specs.Book.{BookState, whole_events, HasHistory, LeadsTo}
-use Rattle.ra_history.specs.Settled.{IsCluster, IsSettledRun, start_of}
+use Rattle.ra_book.specs.declared.book.event.BookEvent.{BookEvent}
+use Rattle.ra_book.specs.declared.book.event.BookKind.{BookKind}
+use Rattle.ra_book.specs.declared.book.event.BookKind.TheVariants.{Asked, Gave, Got}
+use Rattle.ra_book.specs.declared.book.sent.Sent.{Sent}
+use Rattle.ra_book.specs.History.{IsHistory, node_event}
+use Rattle.ra_book.specs.Book.{BookState, whole_events, HasHistory, LeadsTo}
+use Rattle.ra_book.specs.Settled.{IsCluster, IsSettledRun, start_of}
 use Rattle.ra_cluster.specs.Progress.{TakesNamesInOrder, SomeoneCanGoOn, IsHeldInOrder}
-use Rattle.ra_history.proofs.Merging.{number_at}
-use Rattle.ra_history.proofs.NodeMarks.{Fit, history_by}
-use Rattle.ra_history.proofs.Whole.{whole_history, whole_events_are, whole_leads}
-use Rattle.ra_history.proofs.SettledNodes.{nobody, book_at, few, book_ends}
+use Rattle.ra_book.proofs.Merging.{number_at}
+use Rattle.ra_book.proofs.NodeMarks.{Fit, history_by}
+use Rattle.ra_book.proofs.Whole.{whole_history, whole_events_are, whole_leads}
+use Rattle.ra_book.proofs.SettledNodes.{nobody, book_at, few, book_ends}
 
 -- what the law rests on
 pub record GoingOnLaws : Type 0 where

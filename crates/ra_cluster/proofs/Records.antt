@@ -6,12 +6,12 @@ use Rattle.std.proofs.lemmas.List.{length-append}
 use Rattle.std.proofs.lemmas.List.Elements.{All-cons, All-nil}
 use Rattle.std.proofs.lemmas.List.Sorted.{length_permutation}
 use Rattle.ra_schedule.specs.Script.{ScriptState}
-use Rattle.ra_history.specs.declared.book.grant.Grant.{Grant}
-use Rattle.ra_history.specs.declared.book.sent.Sent.{Sent}
-use Rattle.ra_history.specs.declared.settle_books.settled.Settled.{Settled}
-use Rattle.ra_history.specs.declared.book.stop.Stop.{Stop}
-use Rattle.ra_history.specs.Book.{BookState, HasHistory}
-use Rattle.ra_history.specs.Settled.{all_lost, lost_among}
+use Rattle.ra_book.specs.declared.book.grant.Grant.{Grant}
+use Rattle.ra_book.specs.declared.book.sent.Sent.{Sent}
+use Rattle.ra_book.specs.declared.settle_books.settled.Settled.{Settled}
+use Rattle.ra_book.specs.declared.book.stop.Stop.{Stop}
+use Rattle.ra_book.specs.Book.{BookState, HasHistory}
+use Rattle.ra_book.specs.Settled.{all_lost, lost_among}
 use Rattle.ra_cluster.specs.declared.cluster_run.ClusterError.{ClusterError}
 use Rattle.ra_cluster.specs.declared.cluster_run.ClusterError.TheVariants.{Fault}
 use Rattle.ra_cluster.specs.Outcome.{first_fault, fault_or, IsDone, IsOutcome, IsRecord}

@@ -9,12 +9,12 @@ use Rattle.ra_world.specs.World.{Reports}
 use Rattle.ra_world.specs.MainTheorem.{MainTheorem}
 use Rattle.ra_cluster.specs.declared.cluster_run.ClusterError.{ClusterError}
 use Rattle.ra_cluster.specs.declared.cluster_run.ClusterError.TheVariants.{OutOfOrder, Unreleased, Fault, Settle, PlanUnmet, Lost, UnderWay, Memory}
-use Rattle.ra_history.specs.declared.book.grant.Grant.{Grant}
-use Rattle.ra_history.specs.declared.settle_books.settled.Settled.{Settled}
-use Rattle.ra_history.specs.declared.book.stop.Stop.{Stop}
-use Rattle.ra_history.specs.Book.{BookState, HasHistory}
+use Rattle.ra_book.specs.declared.book.grant.Grant.{Grant}
+use Rattle.ra_book.specs.declared.settle_books.settled.Settled.{Settled}
+use Rattle.ra_book.specs.declared.book.stop.Stop.{Stop}
+use Rattle.ra_book.specs.Book.{BookState, HasHistory}
 use Rattle.ra_cluster.specs.Plan.{MeetsPlan, IsQuietEnd, locks_of}
-use Rattle.ra_history.specs.Settled.{IsCluster, IsSettledOrder, IsSettledRun, Placed, IsGranted, BooksFit, HasUnsent, settled_steps}
+use Rattle.ra_book.specs.Settled.{IsCluster, IsSettledOrder, IsSettledRun, Placed, IsGranted, BooksFit, HasUnsent, settled_steps}
 
 -- the first fault, or the other one if the first does not exist
 abbrev pub fault_or : Option Stop → Option Stop → Option Stop

@@ -5,10 +5,10 @@ use Rattle.ra_node.specs.Node.{NodeState, opening_node}
 use Rattle.ra_node.specs.Events.{Happening, NodeEvents}
 use Rattle.ra_schedule.specs.LockOrder.{IsBelow}
 use Rattle.ra_schedule.specs.Orderly.{HoldsName, WaitsForName, IsInOrder}
-use Rattle.ra_history.specs.declared.book.event.BookEvent.{BookEvent}
-use Rattle.ra_history.specs.declared.book.event.BookKind.TheVariants.{Asked}
-use Rattle.ra_history.specs.History.{node_event}
-use Rattle.ra_history.specs.Book.{BookState, whole_events, LeadsTo}
+use Rattle.ra_book.specs.declared.book.event.BookEvent.{BookEvent}
+use Rattle.ra_book.specs.declared.book.event.BookKind.TheVariants.{Asked}
+use Rattle.ra_book.specs.History.{node_event}
+use Rattle.ra_book.specs.Book.{BookState, whole_events, LeadsTo}
 
 -- the node of this book was this node after these events
 abbrev pub WasAfter : BookState → List BookEvent → NodeState → Type 0

@@ -1,5 +1,5 @@
 ghost use Rattle.std.specs.Prelude.{◌≡◌, All, IfOk};
-ghost use Rattle.ra_history.specs.Book.{HasHistory};
+ghost use Rattle.ra_book.specs.Book.{HasHistory};
 ghost use Rattle.ra_cluster.specs.Outcome.{ChecksScript, IsDone, IsRecord};
 
 use crate::script_threads::{ScriptRun, run_threads};

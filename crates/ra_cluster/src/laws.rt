@@ -7,11 +7,11 @@ ghost use Rattle.ra_world.specs.MainTheorem.{IsQuietReport};
 ghost use Rattle.ra_world.specs.Traffic.{Move};
 ghost use Rattle.ra_world.specs.World.{Reports};
 ghost use Rattle.ra_schedule.specs.Orderly.{WaitsForName};
-ghost use Rattle.ra_history.specs.Book.{BookState, HasHistory, LeadsTo};
-ghost use Rattle.ra_history.specs.Settled.{IsCluster, IsSettledRun, start_of};
+ghost use Rattle.ra_book.specs.Book.{BookState, HasHistory, LeadsTo};
+ghost use Rattle.ra_book.specs.Settled.{IsCluster, IsSettledRun, start_of};
 ghost use Rattle.ra_cluster.specs.Progress.{TakesNamesInOrder, SomeoneCanGoOn, IsHeldInOrder};
 
-use ra_history::histories_are_determined;
+use ra_book::histories_are_determined;
 use ra_schedule::clients_in_order_never_deadlock;
 
 /// Clients of threads never deadlock if each takes names in ascending order, one at a time. Suppose that the report of a

@@ -14,7 +14,7 @@ mod settled_script;
 
 pub use cluster_run::{ClusterError, Recorded, record_cluster, run_cluster};
 pub use laws::clients_of_settled_books_never_deadlock;
-pub use ra_history::{
+pub use ra_book::{
     Book, BookError, BookEvent, BookKind, Events, Frames, Grant, MarkLostError, NewError, Posted,
     Sent, SettleError, Settled, Stop, clock_after, histories_are_determined, histories_go_on,
     is_cluster, settle,

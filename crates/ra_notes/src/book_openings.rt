@@ -1,5 +1,5 @@
 //! The first lines of the books of a text.
-use ra_book::FirstLine;
+use ra_book_text::FirstLine;
 use ra_stamp::Member;
 use ra_text::cut;
 

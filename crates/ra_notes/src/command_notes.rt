@@ -6,11 +6,11 @@ use crate::note_texts::{
 use crate::notice::{NO_MEMORY, Notice, write_line};
 use crate::recording_writer::OutputFault;
 use crate::usage_notes::{is_choice, usage_note};
+use ra_arguments::{Command, CommandFault, Task, UsageFault};
 use ra_draw::DrawError;
 use ra_explain::{end_note, push_number_in, push_numbered};
 use ra_schedule::{ChoicesError, DriveError};
 use ra_script::PerformError;
-use ra_task::{Command, CommandFault, Task, UsageFault};
 use ra_text::Note;
 use ra_trace::TraceError;
 use std::alloc::Global;

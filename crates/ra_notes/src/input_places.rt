@@ -8,14 +8,14 @@ use crate::script_notes::choosing::choices_note;
 use crate::script_notes::order_note::order_note;
 use crate::script_notes::script_fault::script_note;
 use crate::settle_notes::unsettled_note;
-use ra_book::TextCause;
+use ra_arguments::{Command, PolicyName, Task, policy_of, text_of};
+use ra_book_text::TextCause;
 use ra_cluster::ClusterError;
 use ra_explain::{LineCause, Unanswered, digits_note, frame_note, line_note, unanswered_note};
 use ra_frame::FrameError;
 use ra_schedule::{Policy, chance};
 use ra_script::PerformError;
 use ra_stamp::{Mark, Memory};
-use ra_task::{Command, PolicyName, Task, policy_of, text_of};
 use ra_trace::{Cause, MarkCause, check_buffered_with_due};
 use std::alloc::Global;
 

@@ -1,5 +1,5 @@
 //! What notes are made of, besides what came of the command.
-use ra_task::{Command, Task, UsageFault};
+use ra_arguments::{Command, Task, UsageFault};
 
 /// What notes are made of, besides what came of the command.
 #[derive(Clone, Copy)]

@@ -1,6 +1,6 @@
 //! The texts of notes that depend on neither the words nor what the input says.
 use crate::notice::NO_MEMORY;
-use ra_book::TextCause;
+use ra_book_text::TextCause;
 use ra_cluster::{ClusterError, Stop};
 use ra_trace::{Cause, MarkCause};
 

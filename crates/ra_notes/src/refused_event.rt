@@ -1,8 +1,8 @@
 //! Why the node of a book does not take a line.
 use crate::book_openings::Opening;
-use ra_book::{Refusal, TimedNode, event_of};
+use ra_book::{BookError, BookKind};
+use ra_book_text::{Refusal, TimedNode, event_of};
 use ra_explain::{Reached, Stage};
-use ra_history::{BookError, BookKind};
 use ra_stamp::{Mark, Name};
 use ra_text::cut;
 use std::alloc::Global;

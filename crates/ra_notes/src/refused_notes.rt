@@ -1,11 +1,11 @@
 //! What is said of the line that the node of a book does not take.
 use crate::refused_event::ClientState;
-use ra_book::Refusal;
+use ra_book::BookError;
+use ra_book_text::Refusal;
 use ra_explain::{
     Stage, push_digits_fault, push_exhausted, push_frame_fault, push_numbered, push_stage,
 };
 use ra_frame::Frame;
-use ra_history::BookError;
 use ra_stamp::Member;
 use ra_text::Note;
 

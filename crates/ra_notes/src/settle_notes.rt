@@ -4,9 +4,9 @@ use crate::input_places::PlaceNote;
 use crate::note_texts::text_cause_text;
 use crate::refused_event::refused_event;
 use crate::refused_notes::push_refused;
-use ra_book::{FirstLine, TextCause, event_of};
+use ra_book::BookKind;
+use ra_book_text::{FirstLine, TextCause, event_of};
 use ra_explain::{push_number_in, push_numbered};
-use ra_history::BookKind;
 use ra_text::{Note, cut};
 use std::alloc::Global;
 

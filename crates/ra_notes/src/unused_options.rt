@@ -1,6 +1,6 @@
 //! Options of `sim` that are given but have no effect.
 use crate::notice::write_line;
-use ra_task::{DEFAULT_POLICY, sim_options, text_of};
+use ra_arguments::{DEFAULT_POLICY, sim_options, text_of};
 use std::io::Write;
 
 /// Returns whether an argument is the option of a name, or the option, `=` and its value. It does not allocate.

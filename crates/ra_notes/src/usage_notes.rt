@@ -2,8 +2,8 @@
 use crate::notice::Notice;
 use clap::Error as ParseError;
 use clap::error::ErrorKind;
+use ra_arguments::{UsageCause, UsageFault, command_named, text_of, values_of};
 use ra_schedule::read_choices;
-use ra_task::{UsageCause, UsageFault, command_named, text_of, values_of};
 use ra_text::Note;
 use std::alloc::Global;
 

@@ -1,6 +1,6 @@
 //! What the user at a terminal is told that a command waits for.
 use crate::notice::write_line;
-use ra_task::{Command, InputKind, Task};
+use ra_arguments::{Command, InputKind, Task};
 use std::io::Write;
 
 /// Tells the user at a terminal what the command waits for, and how it is given, if it reads something. It does not

@@ -13,14 +13,14 @@ use Rattle.ra_frame.specs.declared.frame.Frame.{Frame}
 use Rattle.ra_node.specs.Node.{NodeState, opening_node, IsConsistentNode}
 use Rattle.ra_node.specs.Events.{Event, Happening, name_of_event, NodeEvent, NodeEvents, IsForThisNode, AreForThisNode}
 use Rattle.ra_node.specs.Carried.{IsMark}
-use Rattle.ra_history.specs.declared.book.event.BookEvent.{BookEvent}
-use Rattle.ra_history.specs.declared.book.event.BookKind.{BookKind}
-use Rattle.ra_history.specs.declared.book.grant.Grant.{Grant}
-use Rattle.ra_history.specs.declared.book.sent.Sent.{Sent}
-use Rattle.ra_history.specs.History.{IsHistory, Posting, happening_of, node_event, frames_of}
-use Rattle.ra_history.specs.Book.{BookState, HasHistory, Adds, with_event, next_clock, whole_events, as_sent}
-use Rattle.ra_history.specs.Settled.{HasMark, marks_in}
-use Rattle.ra_history.proofs.NodeMarks.{for_next}
+use Rattle.ra_book.specs.declared.book.event.BookEvent.{BookEvent}
+use Rattle.ra_book.specs.declared.book.event.BookKind.{BookKind}
+use Rattle.ra_book.specs.declared.book.grant.Grant.{Grant}
+use Rattle.ra_book.specs.declared.book.sent.Sent.{Sent}
+use Rattle.ra_book.specs.History.{IsHistory, Posting, happening_of, node_event, frames_of}
+use Rattle.ra_book.specs.Book.{BookState, HasHistory, Adds, with_event, next_clock, whole_events, as_sent}
+use Rattle.ra_book.specs.Settled.{HasMark, marks_in}
+use Rattle.ra_book.proofs.NodeMarks.{for_next}
 use Rattle.ra_site.specs.ClientGrant.{Gives, Giver, WasGiven}
 
 -- what the law rests on

@@ -7,8 +7,8 @@ use Rattle.std.proofs.lemmas.List.{nil_from_length, length-append, map-append, l
 use Rattle.std.proofs.lemmas.List.Elements.{All-append, All-nil, All-cons}
 use Rattle.std.proofs.lemmas.List.FromFn.{length-range_with_len, get_or-range_with_len}
 use borrow.Author.Tests.{ltb-true}
-use Rattle.ra_history.specs.Book.{BookState, IsWhole, HasHistory}
-use Rattle.ra_history.specs.Settled.{IsCluster, start_of}
+use Rattle.ra_book.specs.Book.{BookState, IsWhole, HasHistory}
+use Rattle.ra_book.specs.Settled.{IsCluster, start_of}
 use Rattle.ra_site.specs.Cluster.{ClusterState}
 use Rattle.ra_site.specs.Sites.{SiteState, site_at, sites_to}
 

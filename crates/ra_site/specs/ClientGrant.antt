@@ -4,9 +4,9 @@ use Rattle.ra_stamp.specs.declared.mode.Mode.{Mode}
 use Rattle.ra_stamp.specs.declared.entry.Mark.{Mark}
 use Rattle.ra_stamp.specs.declared.entry.Mark.TheVariants.{Entered}
 use Rattle.ra_frame.specs.declared.frame.Frame.{Frame}
-use Rattle.ra_history.specs.declared.book.event.BookKind.{BookKind}
-use Rattle.ra_history.specs.declared.book.grant.Grant.{Grant}
-use Rattle.ra_history.specs.Book.{BookState, HasHistory, Adds}
+use Rattle.ra_book.specs.declared.book.event.BookKind.{BookKind}
+use Rattle.ra_book.specs.declared.book.grant.Grant.{Grant}
+use Rattle.ra_book.specs.Book.{BookState, HasHistory, Adds}
 
 -- a grant of this name in this mode, to this client of this node
 pub record IsGrantOf (node client : ℕ) (name : List ℕ) (mode : Mode) (grant : Grant) : Type 0 where

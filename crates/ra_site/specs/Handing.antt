@@ -1,9 +1,9 @@
 -- What a site hands over: the events of its node since the ones before, and the frames that were lost since then.
 use Rattle.std.specs.Prelude.{◌≡◌, ℕ, true, false, List, [], Result, IsErrOf}
 use Rattle.ra_frame.specs.declared.frame.Frame.{Frame}
-use Rattle.ra_history.specs.declared.book.event.BookEvent.{BookEvent}
-use Rattle.ra_history.specs.History.{clock_of}
-use Rattle.ra_history.specs.Book.{BookState, HasHistory}
+use Rattle.ra_book.specs.declared.book.event.BookEvent.{BookEvent}
+use Rattle.ra_book.specs.History.{clock_of}
+use Rattle.ra_book.specs.Book.{BookState, HasHistory}
 use Rattle.ra_site.specs.declared.site.take_error.TakeError.{TakeError}
 use Rattle.ra_site.specs.declared.site.take_error.TakeError.TheVariants.{NoNode, NotNext}
 use Rattle.ra_site.specs.Losses.{lost_frames}

@@ -1,7 +1,7 @@
 -- The sites of a cluster as contracts see them.
 use Rattle.std.specs.Prelude.{◌≡◌, ℕ, ◌≤◌, Bool, List, length, map}
 use Rattle.std.specs.List.{range_with_len}
-use Rattle.ra_history.specs.Book.{BookState, HasHistory, IsWhole}
+use Rattle.ra_book.specs.Book.{BookState, HasHistory, IsWhole}
 
 -- the number of the site's node, and whether an auditor takes what happens at it
 pub record SiteState : Type 0 where

@@ -1,11 +1,11 @@
 -- For which cause all nodes are stopped after a call of a site was refused.
 use Rattle.std.specs.Prelude.{Option, Some, None}
-use Rattle.ra_history.specs.declared.error.BookError.{BookError}
-use Rattle.ra_history.specs.declared.error.BookError.TheVariants as book
+use Rattle.ra_book.specs.declared.error.BookError.{BookError}
+use Rattle.ra_book.specs.declared.error.BookError.TheVariants as book
 use Rattle.ra_site.specs.declared.site.SiteError.{SiteError}
 use Rattle.ra_site.specs.declared.site.SiteError.TheVariants.{Refused, Stopped}
-use Rattle.ra_history.specs.declared.book.stop.Stop.{Stop}
-use Rattle.ra_history.specs.declared.book.stop.Stop.TheVariants as stop
+use Rattle.ra_book.specs.declared.book.stop.Stop.{Stop}
+use Rattle.ra_book.specs.declared.book.stop.Stop.TheVariants as stop
 
 -- The cause for which all nodes are stopped after a book's refusal, or None if the book has a fault already. A refusal
 -- that no thread of a cluster should meet is Refused.

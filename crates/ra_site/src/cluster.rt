@@ -100,8 +100,8 @@ impl<G> Model for Cluster<G> {
 }
 
 impl<G: Gate + Drop> Cluster<G> {
-    ghost use Rattle.ra_history.specs.Book.{HasHistory};
-    ghost use Rattle.ra_history.specs.Settled.{IsCluster, start_of};
+    ghost use Rattle.ra_book.specs.Book.{HasHistory};
+    ghost use Rattle.ra_book.specs.Settled.{IsCluster, start_of};
     ghost use Rattle.ra_site.specs.ClientGrant.{IsGrantOf, WasGiven};
     ghost use Rattle.ra_site.specs.Cluster.{MakesCluster};
     ghost use Rattle.ra_site.specs.Sites.{AreSitesWith, site_at};

@@ -1,11 +1,11 @@
 //! What is true of the grants of a site. The function does nothing, and its contract is the law.
 ghost use Rattle.std.specs.Prelude.{◌≡◌};
 ghost use Rattle.ra_stamp.specs.declared.entry.Mark.TheVariants.{Entered};
-ghost use Rattle.ra_history.specs.declared.book.grant.Grant.{Grant};
-ghost use Rattle.ra_history.specs.Settled.{HasMark};
+ghost use Rattle.ra_book.specs.declared.book.grant.Grant.{Grant};
+ghost use Rattle.ra_book.specs.Settled.{HasMark};
 ghost use Rattle.ra_site.specs.ClientGrant.{Giver};
 
-use ra_history::histories_are_determined;
+use ra_book::histories_are_determined;
 use ra_node::{
     events_are_determined, events_go_on, events_keep_a_node_consistent,
     histories_keep_a_node_consistent,

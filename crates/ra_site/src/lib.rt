@@ -30,7 +30,7 @@ pub use cluster::gate::{Gate, OpenGate};
 pub use cluster::{CallError, Cluster, Held};
 pub use laws::given_grants_are_in_books;
 pub use post::{Inbox, NewPostError, Post, SendError};
-pub use ra_history::{
+pub use ra_book::{
     Book, BookError, BookEvent, BookKind, Events, Frames, Grant, MarkLostError, NewError, Posted,
     Sent, SettleError, Settled, Stop, clock_after, histories_are_determined, histories_go_on,
     is_cluster, settle,

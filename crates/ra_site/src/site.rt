@@ -96,7 +96,7 @@ impl Model for Site {
 
 impl Site {
     ghost use Rattle.ra_automaton.specs.Members.{ChecksMember};
-    ghost use Rattle.ra_history.specs.Book.{HasHistory};
+    ghost use Rattle.ra_book.specs.Book.{HasHistory};
     ghost use Rattle.ra_site.specs.ClientGrant.{IsGrantOf, WasGiven};
     ghost use Rattle.ra_site.specs.Handing.{IsHandedOver, OnlyTurnOrMemory};
     ghost use Rattle.ra_site.specs.Sites.{AreSitesWith, IsWholeBookOf, site_at};

@@ -1,4 +1,4 @@
-/// Which text is made of a run. It is here because a command line asks for one in `ra_task`, and `ra_script` makes it: neither uses
+/// Which text is made of a run. It is here because a command line asks for one in `ra_arguments`, and `ra_script` makes it: neither uses
 /// the other.
 #[derive(Clone, Copy)]
 pub enum OutputKind {

@@ -1,4 +1,4 @@
-//! Tests of `ra_trace`, `ra_draw`, `ra_script`, `ra_explain`, `ra_book` and `ra_notes` through their public calls, of
+//! Tests of `ra_trace`, `ra_draw`, `ra_script`, `ra_explain`, `ra_book_text` and `ra_notes` through their public calls, of
 //! what no command shows. The tables of `cases/` have what commands print.
 #![tactic(auto)]
 

@@ -2,9 +2,9 @@
 //! sent them. The contracts of most calls are long, so tests make them by these functions, which have none.
 use crate::kept_books::history_asserting::{assert_same, fail_at};
 use crate::kept_books::history_values::node;
+use ra_book::{Book, Stop};
 use ra_cluster::{CallError, Cluster, Inbox, OpenGate, Post, SendError, Site, is_site_of};
 use ra_frame::Frame;
-use ra_history::{Book, Stop};
 use ra_stamp::{Mode, NodeId};
 use std::alloc::Global;
 use std::process::Abort;

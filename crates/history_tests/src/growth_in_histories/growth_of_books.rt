@@ -4,7 +4,7 @@ use crate::kept_books::book_steps::Call::{Ask, Receive};
 use crate::kept_books::book_steps::{ASK, ASKS, Call, LEAVE, REPLIES, counts_of, refusal};
 use crate::kept_books::history_asserting::assert_same;
 use crate::kept_books::history_values::new_book;
-use ra_history::{Book, BookError};
+use ra_book::{Book, BookError};
 use ra_stamp::Mode;
 use std::alloc::Global;
 use std::process::Abort;

@@ -7,7 +7,7 @@ use crate::kept_books::histories::{
 };
 use crate::kept_books::history_asserting::assert_same;
 use crate::kept_books::history_values::settled;
-use ra_history::{Book, BookError, Grant, SettleError, Settled};
+use ra_book::{Book, BookError, Grant, SettleError, Settled};
 use ra_stamp::{Memory, Mode};
 use std::alloc::Global;
 use std::process::Abort;

@@ -8,8 +8,8 @@ use Step::{
     RefusesToLose, Takes, WasSent,
 };
 use Wire::{Asks, Replies};
+use ra_book::{Book, BookError, BookEvent, BookKind, MarkLostError, Posted, Sent, Stop};
 use ra_frame::Frame;
-use ra_history::{Book, BookError, BookEvent, BookKind, MarkLostError, Posted, Sent, Stop};
 use ra_stamp::{Entry, Mark, Mode};
 use std::alloc::Global;
 use std::process::Abort;

@@ -11,8 +11,8 @@ use Step::{
     RefusesToLose, Takes, WasSent,
 };
 use Wire::{Asks, Replies};
+use ra_book::{BookError, MarkLostError, NewError, Stop};
 use ra_frame::FrameError;
-use ra_history::{BookError, MarkLostError, NewError, Stop};
 use ra_stamp::Mode;
 use std::process::Abort;
 use test_support::{assert_prints, assert_words, row};

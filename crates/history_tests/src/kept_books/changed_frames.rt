@@ -4,8 +4,8 @@ use crate::kept_books::book_steps::Call::Receive;
 use crate::kept_books::book_steps::{ASK, ASKS, ASKS_1, counts_of, refusal};
 use crate::kept_books::histories::{TWO_OF_THREE, new_books};
 use crate::kept_books::history_asserting::{assert_same, fail_at};
+use ra_book::{Book, BookError};
 use ra_frame::FrameError;
-use ra_history::{Book, BookError};
 use std::process::Abort;
 use test_support::{At, r};
 

@@ -1,6 +1,6 @@
 //! Books, and values that are in them, as several files of tests use them.
+use ra_book::{Book, Grant, NewError, SettleError, Settled, is_cluster, settle};
 use ra_frame::{Frame, encode};
-use ra_history::{Book, Grant, NewError, SettleError, Settled, is_cluster, settle};
 use ra_stamp::{Entry, Message, Mode, NodeId};
 use ra_trace::Line;
 use ra_world::Step;

@@ -10,7 +10,7 @@ use crate::kept_books::history_asserting::{assert_same, fail_at};
 use crate::kept_books::history_values::{settled, step_of};
 use Mode::{Exclusive, Shared};
 use Outcome::{Refused, Settles};
-use ra_history::{Book, Grant, SettleError, Settled, is_cluster};
+use ra_book::{Book, Grant, SettleError, Settled, is_cluster};
 use ra_stamp::Mode;
 use ra_world::{Report, Step, report_text};
 use std::alloc::Global;

@@ -1,7 +1,7 @@
 //! Of the messages under way, the clocks of the events that sent them.
 ghost use Rattle.std.specs.Prelude.{◌≡◌, ◌≢◌, ◌↔◌, ◌<◌, ◌∷◌, [], ℕ, All, Contains, None, Some, length, map, slice_index_or, IfOk, IsTrue, IsFalse, OnOk};
 ghost use Rattle.indexmap.specs.IndexMap.{get};
-ghost use Rattle.ra_history.specs.Settled.{frames_in};
+ghost use Rattle.ra_book.specs.Settled.{frames_in};
 ghost use Rattle.ra_audit.specs.AuditKeeping.{HasClock, NoneFlies, FliesOn, FliesAfter, AreNoted, NotesSome, IsIn, IsNotedIn, AreApart, slot_of, kind_of};
 
 use indexmap::IndexMap;

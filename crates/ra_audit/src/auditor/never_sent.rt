@@ -1,10 +1,10 @@
 //! Frames that came and were never sent, found while the nodes go on.
 ghost use Rattle.std.specs.Prelude.{◌≡◌, ◌<◌, ◌≤◌, ℕ, false, map, All, Some, IfOk, IfSome, IsNone, IsTrue, MatchOption, slice_get, slice_index_or};
 ghost use Rattle.std.specs.List.{range_with_len};
-ghost use Rattle.ra_history.specs.History.{clock_of};
+ghost use Rattle.ra_book.specs.History.{clock_of};
 ghost use Rattle.ra_frame.specs.declared.frame.Frame.{Frame};
-ghost use Rattle.ra_history.specs.declared.book.event.BookEvent.{BookEvent};
-ghost use Rattle.ra_history.specs.declared.book.event.BookKind.{BookKind};
+ghost use Rattle.ra_book.specs.declared.book.event.BookEvent.{BookEvent};
+ghost use Rattle.ra_book.specs.declared.book.event.BookKind.{BookKind};
 ghost use Rattle.ra_audit.specs.Audit.{NoneIsReady, IsReady, IsDue, MayCome, MayComeFrom, MayBePut, IsUnsent, clocks_taken};
 ghost use Rattle.ra_audit.specs.AuditKeeping.{HasNone, IsOfNone};
 

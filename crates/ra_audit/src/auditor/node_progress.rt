@@ -1,7 +1,7 @@
 //! How far the events of a node are in the run of an auditor.
 ghost use Rattle.std.specs.Prelude.{◌≡◌, ◌≢◌, ◌↔◌, ◌<◌, ◌∷◌, ◌++◌, true, [], List, Some, length, slice_get, IsTrue, IsErrOf, IfSome, OnOk, OnErr, MatchOption};
-ghost use Rattle.ra_history.specs.History.{clock_of, clock_from};
-ghost use Rattle.ra_history.specs.declared.book.event.BookEvent.{BookEvent};
+ghost use Rattle.ra_book.specs.History.{clock_of, clock_from};
+ghost use Rattle.ra_book.specs.declared.book.event.BookEvent.{BookEvent};
 ghost use Rattle.ra_frame.specs.declared.frame.Frame.{Frame};
 ghost use Rattle.ra_site.specs.Handing.{IsLeftOfBook};
 ghost use Rattle.ra_site.specs.Sites.{site_at};

@@ -7,7 +7,7 @@ ghost use Rattle.ra_frame.specs.FrameText.{IsWrittenText};
 ghost use Rattle.ra_cli.specs.Answer.{Carries, IsUnwanted, Reacts, AreLines, IsAnswered, Refuses};
 ghost use Rattle.ra_cli.specs.AnswerCall.{ComesTo, IsOfInput, of_receive};
 ghost use Rattle.ra_automaton.specs.State.{IsForNode};
-ghost use Rattle.ra_task.specs.declared.command_line.Task.{Task};
+ghost use Rattle.ra_arguments.specs.declared.command_line.Task.{Task};
 ghost use Rattle.ra_cli.specs.Tasks.{Does};
 
 use crate::AnswerError;
@@ -16,7 +16,7 @@ use crate::output::{ALL_DONE, CommandOutcome, refuse};
 use crate::refusal_lines::CommandRefusal;
 use hex::FromHexError;
 use ra_automaton::{Automaton, Reaction, ReceiveError};
-use ra_book::MAX_LINE;
+use ra_book_text::MAX_LINE;
 use ra_frame::{Frame, MAX_FRAME, decode, encoded};
 use ra_stamp::{Member, Memory, Message, Messages, NodeCount};
 use ra_text::{read_up_to, write_out};

@@ -1,6 +1,6 @@
 //! The command `check`, for traces and for mark logs.
 ghost use Rattle.std.specs.Prelude.{◌≡◌, ◌⊎◌, true, false};
-ghost use Rattle.ra_task.specs.declared.command_line.Task.{Task};
+ghost use Rattle.ra_arguments.specs.declared.command_line.Task.{Task};
 ghost use Rattle.ra_cli.specs.Checks.{is_run, is_valid};
 ghost use Rattle.ra_cli.specs.Tasks.{Does};
 

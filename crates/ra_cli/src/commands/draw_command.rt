@@ -2,17 +2,17 @@
 ghost use Rattle.std.specs.Prelude.{◌≡◌, Ok, IfOk, IfErr, MatchOption};
 ghost use Rattle.ra_cli.specs.Pictures.{Attempts};
 ghost use Rattle.ra_cli.specs.Tasks.{Does};
-ghost use Rattle.ra_task.specs.declared.command_line.Task.{Task};
-ghost use Rattle.ra_task.specs.declared.command_line.input_kind.InputKind.{InputKind};
+ghost use Rattle.ra_arguments.specs.declared.command_line.Task.{Task};
+ghost use Rattle.ra_arguments.specs.declared.command_line.input_kind.InputKind.{InputKind};
 
 use crate::commands::marks_verdict_lines::marks_verdict_text;
 use crate::commands::verdict_lines::verdict_text;
 use crate::output::{ALL_DONE, CommandOutcome, UNFINISHED, print_text, refuse};
 use crate::refusal_lines::CommandRefusal;
 use crate::remark::Remark;
+use ra_arguments::InputKind;
 use ra_draw::{DrawError, Part, draw, draw_marks};
 use ra_stamp::Memory;
-use ra_task::InputKind;
 use ra_trace::{MarksVerdict, Verdict};
 use std::alloc::Global;
 use std::io::{Read, Write};

@@ -5,7 +5,7 @@ ghost use Rattle.ra_cli.specs.NodeRun.{ServesNode};
 use crate::output::{ALL_DONE, CommandOutcome, REFUSED, refuse};
 use crate::refusal_lines::CommandRefusal;
 use crate::remark::Remark;
-use ra_book::{BookFault, answer_book};
+use ra_book_text::{BookFault, answer_book};
 use std::alloc::Global;
 use std::io::{BufRead, Write};
 

@@ -1,7 +1,7 @@
 //! The command `settle`.
 ghost use Rattle.std.specs.Prelude.{◌≡◌, List, ℕ, string_bytes, IfOk};
-ghost use Rattle.ra_book.specs.Verdicts.{IsSettledText, IsUnsettled};
-ghost use Rattle.ra_task.specs.declared.settle_arguments.SettleTask.{SettleTask};
+ghost use Rattle.ra_book_text.specs.Verdicts.{IsSettledText, IsUnsettled};
+ghost use Rattle.ra_arguments.specs.declared.settle_arguments.SettleTask.{SettleTask};
 ghost use Rattle.ra_cli.specs.SettleRun as spec;
 ghost use Rattle.ra_cli.specs.SettleRun.{Prints, ServesSettle, TellsSettled};
 
@@ -11,9 +11,9 @@ use crate::error::SettleFault;
 use crate::output::{ALL_DONE, CommandOutcome, UNFINISHED, print_text, refuse};
 use crate::refusal_lines::CommandRefusal;
 use crate::remark::Remark;
-use ra_book::{SettleTextError, SettledText, TextCause, settle_text};
+use ra_arguments::{SettleOutput, SettleTask};
+use ra_book_text::{SettleTextError, SettledText, TextCause, settle_text};
 use ra_stamp::Memory;
-use ra_task::{SettleOutput, SettleTask};
 use ra_text::read_up_to;
 use ra_world::report_text;
 use std::alloc::Global;

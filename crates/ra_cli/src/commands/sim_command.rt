@@ -1,13 +1,13 @@
 //! The command `sim`, under one policy.
 ghost use Rattle.std.specs.Prelude.{◌≡◌, None};
 ghost use Rattle.ra_schedule.specs.ChoicesText.{choices_of};
-ghost use Rattle.ra_task.specs.declared.command_line.Task.{Task};
+ghost use Rattle.ra_arguments.specs.declared.command_line.Task.{Task};
 ghost use Rattle.ra_cli.specs.Tasks.{Does};
 
 use crate::output::{ALL_DONE, CommandOutcome, LEFT_UNFINISHED, refuse};
 use crate::refusal_lines::CommandRefusal;
+use ra_arguments::{PolicyName, policy_of};
 use ra_script::perform_as;
-use ra_task::{PolicyName, policy_of};
 use ra_text::OutputKind;
 use std::alloc::Global;
 use std::io::{Read, Write};

@@ -7,7 +7,7 @@ ghost use Rattle.ra_cli.specs.InputOutput.{ReadsInput};
 ghost use Rattle.ra_cli.specs.Surveyed.{AllFinished, FoundHasNoWords, IsFound, IsSurveyed, IsTold, RefusesSurvey};
 ghost use Rattle.ra_cli.specs.Surveyed as spec;
 ghost use Rattle.ra_cli.specs.Tasks.{Does};
-ghost use Rattle.ra_task.specs.declared.command_line.Task.{Task};
+ghost use Rattle.ra_arguments.specs.declared.command_line.Task.{Task};
 
 use crate::commands::script_input::script_from;
 use crate::commands::survey_text::survey_text;
@@ -15,10 +15,10 @@ use crate::error::RunScriptError;
 use crate::output::{ALL_DONE, CommandOutcome, UNFINISHED, print_text, refuse};
 use crate::refusal_lines::CommandRefusal;
 use crate::remark::Remark;
+use ra_arguments::{Search, SurveyTask};
 use ra_schedule::{ChoicesError, Ending, Observer, Script, Survey, survey};
 use ra_script::{MAX_TURNS, Printed, find_run};
 use ra_stamp::Memory;
-use ra_task::{Search, SurveyTask};
 use std::alloc::Global;
 use std::io::{Read, Write};
 

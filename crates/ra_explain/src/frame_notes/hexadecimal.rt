@@ -4,7 +4,7 @@ use ra_stamp::Memory;
 use ra_text::{Note, cut};
 use std::alloc::Global;
 
-/// The most bytes that a line may have, without its line feed: as many as `MAX_LINE` of `ra_book`, which this crate does not see.
+/// The most bytes that a line may have, without its line feed: as many as `MAX_LINE` of `ra_book_text`, which this crate does not see.
 const MAX_LINE: usize = 256;
 
 /// Adds why the bytes of a line, after this many others, are not an even number of hexadecimal digits: which byte is not

@@ -2,9 +2,9 @@
 ghost use Rattle.std.specs.Prelude.{◌≡◌, ◌≢◌, ◌↔◌, ◌⊎◌, ◌<◌, false, [], All, Contains, IfOk, IfSome, IsErrOf, OnErr, OnOk, vec_len, vec_capacity};
 ghost use Rattle.std.specs.Option.{ForSome};
 ghost use Rattle.ra_frame.specs.Fits.{Fits};
-ghost use Rattle.ra_history.specs.History.{clock_of};
-ghost use Rattle.ra_history.specs.Book.{with_all_taken, IsFirst, Loses};
-ghost use Rattle.ra_history.specs.declared.book.grant.Grant as granted;
+ghost use Rattle.ra_book.specs.History.{clock_of};
+ghost use Rattle.ra_book.specs.Book.{with_all_taken, IsFirst, Loses};
+ghost use Rattle.ra_book.specs.declared.book.grant.Grant as granted;
 ghost use Rattle.ra_stamp.specs.declared.entry.Mark as mark;
 ghost use Rattle.ra_site.specs.ClientGrant.{Gives, WasGiven};
 ghost use Rattle.ra_site.specs.Handing.{IsAllLeft, OnlyTurnOrMemory};

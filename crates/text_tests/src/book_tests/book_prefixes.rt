@@ -2,7 +2,7 @@
 use crate::shared_texts::Part::Text;
 use crate::shared_texts::adds_parts;
 use crate::text_asserting::assert_same;
-use ra_book::{BookFault, answer_book};
+use ra_book_text::{BookFault, answer_book};
 use std::io::{BufRead, ErrorKind};
 use std::process::Abort;
 use test_support::{FailingReader, row};

@@ -1,7 +1,7 @@
 //! Writers that fail, and what is written before more input is waited for.
 use crate::text_asserting::assert_same;
 use crate::trace_tests::traced_steps::assert_left;
-use ra_book::{BookFault, answer_book};
+use ra_book_text::{BookFault, answer_book};
 use std::alloc::Global;
 use std::cell::Cell;
 use std::io;

@@ -1,8 +1,8 @@
 //! Books as they are written.
 use crate::shared_texts::all_kinds;
 use crate::text_asserting::assert_same;
-use ra_book::push_book;
-use ra_history::{Book, BookError};
+use ra_book::{Book, BookError};
+use ra_book_text::push_book;
 use ra_stamp::{Memory, Mode, Name};
 use std::alloc::Global;
 use std::process::Abort;

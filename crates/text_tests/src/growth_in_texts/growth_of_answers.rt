@@ -1,9 +1,9 @@
 //! If a growth is refused, the line is refused for lack of memory, nothing has changed, and the line can come again.
-ghost use Rattle.ra_history.specs.Timed.{CanCome};
+ghost use Rattle.ra_book.specs.Timed.{CanCome};
 
 use crate::text_asserting::assert_same;
-use ra_book::{TimedNode, answer_book, event_of};
-use ra_history::{BookError, BookKind};
+use ra_book::{BookError, BookKind};
+use ra_book_text::{TimedNode, answer_book, event_of};
 use ra_stamp::{Member, Memory};
 use std::io;
 use std::io::Write;

@@ -1,6 +1,6 @@
 //! If a growth is refused, books do not settle for lack of memory, and what comes of them is the same when they are read again.
 use crate::text_asserting::assert_same;
-use ra_book::{SettleTextError, SettledText, TextCause, settle_text};
+use ra_book_text::{SettleTextError, SettledText, TextCause, settle_text};
 use ra_stamp::Memory;
 use ra_trace::trace_text;
 use std::process::Abort;

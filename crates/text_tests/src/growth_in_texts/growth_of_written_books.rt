@@ -1,8 +1,8 @@
 //! If a growth is refused, a book is not written for lack of memory, and the text is as before.
 use crate::book_tests::written_books::{TEXT, fill};
 use crate::text_asserting::assert_same;
-use ra_book::{WriteBookError, push_book};
-use ra_history::Book;
+use ra_book::Book;
+use ra_book_text::{WriteBookError, push_book};
 use ra_stamp::Memory;
 use std::process::Abort;
 use test_support::{Tried, again, assert_grown, id, row};

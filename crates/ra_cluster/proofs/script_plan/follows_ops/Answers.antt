@@ -5,7 +5,7 @@ use Rattle.ra_stamp.specs.declared.entry.Entry.{Entry}
 use Rattle.ra_schedule.specs.Script.{ScriptClient, client_at}
 use Rattle.ra_cluster.specs.Plan.{marks_of_client, client_of_mark, is_request}
 use Rattle.ra_cluster.proofs.Planned.{SameLeft, skip_mark, no_operation, wrong_mark, take_mark, all_marks, of_client}
-use Rattle.ra_history.proofs.Truth.{no, none_of}
+use Rattle.ra_book.proofs.Truth.{no, none_of}
 use Rattle.ra_cluster.proofs.script_plan.follows_ops.Goals as goal
 use Rattle.ra_cluster.proofs.script_plan.follows_ops.Goals.{then-not-requested, else-not-requested}
 

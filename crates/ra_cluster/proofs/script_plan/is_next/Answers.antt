@@ -6,7 +6,7 @@ use Rattle.ra_stamp.specs.declared.mode.Mode.{Mode}
 use Rattle.ra_schedule.specs.declared.script.Op.{Op}
 use Rattle.ra_schedule.specs.declared.script.Op.TheVariants.{Lock, Unlock}
 use Rattle.ra_cluster.specs.Plan.{IsNextMark}
-use Rattle.ra_history.proofs.Truth.{no}
+use Rattle.ra_book.proofs.Truth.{no}
 use Rattle.ra_cluster.proofs.script_plan.is_next.Goals as goal
 
 -- a lock does not leave, and an unlock requests and enters nothing

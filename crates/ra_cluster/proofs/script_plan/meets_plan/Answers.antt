@@ -2,7 +2,7 @@ use Rattle.std.proofs.Common.{rules, ◌≡◌, ◌+◌, true, false, arith, bel
 use Rattle.std.proofs.lemmas.Bool.{iff_false}
 use Rattle.ra_cluster.specs.Plan.{IsFollowed}
 use Rattle.ra_cluster.proofs.Planned.{plan_met, met_followed, met_names}
-use Rattle.ra_history.proofs.Truth.{yes, no}
+use Rattle.ra_book.proofs.Truth.{yes, no}
 use Rattle.ra_cluster.proofs.script_plan.meets_plan.Goals as goal
 
 pub returns-then-not-name_clients : goal.returns-then-not-name_clients

@@ -1,6 +1,6 @@
 use Rattle.std.proofs.Common.{sym, ◌∙◌}
 use Rattle.std.proofs.lemmas.Bool.{eqb-true, iff_false}
-use Rattle.ra_history.proofs.Truth.{no}
+use Rattle.ra_book.proofs.Truth.{no}
 use Rattle.ra_cluster.proofs.settled_script.are_of.Goals as goal
 
 pub returns-then-not-is_cluster : goal.returns-then-not-is_cluster

@@ -1,5 +1,5 @@
 use Rattle.std.proofs.Common.{◌≡◌, ℕ, ◌<◌, get_or}
-use Rattle.ra_history.specs.Book.{BookState}
+use Rattle.ra_book.specs.Book.{BookState}
 use Rattle.ra_cluster.proofs.settled_script.begin_at_0.Given as goal
 
 -- the numbers of each book so far begin at 0

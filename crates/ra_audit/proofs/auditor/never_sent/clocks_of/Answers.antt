@@ -1,6 +1,6 @@
 use Rattle.std.proofs.Common.{◌≡◌, ◌+◌, [], ◌∷◌, ◌++◌, take, sym, ap, ◌∙◌}
 use Rattle.std.proofs.lemmas.List.{map_push, take_more, take_all}
-use Rattle.ra_history.specs.History.{clock_of}
+use Rattle.ra_book.specs.History.{clock_of}
 use Rattle.ra_audit.specs.Audit.{ProgressState, clocks_taken, taken_of}
 use Rattle.ra_audit.proofs.auditor.never_sent.clocks_of.Goals as goal
 

@@ -1,5 +1,5 @@
 use Rattle.std.proofs.Common.{◌≡◌, drop}
-use Rattle.ra_history.specs.History.{clock_from}
+use Rattle.ra_book.specs.History.{clock_from}
 use Rattle.ra_audit.specs.Audit.{AreNextAt}
 use Rattle.ra_audit.proofs.auditor.node_progress.latest_of.Given as goal
 

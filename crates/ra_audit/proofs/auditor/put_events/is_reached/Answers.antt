@@ -1,6 +1,6 @@
 use Rattle.std.proofs.Common.{◌≡◌, ◌+◌, arith, refl}
 use Rattle.ra_stamp.specs.Message.{from_of}
-use Rattle.ra_history.specs.declared.book.event.BookKind.TheVariants.{Got}
+use Rattle.ra_book.specs.declared.book.event.BookKind.TheVariants.{Got}
 use Rattle.ra_audit.proofs.AuditSteps.{due_of_some, due_of_none}
 use Rattle.ra_audit.proofs.auditor.put_events.is_reached.Goals as goal
 

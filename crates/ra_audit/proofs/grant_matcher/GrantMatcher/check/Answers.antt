@@ -2,7 +2,7 @@ use Rattle.std.proofs.Common.{◌≡◌, List, [], ◌∷◌, Contains, Some, Er
 use Rattle.std.specs.Prelude.{slice_get}
 use Rattle.std.proofs.lemmas.Option.{none-some, same_Some}
 use Rattle.ra_stamp.specs.declared.entry.Entry.{Entry}
-use Rattle.ra_history.specs.declared.book.grant.Grant.{Grant}
+use Rattle.ra_book.specs.declared.book.grant.Grant.{Grant}
 use Rattle.ra_audit.specs.declared.grant_matcher.GrantError.{GrantError}
 use Rattle.ra_audit.specs.declared.grant_matcher.GrantError.TheVariants.{GrantMissing}
 use Rattle.ra_audit.specs.Matching.{MatcherState, IsUnmatched}

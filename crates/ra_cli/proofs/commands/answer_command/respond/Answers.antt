@@ -1,5 +1,5 @@
 use Rattle.std.proofs.Common.{◌≡◌, Err, refl, ap}
-use Rattle.ra_task.specs.declared.command_line.Task.TheVariants as task
+use Rattle.ra_arguments.specs.declared.command_line.Task.TheVariants as task
 use Rattle.ra_cli.specs.declared.refusal_lines.CommandRefusal.TheVariants.{Answer}
 use Rattle.ra_cli.proofs.TaskLemmas.{no_node, of_answered}
 use Rattle.ra_cli.proofs.TaskStatuses.{if_done, if_refused}

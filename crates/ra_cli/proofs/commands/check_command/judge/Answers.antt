@@ -5,7 +5,7 @@ use Rattle.ra_trace.specs.Verdict.{IsVerdict}
 use Rattle.ra_trace.specs.declared.error.TraceError.{TraceError}
 use Rattle.ra_trace.specs.declared.error.TraceError.TheVariants.{Limit, Memory, Read}
 use Rattle.ra_trace.specs.Reading.{PassesLimit, ReadsOn}
-use Rattle.ra_task.specs.declared.command_line.Task.TheVariants as task
+use Rattle.ra_arguments.specs.declared.command_line.Task.TheVariants as task
 use Rattle.ra_cli.specs.Checks.{RefusesCheck, is_valid, verdict_text}
 use Rattle.ra_cli.specs.declared.refusal_lines.CommandRefusal.TheVariants.{Check}
 use Rattle.ra_cli.specs.Tasks.{IsPrintedBy}

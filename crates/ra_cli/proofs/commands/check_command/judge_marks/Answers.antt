@@ -5,7 +5,7 @@ use Rattle.ra_trace.specs.Marks.{IsMarksVerdict}
 use Rattle.ra_trace.specs.declared.error.TraceError.{TraceError}
 use Rattle.ra_trace.specs.declared.error.TraceError.TheVariants.{Limit, Memory, Read}
 use Rattle.ra_trace.specs.MarksReading.{PassesMarksLimit, ReadsOnMarks}
-use Rattle.ra_task.specs.declared.command_line.Task.TheVariants as task
+use Rattle.ra_arguments.specs.declared.command_line.Task.TheVariants as task
 use Rattle.ra_cli.specs.Checks.{RefusesCheckOfMarks, is_run, marks_verdict_text}
 use Rattle.ra_cli.specs.declared.refusal_lines.CommandRefusal.TheVariants.{Check}
 use Rattle.ra_cli.specs.Tasks.{IsPrintedBy}

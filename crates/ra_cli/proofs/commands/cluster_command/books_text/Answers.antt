@@ -1,6 +1,6 @@
 use Rattle.std.proofs.Common.{◌∷◌, [], ◌++◌, List, ap, ◌∙◌, string_bytes, subst, sym, take}
 use Rattle.std.proofs.lemmas.List.{take_all, take_more}
-use Rattle.ra_history.specs.Book.{BookState}
+use Rattle.ra_book.specs.Book.{BookState}
 use Rattle.ra_cli.specs.ClusterRun.{AreWrittenBooks}
 use Rattle.ra_cli.proofs.BookTexts.{one_more}
 use Rattle.ra_cli.proofs.commands.cluster_command.books_text.Goals as goal

@@ -1,6 +1,6 @@
 use Rattle.std.proofs.Common.{Err, ap, refl, string_bytes}
 use Rattle.std.specs.Io.KnownBytes.{Consumes}
-use Rattle.ra_task.specs.declared.command_line.Task.TheVariants as task
+use Rattle.ra_arguments.specs.declared.command_line.Task.TheVariants as task
 use Rattle.ra_cli.specs.ClusterRun.{IsClusterRun}
 use Rattle.ra_cli.specs.declared.refusal_lines.CommandRefusal.TheVariants.{Cluster}
 use Rattle.ra_cli.proofs.ClusterRuns.{of_known, runs_cluster}

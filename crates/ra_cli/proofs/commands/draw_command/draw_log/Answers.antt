@@ -1,7 +1,7 @@
 use Rattle.std.proofs.Common.{Ok, Err, ap, refl}
 use Rattle.ra_trace.specs.declared.mark_log.marks_verdict.MarksVerdict.TheVariants.{Invalid}
 use Rattle.ra_cli.specs.Checks.{marks_verdict_text as line_of}
-use Rattle.ra_task.specs.declared.command_line.input_kind.InputKind.TheVariants.{Marks}
+use Rattle.ra_arguments.specs.declared.command_line.input_kind.InputKind.TheVariants.{Marks}
 use Rattle.ra_cli.proofs.PictureLemmas.{denies, fewer, shows, refuses}
 use Rattle.ra_cli.proofs.commands.draw_command.draw_log.Goals as goal
 

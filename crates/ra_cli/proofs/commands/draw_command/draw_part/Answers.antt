@@ -1,5 +1,5 @@
 use Rattle.std.proofs.Common.{◌≡◌, List, ℕ, Option, Err, ap, refl, string_bytes, subst}
-use Rattle.ra_task.specs.declared.command_line.Task.TheVariants as task
+use Rattle.ra_arguments.specs.declared.command_line.Task.TheVariants as task
 use Rattle.ra_cli.specs.Statuses.{Writes}
 use Rattle.ra_cli.specs.declared.refusal_lines.CommandRefusal.TheVariants.{Draw}
 use Rattle.ra_cli.proofs.PictureLemmas.{of_picture, of_denied}

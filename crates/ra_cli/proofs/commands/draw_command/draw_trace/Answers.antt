@@ -1,7 +1,7 @@
 use Rattle.std.proofs.Common.{Ok, Err, ap, refl}
 use Rattle.ra_trace.specs.declared.checker.verdict.Verdict.TheVariants.{Invalid}
 use Rattle.ra_cli.specs.Checks.{verdict_text as line_of}
-use Rattle.ra_task.specs.declared.command_line.input_kind.InputKind.TheVariants.{Trace}
+use Rattle.ra_arguments.specs.declared.command_line.input_kind.InputKind.TheVariants.{Trace}
 use Rattle.ra_cli.proofs.PictureLemmas.{denies, fewer, shows, refuses}
 use Rattle.ra_cli.proofs.commands.draw_command.draw_trace.Goals as goal
 

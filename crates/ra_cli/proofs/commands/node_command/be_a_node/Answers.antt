@@ -1,5 +1,5 @@
 use Rattle.std.proofs.Common.{Ok, Err, ap, refl}
-use Rattle.ra_book.specs.declared.error.BookFault.TheVariants.{Line}
+use Rattle.ra_book_text.specs.declared.error.BookFault.TheVariants.{Line}
 use Rattle.ra_cli.proofs.NodeRuns.{failed_reader, failed_writer}
 use Rattle.ra_cli.proofs.commands.node_command.be_a_node.Goals as goal
 

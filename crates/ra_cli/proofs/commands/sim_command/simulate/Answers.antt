@@ -1,6 +1,6 @@
 use Rattle.std.proofs.Common.{◌≡◌, Err, ap, inl, inr, refl}
 use Rattle.std.proofs.lemmas.Bool.{false≢true}
-use Rattle.ra_task.specs.declared.command_line.Task.TheVariants as task
+use Rattle.ra_arguments.specs.declared.command_line.Task.TheVariants as task
 use Rattle.ra_cli.specs.declared.refusal_lines.CommandRefusal.TheVariants.{Choices, Perform}
 use Rattle.ra_cli.proofs.TaskLemmas.{choices_cause, is_some, of_performed}
 use Rattle.ra_cli.proofs.TaskStatuses.{if_done, if_left, if_refused, if_refused_at_once}

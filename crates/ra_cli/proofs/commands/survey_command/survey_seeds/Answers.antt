@@ -1,6 +1,6 @@
 use Rattle.std.proofs.Common.{◌≡◌, Err, true, false, ap, refl, string_bytes}
 use Rattle.std.specs.Io.KnownBytes.{Consumes}
-use Rattle.ra_task.specs.declared.command_line.Task.TheVariants as task
+use Rattle.ra_arguments.specs.declared.command_line.Task.TheVariants as task
 use Rattle.ra_cli.specs.declared.refusal_lines.CommandRefusal.TheVariants.{Survey}
 use Rattle.ra_cli.specs.Surveyed.{IsTold}
 use Rattle.ra_cli.specs.Tasks.{IsPrintedBy}

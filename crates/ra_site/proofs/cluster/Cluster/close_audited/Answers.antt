@@ -2,7 +2,7 @@
 use Rattle.std.proofs.Common.{[], ◌∷◌, length, ap, sym, subst, arith}
 use Rattle.std.specs.Prelude.{All}
 use Rattle.std.proofs.lemmas.List.Elements.{All-append, All-nil, All-cons}
-use Rattle.ra_history.specs.Book.{HasHistory}
+use Rattle.ra_book.specs.Book.{HasHistory}
 use Rattle.ra_site.proofs.cluster.Cluster.close_audited.Goals as goal
 
 pub loop-site-preserved : goal.loop-site-preserved

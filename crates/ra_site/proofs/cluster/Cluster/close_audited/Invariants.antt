@@ -2,7 +2,7 @@
 use Rattle.std.proofs.Common.{◌≡◌, ◌≤◌, ◌+◌, length, vec_len, vec_capacity}
 use Rattle.std.specs.Prelude.{All}
 use Rattle.std.specs.Vec.Iter.{into_iter_items, into_iter_len}
-use Rattle.ra_history.specs.Book.{HasHistory}
+use Rattle.ra_book.specs.Book.{HasHistory}
 use Rattle.ra_site.proofs.cluster.Cluster.close_audited.Given as goal
 
 abbrev pub invariant-loop-site : goal.invariant-loop-site

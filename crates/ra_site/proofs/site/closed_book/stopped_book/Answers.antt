@@ -1,5 +1,5 @@
 use Rattle.std.proofs.Common.{ap, ◌∙◌}
-use Rattle.ra_history.specs.Book.{BookState}
+use Rattle.ra_book.specs.Book.{BookState}
 use Rattle.ra_site.proofs.site.closed_book.stopped_book.Goals as goal
 
 pub returns : goal.returns

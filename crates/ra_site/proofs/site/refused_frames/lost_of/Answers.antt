@@ -2,7 +2,7 @@ use Rattle.std.proofs.Common.{◌≡◌, ℕ, zero, suc, ◌<◌, List, [], ◌�
 use Rattle.std.specs.Prelude.{slice_get}
 use Rattle.std.proofs.lemmas.List.{take_all}
 use Rattle.std.proofs.lemmas.Option.{slice_get_within, get_or_from_slice_get}
-use Rattle.ra_history.specs.declared.book.sent.Sent.{Sent}
+use Rattle.ra_book.specs.declared.book.sent.Sent.{Sent}
 use Rattle.ra_site.specs.Losses.{lost_frames}
 use Rattle.ra_site.proofs.LostFrames.{one_more_frame}
 use Rattle.ra_site.proofs.site.refused_frames.lost_of.Goals as goal

@@ -4,7 +4,7 @@ use Rattle.std.proofs.lemmas.List.{append-nil}
 use Rattle.ra_site.specs.declared.site.take_error.TakeError.{TakeError}
 use Rattle.ra_site.specs.Handing.{IsLeftOfBook}
 use Rattle.ra_site.specs.Sites.{SiteState}
-use Rattle.ra_history.specs.History.{clock_of}
+use Rattle.ra_book.specs.History.{clock_of}
 use Rattle.ra_audit.specs.Audit.{ProgressState, TakesOver, handed_over}
 use Rattle.ra_audit.specs.AuditKeeping.{LossState}
 use Rattle.ra_audit.proofs.AuditRounds.{refuses_kept, took_kept, took_no_more, asked_after, turn_or_memory}

@@ -1,5 +1,5 @@
 use Rattle.std.proofs.Common.{rules, ◌≡◌, Result, Ok, Err, sym, ◌∙◌, inl, inr}
-use Rattle.ra_history.specs.History.{clock_of}
+use Rattle.ra_book.specs.History.{clock_of}
 use Rattle.ra_site.specs.declared.site.take_error.TakeError.{TakeError}
 use Rattle.ra_site.specs.declared.site.take_error.TakeError.TheVariants.{OutOfTurn}
 use Rattle.ra_site.proofs.site.desk.Desk.hand_over.Goals as goal

@@ -1,0 +1,570 @@
+//! What the arguments of a command line ask for.
+pub mod command_rows;
+pub mod helps;
+pub mod input_kind;
+pub mod option_rows;
+pub mod search;
+
+ghost use Rattle.std.specs.Prelude.{◌≡◌, ◌↔◌, Any, IsTrue, MatchResult, Ok, map, string_bytes};
+ghost use Rattle.clap.specs.Words.{HasKind, found_of, rows_of, subcommand_rows_of};
+ghost use Rattle.ra_arguments.specs.Arguments.{IsHelpArgument};
+ghost use Rattle.ra_arguments.specs.Asked.{AsksForTask, IsArgumentsFault, IsRefusedBy, IsTaken, IsTaskFor, is_help, meaning_given, refusals};
+ghost use Rattle.ra_arguments.specs.Meanings.{answer_in, chance_of as chance_by, cluster_in, draw_in, check, ending_in, flag_in, kind_in, meaning_in, number_in, part_in, plain_number_in, policy_in, policy_named as policy_by_name, printed_by, printed_in, printing_cause, rates_in, search_by, seeds_in, sim_in, survey_by};
+
+use crate::cluster_output::ClusterOutput;
+use crate::command_line::command_rows::matches_of;
+use crate::command_line::input_kind::InputKind;
+use crate::command_line::search::{Search, SurveyTask};
+use crate::usage_fault::{ArgumentsFault, UsageCause, UsageFault};
+use clap::error::ErrorKind;
+use clap::{ArgMatches, Error as ParseError};
+use ra_schedule::{Ending, Faults, SeedRange};
+use ra_text::{OutputKind, Part};
+use std::alloc::Global;
+
+/// Which policy the arguments name.
+#[derive(Clone, Copy)]
+pub enum PolicyName {
+    Oldest,
+    Newest,
+    /// With its seed.
+    Seeded(u64),
+    /// With its seed, and how often it loses and repeats a message.
+    Faulty { seed: u64, faults: Faults },
+    Listed,
+}
+
+/// What the arguments of a command line ask for.
+#[derive(Drop)]
+pub enum Task<'a> {
+    /// The command `answer`, with its two numbers.
+    Answer {
+        node: u16,
+        nodes: u16,
+    },
+    /// The command `sim`, with its policy, the text of the choices, and what is to be printed of the run.
+    Sim {
+        policy: PolicyName,
+        choices: &'a str,
+        format: OutputKind,
+    },
+    /// The command `sim` with many seeds.
+    Survey(SurveyTask),
+    /// The command `check`.
+    Check,
+    /// The command `check --marks`.
+    CheckMarks,
+    /// The command `draw`, with what it reads, and the part that is drawn.
+    Draw {
+        kind: InputKind,
+        part: Part,
+    },
+    /// The command `cluster`, with what is to be printed of the run.
+    Cluster(ClusterOutput),
+    /// A text of help, or the version.
+    Help(String),
+}
+
+/// Why the arguments of a command line ask for nothing.
+#[derive(Clone, Copy)]
+pub enum CommandFault {
+    /// They are no command line of `ra`.
+    Usage,
+    /// Memory ran out.
+    Memory,
+}
+
+/// Returns the number of 16 bits that an option is given. It does not allocate.
+fn short_number(given: &ArgMatches, option: &str) -> Option<u16>
+    ensures { result ≡ number_in 16 option.now (rows_of (found_of given.now)) }
+{
+    given.get_one(option)
+}
+
+/// Returns the number of 16 bits that an option is given. The parser takes `-0` for 0, and this does not. It does not
+/// allocate.
+fn plain_number(given: &ArgMatches, option: &str) -> Option<u16>
+    ensures { result ≡ plain_number_in 16 option.now (rows_of (found_of given.now)) }
+{
+    let Some(text) = given.get_str(option) else {
+        return None;
+    };
+    match text.parse() {
+        Ok(number) => Some(number),
+        Err(_) => None,
+    }
+}
+
+/// Returns the number of 64 bits that an option is given. It does not allocate.
+fn long_number(given: &ArgMatches, option: &str) -> Option<u64>
+    ensures { result ≡ number_in 64 option.now (rows_of (found_of given.now)) }
+{
+    given.get_one(option)
+}
+
+/// Returns whether an option that takes nothing is given. It does not allocate.
+fn has_flag(given: &ArgMatches, option: &str) -> bool
+    ensures { result ≡ flag_in option.now (rows_of (found_of given.now)) }
+{
+    match given.get_str(option) {
+        Some(text) => text == "true",
+        None => false,
+    }
+}
+
+/// Returns the task of the command `answer`.
+///
+/// # Errors
+///
+/// 1. `Node`: the parser takes the value of `--node`, which is no number.
+/// 2. `Nodes`: the same, of `--nodes`.
+fn answer_task<'a>(given: &ArgMatches<'a>) -> Result<Task<'a>, UsageCause>
+    ensures { IsTaken (answer_in (rows_of (found_of given.now))) result }
+{
+    let Some(node) = plain_number(given, "node") else {
+        return Err(UsageCause::Node);
+    };
+    let Some(nodes) = plain_number(given, "nodes") else {
+        return Err(UsageCause::Nodes);
+    };
+    Ok(Task::Answer { node, nodes })
+}
+
+/// Returns how often messages are lost and repeated, or `None` if there are no such faults.
+fn faults_of(sim: &ArgMatches) -> Option<Faults>
+    ensures { result ≡ rates_in (rows_of (found_of sim.now)) }
+{
+    let Some(lose) = short_number(sim, "lose") else {
+        return None;
+    };
+    let Some(repeat) = short_number(sim, "repeat") else {
+        return None;
+    };
+    Faults::new(lose, repeat)
+}
+
+/// Returns the policy of a name.
+fn policy_named(seed: u64, faults: Faults, name: &str) -> Option<PolicyName>
+    ensures { result ≡ policy_by_name seed faults name.now }
+{
+    match name {
+        "oldest" => Some(PolicyName::Oldest),
+        "newest" => Some(PolicyName::Newest),
+        "seeded" => Some(PolicyName::Seeded(seed)),
+        "faulty" => Some(PolicyName::Faulty { seed, faults }),
+        "listed" => Some(PolicyName::Listed),
+        _ => None,
+    }
+}
+
+/// Returns the policy that the arguments of the command `sim` name, or `None` if there are no such faults, whatever the
+/// policy.
+fn policy_name(sim: &ArgMatches) -> Option<PolicyName>
+    ensures { result ≡ policy_in (rows_of (found_of sim.now)) }
+{
+    let Some(seed) = long_number(sim, "seed") else {
+        return None;
+    };
+    let Some(faults) = faults_of(sim) else {
+        return None;
+    };
+    match sim.get_str("policy") {
+        Some(name) => policy_named(seed, faults, name),
+        None => None,
+    }
+}
+
+/// Returns the seeds of a text, for example of `1..1000`. It does not allocate.
+///
+/// # Errors
+///
+/// - `Seeds`: it is no such text.
+/// - `SeedsOrder`: the first is above the last.
+fn seeds_of(text: &str) -> Result<SeedRange, UsageCause>
+    ensures { result ≡ seeds_in text.now }
+{
+    let Some((first, last)) = text.split_once("..") else {
+        return Err(UsageCause::Seeds);
+    };
+    let Ok(first) = first.parse() else {
+        return Err(UsageCause::Seeds);
+    };
+    let Ok(last) = last.parse() else {
+        return Err(UsageCause::Seeds);
+    };
+    if first <= last {
+        Ok(SeedRange { first, last })
+    } else {
+        Err(UsageCause::SeedsOrder)
+    }
+}
+
+/// Returns what is to be printed of a run by these flags, or `None` if they ask for two things. It does not allocate.
+fn flagged_format(traces: bool, lists: bool, shrinks: bool, states: bool) -> Option<OutputKind>
+    ensures { result ≡ printed_by traces lists shrinks states }
+{
+    match (traces, lists, shrinks, states) {
+        (false, false, false, false) => Some(OutputKind::Lines),
+        (true, false, false, false) => Some(OutputKind::Trace),
+        (false, true, false, false) => Some(OutputKind::Choices),
+        (false, false, true, false) => Some(OutputKind::Shrunk),
+        (false, false, false, true) => Some(OutputKind::State),
+        _ => None,
+    }
+}
+
+/// Returns what is to be printed of a run. Returns `None` if the arguments ask for two things, or for choices when some
+/// may be repeats, for which there is no word. It does not allocate.
+fn format_of(policy: &PolicyName, sim: &ArgMatches) -> Option<OutputKind>
+    ensures { result ≡ printed_in policy.now (rows_of (found_of sim.now)) }
+{
+    let Some(repeat) = short_number(sim, "repeat") else {
+        return None;
+    };
+    let may_repeat = repeat > 0 && matches!(policy, PolicyName::Faulty { .. });
+    let lists = has_flag(sim, "as-choices");
+    let shrinks = has_flag(sim, "shrink");
+    if may_repeat && (lists || shrinks) {
+        return None;
+    }
+    flagged_format(
+        has_flag(sim, "trace"),
+        lists,
+        shrinks,
+        has_flag(sim, "state"),
+    )
+}
+
+/// Returns which option is wrong if the arguments don't ask for one thing to be printed. It does not allocate.
+fn format_cause(states: bool, shrinks: bool) -> UsageCause
+    ensures { result ≡ printing_cause states shrinks }
+{
+    if states {
+        UsageCause::State
+    } else if shrinks {
+        UsageCause::Shrink
+    } else {
+        UsageCause::AsChoices
+    }
+}
+
+/// Returns the end that the arguments look for, if they do. It does not allocate.
+fn ending_of(sim: &ArgMatches) -> Option<Ending>
+    ensures { result ≡ ending_in (rows_of (found_of sim.now)) }
+{
+    match sim.get_str("find") {
+        Some("finished") => Some(Ending::Finished),
+        Some(_) => Some(Ending::Stuck),
+        None => None,
+    }
+}
+
+/// Returns the faults of a policy of chance, if it has any, or `None` if the policy draws nothing. It does not allocate.
+fn chance_of(policy: PolicyName) -> Option<Option<Faults>>
+    ensures { result ≡ chance_by policy }
+{
+    match policy {
+        PolicyName::Seeded(_) => Some(None),
+        PolicyName::Faulty { faults, .. } => Some(Some(faults)),
+        _ => None,
+    }
+}
+
+/// Returns what is looked for among the runs of many seeds, if an end is given: the trace of such a run is printed, unless
+/// choices are asked for. It does not allocate.
+///
+/// # Errors
+///
+/// - `State`: the state is asked for.
+/// - `ShrinkFinished`: a finished run is to be shrunk.
+/// - `OneRun`: another format of one run is asked for, but no end.
+fn search_of(ending: Option<Ending>, format: OutputKind) -> Result<Option<Search>, UsageCause>
+    ensures { result ≡ search_by ending format }
+{
+    match (ending, format) {
+        (_, OutputKind::State) => Err(UsageCause::State),
+        (Some(Ending::Finished), OutputKind::Shrunk) => Err(UsageCause::ShrinkFinished),
+        (Some(ending), OutputKind::Choices | OutputKind::Shrunk) => {
+            Ok(Some(Search { ending, format }))
+        }
+        (Some(ending), _) => Ok(Some(Search {
+            ending,
+            format: OutputKind::Trace,
+        })),
+        (None, OutputKind::Lines) => Ok(None),
+        (None, _) => Err(UsageCause::OneRun),
+    }
+}
+
+/// Returns what the command `sim` asks of many seeds: under a policy of chance and, unless an end is looked for, in no
+/// format of one run.
+///
+/// # Errors
+///
+/// 1. `SeedsPolicy`: the policy draws nothing.
+/// 2. Those of `search_of`.
+/// 3. Those of `seeds_of`.
+fn survey_task(
+    policy: PolicyName,
+    seeds: &str,
+    ending: Option<Ending>,
+    format: OutputKind,
+) -> Result<SurveyTask, UsageCause>
+    ensures { result ≡ survey_by policy seeds.now ending format }
+{
+    let Some(faults) = chance_of(policy) else {
+        return Err(UsageCause::SeedsPolicy);
+    };
+    let find = search_of(ending, format)?;
+    let seeds = seeds_of(seeds)?;
+    Ok(SurveyTask {
+        faults,
+        find,
+        seeds,
+    })
+}
+
+/// Returns the task of the command `sim`.
+///
+/// # Errors
+///
+/// 1. `Rates`: there are no such faults.
+/// 2. `State`, `Shrink` or `AsChoices`: it is not one thing that is to be printed.
+/// 3. Those of `survey_task`, with `--seeds`.
+/// 4. `Find`: an end is looked for without `--seeds`.
+fn sim_task<'a>(sim: &ArgMatches<'a>) -> Result<Task<'a>, UsageCause>
+    ensures { IsTaken (sim_in (rows_of (found_of sim.now))) result }
+{
+    let Some(policy) = policy_name(sim) else {
+        return Err(UsageCause::Rates);
+    };
+    let Some(format) = format_of(&policy, sim) else {
+        return Err(format_cause(has_flag(sim, "state"), has_flag(sim, "shrink")));
+    };
+    let ending = ending_of(sim);
+    if let Some(seeds) = sim.get_str("seeds") {
+        let survey = survey_task(policy, seeds, ending, format)?;
+        return Ok(Task::Survey(survey));
+    }
+    if ending.is_some() {
+        return Err(UsageCause::Find);
+    }
+    // It has a default, so the parser gives it a text.
+    let choices = sim.get_str("choices").unwrap_or("");
+    Ok(Task::Sim {
+        policy,
+        choices,
+        format,
+    })
+}
+
+/// Returns what the commands `check` and `draw` read. It does not allocate.
+fn kind_of(given: &ArgMatches) -> InputKind
+    ensures { result ≡ kind_in (rows_of (found_of given.now)) }
+{
+    if has_flag(given, "marks") {
+        InputKind::Marks
+    } else {
+        InputKind::Trace
+    }
+}
+
+/// Returns the part that is drawn, or `None` if no line is in it, whatever the input. It does not allocate.
+fn part_of(given: &ArgMatches) -> Option<Part>
+    ensures { result ≡ part_in (rows_of (found_of given.now)) }
+{
+    let Some(from) = long_number(given, "from") else {
+        return None;
+    };
+    let Some(to) = long_number(given, "to") else {
+        return None;
+    };
+    if from == 0 || from > to {
+        return None;
+    }
+    Some(Part { from, to })
+}
+
+/// Returns the task of the command `draw`.
+///
+/// # Errors
+///
+/// `Part`: no line is in its part, whatever the input.
+fn draw_task<'a>(given: &ArgMatches<'a>) -> Result<Task<'a>, UsageCause>
+    ensures { IsTaken (draw_in (rows_of (found_of given.now))) result }
+{
+    let Some(part) = part_of(given) else {
+        return Err(UsageCause::Part);
+    };
+    let kind = kind_of(given);
+    Ok(Task::Draw { kind, part })
+}
+
+/// Returns the task of the command `check`.
+fn check_task<'a>(given: &ArgMatches<'a>) -> Task<'a>
+    ensures { IsTaskFor (Ok (check (kind_in (rows_of (found_of given.now))))) result }
+{
+    match kind_of(given) {
+        InputKind::Trace => Task::Check,
+        InputKind::Marks => Task::CheckMarks,
+    }
+}
+
+/// Returns the task of the command `cluster`.
+///
+/// # Errors
+///
+/// `Books`: it is to print both the trace and the books.
+fn cluster_task<'a>(given: &ArgMatches<'a>) -> Result<Task<'a>, UsageCause>
+    ensures { IsTaken (cluster_in (rows_of (found_of given.now))) result }
+{
+    match (has_flag(given, "trace"), has_flag(given, "books")) {
+        (false, false) => Ok(Task::Cluster(ClusterOutput::Lines)),
+        (true, false) => Ok(Task::Cluster(ClusterOutput::Trace)),
+        (false, true) => Ok(Task::Cluster(ClusterOutput::Books)),
+        (true, true) => Err(UsageCause::Books),
+    }
+}
+
+/// Returns the task of a command with these values.
+///
+/// # Errors
+///
+/// Those of its command, or `OfNode` or `OfSettle`: the parser takes an argument that is none of `node` or `settle`.
+fn task_in<'a>(command: &str, given: &ArgMatches<'a>) -> Result<Task<'a>, UsageCause>
+    ensures { IsTaken (meaning_in command.now (rows_of (found_of given.now))) result }
+{
+    match command {
+        "answer" => answer_task(given),
+        "sim" => sim_task(given),
+        "cluster" => cluster_task(given),
+        "check" => Ok(check_task(given)),
+        "draw" => draw_task(given),
+        "node" => Err(UsageCause::OfNode),
+        "settle" => Err(UsageCause::OfSettle),
+        _ => Err(UsageCause::NoCommand),
+    }
+}
+
+/// Returns the task of a command line that the parser takes.
+///
+/// # Errors
+///
+/// The first cause for which it means nothing.
+fn task_of<'a>(matches: &ArgMatches<'a>) -> Result<Task<'a>, UsageCause>
+    ensures { IsTaken (meaning_given (subcommand_rows_of matches.now)) result }
+{
+    let Some((command, given)) = matches.subcommand() else {
+        return Err(UsageCause::NoCommand);
+    };
+    task_in(command, given)
+}
+
+/// Returns whether an argument asks for a text of help or for the version. It does not allocate.
+fn is_help_argument(argument: &str) -> bool
+    ensures { IsTrue result ↔ IsHelpArgument argument.now }
+{
+    matches!(argument, "--help" | "-h" | "--version" | "-V")
+}
+
+/// Returns whether one of the arguments asks for a text of help or for the version. It does not allocate.
+fn asks_for_help(arguments: &[String]) -> bool
+    ensures { IsTrue result ↔ Any (λ argument. IsHelpArgument (string_bytes argument)) arguments.now }
+{
+    for argument in arguments {
+        if is_help_argument(argument.as_str()) {
+            return true;
+        }
+    }
+    false
+}
+
+/// Returns whether the arguments ask for the summary of a command's help: the first of them that asks for help is `-h`.
+/// It does not allocate.
+fn asks_for_summary(arguments: &[String]) -> bool {
+    for argument in arguments {
+        match argument.as_str() {
+            "-h" => return true,
+            "--help" => return false,
+            _ => {}
+        }
+    }
+    false
+}
+
+/// Returns the value that is wrong for this cause, if the cause is the value of one option, and otherwise no text. It does not
+/// allocate.
+fn wrong_value<'a>(matches: &ArgMatches<'a>, cause: UsageCause) -> &'a str {
+    let option = match cause {
+        UsageCause::Node => "node",
+        UsageCause::Nodes => "nodes",
+        UsageCause::Seeds | UsageCause::SeedsOrder => "seeds",
+        _ => return "",
+    };
+    match matches.subcommand() {
+        Some((_, given)) => given.get_str(option).unwrap_or(""),
+        None => "",
+    }
+}
+
+/// Returns the task of the arguments, of which the first is the program's name.
+///
+/// # Errors
+///
+/// `Usage`: they ask for nothing, for this cause. `Memory`: memory ran out.
+pub fn parse<'a>(alloc: Global, arguments: &'a [String]) -> Result<Task<'a>, ArgumentsFault<'a>>
+    ensures { MatchResult result (AsksForTask (map string_bytes arguments.now)) (IsArgumentsFault (map string_bytes arguments.now)) }
+{
+    let Ok(parsed) = matches_of(alloc, arguments, asks_for_summary(arguments)) else {
+        return Err(ArgumentsFault::Memory);
+    };
+    match parsed {
+        Ok(matches) => match task_of(&matches) {
+            Ok(task) => Ok(task),
+            Err(cause) => Err(ArgumentsFault::Usage(UsageFault::Meaning {
+                cause,
+                value: wrong_value(&matches, cause),
+            })),
+        },
+        Err(error) => match help_of(alloc, arguments, &error) {
+            Ok(task) => Ok(task),
+            Err(CommandFault::Usage) => Err(ArgumentsFault::Usage(UsageFault::Parser(error))),
+            Err(CommandFault::Memory) => Err(ArgumentsFault::Memory),
+        },
+    }
+}
+
+/// Returns whether the parser stopped for a text of help or the version. It does not allocate.
+fn is_help_kind(kind: ErrorKind) -> bool
+    ensures { result ≡ is_help kind }
+{
+    matches!(kind, ErrorKind::DisplayHelp | ErrorKind::DisplayVersion)
+}
+
+/// Returns the text of help, or the version, for which the arguments ask, if that is why the parser stopped.
+///
+/// # Errors
+///
+/// `Usage`: it stopped for another cause, or no argument asks for help. `Memory`: memory ran out.
+fn help_of<'a>(
+    alloc: Global,
+    arguments: &[String],
+    error: &ParseError,
+) -> Result<Task<'a>, CommandFault>
+    requires { HasKind (refusals (map string_bytes arguments.now)) error.now }
+    ensures { MatchResult result (AsksForTask (map string_bytes arguments.now)) (IsRefusedBy (map string_bytes arguments.now) error.now) }
+{
+    if is_help_kind(error.kind()) {
+        if !asks_for_help(arguments) {
+            return Err(CommandFault::Usage);
+        }
+        return match format!(in alloc; "{error}") {
+            Ok(text) => Ok(Task::Help(text)),
+            Err(_) => Err(CommandFault::Memory),
+        };
+    }
+    match error.kind() {
+        ErrorKind::OutOfMemory => Err(CommandFault::Memory),
+        _ => Err(CommandFault::Usage),
+    }
+}

@@ -1,0 +1,137 @@
+//! The commands of `ra`, each a row of a table, so that the same few lines make them all.
+ghost use Rattle.std.specs.Prelude.{◌≡◌, map, IfOk, string_bytes};
+ghost use Rattle.clap.specs.Words.{app_of};
+ghost use Rattle.ra_arguments.specs.Asked.{IsParsed};
+ghost use Rattle.ra_arguments.specs.OptionTable.{IsOfRow, all_labels, label_of_row};
+
+use crate::command_line::helps::{STATUS_HELP, help_on};
+use crate::command_line::option_rows::{option_of, options_of};
+use clap::{ArgMatches, Command, Error as ParseError};
+use std::alloc::{AllocError, Global};
+
+/// The version of the program, and the versions of the formats that it reads. After a release it is the next one with
+/// `-dev`, until that is released.
+const VERSION: &str = "0.2.0-dev (frames 1 and 2, traces 1 and 2)";
+
+/// Which command it is.
+#[derive(Clone, Copy)]
+pub enum CommandKind {
+    Answer,
+    Sim,
+    Cluster,
+    Check,
+    Draw,
+    Node,
+    Settle,
+}
+
+/// A command, its name, and what its help says first.
+#[derive(Clone, Copy)]
+pub struct CommandRow<'a> {
+    pub kind: CommandKind,
+    name: &'a str,
+    about: &'a str,
+}
+
+/// The commands, in the order of help.
+const COMMANDS: &[CommandRow] = &[
+    CommandRow {
+        kind: CommandKind::Answer,
+        name: "answer",
+        about: "Answer one frame, in hexadecimal digits, as an idle node would",
+    },
+    CommandRow {
+        kind: CommandKind::Sim,
+        name: "sim",
+        about: "Run a script in a simulated cluster: who asks, enters and leaves",
+    },
+    CommandRow {
+        kind: CommandKind::Cluster,
+        name: "cluster",
+        about: "Run a script in a cluster of threads: who asks, enters and leaves",
+    },
+    CommandRow {
+        kind: CommandKind::Check,
+        name: "check",
+        about: "Check the trace of a run, or the mark log of a lock service",
+    },
+    CommandRow {
+        kind: CommandKind::Draw,
+        name: "draw",
+        about: "Draw the trace of a run, or a mark log, as an SVG file",
+    },
+    CommandRow {
+        kind: CommandKind::Node,
+        name: "node",
+        about: "Be one node: read what happens at it, and answer line by line",
+    },
+    CommandRow {
+        kind: CommandKind::Settle,
+        name: "settle",
+        about: "Settle the books of all nodes into one run of the cluster",
+    },
+];
+
+/// Returns the command that the arguments name, or `None`. It does not allocate.
+pub fn command_named(arguments: &[String]) -> Option<&str> {
+    let [_, name, ..] = arguments else {
+        return None;
+    };
+    for row in COMMANDS {
+        if row.name == name.as_str() {
+            return Some(row.name);
+        }
+    }
+    None
+}
+
+/// Returns the commands, in the order of help.
+pub fn all_rows() -> &'static [CommandRow<'static>]
+    ensures { map label_of_row result.now ≡ all_labels }
+{
+    COMMANDS
+}
+
+/// Makes a command with its options, and with the whole of its help or its summary.
+fn command_of<'a>(
+    alloc: Global,
+    row: &CommandRow<'a>,
+    is_summary: bool,
+) -> Result<Command<'a>, AllocError>
+    ensures { IfOk result (λ made. IsOfRow row.now (app_of made)) }
+{
+    let mut command = Command::new(alloc, row.name)
+        .about(row.about)
+        .after_help(help_on(row.kind, is_summary))
+        .disable_help_flag(true);
+    for option in options_of(row.kind) {
+        command = command.arg(option_of(alloc, option))?;
+    }
+    Ok(command)
+}
+
+/// Returns what the parser makes of the arguments, of which the first is the program's name. It knows the whole help of
+/// each command, or its summary.
+///
+/// # Errors
+///
+/// `AllocError`: memory ran out for the commands and their options.
+pub fn matches_of<'a>(
+    alloc: Global,
+    arguments: &'a [String],
+    is_summary: bool,
+) -> Result<Result<ArgMatches<'a>, ParseError>, AllocError>
+    ensures { IfOk result (IsParsed (map string_bytes arguments.now)) }
+{
+    let mut program = Command::new(alloc, "ra")
+        .version(VERSION)
+        .about("Simulate, run, check and draw a lock cluster that works by messages alone")
+        .after_help(STATUS_HELP)
+        .disable_help_subcommand(true)
+        .subcommand_required(true);
+    for row in all_rows() {
+        let command = command_of(alloc, row, is_summary)?;
+        program = program.subcommand(command)?;
+    }
+    Ok(program.try_get_matches_from(arguments))
+}

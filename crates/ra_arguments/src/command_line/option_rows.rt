@@ -1,0 +1,325 @@
+//! The options of the commands, each a row of a table, so that the same few lines make them all.
+ghost use Rattle.std.specs.Prelude.{◌≡◌, map, false};
+ghost use Rattle.clap.specs.Words.{rule_of};
+ghost use Rattle.ra_arguments.specs.OptionTable.{AreOfCommand, rule_of_row};
+
+use crate::command_line::command_rows::{CommandKind, all_rows};
+use clap::builder::ValueParser;
+use clap::{Arg, ArgAction};
+use std::alloc::Global;
+
+/// The words for the policies.
+const POLICIES: &[&str] = &[DEFAULT_POLICY, "newest", "seeded", "faulty", "listed"];
+
+/// The word for the policy if none is given.
+pub const DEFAULT_POLICY: &str = "oldest";
+
+/// The words for the ends of runs.
+const ENDINGS: &[&str] = &["finished", "stuck"];
+
+/// An option of a command: its names and help, what it takes, whether it is required, its default, which help may leave
+/// out, and what notes say of it.
+#[derive(Clone, Copy)]
+pub struct OptionRow<'a> {
+    name: &'a str,
+    short: Option<char>,
+    help: &'a str,
+    action: ArgAction,
+    parser: ValueParser<'a>,
+    is_required: bool,
+    defaults: &'a [&'a str],
+    hides_default: bool,
+    /// Which values it takes, as a note says it after 'must be'. Only a flag has no such text.
+    values: &'a str,
+    /// The policies under which it has an effect, or none if it has one under all.
+    policies: &'a [&'a str],
+    /// What a note says if it has no effect.
+    unused: &'a str,
+}
+
+/// An option that takes nothing.
+const FLAG: OptionRow = OptionRow {
+    name: "",
+    short: None,
+    help: "",
+    action: ArgAction::SetTrue,
+    parser: ValueParser::Bool,
+    is_required: false,
+    defaults: &[],
+    hides_default: false,
+    values: "",
+    policies: &[],
+    unused: "",
+};
+
+/// An option that takes a text.
+const TEXT: OptionRow = OptionRow {
+    action: ArgAction::Set,
+    parser: ValueParser::String,
+    ..FLAG
+};
+
+/// An option that takes a number of 16 bits, as the parser takes a `u16`.
+const SHORT: OptionRow = OptionRow {
+    parser: ValueParser::Signed(0, 65535),
+    ..TEXT
+};
+
+/// An option that takes a number of 64 bits.
+const LONG: OptionRow = OptionRow {
+    parser: ValueParser::Unsigned(0, 18446744073709551615),
+    ..TEXT
+};
+
+/// The option that each command has after its own. It alone has a short name.
+const HELP: OptionRow = OptionRow {
+    name: "help",
+    short: Some('h'),
+    help: "Print help, or a summary with -h",
+    action: ArgAction::Help,
+    ..FLAG
+};
+
+/// The options of the command `answer`.
+const ANSWER_OPTIONS: &[OptionRow] = &[
+    OptionRow {
+        name: "node",
+        help: "Answer as this node, 1 to the value of --nodes",
+        is_required: true,
+        values: "1 to the value of --nodes",
+        ..SHORT
+    },
+    OptionRow {
+        name: "nodes",
+        help: "Set the number of nodes, 1 to 64",
+        is_required: true,
+        values: "1 to 64",
+        ..SHORT
+    },
+    HELP,
+];
+
+/// The options of the command `sim`, in the order of help.
+const SIM_OPTIONS: &[OptionRow] = &[
+    OptionRow {
+        name: "policy",
+        help: "Choose each step by this policy",
+        parser: ValueParser::Names(POLICIES),
+        defaults: &[DEFAULT_POLICY],
+        values: "oldest, newest, seeded, faulty or listed",
+        ..TEXT
+    },
+    OptionRow {
+        name: "seed",
+        help: "Set the random seed, 0 to 2^64 - 1",
+        defaults: &["0"],
+        values: "0 to 18446744073709551615",
+        policies: &["seeded", "faulty"],
+        unused: "--seed is ignored: only --policy seeded and faulty use it",
+        ..LONG
+    },
+    OptionRow {
+        name: "lose",
+        help: "Lose 0 to 1000 of 1000 messages",
+        defaults: &["0"],
+        values: "0 to 1000, of 1000 messages",
+        policies: &["faulty"],
+        unused: "--lose is ignored: only --policy faulty uses it",
+        ..SHORT
+    },
+    OptionRow {
+        name: "repeat",
+        help: "Repeat 0 to 400 of 1000 messages",
+        defaults: &["0"],
+        values: "0 to 400, of 1000 messages",
+        policies: &["faulty"],
+        unused: "--repeat is ignored: only --policy faulty uses it",
+        ..SHORT
+    },
+    OptionRow {
+        name: "choices",
+        help: "Make these choices, under listed [default: none]",
+        defaults: &[""],
+        hides_default: true,
+        values: "choices with one space between them, each c, m or l and a number of 1 to 9 digits without leading zeros",
+        policies: &["listed"],
+        unused: "--choices is ignored: only --policy listed uses it",
+        ..TEXT
+    },
+    OptionRow {
+        name: "seeds",
+        help: "Survey the seeds of a range, such as 1..1000",
+        values: "A..B, such as 1..1000, with two numbers from 0 to 18446744073709551615",
+        ..TEXT
+    },
+    OptionRow {
+        name: "find",
+        help: "With --seeds, trace the first finished or stuck run",
+        parser: ValueParser::Names(ENDINGS),
+        values: "finished or stuck",
+        ..TEXT
+    },
+    OptionRow {
+        name: "trace",
+        help: "Print the trace in place of marks and totals",
+        ..FLAG
+    },
+    OptionRow {
+        name: "as-choices",
+        help: "Print the choices in place of marks and totals",
+        ..FLAG
+    },
+    OptionRow {
+        name: "shrink",
+        help: "Print the choices of a shorter run that is stuck, too",
+        ..FLAG
+    },
+    OptionRow {
+        name: "state",
+        help: "Print the final state in place of marks and totals",
+        ..FLAG
+    },
+    HELP,
+];
+
+/// The options of the command `cluster`.
+const CLUSTER_OPTIONS: &[OptionRow] = &[
+    OptionRow {
+        name: "trace",
+        help: "Print the trace in place of marks and totals",
+        ..FLAG
+    },
+    OptionRow {
+        name: "books",
+        help: "Print the books in place of marks and totals",
+        ..FLAG
+    },
+    HELP,
+];
+
+/// The options of the command `settle`.
+const SETTLE_OPTIONS: &[OptionRow] = &[
+    OptionRow {
+        name: "repeats",
+        help: "Let frames come more than once",
+        ..FLAG
+    },
+    OptionRow {
+        name: "trace",
+        help: "Print the trace in place of marks and totals",
+        ..FLAG
+    },
+    HELP,
+];
+
+/// The option of the command `check`.
+const CHECK_OPTIONS: &[OptionRow] = &[
+    OptionRow {
+        name: "marks",
+        help: "Check the mark log of any lock service, not a trace",
+        ..FLAG
+    },
+    HELP,
+];
+
+/// The options of the command `draw`: what it reads, and the first and the last line of the part that is drawn.
+const DRAW_OPTIONS: &[OptionRow] = &[
+    OptionRow {
+        name: "marks",
+        help: "Draw the mark log of any lock service, not a trace",
+        ..FLAG
+    },
+    OptionRow {
+        name: "from",
+        help: "Draw from this line on, counted from 1",
+        defaults: &["1"],
+        values: "the number of a line, 1 or more",
+        ..LONG
+    },
+    OptionRow {
+        name: "to",
+        help: "Draw up to and including this line [default: the last]",
+        defaults: &["18446744073709551615"],
+        hides_default: true,
+        values: "the number of a line, at least that of --from",
+        ..LONG
+    },
+    HELP,
+];
+
+/// The option of the command `node`.
+const NODE_OPTIONS: &[OptionRow] = &[HELP];
+
+/// Returns the options of a command, in their order.
+pub fn options_of(kind: CommandKind) -> &'static [OptionRow<'static>]
+    ensures { AreOfCommand kind (map rule_of_row result.now) }
+{
+    match kind {
+        CommandKind::Answer => ANSWER_OPTIONS,
+        CommandKind::Sim => SIM_OPTIONS,
+        CommandKind::Check => CHECK_OPTIONS,
+        CommandKind::Draw => DRAW_OPTIONS,
+        CommandKind::Cluster => CLUSTER_OPTIONS,
+        CommandKind::Settle => SETTLE_OPTIONS,
+        CommandKind::Node => NODE_OPTIONS,
+    }
+}
+
+impl<'a> OptionRow<'a> {
+    /// Returns the name of the option, without its hyphens. It does not allocate.
+    pub fn name(&self) -> &'a str {
+        self.name
+    }
+
+    /// Returns what there is to say of the option if it is given and has no effect under this policy, or `None` if it has one. It
+    /// does not allocate.
+    pub fn unused_under(&self, policy: &str) -> Option<&'a str> {
+        if self.policies.is_empty() || self.policies.contains(&policy) {
+            None
+        } else {
+            Some(self.unused)
+        }
+    }
+}
+
+/// Returns the options of the command `sim`, in the order of help. It does not allocate.
+pub fn sim_options() -> &'static [OptionRow<'static>] {
+    SIM_OPTIONS
+}
+
+/// Returns which values the option takes that an argument names, or `None` if it names none that takes a value. No two
+/// commands have an option of one name that takes other values. It does not allocate.
+pub fn values_of(argument: &str) -> Option<&'static str> {
+    let Some(name) = argument.strip_prefix("--") else {
+        return None;
+    };
+    for row in all_rows() {
+        for option in options_of(row.kind) {
+            if option.name == name && !option.values.is_empty() {
+                return Some(option.values);
+            }
+        }
+    }
+    None
+}
+
+/// Makes an option. If it takes one of several words, the text below the options lists them, and its own help leaves
+/// them out.
+pub fn option_of<'a>(alloc: Global, row: &OptionRow<'a>) -> Arg<'a>
+    ensures rule { rule_of result ≡ rule_of_row row.now }
+    ensures local { result.global ≡ false }
+{
+    let option = Arg::new(alloc, row.name)
+        .long(row.name)
+        .help(row.help)
+        .hide_default_value(row.hides_default)
+        .hide_possible_values(true)
+        .action(row.action)
+        .value_parser(row.parser)
+        .required(row.is_required)
+        .default_values(row.defaults);
+    match row.short {
+        Some(short) => option.short(short),
+        None => option,
+    }
+}

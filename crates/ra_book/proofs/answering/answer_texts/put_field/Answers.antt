@@ -1,5 +1,0 @@
-use Rattle.ra_book.proofs.Put.{both}
-use Rattle.ra_book.proofs.answering.answer_texts.put_field.Goals as goal
-
-pub returns : goal.returns
-returns g c = both _ _ _ _ _ _ _ _ c.put.ensures c.put-2.ensures

@@ -1,0 +1,82 @@
+use Rattle.std.proofs.Common.{ℕ, ◌≤◌, ◌^◌, refl, sym, ap, subst}
+use Rattle.ra_node.specs.Node.{IsConsistentNode}
+use Rattle.ra_book.specs.Refused.{refusal_of_ask, refusal_of_leave, refusal_of_receive}
+use Rattle.ra_book.specs.declared.timed_node.TimedNode.TheInside.{Inside}
+use Rattle.ra_book.specs.Timed.{Timed, Refuses, timed_of}
+use Rattle.ra_book.proofs.Running.{not_ok}
+use Rattle.ra_book.proofs.TimedTaking.{NodeTakes, ask_denied, leave_denied, receive_denied, denied, taken, taken_by, fit_at}
+use Rattle.ra_book.proofs.timed_node.TimedNode.take.Goals as goal
+use Rattle.ra_book.proofs.timed_node.TimedNode.take.Goals.{in-Asked+in_ok-outcome-in-Asked, in-Gave+in_ok-outcome-in-Gave, in-Got+in_ok-outcome-in-Got}
+
+-- ---- There is no clock
+
+pub returns-in_default-clause-taken : goal.returns-in_default-clause-taken
+returns-in_default-clause-taken c =
+    (refl, subst (λ (t : Timed). Refuses t c.args.kind.now c.event_refusal.result) c.self.view_is c.event_refusal.ensures)
+
+-- ---- The node does not take it
+
+pub returns-in_err-outcome-in-Asked-clause-taken : goal.returns-in_err-outcome-in-Asked-clause-taken
+returns-in_err-outcome-in-Asked-clause-taken c =
+    let at = timed_of c.self.inside in
+    let refused = c.in_err-outcome-in-Asked in
+    let e = refused.field-0.0 in
+    denied c.args.self.now at c.args.kind.now c.self.view_is _ (refusal_of_ask e) refused.ensures.err
+    (ask_denied at.node c.args.kind.now _ _ _ c.in-Asked.is e refused.ensures.busy refused.ensures.exhausted refused.ensures.allowed)
+    (subst (λ (k : ℕ). k ≤ 2 ^ 62) c.in-Ok.ensures.0 c.in-Ok.ensures.1) c.from_residual.result c.from_residual.ensures.1
+
+pub returns-in_err-outcome-in-Asked-clause-fits : goal.returns-in_err-outcome-in-Asked-clause-fits
+returns-in_err-outcome-in-Asked-clause-fits c = not_ok _ _ c.from_residual.result c.from_residual.ensures.1
+
+pub returns-in_err-outcome-in-Gave-clause-taken : goal.returns-in_err-outcome-in-Gave-clause-taken
+returns-in_err-outcome-in-Gave-clause-taken c =
+    let at = timed_of c.self.inside in
+    let refused = c.in_err-outcome-in-Gave in
+    let e = refused.field-0.0 in
+    denied c.args.self.now at c.args.kind.now c.self.view_is _ (refusal_of_leave e) refused.ensures.left.err
+    (leave_denied at.node c.args.kind.now _ _ _ c.in-Gave.is e refused.ensures.left)
+    (subst (λ (k : ℕ). k ≤ 2 ^ 62) c.in-Ok.ensures.0 c.in-Ok.ensures.1) c.from_residual-in_err-outcome-in-Gave.result c.from_residual-in_err-outcome-in-Gave.ensures.1
+
+pub returns-in_err-outcome-in-Gave-clause-fits : goal.returns-in_err-outcome-in-Gave-clause-fits
+returns-in_err-outcome-in-Gave-clause-fits c = not_ok _ _ c.from_residual-in_err-outcome-in-Gave.result c.from_residual-in_err-outcome-in-Gave.ensures.1
+
+pub returns-in_err-outcome-in-Got-clause-taken : goal.returns-in_err-outcome-in-Got-clause-taken
+returns-in_err-outcome-in-Got-clause-taken c =
+    let at = timed_of c.self.inside in
+    let refused = c.in_err-outcome-in-Got in
+    let e = refused.field-0.0 in
+    denied c.args.self.now at c.args.kind.now c.self.view_is _ (refusal_of_receive e) refused.ensures.err
+    (receive_denied at.node c.args.kind.now _ c.in-Got.is e refused.ensures.address refused.ensures.allowed)
+    (subst (λ (k : ℕ). k ≤ 2 ^ 62) c.in-Ok.ensures.0 c.in-Ok.ensures.1) c.from_residual-in_err-outcome-in-Got.result c.from_residual-in_err-outcome-in-Got.ensures.1
+
+pub returns-in_err-outcome-in-Got-clause-fits : goal.returns-in_err-outcome-in-Got-clause-fits
+returns-in_err-outcome-in-Got-clause-fits c = not_ok _ _ c.from_residual-in_err-outcome-in-Got.result c.from_residual-in_err-outcome-in-Got.ensures.1
+
+-- ---- It takes it
+
+pub invariant_of-self-2 : goal.invariant_of-self-2
+invariant_of-self-2 c =
+    elim c.match-kind.branch [
+      | in-Asked+in_ok-outcome-in-Asked w ↦ subst IsConsistentNode (sym (ap (λ (t : Inside). t.node) w.self-inside-is)) w.ask.ensures.consistent
+      | in-Gave+in_ok-outcome-in-Gave w ↦ subst IsConsistentNode (sym (ap (λ (t : Inside). t.node) w.self-inside-is)) w.leave.ensures.consistent
+      | in-Got+in_ok-outcome-in-Got w ↦ subst IsConsistentNode (sym (ap (λ (t : Inside). t.node) w.self-inside-is)) w.receive.ensures.consistent
+    ]
+
+takes : (c : goal.After-self-1) → NodeTakes c.self.inside.node c.args.kind.now c.match-kind.outcome c.match-kind.self-inside.node
+takes c =
+    elim c.match-kind.branch [
+      | in-Asked+in_ok-outcome-in-Asked w ↦ taken_by _ _ _ _ _ _ _ w.in-Asked.is w.outcome-is (ap (λ (t : Inside). t.node) w.self-inside-is) tt w.in_ok-outcome-in-Asked.ensures.ok
+      | in-Gave+in_ok-outcome-in-Gave w ↦ taken_by _ _ _ _ _ _ _ w.in-Gave.is w.outcome-is (ap (λ (t : Inside). t.node) w.self-inside-is) tt w.in_ok-outcome-in-Gave.ensures.left.ok
+      | in-Got+in_ok-outcome-in-Got w ↦ taken_by _ _ _ _ _ _ _ w.in-Got.is w.outcome-is (ap (λ (t : Inside). t.node) w.self-inside-is) (w.in_ok-outcome-in-Got.ensures.allowed.0 tt) w.in_ok-outcome-in-Got.ensures.ok
+    ]
+
+pub returns-clause-taken : goal.returns-clause-taken
+returns-clause-taken c =
+    taken c.args.self.now (timed_of c.self.inside) c.args.kind.now c.self.view_is c.match-kind.self-inside.node c.in-Ok.next c.match-kind.outcome
+    (takes c).for_it (takes c).event c.in-Ok.ensures
+
+pub returns-clause-fits : goal.returns-clause-fits
+returns-clause-fits c =
+    let outcome = c.match-kind.outcome in
+    fit_at c.self.inside.node c.match-kind.self-inside.node c.self.inside.clock c.in-Ok.next c.args.kind.now outcome.sends.items outcome.marks.items
+    c.self.invariant (takes c).for_it (takes c).event c.requires c.in-Ok.ensures

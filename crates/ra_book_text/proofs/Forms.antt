@@ -1,0 +1,215 @@
+-- What is read of a line is what it says.
+use Rattle.std.proofs.Common.{◌≡◌, ◌<◌, ◌≤◌, ◌^◌, ◌↔◌, ℕ, List, ◌∷◌, ◌++◌, length, Option, Some, None, Err, option_map, refl, sym, ap, subst, ◌∙◌, codes, append_assoc, arith}
+use Rattle.std.specs.Prelude.{IsErrOf}
+use Rattle.std.specs.Fmt.{decimal}
+use Rattle.std.proofs.lemmas.Option.{same_Some}
+use Rattle.std.proofs.lemmas.List.{append_cancel_left}
+use Rattle.ra_stamp.specs.Name.{IsName}
+use Rattle.ra_stamp.specs.NodeId.{IsNodeNumber}
+use Rattle.ra_stamp.specs.declared.member.MemberError.{MemberError}
+use Rattle.ra_stamp.specs.declared.member.MemberError.TheVariants.{BadCount, BadNode}
+use Rattle.ra_stamp.specs.declared.mode.Mode.{Mode}
+use Rattle.ra_stamp.specs.Mode.{mode_word}
+use Rattle.ra_trace.specs.Forms.{fields, rest_after, node_of, client_of, start_of, name_of, mode_of}
+use Rattle.ra_trace.specs.TraceText.{IsClientNumber}
+use Rattle.ra_trace.proofs.Cuts.{mapped, rest_after-append}
+use Rattle.ra_trace.proofs.Spelled.{Reads, reads_fields, reads_node, reads_client, reads_start, reads_name, reads_mode}
+use Rattle.ra_book.specs.declared.book.event.BookKind.{BookKind}
+use Rattle.ra_book.specs.declared.book.event.BookKind.TheVariants.{Asked, Gave}
+use Rattle.ra_book_text.specs.BookText.{Form, HasForm, form_text, first_text, IsFirst, IsEvent}
+use Rattle.ra_book_text.specs.BookText.Form.{Ask, Release, Receive}
+use Rattle.ra_book_text.specs.Fields.{ask_of, release_of, first_of}
+
+-- how the fields after the first words are written
+abbrev ask_tail : ℕ × (List ℕ × Mode) → List ℕ
+ask_tail f = decimal f.0 ++ 32 ∷ (f.1.0 ++ 32 ∷ mode_word f.1.1)
+
+abbrev release_tail : ℕ × List ℕ → List ℕ
+release_tail f = decimal f.0 ++ 32 ∷ f.1
+
+abbrev first_tail : ℕ × (ℕ × ℕ) → List ℕ
+first_tail f = decimal f.0 ++ 32 ∷ (decimal f.1.0 ++ 32 ∷ decimal f.1.1)
+
+reads_ask : Reads (fields client_of (fields name_of mode_of)) (λ f. IsClientNumber f.0 × (IsName f.1.0 × Unit {0})) ask_tail
+reads_ask = reads_fields _ _ _ _ _ _ reads_client (reads_fields _ _ _ _ _ _ reads_name reads_mode.reads)
+
+reads_release : Reads (fields client_of name_of) (λ f. IsClientNumber f.0 × IsName f.1) release_tail
+reads_release = reads_fields _ _ _ _ _ _ reads_client reads_name.reads
+
+reads_first : Reads (fields node_of (fields node_of start_of)) (λ f. IsNodeNumber f.0 × (IsNodeNumber f.1.0 × (f.1.1 < 2 ^ 64))) first_tail
+reads_first = reads_fields _ _ _ _ _ _ reads_node (reads_fields _ _ _ _ _ _ reads_node reads_start.reads)
+
+ask_text : (client : ℕ) (name : List ℕ) (mode : Mode) → codes "ask " ++ ask_tail (client, (name, mode)) ≡ form_text (Ask client name mode)
+ask_text client name mode = sym (simp append_assoc)
+
+release_text : (client : ℕ) (name : List ℕ) → codes "release " ++ release_tail (client, name) ≡ form_text (Release client name)
+release_text client name = sym (simp append_assoc)
+
+pub book_text : (node nodes start : ℕ) → codes "book 1 " ++ first_tail (node, (nodes, start)) ≡ first_text node nodes start
+book_text node nodes start = sym (simp append_assoc)
+
+-- what is nothing is not something
+no_some : {A : Type 0} (o : Option A) (x : A) → o ≡ None → o ≡ Some x → ⊥
+no_some None x none some = absurd cc
+no_some (Some y) x none some = absurd cc
+
+unmapped : {A B : Type 0} (f : A → B) (o : Option A) → option_map f o ≡ None → o ≡ None
+unmapped f None e = refl
+unmapped f (Some x) e = absurd cc
+
+-- a text that begins otherwise
+pub clash : (words rest text : List ℕ) → words ++ rest ≡ text → rest_after words text ≡ None → ⊥
+clash words rest text same none =
+    let both : Some rest ≡ None = sym (rest_after-append words rest) ∙ (ap (rest_after words) same ∙ none) in
+    cc
+
+-- what is after the words
+after : (words rest tail text : List ℕ) → words ++ rest ≡ text → words ++ tail ≡ text → rest ≡ tail
+after words rest tail text one other = append_cancel_left words rest tail (one ∙ sym other)
+
+-- no form begins so, and has what can't be read after it
+no_ask : (line rest : List ℕ) → line ≡ codes "ask " ++ rest → fields client_of (fields name_of mode_of) rest ≡ None → (form : Form) → HasForm line form → ⊥
+no_ask line rest is none (Ask client name mode) h =
+    let tail : rest ≡ ask_tail (client, (name, mode)) = after (codes "ask ") rest (ask_tail (client, (name, mode))) line (sym is) (ask_text client name mode ∙ sym h.2) in
+    no_some (fields client_of (fields name_of mode_of) rest) (client, (name, mode)) none
+    (ap (fields client_of (fields name_of mode_of)) tail ∙ reads_ask.each (client, (name, mode)) (h.1.0, (h.1.1, tt)))
+no_ask line rest is none (Release client name) h = clash (codes "ask ") rest (form_text (Release client name)) (sym is ∙ h.2) refl
+no_ask line rest is none (Receive digits) h = clash (codes "ask ") rest (form_text (Receive digits)) (sym is ∙ h.2) refl
+
+no_release : (line rest : List ℕ) → line ≡ codes "release " ++ rest → fields client_of name_of rest ≡ None → (form : Form) → HasForm line form → ⊥
+no_release line rest is none (Release client name) h =
+    let tail : rest ≡ release_tail (client, name) = after (codes "release ") rest (release_tail (client, name)) line (sym is) (release_text client name ∙ sym h.2) in
+    no_some (fields client_of name_of rest) (client, name) none (ap (fields client_of name_of) tail ∙ reads_release.each (client, name) (h.1.0, h.1.1))
+no_release line rest is none (Ask client name mode) h = clash (codes "release ") rest (form_text (Ask client name mode)) (sym is ∙ h.2) refl
+no_release line rest is none (Receive digits) h = clash (codes "release ") rest (form_text (Receive digits)) (sym is ∙ h.2) refl
+
+-- what is read of an ask, and of a leave
+pub ask_some : (rest : List ℕ) (kind : BookKind) → ask_of rest ≡ Some kind → (line : List ℕ) → line ≡ codes "ask " ++ rest → length line ≤ 256 → IsEvent line kind
+ask_some rest kind e line is short =
+    let m = mapped (λ (f : ℕ × (List ℕ × Mode)). Asked f.0 f.1.0 f.1.1) (fields client_of (fields name_of mode_of) rest) kind e in
+    let h = reads_ask.only rest m.0 m.1 in
+    subst (IsEvent line) m.2 (short, (h.0.0, h.0.1.0), is ∙ (ap (λ (t : List ℕ). codes "ask " ++ t) h.1 ∙ ask_text m.0.0 m.0.1.0 m.0.1.1))
+
+pub ask_none : (rest : List ℕ) → ask_of rest ≡ None → (line : List ℕ) → line ≡ codes "ask " ++ rest → (form : Form) → HasForm line form → ⊥
+ask_none rest e line is =
+    no_ask line rest is (unmapped (λ (f : ℕ × (List ℕ × Mode)). Asked f.0 f.1.0 f.1.1) (fields client_of (fields name_of mode_of) rest) e)
+
+pub release_some : (rest : List ℕ) (kind : BookKind) → release_of rest ≡ Some kind → (line : List ℕ) → line ≡ codes "release " ++ rest → length line ≤ 256
+    → IsEvent line kind
+release_some rest kind e line is short =
+    let m = mapped (λ (f : ℕ × List ℕ). Gave f.0 f.1) (fields client_of name_of rest) kind e in
+    let h = reads_release.only rest m.0 m.1 in
+    subst (IsEvent line) m.2 (short, (h.0.0, h.0.1), is ∙ (ap (λ (t : List ℕ). codes "release " ++ t) h.1 ∙ release_text m.0.0 m.0.1))
+
+pub release_none : (rest : List ℕ) → release_of rest ≡ None → (line : List ℕ) → line ≡ codes "release " ++ rest → (form : Form) → HasForm line form → ⊥
+release_none rest e line is = no_release line rest is (unmapped (λ (f : ℕ × List ℕ). Gave f.0 f.1) (fields client_of name_of rest) e)
+
+-- none of the words
+pub no_words : (line : List ℕ) → rest_after (codes "receive ") line ≡ None → rest_after (codes "ask ") line ≡ None → rest_after (codes "release ") line ≡ None
+    → (form : Form) → HasForm line form → ⊥
+no_words line no_receive no_ask no_release (Ask client name mode) h =
+    clash (codes "ask ") (ask_tail (client, (name, mode))) line (ask_text client name mode ∙ sym h.2) no_ask
+no_words line no_receive no_ask no_release (Release client name) h =
+    clash (codes "release ") (release_tail (client, name)) line (release_text client name ∙ sym h.2) no_release
+no_words line no_receive no_ask no_release (Receive digits) h = clash (codes "receive ") digits line (sym h.2) no_receive
+
+-- the first line
+pub no_first : (line rest : List ℕ) → line ≡ codes "book 1 " ++ rest → first_of rest ≡ None → (node nodes start : ℕ) → IsFirst line node nodes start → ⊥
+no_first line rest is none node nodes start h =
+    let tail : rest ≡ first_tail (node, (nodes, start)) = after (codes "book 1 ") rest (first_tail (node, (nodes, start))) line (sym is) (book_text node nodes start ∙ sym h.text_is) in
+    let one : IsNodeNumber node = (h.member.0, (let few = h.count.1 in omega (arith, h.member.1, few))) in
+    no_some (first_of rest) (node, (nodes, start)) none (ap first_of tail ∙ reads_first.each (node, (nodes, start)) (one, (h.count, h.begins)))
+
+pub first_read : (line rest : List ℕ) → line ≡ codes "book 1 " ++ rest → length line ≤ 256 → (f : ℕ × (ℕ × ℕ)) → first_of rest ≡ Some f → f.0 ≤ f.1.0
+    → IsFirst line f.0 f.1.0 f.1.1
+first_read line rest is short f e within =
+    let h = reads_first.only rest f e in
+    record {
+      short = short;
+      count = h.0.1.0;
+      member = (h.0.0.0, within);
+      begins = h.0.1.1;
+      text_is = is ∙ (ap (λ (t : List ℕ). codes "book 1 " ++ t) h.1 ∙ book_text f.0 f.1.0 f.1.1);
+    }
+
+pub first_above : (line rest : List ℕ) → line ≡ codes "book 1 " ++ rest → (f : ℕ × (ℕ × ℕ)) → first_of rest ≡ Some f → f.1.0 < f.0
+    → (node nodes start : ℕ) → IsFirst line node nodes start → ⊥
+first_above line rest is f e above node nodes start h =
+    let tail : rest ≡ first_tail (node, (nodes, start)) = after (codes "book 1 ") rest (first_tail (node, (nodes, start))) line (sym is) (book_text node nodes start ∙ sym h.text_is) in
+    let one : IsNodeNumber node = (h.member.0, (let few = h.count.1 in omega (arith, h.member.1, few))) in
+    let same : f ≡ (node, (nodes, start)) = same_Some _ _ (sym e ∙ (ap first_of tail ∙ reads_first.each (node, (nodes, start)) (one, (h.count, h.begins)))) in
+    let at : nodes < node = subst (λ (g : ℕ × (ℕ × ℕ)). g.1.0 < g.0) same above in
+    omega (arith, at, h.member.1)
+
+pub no_book : (line : List ℕ) → rest_after (codes "book 1 ") line ≡ None → (node nodes start : ℕ) → IsFirst line node nodes start → ⊥
+no_book line none node nodes start h = clash (codes "book 1 ") (first_tail (node, (nodes, start))) line (book_text node nodes start ∙ sym h.text_is) none
+
+-- a node that is no member of a cluster of 1 to 64 nodes is above their number
+pub no_member : {T : Type 0} (e : MemberError) (node nodes : ℕ) → IsNodeNumber nodes → IsErrOf {T = T} (Err e) BadCount ↔ (IsNodeNumber nodes → ⊥)
+    → IsErrOf {T = T} (Err e) BadNode ↔ (IsNodeNumber nodes × (nodes < node)) → nodes < node
+no_member BadCount node nodes count bad_count bad_node = absurd (bad_count.0 refl count)
+no_member BadNode node nodes count bad_count bad_node = (bad_node.0 refl).1
+
+-- ---- One line is one event
+
+pub ask_once : (line : List ℕ) (client other : ℕ) (name name' : List ℕ) (mode mode' : Mode) → HasForm line (Ask client name mode)
+    → HasForm line (Ask other name' mode') → Asked client name mode ≡ Asked other name' mode'
+ask_once line client other name name' mode mode' g h =
+    let one : ℕ × (List ℕ × Mode) = (client, (name, mode)) in
+    let two : ℕ × (List ℕ × Mode) = (other, (name', mode')) in
+    let tails : ask_tail one ≡ ask_tail two =
+    after (codes "ask ") (ask_tail one) (ask_tail two) line (ask_text client name mode ∙ sym g.2) (ask_text other name' mode' ∙ sym h.2) in
+    let same : one ≡ two = same_Some _ _ (sym (reads_ask.each one (g.1.0, (g.1.1, tt)))
+    ∙ (ap (fields client_of (fields name_of mode_of)) tails ∙ reads_ask.each two (h.1.0, (h.1.1, tt)))) in
+    ap (λ (f : ℕ × (List ℕ × Mode)). Asked f.0 f.1.0 f.1.1) same
+
+pub release_once : (line : List ℕ) (client other : ℕ) (name name' : List ℕ) → HasForm line (Release client name) → HasForm line (Release other name')
+    → Gave client name ≡ Gave other name'
+release_once line client other name name' g h =
+    let one : ℕ × List ℕ = (client, name) in
+    let two : ℕ × List ℕ = (other, name') in
+    let tails : release_tail one ≡ release_tail two =
+    after (codes "release ") (release_tail one) (release_tail two) line (release_text client name ∙ sym g.2) (release_text other name' ∙ sym h.2) in
+    let same : one ≡ two = same_Some _ _ (sym (reads_release.each one (g.1.0, g.1.1))
+    ∙ (ap (fields client_of name_of) tails ∙ reads_release.each two (h.1.0, h.1.1))) in
+    ap (λ (f : ℕ × List ℕ). Gave f.0 f.1) same
+
+pub receive_once : (line digits others : List ℕ) → HasForm line (Receive digits) → HasForm line (Receive others) → digits ≡ others
+receive_once line digits others g h = after (codes "receive ") digits others line (sym g.2) (sym h.2)
+
+pub ask_no_release : (line : List ℕ) (client other : ℕ) (name name' : List ℕ) (mode : Mode) → HasForm line (Ask client name mode)
+    → HasForm line (Release other name') → ⊥
+ask_no_release line client other name name' mode g h =
+    clash (codes "ask ") (ask_tail (client, (name, mode))) (form_text (Release other name')) (ask_text client name mode ∙ (sym g.2 ∙ h.2)) refl
+
+pub ask_no_receive : (line : List ℕ) (client : ℕ) (name digits : List ℕ) (mode : Mode) → HasForm line (Ask client name mode)
+    → HasForm line (Receive digits) → ⊥
+ask_no_receive line client name digits mode g h =
+    clash (codes "ask ") (ask_tail (client, (name, mode))) (form_text (Receive digits)) (ask_text client name mode ∙ (sym g.2 ∙ h.2)) refl
+
+pub release_no_receive : (line : List ℕ) (client : ℕ) (name digits : List ℕ) → HasForm line (Release client name) → HasForm line (Receive digits) → ⊥
+release_no_receive line client name digits g h =
+    clash (codes "release ") (release_tail (client, name)) (form_text (Receive digits)) (release_text client name ∙ (sym g.2 ∙ h.2)) refl
+
+-- ---- A first line
+
+pub first_once : (line : List ℕ) (node other nodes nodes' start start' : ℕ) → IsFirst line node nodes start → IsFirst line other nodes' start'
+    → (node ≡ other) × (nodes ≡ nodes') × (start ≡ start')
+first_once line node other nodes nodes' start start' g h =
+    let one : ℕ × (ℕ × ℕ) = (node, (nodes, start)) in
+    let two : ℕ × (ℕ × ℕ) = (other, (nodes', start')) in
+    let tails : first_tail one ≡ first_tail two =
+    after (codes "book 1 ") (first_tail one) (first_tail two) line (book_text node nodes start ∙ sym g.text_is) (book_text other nodes' start' ∙ sym h.text_is) in
+    let left : IsNodeNumber node = (g.member.0, (let few = g.count.1 in omega (arith, g.member.1, few))) in
+    let right : IsNodeNumber other = (h.member.0, (let few = h.count.1 in omega (arith, h.member.1, few))) in
+    let same : one ≡ two = same_Some _ _ (sym (reads_first.each one (left, (g.count, g.begins)))
+    ∙ (ap first_of tails ∙ reads_first.each two (right, (h.count, h.begins)))) in
+    (ap (λ (f : ℕ × (ℕ × ℕ)). f.0) same, ap (λ (f : ℕ × (ℕ × ℕ)). f.1.0) same, ap (λ (f : ℕ × (ℕ × ℕ)). f.1.1) same)
+
+pub first_no_form : (line : List ℕ) (node nodes start : ℕ) (form : Form) → IsFirst line node nodes start → HasForm line form → ⊥
+first_no_form line node nodes start (Ask client name mode) g h =
+    clash (codes "book 1 ") (first_tail (node, (nodes, start))) (form_text (Ask client name mode)) (book_text node nodes start ∙ (sym g.text_is ∙ h.2)) refl
+first_no_form line node nodes start (Release client name) g h =
+    clash (codes "book 1 ") (first_tail (node, (nodes, start))) (form_text (Release client name)) (book_text node nodes start ∙ (sym g.text_is ∙ h.2)) refl
+first_no_form line node nodes start (Receive digits) g h =
+    clash (codes "book 1 ") (first_tail (node, (nodes, start))) (form_text (Receive digits)) (book_text node nodes start ∙ (sym g.text_is ∙ h.2)) refl

@@ -1,0 +1,37 @@
+use Rattle.std.proofs.Common.{◌≡◌, ◌≤◌, ◌<◌, ℕ, codes, length, sym, ap, ◌∙◌, subst, arith}
+use Rattle.ra_stamp.specs.Member.{Membership}
+use Rattle.ra_trace.proofs.Cuts.{rest_after-only}
+use Rattle.ra_book_text.proofs.Forms.{no_book, no_first, first_read, first_above, no_member}
+use Rattle.ra_book_text.proofs.next_line.first_line.FirstLine.parse.Goals as goal
+
+pub returns-then-line-gt-MAX_LINE : goal.returns-then-line-gt-MAX_LINE
+returns-then-line-gt-MAX_LINE c node nodes start h =
+    let short : length c.args.line.now ≤ 256 = h.short in
+    omega (arith, c.if-line-gt-MAX_LINE.true, short)
+
+pub returns-in_default : goal.returns-in_default
+returns-in_default c = no_book c.args.line.now c.in_default.ensures
+
+pub returns-in_default-first_of : goal.returns-in_default-first_of
+returns-in_default-first_of c =
+    no_first c.args.line.now c.in-Some.rest.now (rest_after-only (codes "book 1 ") c.args.line.now c.in-Some.rest.now c.in-Some.ensures)
+    (sym c.first_of.ensures ∙ c.in_default-first_of.is)
+
+pub returns-in-Ok : goal.returns-in-Ok
+returns-in-Ok c =
+    let f = c.in-Some-first_of.fields in
+    let is = rest_after-only (codes "book 1 ") c.args.line.now c.in-Some.rest.now c.in-Some.ensures in
+    let member = c.in-Ok.ensures.ok in
+    let node : c.in-Ok.member.node ≡ f.0 = ap (λ (m : Membership). m.node) member in
+    let nodes : c.in-Ok.member.nodes ≡ f.1.0 = ap (λ (m : Membership). m.nodes) member ∙ c.get.ensures.value in
+    let within : f.0 ≤ f.1.0 = omega (arith, node, nodes, c.in-Ok.ensures.valid.last) in
+    rw (node, nodes) (first_read c.args.line.now c.in-Some.rest.now is c.if-line-gt-MAX_LINE.false f (sym c.first_of.ensures ∙ c.in-Some-first_of.is) within)
+
+pub returns-in-Err : goal.returns-in-Err
+returns-in-Err c =
+    let f = c.in-Some-first_of.fields in
+    let is = rest_after-only (codes "book 1 ") c.args.line.now c.in-Some.rest.now c.in-Some.ensures in
+    let above : f.1.0 < f.0 =
+    subst (λ (n : ℕ). n < f.0) c.get.ensures.value
+    (no_member c.in-Err.field-0 f.0 c.get.result c.get.ensures.valid c.in-Err.ensures.bad_count c.in-Err.ensures.bad_node) in
+    first_above c.args.line.now c.in-Some.rest.now is f (sym c.first_of.ensures ∙ c.in-Some-first_of.is) above

@@ -1,0 +1,22 @@
+-- How the fields of a line are read. The contracts of `event_of` and of `opened` say what it comes to.
+use Rattle.std.specs.Prelude.{ℕ, List, Option, option_map}
+use Rattle.ra_stamp.specs.declared.mode.Mode.{Mode}
+use Rattle.ra_trace.specs.Forms as forms
+use Rattle.ra_trace.specs.Forms.{fields}
+use Rattle.ra_book.specs.declared.book.event.BookKind.{BookKind}
+use Rattle.ra_book.specs.declared.book.event.BookKind.TheVariants.{Asked, Gave}
+
+abbrev pub name_and_mode_of : List ℕ → Option (List ℕ × Mode)
+name_and_mode_of = fields forms.name_of forms.mode_of
+
+abbrev pub ask_of : List ℕ → Option BookKind
+ask_of text = option_map (λ f. Asked f.0 f.1.0 f.1.1) (fields forms.client_of name_and_mode_of text)
+
+abbrev pub release_of : List ℕ → Option BookKind
+release_of text = option_map (λ f. Gave f.0 f.1) (fields forms.client_of forms.name_of text)
+
+abbrev pub nodes_and_start_of : List ℕ → Option (ℕ × ℕ)
+nodes_and_start_of = fields forms.node_of forms.start_of
+
+abbrev pub first_of : List ℕ → Option (ℕ × (ℕ × ℕ))
+first_of = fields forms.node_of nodes_and_start_of

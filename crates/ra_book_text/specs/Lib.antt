@@ -1,0 +1,13 @@
+pub mod BookText
+pub mod Fields
+pub mod Answers
+pub mod Laws
+pub mod Output
+pub mod Input
+pub mod NextLine
+pub mod Book
+pub mod Serving
+pub mod Written
+pub mod Texts
+pub mod Verdicts
+pub mod Gathering

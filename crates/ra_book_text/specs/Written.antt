@@ -1,0 +1,59 @@
+-- How a book is written: its first line, and a line for each event in order. What was sent and what became of it is in
+-- no line.
+use Rattle.std.specs.Prelude.{◌≡◌, ℕ, List, ◌∷◌, [], ◌++◌, map}
+use Rattle.std.specs.List.{AllZip}
+use Rattle.hex.specs.Hex.{encode_lower}
+use Rattle.ra_frame.specs.Fits.{Fits}
+use Rattle.ra_frame.specs.FrameText.{IsWrittenText}
+use Rattle.ra_text.specs.declared.draft.Draft.{Draft}
+use Rattle.ra_text.specs.Drafting.{Adds, Says}
+use Rattle.ra_book.specs.declared.book.event.BookEvent.{BookEvent}
+use Rattle.ra_book.specs.declared.book.event.BookKind.{BookKind}
+use Rattle.ra_book.specs.declared.book.event.BookKind.TheVariants.{Asked, Gave, Got}
+use Rattle.ra_book.specs.Book.{BookState}
+use Rattle.ra_book_text.specs.BookText.{IsEvent, IsFirst, form_text}
+use Rattle.ra_book_text.specs.BookText.Form.{Ask, Release, Receive}
+use Rattle.ra_book_text.specs.Input.{HasNoFeed}
+use Rattle.ra_book_text.specs.Book.{lines_text}
+
+-- how the line of an event is spelled: a frame that came is in version 2 and in lower case
+abbrev pub IsSpelled : List ℕ → BookKind → Type 0
+IsSpelled line (Asked client name mode) = line ≡ form_text (Ask client name mode)
+IsSpelled line (Gave client name) = line ≡ form_text (Release client name)
+IsSpelled line (Got frame) = (bytes : List ℕ) × IsWrittenText bytes frame × (line ≡ form_text (Receive (encode_lower bytes)))
+
+-- the line is this event, spelled so, and has no line feed
+pub record IsWrittenEvent (line : List ℕ) (kind : BookKind) : Type 0 where
+  pub is_event : IsEvent line kind
+  pub spelled : IsSpelled line kind
+  pub no_feed : HasNoFeed line
+
+-- the lines are the first line of the book, and then its events in order
+pub record IsWrittenBook (lines : List (List ℕ)) (book : BookState) : Type 0 where
+  pub first : List ℕ
+  pub events : List (List ℕ)
+  pub lines_are : lines ≡ first ∷ events
+  pub is_first : IsFirst first book.me book.nodes book.start
+  pub no_feed : HasNoFeed first
+  pub are_events : AllZip IsWrittenEvent events (map (λ event. event.kind) book.events)
+
+-- these lines were added to a text
+abbrev pub AddsLines : (old new : List ℕ) → List (List ℕ) → Type 0
+AddsLines old new lines = new ≡ old ++ lines_text lines
+
+-- the frame that comes by the event does not fit, so that it has no text
+abbrev pub IsUnfit : BookKind → Type 0
+IsUnfit (Asked client name mode) = ⊥
+IsUnfit (Gave client name) = ⊥
+IsUnfit (Got frame) = Fits frame → ⊥
+
+-- ---- Only private contracts and proofs speak of it.
+
+-- the line of the event was added to a draft
+abbrev pub AddsEvent : Draft → Draft → BookKind → Type 0
+AddsEvent old new kind = (line : List ℕ) × IsWrittenEvent line kind × Adds old (line ++ 10 ∷ []) new
+
+-- the draft is this text, and then the lines of these events
+abbrev pub SaysEvents : Draft → List ℕ → List BookEvent → Type 0
+SaysEvents draft first events =
+    (lines : List (List ℕ)) × AllZip IsWrittenEvent lines (map (λ event. event.kind) events) × Says draft (first ++ lines_text lines)

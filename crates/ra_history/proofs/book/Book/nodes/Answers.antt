@@ -1,5 +1,0 @@
-use Rattle.ra_history.proofs.Kept.{history_of}
-use Rattle.ra_history.proofs.book.Book.nodes.Goals as goal
-
-pub returns-clause-history : goal.returns-clause-history
-returns-clause-history c = history_of c.args.self.now _ _ c.self.invariant.keeps c.self.view_is

@@ -1,6 +1,0 @@
-use Rattle.ra_history.proofs.FrameSearch.{IsOf, NoneBefore}
-use Rattle.ra_history.proofs.book.frame_search.place_of.Given as goal
-
--- it is not one of those so far
-abbrev pub invariant-loop-place : goal.invariant-loop-place
-invariant-loop-place l = NoneBefore (IsOf l.frame) l.sent l.place

@@ -1,5 +1,0 @@
-use Rattle.ra_history.proofs.SettlingLaws.{fitting_books_settle_with_copies}
-use Rattle.ra_history.proofs.laws.settling_with_copies.books_settle_with_copies.Goals as goal
-
-pub returns : goal.returns
-returns c = fitting_books_settle_with_copies

@@ -1,6 +1,0 @@
-use Rattle.ra_history.proofs.CopiesBack.{AreDone}
-use Rattle.ra_history.proofs.settle_books.copies.steps_back.Given as goal
-
--- so many of the last events are done
-abbrev pub invariant-loop-turn : goal.invariant-loop-turn
-invariant-loop-turn l = AreDone l.events l.turn l.later l.back.items

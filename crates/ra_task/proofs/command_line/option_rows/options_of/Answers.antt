@@ -1,5 +1,0 @@
-use Rattle.std.proofs.Common.{refl}
-use Rattle.ra_task.proofs.command_line.option_rows.options_of.Goals as goal
-
-pub returns-in-Sim : goal.returns-in-Sim
-returns-in-Sim c = rw c.in-Sim.is (_, _, refl, refl, refl)

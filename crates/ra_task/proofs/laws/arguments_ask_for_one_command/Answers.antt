@@ -1,5 +1,0 @@
-use Rattle.ra_task.proofs.OneCommand.{one_command}
-use Rattle.ra_task.proofs.laws.arguments_ask_for_one_command.Goals as goal
-
-pub returns : goal.returns
-returns c = one_command

@@ -1,5 +1,0 @@
-use Rattle.ra_task.proofs.SeedOrder.{in_order}
-use Rattle.ra_task.proofs.laws.surveyed_seeds_are_in_order.Goals as goal
-
-pub returns : goal.returns
-returns c = λ arguments asked asks. in_order arguments asked asks.1
