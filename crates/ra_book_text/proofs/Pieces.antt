@@ -13,7 +13,7 @@ use Rattle.ra_book_text.specs.declared.next_line.input_piece.Piece.{Piece}
 use Rattle.ra_book_text.specs.declared.next_line.input_piece.Piece.TheVariants.{Part, Over, End}
 use Rattle.ra_book_text.specs.declared.next_line.input_piece.TakenBytes.{TakenBytes}
 use Rattle.ra_text.specs.declared.error.ReadFault.{ReadFault}
-use Rattle.ra_world.specs.declared.error.ReadFault.TheVariants.{Read}
+use Rattle.ra_text.specs.declared.error.ReadFault.TheVariants.{Read}
 use Rattle.ra_book_text.specs.Input.{HasNoFeed, IsKeptLine, IsPiece, Keeps, TakesShown, TakesPiece, TakesLine, TakesOpen}
 
 -- more bytes than there is room for
