@@ -2,7 +2,7 @@
 ghost use Rattle.std.specs.Prelude.{◌≡◌, ◌≢◌, List, ℕ, Ok, IfOk, IfErr, IfSome};
 ghost use Rattle.std.specs.Io.KnownBytes.{Consumes};
 ghost use Rattle.ra_script.specs.ScriptText.{script_of};
-ghost use Rattle.ra_cluster.specs.declared.cluster.cluster_run.ClusterError.{ClusterError};
+ghost use Rattle.ra_cluster.specs.declared.cluster_run.ClusterError.{ClusterError};
 ghost use Rattle.ra_cli.specs.ClusterRun.{RefusesRun};
 ghost use Rattle.ra_cli.specs.InputOutput.{ReadsInput};
 
