@@ -6,7 +6,8 @@ use Rattle.std.proofs.lemmas.List.{append-nil}
 use Rattle.ra_draw.specs.declared.error.DrawError.{DrawError}
 use Rattle.ra_draw.specs.declared.error.DrawError.TheVariants.{Limit, Memory, NoLines, Read, TooLong, Write}
 use Rattle.ra_text.specs.declared.drawn_part.Part.{Part}
-use Rattle.ra_draw.specs.Drawing.{IsDrawable, IsInput, IsOfPart, IsPicture, IsUnfit}
+use Rattle.ra_draw.specs.Drawing.{IsDrawable, IsInput, IsOfPart, IsUnfit}
+use Rattle.ra_draw.specs.Pictures.{IsPicture}
 use Rattle.ra_cli.specs.Pictures.{Attempts, IsOfKind, SaysWhyNot, Shows}
 use Rattle.ra_cli.specs.InputOutput.{StopsBefore}
 use Rattle.ra_cli.specs.Tasks.{IsCutBy, IsPrintedBy}
@@ -26,14 +27,15 @@ of_input P input taken new read = subst P (sym (same_input input taken new read)
 
 -- a picture of which the writer took a prefix
 pub of_picture : (kind : InputKind) (part : Part) (old new before after : Option (List ℕ))
-    → ((input prefix rest : List ℕ) × IsInput old new input × IsOfKind kind input × IsDrawable part input × IsPicture (prefix ++ rest) × (rest ≢ [])
+    → ((input prefix rest : List ℕ) × IsInput old new input × IsOfKind kind input × IsDrawable part input × IsPicture part input (prefix ++ rest) × (rest ≢ [])
     × Appends before after prefix)
     → IfSome old (λ input. IsCutBy (task.Draw kind part) input before after)
 of_picture kind part None new before after h = tt
 of_picture kind part (Some input) new before after (taken, prefix, rest, read, is, drawable, picture, left, some) =
     let whole = of_input (IsOfKind kind) input taken new read is in
     let fits = of_input (IsDrawable part) input taken new read drawable in
-    (prefix ++ rest, inl (whole, fits, picture), (prefix, rest, refl, left, some))
+    let same = of_input (λ (xs : List ℕ). IsPicture part xs (prefix ++ rest)) input taken new read picture in
+    (prefix ++ rest, inl (whole, fits, same), (prefix, rest, refl, left, some))
 
 -- the line that says why there is none
 pub of_denied : (kind : InputKind) (part : Part) (old new : Option (List ℕ)) (text taken : List ℕ)
@@ -94,7 +96,7 @@ pub refuses : (kind : InputKind) (part : Part) (old new before after : Option (L
     → (fault ≡ Read → StopsBefore 16777217 old new) → (fault ≡ Limit → (taken : List ℕ) × (length taken ≡ 16777217) × Consumes old new taken)
     → (IsOfPart fault → (input : List ℕ) × IsInput old new input × IsOfKind kind input × IsUnfit part input fault)
     → (fault ≡ Write → (input prefix rest : List ℕ) × IsInput old new input × IsOfKind kind input
-    × IsDrawable part input × IsPicture (prefix ++ rest) × (rest ≢ []) × Appends before after prefix)
+    × IsDrawable part input × IsPicture part input (prefix ++ rest) × (rest ≢ []) × Appends before after prefix)
     → Attempts kind part old new before after Untouched (Err fault)
 refuses kind part old new before after Untouched fault unwritten failed limit unfit broken = record {
   ok = tt;

@@ -10,7 +10,8 @@ use Rattle.ra_trace.specs.Verdict.{IsVerdict}
 use Rattle.ra_draw.specs.declared.error.DrawError.{DrawError}
 use Rattle.ra_draw.specs.declared.error.DrawError.TheVariants.{Read, Limit, NoLines, TooLong, Memory, Write}
 use Rattle.ra_text.specs.declared.drawn_part.Part.{Part}
-use Rattle.ra_draw.specs.Drawing.{IsDrawable, IsInput, IsOfPart, IsPicture, IsUnfit}
+use Rattle.ra_draw.specs.Drawing.{IsDrawable, IsInput, IsOfPart, IsUnfit}
+use Rattle.ra_draw.specs.Pictures.{IsPicture}
 use Rattle.ra_cli.specs.Checks.{verdict_text, marks_verdict_text}
 use Rattle.ra_cli.specs.InputOutput.{StopsBefore}
 use Rattle.ra_cli.specs.declared.commands.draw_command.Denial.{Denial}
@@ -36,10 +37,11 @@ abbrev pub IsNotDrawn : InputKind → (old new before after : Option (List ℕ))
 IsNotDrawn kind old new before after = (input text : List ℕ) × IsInput old new input × SaysWhyNot kind input text
     × Appends before after text
 
--- the text is what is printed of the input: a picture if it is of this kind and 1 to 4,096 of its lines are in the part, and
--- the line that says why it is not of this kind otherwise
+-- the text is what is printed of the input: a picture of the part if it is of this kind and 1 to 4,096 of its lines are in the
+-- part, and the line that says why it is not of this kind otherwise
 abbrev pub IsDrawing : InputKind → Part → (input text : List ℕ) → Type 0
-IsDrawing kind part input text = (IsOfKind kind input × IsDrawable part input × IsPicture text) ⊎ SaysWhyNot kind input text
+IsDrawing kind part input text =
+    (IsOfKind kind input × IsDrawable part input × IsPicture part input text) ⊎ SaysWhyNot kind input text
 
 -- Why a part is not drawn. Before it is judged, the whole input is read, of which fewer bytes came than may be drawn, or
 -- more. If the part is the cause, the input is of this kind, and none of its lines is in the part, or more than 4,096 are.
@@ -53,10 +55,10 @@ RefusesPart kind part old new Write = Unit {0}
 
 -- ---- One attempt
 
--- the input is of this kind, 1 to 4,096 of its lines are in the part, and a picture was written
+-- the input is of this kind, 1 to 4,096 of its lines are in the part, and a picture of the part was written
 abbrev pub Shows : InputKind → Part → (input : List ℕ) → (before after : Option (List ℕ)) → Type 0
 Shows kind part input before after = IsOfKind kind input × IsDrawable part input
-    × (picture : List ℕ) × IsPicture picture × Appends before after picture
+    × (picture : List ℕ) × IsPicture part input picture × Appends before after picture
 
 -- what came of an input: a picture, or a denial that says why there is none. `Untouched` says that nothing was written.
 abbrev pub ShowsOrDenies : InputKind → Part → (input : List ℕ) → (before after : Option (List ℕ)) → (Untouched : Type 0) → Option Denial → Type 0
@@ -74,4 +76,4 @@ pub record Attempts (kind : InputKind) (part : Part) (old new before after : Opt
   pub unfit : IfErr result (λ fault. IsOfPart fault → (input : List ℕ) × IsInput old new input × IsOfKind kind input
       × IsUnfit part input fault)
   pub prefix : IsErrOf result Write → (input prefix rest : List ℕ) × IsInput old new input × IsOfKind kind input
-      × IsDrawable part input × IsPicture (prefix ++ rest) × (rest ≢ []) × Appends before after prefix
+      × IsDrawable part input × IsPicture part input (prefix ++ rest) × (rest ≢ []) × Appends before after prefix

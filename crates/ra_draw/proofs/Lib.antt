@@ -1,1 +1,5 @@
 pub mod DrawingLemmas
+pub mod Additions
+pub mod FirstLines
+pub mod LinesLeft
+pub mod Verdicts

@@ -1,5 +1,5 @@
 -- What is drawn of an input, and when.
-use Rattle.std.specs.Prelude.{◌≡◌, ◌≢◌, ◌⊎◌, ℕ, ◌<◌, ◌≤◌, List, [], ◌++◌, Option, Result, Ok, codes, length, IfOk, IfErr, IsErrOf}
+use Rattle.std.specs.Prelude.{◌≡◌, ◌≢◌, ◌⊎◌, ℕ, ◌<◌, ◌≤◌, List, [], ◌++◌, Option, Result, Ok, length, IfOk, IfErr, IsErrOf}
 use Rattle.std.specs.Io.KnownBytes.{Appends, Consumes}
 use Rattle.ra_text.specs.Input.{Reads}
 use Rattle.ra_trace.specs.declared.error.TraceError.{TraceError}
@@ -14,6 +14,7 @@ use Rattle.ra_draw.specs.declared.error.DrawError.{DrawError}
 use Rattle.ra_draw.specs.declared.error.DrawError.TheVariants.{Read, Limit, NoLines, TooLong, Memory, Write}
 use Rattle.ra_text.specs.declared.drawn_part.Part.{Part}
 use Rattle.ra_draw.specs.Lines.{line_count}
+use Rattle.ra_draw.specs.Pictures.{IsPicture}
 use Rattle.ra_text.specs.DrawnPart.{lines_between}
 
 -- the refusal that one of a check becomes
@@ -21,10 +22,6 @@ abbrev pub of_trace : TraceError → DrawError
 of_trace trace.Read = Read
 of_trace trace.Limit = Limit
 of_trace trace.Memory = Memory
-
--- the text is one element of SVG, and a line feed after it; what the element contains is not said
-abbrev pub IsPicture : List ℕ → Type 0
-IsPicture text = (inner : List ℕ) × (text ≡ codes "<svg xmlns=\"http://www.w3.org/2000/svg\"" ++ inner ++ codes "</svg>\n")
 
 -- the most lines that are drawn: 4,096
 abbrev pub line_limit : ℕ
@@ -52,9 +49,10 @@ abbrev pub IsUnfit : Part → List ℕ → DrawError → Type 0
 IsUnfit part text fault = ((fault ≡ NoLines (line_count text)) × (drawn_lines part text ≡ 0))
     ⊎ ((fault ≡ TooLong) × (line_limit < drawn_lines part text))
 
--- a picture of 1 to 4,096 lines was written
+-- a picture of the part, which has 1 to 4,096 lines, was written
 abbrev pub DrawsPicture : Part → List ℕ → (before after : Option (List ℕ)) → Type 0
-DrawsPicture part input before after = IsDrawable part input × (picture : List ℕ) × IsPicture picture × Appends before after picture
+DrawsPicture part input before after =
+    IsDrawable part input × (picture : List ℕ) × IsPicture part input picture × Appends before after picture
 
 -- what is drawn if this is the verdict on the input: a picture if it is a trace, and otherwise nothing
 abbrev pub Draws : Part → List ℕ → (before after : Option (List ℕ)) → Verdict → Type 0
@@ -91,7 +89,8 @@ pub record DrawsPart {V Why : Type 0} (IsVerdictOn : List ℕ → V → Type 0) 
   pub unwritten : IfErr result (λ fault. fault ≢ Write → Untouched)
   -- a fault of the writer comes only in a picture of the part, with something left to write
   pub prefix : IsErrOf result Write → (input : List ℕ) × (m n : ℕ) × (prefix rest : List ℕ) × IsInput old new input
-      × IsVerdictOn input (valid_of m n) × IsDrawable part input × IsPicture (prefix ++ rest) × (rest ≢ []) × Appends before after prefix
+      × IsVerdictOn input (valid_of m n) × IsDrawable part input × IsPicture part input (prefix ++ rest) × (rest ≢ [])
+      × Appends before after prefix
 
 -- what came of an attempt to draw a trace
 abbrev pub DrawsTrace : Part → (old new before after : Option (List ℕ)) → (Untouched : Type 0) → (kept : List ℕ) → Result Verdict DrawError → Type 0

@@ -4,8 +4,9 @@ use Rattle.std.specs.Io.KnownBytes.{Appends, Consumes}
 use Rattle.ra_draw.specs.declared.error.DrawError.{DrawError}
 use Rattle.ra_draw.specs.declared.error.DrawError.TheVariants.{Read, Limit, NoLines, TooLong, Memory, Write}
 use Rattle.ra_text.specs.declared.drawn_part.Part.{Part}
-use Rattle.ra_draw.specs.Drawing.{IsDrawable, IsPicture, drawn_lines, line_limit}
+use Rattle.ra_draw.specs.Drawing.{IsDrawable, drawn_lines, line_limit}
 use Rattle.ra_draw.specs.Lines.{line_count}
+use Rattle.ra_draw.specs.Pictures.{IsPicture}
 
 -- how much was taken from the reader if this is why a text was not read; it is never about a part or a writer
 abbrev pub IsUnread : (old new : Option (List ℕ)) → DrawError → Type 0
@@ -25,4 +26,5 @@ IsUnwritten part text before after Untouched (NoLines lines) =
 IsUnwritten part text before after Untouched TooLong = (line_limit < drawn_lines part text) × Untouched
 IsUnwritten part text before after Untouched Memory = Untouched
 IsUnwritten part text before after Untouched Write =
-    IsDrawable part text × (prefix rest : List ℕ) × IsPicture (prefix ++ rest) × (rest ≢ []) × Appends before after prefix
+    IsDrawable part text × (prefix rest : List ℕ) × IsPicture part text (prefix ++ rest) × (rest ≢ [])
+    × Appends before after prefix

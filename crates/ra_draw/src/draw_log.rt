@@ -9,16 +9,17 @@ use ra_trace::{MAX_TEXT, MarksVerdict, check_marks_within};
 use std::alloc::Global;
 use std::io::{Read, Write};
 
-/// Reads a text. If it is a mark log, writes a picture of a part of it, as `draw` does for a trace. The picture has a row for
-/// each mark, a lane for each node up to the highest one that asks in or before the part, and the bars beside the lanes. A log
-/// has no messages. Returns the verdict on the text, as `check_marks` does, and leaves the text in `text`. If it is no mark log,
-/// nothing is written. No read or write that failed is tried again. Time and memory are linear in the text, and in the columns of
-/// bars beside a node.
+/// Reads a text. If it is a mark log, writes a picture of a part of it, as `draw` does for a trace. The picture has a
+/// row for each mark, a lane for each node up to the highest one that asks in or before the part, and the bars beside
+/// the lanes. A log has no messages. Returns the verdict on the text, as `check_marks` does, and leaves the text in
+/// `text`. If it is no mark log, nothing is written. No read or write that failed is tried again. Time and memory are
+/// linear in the text, and in the columns of bars beside a node.
 ///
 /// # Errors
 ///
-/// Those of `draw`, in their order. `NoLines` comes if the text is a mark log and the part has none of its lines, so also for an
-/// empty log, and `TooLong` if it is one and the part has more than 4,096 lines. After a refusal nothing is promised of `text`.
+/// Those of `draw`, in their order. `NoLines` comes if the text is a mark log and the part has none of its lines, so
+/// also for an empty log, and `TooLong` if it is one and the part has more than 4,096 lines. After a refusal nothing is
+/// promised of `text`.
 pub fn draw_marks<R: Read, W: Write>(
     alloc: Global,
     reader: &mut R,

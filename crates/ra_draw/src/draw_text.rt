@@ -1,8 +1,9 @@
-//! The two steps of drawing that are the same for each kind of text: it is read, and once it is judged, a picture of a part of it is
-//! written.
+//! The two steps of drawing that are the same for each kind of text: it is read, and once it is judged, a picture of a
+//! part of it is written.
 ghost use Rattle.std.specs.Prelude.{◌≡◌, ◌≤◌, IfOk, IfErr, OnOk};
 ghost use Rattle.ra_draw.specs.Drawing.{DrawsPicture, IsInput};
 ghost use Rattle.ra_draw.specs.PictureSteps.{IsUnread, IsUnwritten};
+ghost use Rattle.ra_draw.specs.Pictures.{HasLines};
 ghost use Rattle.ra_draw.specs.Lines as spec;
 
 use crate::svg::{Totals, picture_of};
@@ -26,7 +27,8 @@ fn line_count(text: &[u8]) -> u64
     lines
 }
 
-/// Reads all of a text before it is judged: so `Read` and `Limit` come first, and the lines of the part are there once it is known.
+/// Reads all of a text before it is judged: so `Read` and `Limit` come first, and the lines of the part are there once
+/// it is known.
 ///
 /// # Errors
 ///
@@ -46,7 +48,8 @@ pub fn read_text<R: Read>(alloc: Global, reader: &mut R) -> Result<Vec<u8>, Draw
     Ok(read)
 }
 
-/// Writes the picture of a part of a trace or a mark log with these totals, if the part has a line, and no more than are drawn.
+/// Writes the picture of a part of a trace or a mark log with these totals, if the part has a line, and no more than
+/// are drawn.
 ///
 /// # Errors
 ///
@@ -58,6 +61,7 @@ pub fn write_picture<W: Write>(
     part: Part,
     totals: Totals,
 ) -> Result<(), DrawError>
+    requires { HasLines text.now }
     ensures ok { OnOk result (DrawsPicture part text.now (W.contents writer.old) (W.contents writer.new)) }
     ensures err { IfErr result (IsUnwritten part text.now (W.contents writer.old) (W.contents writer.new)
         (writer.new ≡ writer.old)) }

@@ -1,7 +1,11 @@
-//! Where everything is on the page. Lengths are in pixels, and none comes near its greatest: so they are added without a refusal.
+//! Where everything is on the page. Lengths are in pixels, and none comes near its greatest: so they are added without
+//! a refusal.
 mod name_cut;
 mod node_lane;
 pub mod sizes;
+
+ghost use Rattle.std.specs.Prelude.{◌≡◌, nat_le};
+ghost use Rattle.ra_draw.specs.Pictures.{row_y};
 
 use crate::timeline::{LockSpan, Timeline};
 use itoa::Buffer;
@@ -59,7 +63,9 @@ pub struct Layout {
 
 impl Layout {
     /// Makes an empty one for what is drawn of a run.
-    pub fn new(alloc: Global, timeline: &Timeline) -> Layout {
+    pub fn new(alloc: Global, timeline: &Timeline) -> Layout
+        ensures { result.nodes ≡ timeline.now.nodes }
+    {
         let steps = short(timeline.rows.len());
         let left = timeline.paths.still_under_way.min(UNDER_WAY_ROWS);
         let cut = name_cut_of(timeline);
@@ -88,7 +94,9 @@ impl Layout {
     }
 
     /// Lays it out: the lanes are from left to right, each after its bars.
-    pub fn fill(&mut self, alloc: Global, spans: &[LockSpan]) -> Result<(), Memory> {
+    pub fn fill(&mut self, alloc: Global, spans: &[LockSpan]) -> Result<(), Memory>
+        ensures { self.new.nodes ≡ self.old.nodes }
+    {
         for _node in 0..self.nodes {
             let Ok(()) = self.lanes.push(NodeLane::new(alloc)) else {
                 return Err(Memory);
@@ -127,7 +135,9 @@ impl Layout {
     }
 
     /// Gives a lock span a column beside its node, if it reaches into the part.
-    fn add_bar(&mut self, span: &LockSpan) -> Result<(), Memory> {
+    fn add_bar(&mut self, span: &LockSpan) -> Result<(), Memory>
+        ensures { self.new.nodes ≡ self.old.nodes }
+    {
         let end = match span.left {
             Some(left) => left.row,
             None => self.end,
@@ -153,12 +163,16 @@ impl Layout {
     }
 
     /// Returns whether the lanes are wide enough for labels.
-    pub fn is_wide(&self) -> bool {
+    pub fn is_wide(&self) -> bool
+        ensures { result ≡ nat_le self.now.nodes 12 }
+    {
         self.nodes <= MOST_WIDE
     }
 
     /// Returns how far down a row is.
-    pub fn y(&self, row: u32) -> u64 {
+    pub fn y(&self, row: u32) -> u64
+        ensures { result ≡ row_y self.now.nodes row }
+    {
         let height = if self.is_wide() { WIDE_ROW } else { NARROW_ROW };
         let bands = u64::from(row.saturating_sub(1) / BAND_ROWS);
         u64::from(row)

@@ -1,12 +1,16 @@
 //! The picture of a run.
-ghost use Rattle.std.specs.Prelude.{◌≡◌, ◌++◌, IfOk, OnOk, codes};
-ghost use Rattle.ra_draw.specs.Drawing.{IsPicture};
+ghost use Rattle.std.specs.Prelude.{ℕ, List, IfOk};
+ghost use Rattle.ra_draw.specs.Following.{numbers_of};
+ghost use Rattle.ra_draw.specs.Pictures.{AreLines, HasLines, IsElement, IsPicture, nodes_of, rows_group, rows_of};
+ghost use Rattle.ra_draw.specs.Writing.{Adds, Says};
+ghost use Rattle.ra_trace.specs.declared.line.Line.{Line};
 
 mod deferral_shapes;
 mod layers;
 mod legend;
 mod lock_bars;
 mod message_shapes;
+mod row_numbers;
 mod svg_writer;
 mod wording;
 
@@ -17,6 +21,7 @@ use crate::timeline::Timeline;
 use layers::Layers;
 use legend::{LEGEND, LOOKS};
 use ra_stamp::Memory;
+use row_numbers::put_row_numbers;
 use std::alloc::Global;
 use svg_writer::PatternValue::{Number, Text};
 use svg_writer::SvgWriter;
@@ -78,67 +83,72 @@ fn put_head(svg: &mut SvgWriter, layout: &Layout, totals: &Totals, part: Part) {
     svg.write("</text>\n$", &[Text(LEGEND)]);
 }
 
-/// Draws a part of a text that was followed, the attributes of the picture first, or nothing if memory ran out.
+/// Draws a part of a text that was followed, the attributes of the picture first, and the numbers of its lines apart.
+/// If memory runs out, the latter say so.
 fn draw_timeline(
     alloc: Global,
     layers: &mut Layers,
+    numbers: &mut SvgWriter,
     timeline: &Timeline,
     totals: &Totals,
     part: Part,
-) {
-    let mut layout = Layout::new(alloc, timeline);
-    if layout.fill(alloc, &timeline.spans.all).is_ok() {
-        put_head(&mut layers.shapes, &layout, totals, part);
-        layers.draw(&layout, timeline);
-    } else {
-        layers.shapes.is_out = true;
-    }
-}
-
-/// Draws the part of a text that is a trace or a mark log with these totals.
-// The page is a function of its own, since two values that own memory in one make it many times as expensive to prove.
-fn draw_part(alloc: Global, layers: &mut Layers, text: &[u8], part: Part, totals: &Totals) {
-    let mut timeline = Timeline::new(alloc);
-    if timeline.follow(alloc, text, part).is_ok() {
-        draw_timeline(alloc, layers, &timeline, totals, part);
-    } else {
-        layers.shapes.is_out = true;
-    }
-}
-
-/// Adds the one element of the picture, which contains this.
-fn push_element(picture: &mut Vec<u8>, inner: &[u8]) -> Result<(), Memory>
-    ensures { OnOk result (picture.new.items ≡ picture.old.items
-        ++ codes "<svg xmlns=\"http://www.w3.org/2000/svg\"" ++ inner.now ++ codes "</svg>\n") }
+)
+    ensures { Adds numbers.old (rows_group timeline.now.nodes (numbers_of timeline.now.rows.items)) numbers.new }
 {
-    let start = "<svg xmlns=\"http://www.w3.org/2000/svg\"".as_bytes();
-    let Ok(()) = picture.extend_from_slice(start) else {
-        return Err(Memory);
-    };
-    let Ok(()) = picture.extend_from_slice(inner) else {
-        return Err(Memory);
-    };
-    match picture.extend_from_slice("</svg>\n".as_bytes()) {
-        Ok(()) => Ok(()),
-        Err(_) => Err(Memory),
+    let mut layout = Layout::new(alloc, timeline);
+    match layout.fill(alloc, &timeline.spans.all) {
+        Ok(()) => {
+            put_head(&mut layers.shapes, &layout, totals, part);
+            layers.draw(&layout, timeline);
+            put_row_numbers(numbers, &layout, &timeline.rows);
+        }
+        Err(_) => numbers.is_out = true,
     }
+}
+
+/// Draws the part of a text that is a trace or a mark log with these totals, and the numbers of its lines apart.
+// The page is a function of its own, since two values that own memory in one make it many times as expensive to prove.
+fn draw_part(
+    alloc: Global,
+    layers: &mut Layers,
+    numbers: &mut SvgWriter,
+    text: &[u8],
+    part: Part,
+    totals: &Totals,
+)
+    ensures { (lines : List Line) → AreLines lines text.now
+        → Adds numbers.old (rows_group (nodes_of part lines) (rows_of part lines)) numbers.new }
+{
+    let mut timeline = Timeline::new(alloc);
+    match timeline.follow(alloc, text, part) {
+        Ok(()) => draw_timeline(alloc, layers, numbers, &timeline, totals, part),
+        Err(_) => numbers.is_out = true,
+    }
+}
+
+/// Returns the one element of a picture: the shapes, the labels in front of them, and then the numbers of lines.
+fn element_of(alloc: Global, layers: &Layers, numbers: &SvgWriter) -> Result<Vec<u8>, Memory>
+    ensures { (group : List ℕ) → Says numbers.now group → IfOk result (λ picture. IsElement group picture.items) }
+{
+    let mut picture = SvgWriter::new(alloc);
+    picture.put(b"<svg xmlns=\"http://www.w3.org/2000/svg\"");
+    picture.put_all(&layers.shapes);
+    picture.put_all(&layers.labels);
+    picture.put_all(numbers);
+    picture.put(b"</svg>\n");
+    picture.finish()
 }
 
 /// Returns the picture of a part of a text that has these totals.
 pub fn picture_of(alloc: Global, text: &[u8], part: Part, totals: Totals) -> Result<Vec<u8>, Memory>
-    ensures { IfOk result (λ picture. IsPicture picture.items) }
+    requires { HasLines text.now }
+    ensures { IfOk result (λ picture. IsPicture part text.now picture.items) }
 {
     let mut layers = Layers {
         shapes: SvgWriter::new(alloc),
         labels: SvgWriter::new(alloc),
     };
-    draw_part(alloc, &mut layers, text, part, &totals);
-    let Ok(inner) = layers.finish() else {
-        return Err(Memory);
-    };
-    let mut picture = Vec::new(alloc);
-    match push_element(&mut picture, &inner) {
-        Ok(()) => Ok(picture),
-        Err(_) => Err(Memory),
-    }
+    let mut numbers = SvgWriter::new(alloc);
+    draw_part(alloc, &mut layers, &mut numbers, text, part, &totals);
+    element_of(alloc, &layers, &numbers)
 }

@@ -1,9 +1,14 @@
-//! What happens in the part of a text that is drawn. For a trace, a world of its own makes the steps again: the text has no line for
-//! a message that is sent, and only the nodes know which ones a step sends.
+//! What happens in the part of a text that is drawn. For a trace, a world of its own makes the steps again: the text
+//! has no line for a message that is sent, and only the nodes know which ones a step sends.
 mod deferral;
 mod lock_span;
 mod message_path;
 mod moment;
+
+ghost use Rattle.std.specs.Prelude.{◌≡◌, ◌++◌, ◌∷◌, false, List, [], if◌then◌else◌, is_some, IfOk, OnOk};
+ghost use Rattle.ra_draw.specs.Following.{IsSamePage, Notes, NotesAll, numbers_of};
+ghost use Rattle.ra_draw.specs.Pictures.{AreLines, is_trace};
+ghost use Rattle.ra_trace.specs.declared.line.Line.{Line};
 
 use crate::Part;
 pub use deferral::{Deferral, DeferralSpans};
@@ -41,7 +46,7 @@ pub struct Timeline {
     /// The nodes of a trace, or those of a log up to the highest one that it names in or before the part, at least one.
     pub nodes: u16,
     /// The moment of the last step, or of the last mark of a log.
-    now: Moment,
+    moment: Moment,
     /// Those of the part, in order.
     pub rows: Vec<Row>,
     pub paths: MessagePaths,
@@ -49,12 +54,34 @@ pub struct Timeline {
     pub spans: LockSpans,
 }
 
+/// Returns the world of a trace before its first step, or `None` for a text that does not begin as a trace.
+fn world_of(alloc: Global, text: &[u8]) -> Result<Option<MarklessWorld>, Memory>
+    ensures { (lines : List Line) → AreLines lines text.now
+        → IfOk result (λ world. is_some world ≡ is_trace lines) }
+{
+    let (first, _) = cut(text, b'\n');
+    let Some(line) = &Line::parse(first) else {
+        return Ok(None);
+    };
+    let Line::First { nodes, start, .. } = line else {
+        return Ok(None);
+    };
+    match MarklessWorld::new(alloc, nodes.get(), *start) {
+        Ok(world) => Ok(Some(world)),
+        // A trace has 1 to 64 nodes, so memory ran out.
+        Err(_) => Err(Memory),
+    }
+}
+
 impl Timeline {
     /// Makes that of a text of which nothing was followed yet.
-    pub fn new(alloc: Global) -> Timeline {
+    pub fn new(alloc: Global) -> Timeline
+        ensures rows { result.rows.items ≡ [] }
+        ensures nodes { result.nodes ≡ 1 }
+    {
         Timeline {
             nodes: 1,
-            now: Moment { line: 0, row: 0 },
+            moment: Moment { line: 0, row: 0 },
             rows: Vec::new(alloc),
             paths: MessagePaths {
                 under_way: IndexMap::new(alloc),
@@ -72,11 +99,16 @@ impl Timeline {
         }
     }
 
-    /// Begins the line of a step or of a mark of a log, with a row if it is in the part. The lock span of a client that asks begins.
-    fn begin(&mut self, line: u64, act: Option<ClientAct>, is_drawn: bool) -> Result<(), Memory> {
-        self.now.line = line;
+    /// Begins the line of a step or of a mark of a log, with a row if it is in the part. The lock span of a client that
+    /// asks begins.
+    fn begin(&mut self, line: u64, act: Option<ClientAct>, is_drawn: bool) -> Result<(), Memory>
+        ensures rows { OnOk result (numbers_of self.new.rows.items
+            ≡ numbers_of self.old.rows.items ++ (if is_drawn then line ∷ [] else [])) }
+        ensures nodes { self.new.nodes ≡ self.old.nodes }
+    {
+        self.moment.line = line;
         if is_drawn {
-            self.now.row = self.now.row.saturating_add(1);
+            self.moment.row = self.moment.row.saturating_add(1);
         }
         if let Some(
             ClientAct {
@@ -85,7 +117,7 @@ impl Timeline {
             },
         ) = &act
         {
-            let Ok(()) = self.spans.ask(key, *mode, self.now) else {
+            let Ok(()) = self.spans.ask(key, *mode, self.moment) else {
                 return Err(Memory);
             };
         }
@@ -97,20 +129,22 @@ impl Timeline {
         Ok(())
     }
 
-    /// Notes the messages that a step sends, and the deferrals that it begins and ends: a delivered REQUEST without a REPLY is
-    /// deferred, and a client that leaves sends what was deferred.
-    fn note_sends(&mut self, alloc: Global, step: &Step, sends: &[Message]) -> Result<(), Memory> {
+    /// Notes the messages that a step sends, and the deferrals that it begins and ends: a delivered REQUEST without a
+    /// REPLY is deferred, and a client that leaves sends what was deferred.
+    fn note_sends(&mut self, alloc: Global, step: &Step, sends: &[Message]) -> Result<(), Memory>
+        ensures { IsSamePage self.old self.new }
+    {
         if let Step::Deliver(request) = step
             && let Message::Request { .. } = request
             && sends.is_empty()
         {
             // The path that was added last is that of this request, if the step is drawn.
-            if self.now.row > 0
+            if self.moment.row > 0
                 && let Some(path) = self.paths.drawn.last_mut()
             {
                 path.is_deferred = true;
             }
-            let Ok(()) = self.deferrals.begin(request, self.now) else {
+            let Ok(()) = self.deferrals.begin(request, self.moment) else {
                 return Err(Memory);
             };
         }
@@ -118,9 +152,9 @@ impl Timeline {
             if let Step::Leave { .. } = step
                 && let Message::Reply { from, to, name, .. } = message
             {
-                self.deferrals.end(&(*from, *to, *name), self.now);
+                self.deferrals.end(&(*from, *to, *name), self.moment);
             }
-            let Ok(()) = self.paths.begin(alloc, message, self.now, false) else {
+            let Ok(()) = self.paths.begin(alloc, message, self.moment, false) else {
                 return Err(Memory);
             };
         }
@@ -133,11 +167,14 @@ impl Timeline {
         alloc: Global,
         world: &mut Option<MarklessWorld>,
         step: &Step,
-    ) -> Result<(), Memory> {
+    ) -> Result<(), Memory>
+        ensures page { IsSamePage self.old self.new }
+        ensures world { is_some world.new ≡ is_some world.old }
+    {
         let noted = match step {
-            Step::Deliver(message) => self.paths.end(message, self.now, false),
-            Step::Lose(message) => self.paths.end(message, self.now, true),
-            Step::Repeat(message) => self.paths.begin(alloc, message, self.now, true),
+            Step::Deliver(message) => self.paths.end(message, self.moment, false),
+            Step::Lose(message) => self.paths.end(message, self.moment, true),
+            Step::Repeat(message) => self.paths.begin(alloc, message, self.moment, true),
             Step::Ask { .. } | Step::Leave { .. } => Ok(()),
         };
         let Ok(()) = noted else {
@@ -154,7 +191,9 @@ impl Timeline {
     }
 
     /// Takes the mark of a line of a log. To be granted a name is shown by the client's bar alone.
-    fn take_mark(&mut self, number: u64, mark: &Mark, is_drawn: bool) -> Result<(), Memory> {
+    fn take_mark(&mut self, number: u64, mark: &Mark, is_drawn: bool) -> Result<(), Memory>
+        ensures { OnOk result (Notes false is_drawn number (Line.Marked mark.now) self.old self.new) }
+    {
         let entry = mark.entry();
         let mode = match mark {
             Mark::Requested(_) => Some(entry.mode),
@@ -175,11 +214,12 @@ impl Timeline {
             return Err(Memory);
         };
         self.nodes = self.nodes.max(entry.stamp.node.get());
-        self.spans.take(mark, self.now);
+        self.spans.take(mark, self.moment);
         Ok(())
     }
 
-    /// Takes a line, which is drawn or comes before the lines that are. Only in a mark log, which has no world, a mark has a row.
+    /// Takes a line, which is drawn or comes before the lines that are. Only in a mark log, which has no world, a mark
+    /// has a row.
     fn take(
         &mut self,
         alloc: Global,
@@ -187,7 +227,10 @@ impl Timeline {
         number: u64,
         line: &Line,
         is_drawn: bool,
-    ) -> Result<(), Memory> {
+    ) -> Result<(), Memory>
+        ensures notes { OnOk result (Notes (is_some world.old) is_drawn number line.now self.old self.new) }
+        ensures world { is_some world.new ≡ is_some world.old }
+    {
         match line {
             Line::First { nodes, .. } => {
                 self.nodes = nodes.get();
@@ -215,15 +258,18 @@ impl Timeline {
             }
             Line::Marked(mark) if world.is_none() => self.take_mark(number, mark, is_drawn),
             Line::Marked(mark) => {
-                self.spans.take(mark, self.now);
+                self.spans.take(mark, self.moment);
                 Ok(())
             }
             Line::Last => Ok(()),
         }
     }
 
-    /// Takes the marks at the start of what follows the part of a trace: they are of its last step, which has at most this many.
-    fn take_last_marks(&mut self, following: &[u8]) {
+    /// Takes the marks at the start of what follows the part of a trace: they are of its last step, which has at most
+    /// this many.
+    fn take_last_marks(&mut self, following: &[u8])
+        ensures { IsSamePage self.old self.new }
+    {
         let mut rest = following;
         for _mark in 0..MOST_MARKS {
             let (text, Some(after)) = cut(rest, b'\n') else {
@@ -232,7 +278,7 @@ impl Timeline {
             let Some(Line::Marked(mark)) = Line::parse(text) else {
                 return;
             };
-            self.spans.take(&mark, self.now);
+            self.spans.take(&mark, self.moment);
             rest = after;
         }
     }
@@ -244,11 +290,15 @@ impl Timeline {
         world: &mut Option<MarklessWorld>,
         text: &[u8],
         part: Part,
-    ) -> Result<(), Memory> {
+    ) -> Result<(), Memory>
+        ensures { (lines : List Line) → AreLines lines text.now
+            → OnOk result (NotesAll (is_some world.old) part lines self.old self.new) }
+    {
         let mut rest = text;
         for before in 0..part.to {
+            let (text, after) = cut(rest, b'\n');
             // The last line ends with a line feed, too.
-            let (text, Some(after)) = cut(rest, b'\n') else {
+            let Some(after) = after else {
                 break;
             };
             rest = after;
@@ -266,17 +316,12 @@ impl Timeline {
     }
 
     /// Follows a trace or a mark log from its beginning to the end of the part. Only a trace has a world, for its run.
-    pub fn follow(&mut self, alloc: Global, text: &[u8], part: Part) -> Result<(), Memory> {
-        let (first, _) = cut(text, b'\n');
-        let mut world = match &Line::parse(first) {
-            Some(Line::First { nodes, start, .. }) => {
-                match MarklessWorld::new(alloc, nodes.get(), *start) {
-                    Ok(world) => Some(world),
-                    // A trace has 1 to 64 nodes, so memory ran out.
-                    Err(_) => return Err(Memory),
-                }
-            }
-            _ => None,
+    pub fn follow(&mut self, alloc: Global, text: &[u8], part: Part) -> Result<(), Memory>
+        ensures { (lines : List Line) → AreLines lines text.now
+            → OnOk result (NotesAll (is_trace lines) part lines self.old self.new) }
+    {
+        let Ok(mut world) = world_of(alloc, text) else {
+            return Err(Memory);
         };
         self.take_lines(alloc, &mut world, text, part)
     }

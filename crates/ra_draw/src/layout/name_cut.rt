@@ -11,8 +11,8 @@ const LEAST_KEPT: usize = 8;
 /// The fewest letters that are left out, since two dots take their place.
 const LEAST_CUT: usize = 3;
 
-/// How many letters of each name are left out at its beginning and at its end. All names have them in common, so different names stay
-/// different.
+/// How many letters of each name are left out at its beginning and at its end. All names have them in common, so
+/// different names stay different.
 #[derive(Clone, Copy)]
 pub struct NameCut {
     pub before: usize,

@@ -35,7 +35,8 @@ pub const WIDE_ROW: u64 = 24;
 
 pub const NARROW_ROW: u64 = 14;
 
-/// The least width between a lane and the bars of the next one if there are up to three nodes, and the width if lanes are not wide.
+/// The least width between a lane and the bars of the next one if there are up to three nodes, and the width if lanes
+/// are not wide.
 pub const FEW_NODES_GAP: u64 = 210;
 
 pub const NARROW_GAP: u64 = 36;
@@ -49,7 +50,8 @@ pub const COLUMN_WIDTH: u64 = 24;
 /// The width between a lane and its bars, for the lines of deferrals.
 pub const LANE_MARGIN: u64 = 28;
 
-/// How far from a lane the line of a deferral is at least, which leaves room for the head of an arrow; at most; and from the next one.
+/// How far from a lane the line of a deferral is at least, which leaves room for the head of an arrow; at most; and
+/// from the next one.
 pub const NEAREST_DEFERRAL: u64 = 11;
 
 pub const FARTHEST_DEFERRAL: u64 = 23;

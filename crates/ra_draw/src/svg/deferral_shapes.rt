@@ -27,8 +27,8 @@ impl Layers {
         self.shapes.write(said, &[Number(line)]);
     }
 
-    /// Draws the line of a deferral, this far to the left of the lane, from where the REQUEST came to where the REPLY is sent, and says
-    /// what it is. Beneath it is one that is not seen, so that a pointer hits it easily.
+    /// Draws the line of a deferral, this far to the left of the lane, from where the REQUEST came to where the REPLY
+    /// is sent, and says what it is. Beneath it is one that is not seen, so that a pointer hits it easily.
     fn draw_deferral(&mut self, layout: &Layout, deferral: &Deferral, beside: u64) {
         self.begin_deferral(deferral);
         let came = deferral.came.row;

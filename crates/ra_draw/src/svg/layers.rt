@@ -1,4 +1,5 @@
-//! The shapes of a picture, and their labels: the lanes, what is on each row, and what the other files of this folder draw.
+//! The shapes of a picture, and their labels: the lanes, what is on each row, and what the other files of this folder
+//! draw.
 use crate::layout::sizes::{
     BAND_HEIGHT, BAND_ROWS, CLIENTS_Y, COLUMN_WIDTH, LANES_TOP, NODES_Y, ROW_NUMBERS_X,
 };
@@ -7,7 +8,7 @@ use crate::svg::svg_writer::PatternValue::{Node, Number, Short, Text, Whole};
 use crate::svg::svg_writer::SvgWriter;
 use crate::svg::wording::MODE_TEXTS;
 use crate::timeline::{ClientAct, Timeline};
-use ra_stamp::{Memory, NodeId};
+use ra_stamp::NodeId;
 
 /// The two layers of a picture: the shapes, and the labels, which are in front of them all.
 #[derive(Drop)]
@@ -40,7 +41,8 @@ impl Layers {
         );
     }
 
-    /// Draws the lane of a node, and names it, again and again in a long picture, and the clients of its columns that have short numbers.
+    /// Draws the lane of a node, and names it, again and again in a long picture, and the clients of its columns that
+    /// have short numbers.
     fn draw_node(&mut self, layout: &Layout, node: NodeId, lane: &NodeLane) {
         self.shapes.write("<g><title>node $</title>", &[Node(node)]);
         self.draw_lane(layout, lane.x, "lane");
@@ -111,16 +113,11 @@ impl Layers {
         );
     }
 
-    /// Draws the number of each row, and what a client does on it, and says where the rows of messages under way at the end begin.
+    /// Draws what a client does on each row, and says where the rows of messages under way at the end begin.
     fn draw_rows(&mut self, layout: &Layout, timeline: &Timeline) {
         let mut number = 0;
         for row in &timeline.rows {
             number = u32::saturating_add(number, 1);
-            let y = layout.y(number).saturating_add(4);
-            self.labels.write(
-                "<text x=\"$\" y=\"$\" class=\"row\">$</text>\n",
-                &[Number(ROW_NUMBERS_X), Number(y), Number(row.line)],
-            );
             if let Some(act) = &row.act {
                 self.draw_act(layout, act, number);
             }
@@ -159,11 +156,5 @@ impl Layers {
             self.draw_path(layout, path);
         }
         self.draw_rows(layout, timeline);
-    }
-
-    /// Returns the shapes, and the labels after them.
-    pub fn finish(self) -> Result<Vec<u8>, Memory> {
-        let Layers { shapes, labels } = self;
-        shapes.finish(&labels)
     }
 }

@@ -1,7 +1,7 @@
 //! What is the same on each page: how shapes look, and the legend that says what they mean.
 
-/// How shapes look. The colours are of those that M. Okabe and K. Ito chose for all kinds of colour vision (2008), and each mode has a
-/// pattern of its own beside its colour.
+/// How shapes look. The colours are of those that M. Okabe and K. Ito chose for all kinds of colour vision (2008), and
+/// each mode has a pattern of its own beside its colour.
 pub const LOOKS: &str = "<defs>
 <pattern id=\"mode-S\" width=\"6\" height=\"6\" patternUnits=\"userSpaceOnUse\"><rect width=\"6\" height=\"6\" fill=\"#a6d8f5\"/></pattern>
 <pattern id=\"mode-X\" width=\"6\" height=\"6\" patternUnits=\"userSpaceOnUse\"><rect width=\"6\" height=\"6\" fill=\"#d55e00\"/></pattern>

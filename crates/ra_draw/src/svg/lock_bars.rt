@@ -49,8 +49,9 @@ impl Layers {
         );
     }
 
-    /// Draws a phase that began, from one moment to another or to the end of the bar, if it has a row, and says what the client does. Beneath
-    /// its shape is one as wide as the column that is not seen, so that a pointer hits it easily.
+    /// Draws a phase that began, from one moment to another or to the end of the bar, if it has a row, and says what
+    /// the client does. Beneath its shape is one as wide as the column that is not seen, so that a pointer hits it
+    /// easily.
     fn draw_phase(
         &mut self,
         layout: &Layout,
@@ -92,7 +93,8 @@ impl Layers {
         }
     }
 
-    /// Writes the name and the mode of a lock along its bar, from the beginning or the top of the page on, if there is room.
+    /// Writes the name and the mode of a lock along its bar, from the beginning or the top of the page on, if there is
+    /// room.
     fn name_lock_bar(&mut self, layout: &Layout, bar: &LockBar) {
         let span = &bar.span;
         let letters = layout

@@ -38,8 +38,9 @@ impl Layers {
         );
     }
 
-    /// Labels a message beside the lane of the node to which it goes, on the side from which it does not come, if there is room on this
-    /// page. Of equal messages that are under way the first one has a label, if it has a row of its own.
+    /// Labels a message beside the lane of the node to which it goes, on the side from which it does not come, if there
+    /// is room on this page. Of equal messages that are under way the first one has a label, if it has a row of its
+    /// own.
     fn label_head(
         &mut self,
         layout: &Layout,
@@ -119,8 +120,9 @@ impl Layers {
         }
     }
 
-    /// Ends the title of a message, and draws its line, and beneath it a wide one that is not seen, so that a pointer hits it easily. One
-    /// that is not delivered ends before the lane, on the side from which it comes, with a cross if it is lost.
+    /// Ends the title of a message, and draws its line, and beneath it a wide one that is not seen, so that a pointer
+    /// hits it easily. One that is not delivered ends before the lane, on the side from which it comes, with a cross if
+    /// it is lost.
     fn draw_line(&mut self, path: &MessagePath, from: Point, to: Point, gutter: u64) {
         let before = if from.x < to.x {
             to.x.saturating_sub(gutter.saturating_add(10))

@@ -6,7 +6,8 @@ use ra_stamp::{Memory, Message, Name, NodeId};
 /// A REPLY that a node owes to another, for a name.
 type OwedReply = (NodeId, NodeId, Name);
 
-/// A deferral: the REQUEST, when it came, and when the REPLY was sent or a later REQUEST took its place, as far as the run goes.
+/// A deferral: the REQUEST, when it came, and when the REPLY was sent or a later REQUEST took its place, as far as the
+/// run goes.
 #[derive(Clone, Copy)]
 pub struct Deferral {
     pub request: Message,
@@ -22,7 +23,8 @@ pub struct DeferralSpans {
 }
 
 impl DeferralSpans {
-    /// Notes that a REQUEST is deferred. An earlier one of the same node for the same name ends with it, since one REPLY answers both.
+    /// Notes that a REQUEST is deferred. An earlier one of the same node for the same name ends with it, since one
+    /// REPLY answers both.
     pub fn begin(&mut self, request: &Message, came: Moment) -> Result<(), Memory> {
         let owed = (request.to(), request.from(), request.name());
         self.end(&owed, came);

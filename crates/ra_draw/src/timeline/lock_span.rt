@@ -11,7 +11,8 @@ pub struct LockKey {
     pub name: Name,
 }
 
-/// A client asks for a name, gets a number for its request, is granted the name and gives it back, as far as the run goes.
+/// A client asks for a name, gets a number for its request, is granted the name and gives it back, as far as the run
+/// goes.
 #[derive(Clone, Copy)]
 pub struct LockSpan {
     pub key: LockKey,
@@ -51,7 +52,8 @@ impl LockSpans {
         }
     }
 
-    /// Notes what becomes of a client that asked: its request gets a number, it is granted the name, or it gives the name back.
+    /// Notes what becomes of a client that asked: its request gets a number, it is granted the name, or it gives the
+    /// name back.
     pub fn take(&mut self, mark: &Mark, now: Moment) {
         let entry = mark.entry();
         let key = (entry.stamp.node, entry.client, entry.name);

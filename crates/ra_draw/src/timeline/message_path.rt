@@ -9,7 +9,8 @@ use std::alloc::Global;
 pub enum MessageEnd {
     Delivered(Moment),
     Lost(Moment),
-    /// It is still under way, at this place among those that are. Equal ones have the same place, and the first of them has the label.
+    /// It is still under way, at this place among those that are. Equal ones have the same place, and the first of them
+    /// has the label.
     UnderWay { place: u32, is_first: bool },
 }
 

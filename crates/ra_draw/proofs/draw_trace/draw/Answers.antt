@@ -6,6 +6,7 @@ use Rattle.ra_trace.specs.Verdict.{IsVerdict}
 use Rattle.ra_draw.specs.Drawing.{Draws}
 use Rattle.ra_text.specs.declared.drawn_part.Part.{Part}
 use Rattle.ra_draw.proofs.DrawingLemmas.{unread, unjudged, undrawn, judged, too_long, appends_nothing}
+use Rattle.ra_draw.proofs.Verdicts.{trace_has_lines}
 use Rattle.ra_draw.proofs.draw_trace.draw.Goals as goal
 
 -- nothing is drawn of what is no trace
@@ -32,6 +33,12 @@ pub returns-in_default : goal.returns-in_default
 returns-in_default g c =
     judged IsVerdict Valid Invalid Draws c.args.part _ _ _ _ _ _ c.in-Ok-check_within.verdict c.in-Ok.ensures.ok (rw c.as_slice-input.ensures.value at c.in-Ok-check_within.ensures.ok)
     (nothing c.args.part c.in-Ok.read.items (g.W.Write.contents c.args.writer.now) c.in-Ok-check_within.verdict c.in_default.not-Valid) (λ line why is. refl)
+
+-- it has lines
+pub write_picture-requires : goal.write_picture-requires
+write_picture-requires g c =
+    let verdict = rw c.as_slice-input.ensures.value at c.in-Ok-check_within.ensures.ok in
+    rw c.as_slice-input.ensures.value (trace_has_lines c.in-Ok.read.items c.in-Valid.requests c.in-Valid.messages (rw c.in-Valid.is at verdict))
 
 -- the picture was not written
 pub returns-in-Err-write_picture : goal.returns-in-Err-write_picture
