@@ -5,7 +5,7 @@ ghost use Rattle.ra_draw.specs.Drawing.{DrawsLog};
 use crate::draw_text::{read_text, write_picture};
 use crate::svg::Totals;
 use crate::{DrawError, Part};
-use ra_trace::{MAX_TEXT, MarksVerdict, check_marks_within};
+use ra_trace::{MarksVerdict, check_marks_buffered};
 use std::alloc::Global;
 use std::io::{Read, Write};
 
@@ -36,7 +36,7 @@ pub fn draw_marks<R: Read, W: Write>(
     };
     let input = text.as_slice();
     let mut unread = input;
-    let verdict = match check_marks_within(alloc, &mut unread, MAX_TEXT) {
+    let verdict = match check_marks_buffered(alloc, &mut unread) {
         Ok(verdict) => verdict,
         Err(fault) => return Err(DrawError::from(fault)),
     };

@@ -5,7 +5,7 @@ ghost use Rattle.ra_draw.specs.Drawing.{DrawsTrace};
 use crate::draw_text::{read_text, write_picture};
 use crate::svg::Totals;
 use crate::{DrawError, Part};
-use ra_trace::{MAX_TEXT, Verdict, check_within};
+use ra_trace::{Verdict, check_buffered};
 use std::alloc::Global;
 use std::io::{Read, Write};
 
@@ -52,7 +52,7 @@ pub fn draw<R: Read, W: Write>(
     };
     let input = text.as_slice();
     let mut unread = input;
-    let verdict = match check_within(alloc, &mut unread, MAX_TEXT) {
+    let verdict = match check_buffered(alloc, &mut unread) {
         Ok(verdict) => verdict,
         Err(fault) => return Err(DrawError::from(fault)),
     };

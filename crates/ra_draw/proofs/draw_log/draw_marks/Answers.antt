@@ -19,36 +19,36 @@ pub returns-in-Err : goal.returns-in-Err
 returns-in-Err g c = unread IsMarksVerdict Valid Invalid DrawsMarks c.args.part _ _ _ _ _ _ refl c.in-Err.fault c.in-Err.ensures.err
 
 -- it was not judged
-pub returns-in-Err-check_marks_within : goal.returns-in-Err-check_marks_within
-returns-in-Err-check_marks_within g c =
+pub returns-in-Err-check_marks_buffered : goal.returns-in-Err-check_marks_buffered
+returns-in-Err-check_marks_buffered g c =
     let whole = c.in-Ok.ensures.ok in
-    rw c.from.ensures (unjudged IsMarksVerdict Valid Invalid DrawsMarks c.args.part _ _ _ _ _ _ _ whole refl c.in-Err-check_marks_within.fault (λ is.
-    let (marks, rest, byte, has, full, rest_is) = c.in-Err-check_marks_within.ensures.limit (ap Err is) in
-    too_long c.as_slice-input.result.now (marks_text marks) rest byte (Some c.check_marks_within.new.reader.now)
+    rw c.from.ensures (unjudged IsMarksVerdict Valid Invalid DrawsMarks c.args.part _ _ _ _ _ _ _ whole refl c.in-Err-check_marks_buffered.fault (λ is.
+    let (marks, rest, byte, has, full, rest_is) = c.in-Err-check_marks_buffered.ensures.limit (ap Err is) in
+    too_long c.as_slice-input.result.now (marks_text marks) rest byte (Some c.check_marks_buffered.new.reader.now)
     (rw c.as_slice-input.ensures.value whole.at_most) full has.taken))
 
 -- it is no mark log
 pub returns-in_default : goal.returns-in_default
 returns-in_default g c =
-    judged IsMarksVerdict Valid Invalid DrawsMarks c.args.part _ _ _ _ _ _ c.in-Ok-check_marks_within.verdict c.in-Ok.ensures.ok (rw c.as_slice-input.ensures.value at c.in-Ok-check_marks_within.ensures.ok)
-    (nothing c.args.part c.in-Ok.read.items (g.W.Write.contents c.args.writer.now) c.in-Ok-check_marks_within.verdict c.in_default.not-Valid) (λ line why is. refl)
+    judged IsMarksVerdict Valid Invalid DrawsMarks c.args.part _ _ _ _ _ _ c.in-Ok-check_marks_buffered.verdict c.in-Ok.ensures.ok (rw c.as_slice-input.ensures.value at c.in-Ok-check_marks_buffered.ensures.ok)
+    (nothing c.args.part c.in-Ok.read.items (g.W.Write.contents c.args.writer.now) c.in-Ok-check_marks_buffered.verdict c.in_default.not-Valid) (λ line why is. refl)
 
 -- it has lines
 pub write_picture-requires : goal.write_picture-requires
 write_picture-requires g c =
-    let verdict = rw c.as_slice-input.ensures.value at c.in-Ok-check_marks_within.ensures.ok in
+    let verdict = rw c.as_slice-input.ensures.value at c.in-Ok-check_marks_buffered.ensures.ok in
     rw c.as_slice-input.ensures.value (log_has_lines c.in-Ok.read.items c.in-Valid.requests c.in-Valid.grants (rw c.in-Valid.is at verdict))
 
 -- the picture was not written
 pub returns-in-Err-write_picture : goal.returns-in-Err-write_picture
 returns-in-Err-write_picture g c =
-    let verdict = rw c.as_slice-input.ensures.value at c.in-Ok-check_marks_within.ensures.ok in
+    let verdict = rw c.as_slice-input.ensures.value at c.in-Ok-check_marks_buffered.ensures.ok in
     (undrawn IsMarksVerdict Valid Invalid DrawsMarks c.args.part _ _ _ _ _ _ _ c.in-Ok.ensures.ok c.in-Valid.requests c.in-Valid.grants
     (rw c.in-Valid.is at verdict) c.in-Err-write_picture.fault (rw c.as_slice-input.ensures.value at c.in-Err-write_picture.ensures.err))
 
 -- it was written
 pub returns-in-Ok-write_picture : goal.returns-in-Ok-write_picture
 returns-in-Ok-write_picture g c =
-    let verdict = rw c.as_slice-input.ensures.value at c.in-Ok-check_marks_within.ensures.ok in
+    let verdict = rw c.as_slice-input.ensures.value at c.in-Ok-check_marks_buffered.ensures.ok in
     judged IsMarksVerdict Valid Invalid DrawsMarks c.args.part _ _ _ _ _ _ (Valid c.in-Valid.requests c.in-Valid.grants) c.in-Ok.ensures.ok
     (rw c.in-Valid.is at verdict) (rw c.as_slice-input.ensures.value at c.in-Ok-write_picture.ensures.ok) (λ line why is. absurd cc)
