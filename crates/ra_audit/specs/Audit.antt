@@ -21,6 +21,7 @@ use Rattle.ra_audit.specs.declared.audit_error.CloseError.TheVariants.{NotFinish
 use Rattle.ra_audit.specs.declared.audit_error.FinishError.{FinishError}
 use Rattle.ra_audit.specs.declared.audit_error.FinishError.TheVariants.{Round, NeverSent, LostUnsent}
 use Rattle.ra_audit.specs.declared.audit_error.RoundError.{RoundError}
+use Rattle.ra_audit.specs.declared.audit_error.RoundError.TheVariants as round
 use Rattle.ra_audit.specs.declared.audit_error.RoundError.TheVariants.{NotAudited, OtherCluster, Fault, NotLost, NotTaken}
 use Rattle.ra_site.specs.declared.site.take_error.TakeError.{TakeError}
 use Rattle.ra_site.specs.declared.site.take_error.TakeError.TheVariants.{NoNode, OutOfTurn, NotNext, Memory}
@@ -180,6 +181,10 @@ pub record IsNotLost (world : WorldState) (nodes : List ProgressState) (losing :
   pub reached : IsReached nodes frame
   pub misfit : IsUnderWay world.moves frame.message → WasSentIn nodes world.moves frame → ⊥
 
+-- Something is left to put into the run: an event is due that fits, or no event can be put and some loss is still to be put.
+abbrev pub CanBePut : AuditState → Type 0
+CanBePut auditor = CanGoOn auditor.world auditor.nodes ⊎ (NoneIsReady auditor.nodes × (auditor.losing ≢ []))
+
 -- ---- What a round does
 
 -- the cluster is audited, and the auditor was made for as many nodes and the same start
@@ -223,7 +228,7 @@ HandsOver old new lost = (more : List BookEvent) × (handed_over new ≡ handed_
 abbrev pub HandsNothing : ProgressState → ProgressState → Type 0
 HandsNothing old new = handed_over new ≡ handed_over old
 
--- The sites of the first nodes handed over all that was left, as many as there are lists: of each, in the order of the nodes, its list
+-- The sites of the first nodes handed over (`HandsOver`), as many as there are lists: of each, in the order of the nodes, its list
 -- has the frames that it handed over as lost. Those of the nodes after these handed over nothing.
 abbrev pub AllHandOver : List ProgressState → List ProgressState → List (List Frame) → Type 0
 AllHandOver [] [] [] = Unit {0}
@@ -247,7 +252,7 @@ pub record TakesMore (old new : AuditState) : Type 0 where
   pub rest : new ≡ record old { nodes = new.nodes; losing = new.losing }
   pub audited : IsAudited new.world new.nodes
 
--- The same; and if all was taken, each node's site handed over all that was left.
+-- The same; and if all was taken, each node's site handed over (`HandsOver`).
 pub record TakesByAnswer {E : Type 0} (old new : AuditState) (answer : Result (Unit {0}) E) : Type 0 where
   pub more : TakesMore old new
   pub asked : OnOk answer (length more.handed ≡ length new.nodes)
@@ -277,7 +282,7 @@ pub record Audits (old : AuditState) (told : List Mark) (new : AuditState) (told
   pub lost : HasLost new.world.moves new.lost
   pub sent : AllWereSent new.nodes new.world.moves new.lost
 
--- The same; and if the round is Ok, each node's site handed over all that was left.
+-- The same; and if the round is Ok, each node's site handed over (`HandsOver`).
 pub record AuditsByAnswer {E : Type 0} (old : AuditState) (told : List Mark) (new : AuditState) (told' : List Mark) (answer : Result (Unit {0}) E) : Type 0 where
   pub audits : Audits old told new told'
   pub asked : OnOk answer (length audits.handed ≡ length new.nodes)
@@ -314,7 +319,7 @@ AtNumber nodes node P = (p : ProgressState) × (slice_get nodes (node - 1) ≡ S
 abbrev pub with_more : ProgressState → List BookEvent → ProgressState
 with_more p events = record p { waiting = p.waiting ++ events }
 
--- What comes of taking events of a node that come after one with this clock: they come after those that were taken, or
+-- How events of a node are taken that come after one with this clock: they come after those that were taken, or
 -- nothing changes. `Memory` is the only other error.
 pub record Takes (nodes : List ProgressState) (node after : ℕ) (events : List BookEvent)
     (answer : Result (Unit {0}) TakeError) (nodes' : List ProgressState) : Type 0 where
@@ -329,12 +334,12 @@ pub record Takes (nodes : List ProgressState) (node after : ℕ) (events : List 
 abbrev pub KeptAreNext : ProgressState → Type 0
 KeptAreNext p = AreNextAt p.node (clock_of (taken_of p)) p.kept
 
--- the node's site handed over nothing, or these frames with all that was left
+-- the node's site handed over nothing, or these frames and further events (`HandsOver`)
 abbrev pub MayHandOver : ProgressState → ProgressState → List Frame → Type 0
 MayHandOver p q handed = (HandsNothing p q × (handed ≡ [])) ⊎ HandsOver p q handed
 
 -- What is known of a node after its site handed over what has happened and these frames, which were lost, or nothing. It goes on
--- from before, with the same events in the run. If the answer is Ok, the site handed over all that was left, and nothing is kept. If
+-- from before, with the same events in the run. If the answer is Ok, the site handed over (`HandsOver`), and nothing is kept. If
 -- it is OutOfTurn, nothing is kept either, and nothing was handed over. It is NotNext exactly if what is kept can't be the node's next
 -- events. Memory is the only other error, after which what is kept can be.
 pub record TakesOver (p q : ProgressState) (handed : List Frame) (answer : Result (Unit {0}) TakeError) : Type 0 where
@@ -348,7 +353,7 @@ pub record TakesOver (p q : ProgressState) (handed : List Frame) (answer : Resul
   pub not_next : IsErrOf answer NotNext ↔ (KeptAreNext q → ⊥)
   pub memory : IsErrOf answer Memory → KeptAreNext q
 
--- What comes of taking what the site of a node hands over. If there is no such node, it says so, and nothing changes.
+-- How an auditor takes what the site of a node hands over. If there is no such node, it says so, and nothing changes.
 -- Otherwise the node goes on from before, and the other nodes are as before. The frames that were handed over as lost are
 -- still to be lost, after the others, whatever the answer.
 abbrev pub TakesHanded : List ProgressState → List Frame → ℕ → Result (Unit {0}) TakeError → List ProgressState → List Frame → Type 0
@@ -368,8 +373,8 @@ pub record TakesMoreAt (old : AuditState) (number : ℕ) (new : AuditState) : Ty
   pub rest : new ≡ record old { nodes = new.nodes; losing = new.losing }
   pub audited : IsAudited new.world new.nodes
 
--- Nothing is kept of the node any more, and the other nodes are as before. The node's site handed over all that was left: the
--- frames that are still to be lost, after the others, and further events.
+-- Nothing is kept of the node any more, and the other nodes are as before. The node's site handed over further events, and frames
+-- that are still to be lost, after the others (`HandsOver`).
 abbrev pub TakesAllAt : List ProgressState → List Frame → ℕ → List ProgressState → List Frame → Type 0
 TakesAllAt nodes losing node nodes' losing' = AtNumber nodes node (λ p. (q : ProgressState) × (q.kept ≡ [])
     × (nodes' ≡ slice_set nodes (node - 1) q) × (handed : List Frame) × HandsOver p q handed × (losing' ≡ losing ++ handed))
@@ -459,7 +464,7 @@ pub record AnswersRound (cluster : ClusterState) (old : AuditState) (told : List
   pub ok : OnOk answer (NoneIsReady new.nodes)
   pub none_reached : OnOk answer (NoneIsReached new.nodes new.losing)
   pub kept : OnOk answer (NoneIsKept new.nodes)
-  -- each site handed over all that was left
+  -- each site handed over (`HandsOver`)
   pub asked : OnOk answer (length audits.handed ≡ length new.nodes)
   pub may_be_put : OnOk answer (All (MayBePut (clocks_taken old.nodes) new.nodes) new.nodes)
   pub not_audited : IsErrOf answer NotAudited ↔ (cluster.audited ≡ false)
@@ -471,6 +476,8 @@ pub record AnswersRound (cluster : ClusterState) (old : AuditState) (told : List
   -- so after a round of its cluster, an auditor has a fault exactly if the round answered it
   pub fault : (fault : AuditFault) → IsAuditorOf cluster old → IsErrOf answer (Fault fault) ↔ (new.fault ≡ Some fault)
   pub not_lost : (frame : Frame) → IsErrOf answer (NotLost frame) → NoneIsReady new.nodes × IsNotLost new.world new.nodes new.losing frame
+  -- nothing was done, or something is left to put
+  pub memory : IsErrOf answer round.Memory → ((new ≡ old) × (told' ≡ told)) ⊎ CanBePut new
   pub not_taken : (node : ℕ) (cause : TakeError) → IsErrOf answer (NotTaken node cause)
       → NoneIsReady new.nodes × NoneIsReached new.nodes new.losing × IsNotTaken new.nodes node cause
 
@@ -503,7 +510,7 @@ pub record AreAllIn (nodes : List ProgressState) (books : List BookState) : Type
   pub count : length books ≡ length nodes
   pub all : (place : ℕ) → IsAllInAt nodes books place
 
--- At some place are the node with this number and a book of which not all is in the run. All of the history of each book before
+-- At some place are the node with this number and a book that is not all in the run. All of the history of each book before
 -- it is.
 pub record IsFirstNotAllIn (nodes : List ProgressState) (books : List BookState) (node : ℕ) : Type 0 where
   pub place : ℕ
@@ -540,7 +547,7 @@ pub record ClosesAudit (auditor : AuditState) (books : List BookState) : Type 0 
   pub none_lost : still_lost books ≡ []
   pub histories : All HasHistory books
 
--- Why a cluster was not closed so, with the cluster, if it was not closed, or else its books.
+-- Why a cluster was not closed so, with the cluster, if it was not closed, and otherwise its books.
 abbrev pub RefusesClose : ClusterState → AuditState → CloseError → Option ClusterState → List BookState → Type 0
 RefusesClose cluster auditor (NotFinished cause) kept books = (kept ≡ Some cluster) × (books ≡ []) × RefusesFinish auditor cause
 RefusesClose cluster auditor (Behind node) kept books =

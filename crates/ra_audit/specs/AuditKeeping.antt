@@ -89,7 +89,7 @@ abbrev pub LooksAtFirst : List ProgressState → LossState → LossState → Typ
 LooksAtFirst nodes old new = (LosesFirst old new × All (IsReached nodes) (take 1 old.losing))
     ⊎ (DefersFirst old new × NoneIsReached nodes (take 1 old.losing))
 
--- of these frames all but the first ones, so many, were looked at, and the run has come to none of them
+-- all of these frames but the first `left` ones were looked at, and the run has come to none of those
 pub record AreLookedAt (nodes : List ProgressState) (left : ℕ) (losing : List Frame) : Type 0 where
   pub first : List Frame
   pub others : List Frame

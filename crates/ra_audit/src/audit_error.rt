@@ -10,7 +10,7 @@ use thiserror::Error;
 /// The first event found that does not fit the run of the cluster.
 #[derive(Clone, Copy, Debug, PartialEq, Eq)]
 pub struct AuditFault {
-    /// At which node.
+    /// The node.
     pub node: NodeId,
     /// The event. If a frame came, it was never sent, or its message came or was lost before.
     pub event: BookEvent,
@@ -48,7 +48,7 @@ pub enum RoundError {
     Memory,
     /// The events of a node were not taken.
     NotTaken {
-        /// Of which node.
+        /// The node.
         node: NodeId,
         /// Why.
         cause: TakeError,

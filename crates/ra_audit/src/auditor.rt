@@ -88,7 +88,7 @@ impl Model for Auditor {
 }
 
 impl Auditor {
-    ghost use Rattle.ra_audit.specs.Audit.{IsAudited, HasLost, AllWereSent, NoneIsReady, NoneIsReached, CanGoOn, IsMisfit, IsNotLost, Advances, PutsLosses, RunTheorem};
+    ghost use Rattle.ra_audit.specs.Audit.{IsAudited, HasLost, AllWereSent, NoneIsReady, NoneIsReached, CanBePut, IsMisfit, IsNotLost, Advances, PutsLosses, RunTheorem};
 
     /// Makes the auditor of a cluster of this many nodes, in which nothing has happened yet. The highest number of each
     /// resource begins at `start`, 0 to 2^64-1. The cost is linear in the number of pairs of nodes.
@@ -256,8 +256,7 @@ impl Auditor {
         ensures fault { (fault : audit_fault.AuditFault) → IsErrOf result (AuditError.Fault fault) ↔ (self.new.fault ≡ Some fault) }
         ensures not_lost { (frame : Frame) → IsErrOf result (AuditError.NotLost frame)
             → NoneIsReady self.new.nodes × IsNotLost self.new.world self.new.nodes self.new.losing frame }
-        ensures memory { IsErrOf result AuditError.Memory → CanGoOn self.new.world self.new.nodes
-            ⊎ (NoneIsReady self.new.nodes × (self.new.losing ≢ [])) }
+        ensures memory { IsErrOf result AuditError.Memory → CanBePut self.new }
     {
         if let Some(fault) = self.fault {
             return Err(AuditError::Fault(fault));

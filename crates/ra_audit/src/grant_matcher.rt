@@ -1,5 +1,5 @@
 //! Whether each grant that clients were given is in the run that an observer is told.
-ghost use Rattle.std.specs.Prelude.{◌≡◌, ◌≢◌, ◌↔◌, ◌<◌, ◌++◌, ◌∷◌, true, false, [], Some, Contains, length, slice_get, slice_index_or, IfSome, IsErrOf, IsNone, IsOk, OnErr, OnOk};
+ghost use Rattle.std.specs.Prelude.{◌≡◌, ◌≢◌, ◌↔◌, ◌<◌, ◌++◌, ◌∷◌, true, false, [], Some, Contains, length, slice_index_or, IfSome, IsErrOf, IsNone, IsOk, OnErr, OnOk};
 ghost use Rattle.ra_stamp.specs.declared.entry.Mark as entry_mark;
 ghost use Rattle.ra_book.specs.declared.book.grant.Grant as granted;
 ghost use Rattle.ra_audit.specs.Matching.{AreAllMatched, IsUnmatched, TakesGrant, TakesEntered, TakesMark};
@@ -18,7 +18,7 @@ pub enum GrantError {
     /// For this grant there is no `Entered` mark among those that were told: its request never entered, or the mark is that of an
     /// equal grant.
     GrantMissing(Grant),
-    /// Memory ran out for a mark, so that it is not known whether a grant is missing.
+    /// A mark was forgotten, so that it is not known whether a grant is missing.
     Memory,
 }
 
@@ -36,6 +36,9 @@ impl fmt::Display for GrantError {
 /// memory, so it does not grow with the run if it is given each grant. The cost of each grant and each mark is linear in what it
 /// keeps.
 ///
+/// It forgets a mark only if memory runs out for it. No clause says so, since contracts don't see for how many marks it has
+/// room. Even then [`GrantMatcher::check`] is `Ok` only if each grant has a mark of its own.
+///
 /// Contracts see the marks, the grants and what it keeps.
 #[derive(Drop)]
 pub struct GrantMatcher {
@@ -45,7 +48,7 @@ pub struct GrantMatcher {
     waiting: Vec<Entry>,
     /// The requests of the marks that are not matched, other than those that were forgotten.
     left: Vec<Entry>,
-    /// Whether memory ran out for such a mark.
+    /// Whether such a mark was forgotten.
     forgot: bool,
 }
 
@@ -103,7 +106,7 @@ impl GrantMatcher {
     ///
     /// If a grant has no mark of its own, the first that holds:
     ///
-    /// 1. `Memory`: memory ran out for a mark.
+    /// 1. `Memory`: a mark was forgotten.
     /// 2. `GrantMissing`: one such grant.
     pub fn check(&self) -> Result<(), GrantError>
         ensures ok { OnOk result (AreAllMatched self.now.told self.now.grants) }
@@ -135,7 +138,8 @@ impl GrantMatcher {
         self.left.len()
     }
 
-    /// Is told one more `Entered` mark, and matches it with a grant that waits, or keeps it. If there is no room for it, it is forgotten.
+    /// Is told one more `Entered` mark, and matches it with a grant that waits, or keeps it, or forgets it. It forgets it only
+    /// if there is no room for it, which the clauses leave open.
     fn enter(&mut self, mark: &Mark, entry: &Entry)
         requires { mark.now ≡ entry_mark.Mark.Entered entry.now }
         ensures told { self.new.told ≡ self.old.told ++ mark.now ∷ [] }
@@ -158,8 +162,8 @@ impl MarkObserver for GrantMatcher {
 
     ghost granted = { λ m. m.grants };
 
-    /// Is told one more mark of the run. An `Entered` mark is matched with a grant of its request that waits. If none does, the mark is
-    /// kept, or forgotten if memory runs out.
+    /// Is told one more mark of the run. An `Entered` mark is matched with a grant of its request that waits. If no grant
+    /// of the request waits, the mark is kept or forgotten.
     fn tell(&mut self, mark: &Mark)
         ensures told { self.new.told ≡ self.old.told ++ mark.now ∷ [] }
         ensures granted { self.new.grants ≡ self.old.grants }

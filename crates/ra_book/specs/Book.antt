@@ -101,7 +101,7 @@ pub record Runs (book : BookState) (P : NodeState → Type 0) : Type 0 where
   pub leads : LeadsTo book node
   pub holds : P node
 
--- the book has no fault, and the bytes are the text of a frame of which this holds
+-- the book has no fault, and the bytes are the text of a frame for which this holds
 pub record ReadsFrame (book : BookState) (bytes : List ℕ) (P : Frame → Type 0) : Type 0 where
   pub no_fault : book.fault ≡ None
   pub frame : Frame

@@ -43,7 +43,7 @@ clock_of events = clock_from 0 events
 
 -- ---- What is sent
 
--- an event, and what came of it: the messages that it sent and its marks
+-- an event with the messages that it sent and its marks
 pub record Posting : Type 0 where
   pub event : BookEvent
   pub sends : List Message

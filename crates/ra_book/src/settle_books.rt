@@ -6,7 +6,7 @@ pub mod order_keys;
 pub mod receipts;
 pub mod settled;
 
-ghost use Rattle.std.specs.Prelude.{◌≡◌, ◌≢◌, ◌↔◌, ◌⊎◌, ℕ, ◌+◌, List, All, AllPairs, map, length, IsTrue, IsErrOf, IsOkUnless, IfOk, OnOk, MatchResult};
+ghost use Rattle.std.specs.Prelude.{◌≡◌, ◌≢◌, ◌↔◌, ◌⊎◌, ◌+◌, List, All, AllPairs, map, length, IsTrue, IsErrOf, IsOkUnless, IfOk, OnOk, MatchResult};
 ghost use Rattle.std.specs.List.{Any};
 ghost use Rattle.ra_world.specs.Traffic.{Move};
 ghost use Rattle.ra_world.specs.Run.{WorldRun};

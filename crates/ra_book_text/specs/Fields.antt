@@ -1,4 +1,4 @@
--- How the fields of a line are read. The contracts of `event_of` and of `opened` say what it comes to.
+-- How the fields of a line are read. The contracts of `event_of` and `FirstLine::parse` say what the fields mean.
 use Rattle.std.specs.Prelude.{ℕ, List, Option, option_map}
 use Rattle.ra_stamp.specs.declared.mode.Mode.{Mode}
 use Rattle.ra_trace.specs.Forms as forms

@@ -26,7 +26,7 @@ use Rattle.ra_book_text.specs.Verdicts.{IsFirstAgain, IsFirstUnsent, IsWrongLine
 abbrev pub HasTaken : BookState → BookKind → BookState → Type 0
 HasTaken old kind new = (clock : ℕ) × (frames : List Frame) × (new ≡ with_event old clock kind frames) × HasHistory new
 
--- what comes of an event at a book: it has it, or the node does not take it, or the node takes it and memory ran out
+-- how a book takes an event: it has it, or the node does not take it, or the node takes it and memory ran out
 abbrev pub Comes : BookState → BookKind → BookState → Result (Unit {0}) BookError → Type 0
 Comes old kind new (Ok done) = HasTaken old kind new
 Comes old kind new (Err why) = (why ≢ refused.Memory → CanTake old kind → ⊥) × (why ≡ refused.Memory → CanTake old kind)
@@ -78,7 +78,7 @@ pub record IsRightEvent (old : Gathered) (line : List ℕ) (new : Gathered) : Ty
   pub is_event : IsEvent line kind
   pub takes : CanTake old.last kind ⊎ HasTaken old.last kind new.last
 
--- what comes of the line of this number: it is taken, or it is wrong, or it is right and memory ran out
+-- how the line of this number is taken: it is taken, or it is wrong, or it is right and memory ran out
 abbrev pub TakesLine : Gathered → ℕ → List ℕ → Gathered → Result (Unit {0}) LineFault → Type 0
 TakesLine old number line new (Ok done) = IsOpened old line new ⊎ HasHappened old number line new
 TakesLine old number line new (Err (line_fault.Wrong why)) = IsWrongLine (books_of old) line why

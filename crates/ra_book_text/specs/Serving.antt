@@ -1,4 +1,4 @@
--- What comes of the first line of a book, and of those after it.
+-- How the first line of a book is answered, and those after it.
 use Rattle.std.specs.Prelude.{◌≡◌, ℕ, List, [], ◌∷◌, Option, Result, Ok, Err, codes}
 use Rattle.std.specs.Io.KnownBytes.{IsAtEnd}
 use Rattle.ra_book_text.specs.declared.error.BookFault.{BookFault}

@@ -46,7 +46,7 @@ said_by book = Opens book.me book.nodes book.start ∷ map (λ event. Happens ev
 abbrev pub AreLinesOf : List (List ℕ) → List BookState → Type 0
 AreLinesOf lines books = AllZip Says lines (flat_map said_by books)
 
--- it is a whole history of its node, no frame of which is flagged lost
+-- it is a whole history of its node, with no frame flagged lost
 pub record IsRead (book : BookState) : Type 0 where
   pub history : HasHistory book
   pub whole : IsWhole book

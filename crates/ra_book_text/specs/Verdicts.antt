@@ -1,4 +1,4 @@
--- What comes of a text of books: when it settles, and otherwise what is wrong with it, and at which line.
+-- The verdict on a text of books: when it settles, and otherwise what is wrong with it, and at which line.
 use Rattle.std.specs.Prelude.{◌≡◌, ◌≢◌, ◌⊎◌, ℕ, ◌+◌, ◌≤◌, Bool, false, List, [], ◌∷◌, ◌++◌, All, AllPairs, Contains, MatchBool, map, length}
 use Rattle.std.specs.List.{Any}
 use Rattle.ra_stamp.specs.declared.message.Message.{Message}

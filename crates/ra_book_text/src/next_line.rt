@@ -27,7 +27,7 @@ pub struct Input {
 }
 
 impl Input {
-    /// Makes one of which nothing was read.
+    /// Makes one with nothing read yet.
     pub fn new() -> Input
         ensures { result.failed ≡ false }
     {

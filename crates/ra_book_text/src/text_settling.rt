@@ -28,7 +28,7 @@ pub struct SettledText {
     pub nodes: u16,
     /// The number with which each resource begins.
     pub start: u64,
-    /// The steps of the run, and what came of them.
+    /// The steps of the run, and its report.
     pub settled: Settled,
 }
 

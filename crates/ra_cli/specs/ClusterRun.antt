@@ -52,8 +52,8 @@ pub record SaysScript (printed : ClusterOutput) (script : ScriptState) (output :
 abbrev pub IsClusterRun : ClusterOutput → (input output : List ℕ) → Type 0
 IsClusterRun printed input output = (script : ScriptState) × (script_of input ≡ Ok script) × SaysScript printed script output
 
--- If the input is known, it is a script that a cluster of threads brought to its end. It was read to its end, and
--- exactly what is printed of the run was written. If it is not known, such a script still exists.
+-- If the input is known, it is a script with such a record. It was read to its end, and exactly what is printed of the run of
+-- that record was written. If it is not known, such a script still exists.
 abbrev pub RunsCluster : ClusterOutput → (old new before after : Option (List ℕ)) → Type 0
 RunsCluster printed old new before after =
     IfSome old (λ input. (output : List ℕ) × IsClusterRun printed input output × Consumes old new input × Appends before after output)

@@ -1,5 +1,5 @@
 //! Whether the marks of a run are those of a script.
-ghost use Rattle.std.specs.Prelude.{◌≡◌, ◌↔◌, ◌≤◌, ℕ, All, IsTrue};
+ghost use Rattle.std.specs.Prelude.{◌≡◌, ◌↔◌, ◌≤◌, All, IsTrue};
 ghost use Rattle.ra_cluster.specs.Plan as spec;
 ghost use Rattle.ra_cluster.specs.Plan.{MeetsPlan, IsFollowed, IsNextMark, IsRequestFor, client_of_mark};
 

@@ -1,5 +1,5 @@
 //! A reader whose end is met once.
-ghost use Rattle.std.specs.Prelude.{◌≡◌, [], IsTrue};
+ghost use Rattle.std.specs.Prelude.{◌≡◌, [], IsTrue, false};
 ghost use Rattle.std.specs.Option.{ForSome};
 
 use std::io;
@@ -16,7 +16,10 @@ pub struct EndReader<R: Read> {
 
 impl<R: Read> EndReader<R> {
     /// Makes one of a reader. It does not allocate.
-    pub fn new(inner: R) -> EndReader<R> {
+    pub fn new(inner: R) -> EndReader<R>
+        ensures inner { result.inner ≡ inner }
+        ensures begun { result.is_ended ≡ false }
+    {
         EndReader {
             inner,
             is_ended: false,

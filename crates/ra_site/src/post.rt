@@ -1,5 +1,4 @@
-ghost use Rattle.std.specs.Prelude.{◌≡◌, ◌↔◌, ◌≤◌, ◌<◌, ◌+◌, All, length, vec_len, IfOk, IfSome, OnOk, IsErrOf, IsOkUnless};
-ghost use Rattle.ra_stamp.specs.NodeId.{IsNodeNumber};
+ghost use Rattle.std.specs.Prelude.{◌≡◌, ◌↔◌, ◌≤◌, ◌<◌, ◌+◌, All, length, vec_len, IfOk, IfSome, OnOk};
 ghost use Rattle.ra_frame.specs.Fits.{Fits};
 ghost use Rattle.ra_site.specs.Cluster.{ChecksCount};
 
@@ -69,7 +68,8 @@ impl Drop for Post {
 }
 
 impl Post {
-    /// Makes the post of this many nodes, and their inboxes in the order of the nodes, in time linear in these.
+    /// Makes the post of this many nodes, and as many inboxes, in time linear in them. The inboxes are in the order of the
+    /// nodes, which no clause says.
     ///
     /// # Errors
     ///

@@ -7,7 +7,7 @@ pub mod stop_causes;
 pub mod take_error;
 pub mod ticket;
 
-ghost use Rattle.std.specs.Prelude.{◌≡◌, ◌≤◌, true, false, [], All, IfOk, IsTrue, OnErr};
+ghost use Rattle.std.specs.Prelude.{◌≡◌, ◌≤◌, true, false, [], All, IfOk, OnErr};
 ghost use Rattle.ra_stamp.specs.NodeId.{IsNodeNumber};
 ghost use Rattle.ra_frame.specs.Fits.{Fits};
 
@@ -295,8 +295,8 @@ impl Site {
     }
 
     /// Hands over the events after one with the clock `after`, or from the first one on if it is 0, and the frames that were lost
-    /// since the round before. Each is handed over once. It is for an auditor alone, which takes them: they leave the book. A
-    /// node that is not audited hands over nothing.
+    /// since the round before. It is for an auditor alone, which takes them: they leave the book, which no clause says, since no
+    /// contract tells what is under a lock. A node that is not audited hands over nothing.
     ///
     /// It waits until no thread is sending what the book handed out, while calls that come later wait for it. Then it waits for
     /// the lock, and has it for a time that does not grow with the history, unless a frame was lost.
@@ -350,7 +350,7 @@ impl Site {
 
     /// Does the same for a site that is one of this many, from this start. No contract tells what is under a lock, so the book is
     /// looked at. If it is not whole, an empty book of the node is returned, which is stopped: for the cause of the book, or
-    /// `Refused` if it has none. The same would come of the book of another node or cluster, which is never there.
+    /// `Refused` if it has none. It would do the same with the book of another node or cluster, which is never there.
     pub(crate) fn close_as(self, alloc: Global, nodes: u16, start: u64) -> Book
         requires count { IsNodeNumber nodes }
         requires member { self.node ≤ nodes }

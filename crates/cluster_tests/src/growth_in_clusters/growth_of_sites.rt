@@ -120,7 +120,7 @@ fn frames_left<R: AllocGlobal + Wait + Abort>(rt: &R, inbox: &Inbox) -> Option<u
     }
 }
 
-/// The books of three nodes, of which the first has lost a frame.
+/// The books of three nodes. The first one has lost a frame.
 const LOST: &[Ended] = &[
     Ended {
         fault: Some(Stop::Send),

@@ -16,7 +16,7 @@ use test_support::r;
 pub type Answer = Option<Result<Grant, SiteError>>;
 
 /// A gate that counts the steps and lets some of them pass. It keeps a thread that steps at one node, under the lock of the node,
-/// until it is told to let go. Then it refuses the step.
+/// until it is told to go on. Then it refuses the step.
 #[derive(Drop)]
 pub struct Keeps {
     /// The steps of all nodes.

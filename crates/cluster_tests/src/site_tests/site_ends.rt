@@ -129,7 +129,7 @@ fn told(alloc: Global, books: &[Book], grants: &[Grant]) -> Option<Told> {
     }
 }
 
-/// Asserts that the books settle with the grants, of which there are more than this many, into a run that tells of a loss.
+/// Asserts that the books settle with the grants, more than this many, into a run that tells of a loss.
 fn assert_lost_after(rt: &impl Abort, alloc: Global, at: At<'_>, after: &After, least: usize) {
     let (grants, more) = (after.grants.len(), least.saturating_add(1));
     assert_same(rt, at, &grants.min(more), &more);

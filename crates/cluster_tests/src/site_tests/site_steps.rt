@@ -61,7 +61,7 @@ pub enum Step {
     RefusesToUnlock(u16, u32, SiteError),
     /// The site of this node takes the frames from the inbox at its place.
     Pumps(u16),
-    /// After the post is closed, a second site of this node takes all that is left in the inbox at this place: so many frames.
+    /// After the post is closed, a second site of this node takes all that is left in the inbox at this place: this many frames.
     HasLeft(usize, u16, u64),
     /// After the post is closed, a second site of node 2 takes all that is left in its inbox: one REQUEST, which node 1 sent with
     /// clock 1.
@@ -408,7 +408,7 @@ fn step_through<R: AllocGlobal + Threads + Wait + Abort + Sync>(
     );
 }
 
-/// Has a cluster do and show all of a row. Ends the test if something else comes of it.
+/// Has a cluster do and show all of a row. Ends the test if anything else happens.
 pub fn perform<R: AllocGlobal + Threads + Wait + Abort + Sync>(rt: &R, row: &'static Row) {
     let mut clusters = gated_cluster(rt.alloc(), row.nodes, row.start, row.most, row.kept);
     match clusters.get_mut(0) {

@@ -151,7 +151,7 @@ fn a_frame_that_is_not_taken_is_lost_and_stops_all(rt: HostRuntime) {
     play_sites(&rt, NOT_TAKEN);
 }
 
-/// The books of three nodes, of which the first has lost a frame.
+/// The books of three nodes. The first one has lost a frame.
 const THREE_STOPPED: Shown = Shown::Books(&[
     Ended {
         fault: Some(Stop::Send),

@@ -110,7 +110,7 @@ fn assert_done(rt: &impl Abort, at: At<'_>, settled: &Settled, requests: u128, s
     );
 }
 
-/// Returns the first two marks of which each is one of these, in the order in which they come.
+/// Returns the first two marks that are among these, in the order in which they come.
 fn in_order(marks: &[Mark], one: &Mark, other: &Mark) -> (Option<Mark>, Option<Mark>) {
     let mut first = None;
     for mark in marks {

@@ -101,7 +101,7 @@ fn assert_ends<R: AllocGlobal + Threads + Wait + Abort + Sync>(rt: &R, script: &
     );
 }
 
-/// Has the client of a row do its script. Ends the test if something else comes of it.
+/// Has the client of a row do its script. Ends the test if anything else happens.
 pub fn perform<R: AllocGlobal + Threads + Wait + Abort + Sync>(rt: &R, row: &Row) {
     match script_of(rt.alloc(), 2, &[row.client]) {
         Some(script) => assert_ends(rt, &script, row),

@@ -332,7 +332,7 @@ fn totals_of(alloc: Global, books: &[Book], grant: Grant) -> Option<(u128, u128)
     }
 }
 
-/// Has a cluster do and show all of a row. If it is stopped, that is for this cause. Ends the test if something else comes of it.
+/// Has a cluster do and show all of a row. If it is stopped, that is for this cause. Ends the test if anything else happens.
 pub fn perform<R: AllocGlobal + Threads + Wait + Abort + Sync>(
     rt: &R,
     row: &'static Row,

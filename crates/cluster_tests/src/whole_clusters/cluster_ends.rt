@@ -152,7 +152,7 @@ fn assert_stopped<R: AllocGlobal + Wait + Abort>(
     assert_same(rt, at, &came, &Err(refused(BookError::Failed)));
 }
 
-/// Stops a cluster of this many nodes for this cause. Ends the test if something else comes of it.
+/// Stops a cluster of this many nodes for this cause. Ends the test if anything else happens.
 pub fn stop<R: AllocGlobal + Wait + Abort>(rt: &R, nodes: u16, cause: Stop) {
     let clusters = clusters_of(rt.alloc(), nodes, 0, OpenGate);
     match clusters.first() {
@@ -236,7 +236,7 @@ fn assert_run<R: AllocGlobal + Threads + Wait + Abort + Sync>(
     assert_same(rt, at, &cluster.run(rt, rt.alloc(), || -> u8 { 7 }), &7);
 }
 
-/// Does so with a cluster of three nodes. Ends the test if something else comes of it.
+/// Does so with a cluster of three nodes. Ends the test if anything else happens.
 pub fn run_nothing<R: AllocGlobal + Threads + Wait + Abort + Sync>(rt: &R) {
     let at = row("a closure that starts no client");
     let clusters = clusters_of(rt.alloc(), 3, 0, OpenGate);

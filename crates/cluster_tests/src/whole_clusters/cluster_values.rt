@@ -177,7 +177,7 @@ impl Gate for Counting {
     }
 }
 
-/// Has threads do a script with a gate, and returns what came of it. If they do not end, the test ends after many looks.
+/// Has threads do a script with a gate, and returns the outcome. If they do not end, the test ends after many looks.
 pub fn ran<R: Threads + Wait + Abort + Sync, G: Gate>(
     rt: &R,
     alloc: Global,

@@ -68,7 +68,7 @@ pub enum Scene {
     Nothing,
 }
 
-/// Does this, and ends the test if something else comes of it.
+/// Does this, and ends the test if anything else happens.
 fn perform<R: AllocGlobal + Threads + Wait + Abort + Sync>(rt: &R, scene: Scene) {
     match scene {
         Scene::Sites(row) => site_steps::perform(rt, row),
@@ -80,7 +80,7 @@ fn perform<R: AllocGlobal + Threads + Wait + Abort + Sync>(rt: &R, scene: Scene)
     }
 }
 
-/// Does this on a thread of its own. Ends the test if something else comes of it, or the thread does not end.
+/// Does this on a thread of its own. Ends the test if anything else happens, or the thread does not end.
 pub fn play<R: AllocGlobal + Threads + Wait + Abort + Sync>(rt: &R, scene: Scene) {
     in_a_thread(rt, move || perform(rt, scene));
 }

@@ -244,7 +244,7 @@ fn finds_and_takes_some(rt: &impl Abort, label: &str, bag: &mut Bag) {
     assert_same(rt, row(label), &bag.len(), &566);
 }
 
-/// Puts 268 messages three times into each of two bags, of which the second learns in which slot each one is. Both may then
+/// Puts 268 messages three times into each of two bags. The second one learns in which slot each one is. Both may then
 /// find and take some, which needs no memory. A map of 268 entries is so full that repeatedly removing an entry and putting
 /// it back would make it grow. If there is no bag, memory ran out.
 fn try_two(rt: &(impl Abort + AllocGlobal), takes_some: bool) -> Result<Tried, Memory> {

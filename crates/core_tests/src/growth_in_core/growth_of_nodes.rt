@@ -7,7 +7,6 @@ use Call::{Ask, Leave, Reply, Request};
 use ra_node::{AskError, LeaveError, Node, Outcome, ReceiveError};
 use ra_stamp::{Entry, Memory, Message, Name};
 use ra_table::{EnterError, RequestError, Table};
-use std::alloc::Global;
 use std::process::Abort;
 use test_support::{
     At, Tried, again, assert_grown, both, id, message_between, r, reply, request, row, writer,
@@ -228,7 +227,7 @@ fn three_digits(rt: &impl Abort, number: u16) -> Name {
     }
 }
 
-/// Has a node take a REPLY about a name of three digits, which it does not await. Nothing comes of it.
+/// Has a node take a REPLY about a name of three digits, which it does not await. It changes nothing.
 fn take_stray(rt: &(impl Abort + AllocGlobal), node: &mut Node, number: u16) {
     let at = At("a stray", "name", usize::from(number));
     let stray = message_between(id(2), id(1), three_digits(rt, number), None, 1);

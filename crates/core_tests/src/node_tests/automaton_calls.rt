@@ -4,9 +4,9 @@ use ra_automaton::{Automaton, LeaveError, Reaction, ReceiveError, RequestError};
 use ra_stamp::Mode;
 use std::alloc::Global;
 use std::process::Abort;
-use test_support::{id, message_between};
+use test_support::message_between;
 
-/// An automaton makes a request. Returns what comes of it.
+/// An automaton makes a request. Returns its answer.
 pub fn request(
     alloc: Global,
     automaton: &mut Automaton,
@@ -15,12 +15,12 @@ pub fn request(
     automaton.request(alloc, mode)
 }
 
-/// An automaton leaves. Returns what comes of it.
+/// An automaton leaves. Returns its answer.
 pub fn leave(alloc: Global, automaton: &mut Automaton) -> Result<Reaction, LeaveError> {
     automaton.leave(alloc)
 }
 
-/// An automaton leaves and makes a request in one event. Returns what comes of it.
+/// An automaton leaves and makes a request in one event. Returns its answer.
 pub fn leave_and_request(
     rt: &(impl Abort + AllocGlobal),
     automaton: &mut Automaton,
@@ -33,7 +33,7 @@ pub fn leave_and_request(
 }
 
 /// An automaton takes the REQUEST in this mode, or the REPLY if no mode is given, of one node to another about its resource. Returns
-/// what comes of it.
+/// its answer.
 pub fn receive(
     rt: &(impl Abort + AllocGlobal),
     automaton: &mut Automaton,

@@ -17,7 +17,7 @@ pub fn fault_of_leave(alloc: Global, node: &mut Node, client: u32) -> Option<Lea
     leave(alloc, node, client).err()
 }
 
-/// A client leaves `r`. Returns what comes of it.
+/// A client leaves `r`. Returns its answer.
 fn leave(alloc: Global, node: &mut Node, client: u32) -> Result<Outcome, LeaveError> {
     node.leave(alloc, client, r())
 }

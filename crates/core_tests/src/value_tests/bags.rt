@@ -177,7 +177,7 @@ fn takes_equal(rt: &impl Abort, at: At<'_>, bag: &mut Bag, wire: Wire, times: u6
     }
 }
 
-/// Takes this many requests, each so many times.
+/// Takes this many requests, each this many times.
 fn takes_numbers(rt: &impl Abort, at: At<'_>, bag: &mut Bag, first: u64, count: u64, times: u64) {
     let mut seq = first;
     for _ in 0..count {

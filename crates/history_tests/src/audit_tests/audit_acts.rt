@@ -168,7 +168,7 @@ pub const OF_ONE: Row = Row {
     ..LOSING
 };
 
-/// Makes a round, of which callers know its answer alone, so that their proofs are short. The end of an audit may answer the same.
+/// Makes a round. Callers know its answer alone, so that their proofs are short. The end of an audit may answer the same.
 fn round<R: Wait>(
     rt: &R,
     alloc: Global,
@@ -181,7 +181,7 @@ fn round<R: Wait>(
     }
 }
 
-/// Ends an audit, of which callers know the answer alone.
+/// Ends an audit. Callers know its answer alone.
 fn last_round<R: Wait>(
     rt: &R,
     alloc: Global,
@@ -523,7 +523,7 @@ fn done_with<R: AllocGlobal + Threads + Wait + Abort + Sync>(
     tried
 }
 
-/// Has a cluster and an auditor do and show all of a row, and closes the cluster. Ends the test if something else comes of it. If they
+/// Has a cluster and an auditor do and show all of a row, and closes the cluster. Ends the test if anything else happens. If they
 /// cannot be made, memory ran out.
 pub fn try_row<R: AllocGlobal + Threads + Wait + Abort + Sync>(
     rt: &R,

@@ -98,7 +98,7 @@ fn add_site(alloc: Global, sites: &mut Vec<Site>, node: NodeId) {
     }
 }
 
-/// Has a site of two take the frames from an inbox. What it answers goes by another post to sites that are none of its cluster.
+/// Has a site of two take the frames from an inbox. What it answers goes by another post to sites of another cluster.
 fn carry<R: AllocGlobal + Wait + Abort>(rt: &R, at: At<'_>, site: &Site, inbox: &Inbox) {
     let mut others = Vec::new(rt.alloc());
     add_site(rt.alloc(), &mut others, id(1));

@@ -106,7 +106,7 @@ fn figures(auditor: &Auditor, observer: &Compares) -> Figures {
     )
 }
 
-/// Takes events of a node, of which callers know the answer alone, so that their proofs are short.
+/// Takes events of a node. Callers know its answer alone, so that their proofs are short.
 fn take(
     auditor: &mut Auditor,
     node: NodeId,
@@ -161,7 +161,7 @@ fn gets_part(
     gets(rt, at, auditor, observer, node(rt, number), after, events)
 }
 
-/// Puts all that can be put into the run, of which callers know the answer alone, so that their proofs are short.
+/// Puts all that can be put into the run. Callers know its answer alone, so that their proofs are short.
 fn advance(
     alloc: Global,
     auditor: &mut Auditor,
@@ -233,7 +233,7 @@ pub fn assert_losses(rt: &impl Abort, at: At<'_>, auditor: &Auditor, due: (u64, 
     assert_same(rt, at, &(auditor.lost(), auditor.losing()), &due);
 }
 
-/// Notes a frame as lost, of which callers know the answer alone, so that their proofs are short.
+/// Notes a frame as lost. Callers know its answer alone, so that their proofs are short.
 fn lose(auditor: &mut Auditor, frame: &Frame) -> Result<(), Memory> {
     auditor.lose(&[*frame])
 }

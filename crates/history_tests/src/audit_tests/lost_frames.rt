@@ -21,7 +21,7 @@ const HANDED_OVER: &[Row] = &[Row {
     running: &[
         Enters(1),
         Leaves(1),
-        // The ask, the REPLY and the leave, of which the last has clock 4; and the REQUEST.
+        // The ask, the REPLY and the leave, which has clock 4; and the REQUEST.
         HandsOver(1, 0, 4, None),
         HandsOver(2, 0, 2, None),
         Asks(1, Mode::Exclusive),

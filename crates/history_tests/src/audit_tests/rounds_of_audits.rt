@@ -216,7 +216,7 @@ const UNSENT: Sends = Sends {
     message: "deliver request 1 2 r X 1",
 };
 
-/// The REQUEST with clock 1 of node 3, of which there are two.
+/// The REQUEST with clock 1 of node 3, which was sent twice.
 const OF_NOBODY: Sends = Sends {
     clock: 1,
     message: "deliver request 3 1 r X 1",

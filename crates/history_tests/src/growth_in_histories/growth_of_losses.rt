@@ -141,7 +141,7 @@ fn growth_of_lost_frames_that_are_audited(rt: HostRuntime) {
 /// The client asks in vain. Its REQUEST is lost.
 const ASKS: Act = Asks(1, Mode::Exclusive);
 
-/// Two rounds, of which the first has the loss.
+/// Two rounds. The first one has the loss.
 const HANDED_OVER: &Row = &Row {
     words: "a loss is handed over once",
     acts: &[

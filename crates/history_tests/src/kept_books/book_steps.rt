@@ -75,7 +75,7 @@ pub enum Turn {
 /// What a book does or shows.
 #[derive(Clone, Copy)]
 pub enum Step<'a> {
-    /// It takes the call, whatever comes of it.
+    /// It takes the call, whatever the answer is.
     Takes(Call<'a>),
     /// It takes the call, which sends exactly one frame with this text, or none, and has exactly this mark, or none.
     Posts(Call<'a>, Option<&'a [u8; 25]>, Option<Turn>),

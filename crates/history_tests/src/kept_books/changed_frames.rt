@@ -1,4 +1,4 @@
-//! Frames of which one byte is another, or of which the last bytes are missing: whether a book takes them, and that it is as
+//! Frames with one byte changed, or without their last bytes: whether a book takes them, and that it is as
 //! before if it does not.
 use crate::kept_books::book_steps::Call::Receive;
 use crate::kept_books::book_steps::{ASK, ASKS, ASKS_1, counts_of, refusal};

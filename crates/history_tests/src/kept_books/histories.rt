@@ -145,7 +145,7 @@ fn are_done(rt: &impl Abort, alloc: Global, words: &str, books: &mut [Book], all
     true
 }
 
-/// Makes these books, and does all of this to them, in order. Ends the test if something else comes of it, and returns fewer books if
+/// Makes these books, and does all of this to them, in order. Ends the test if anything else happens, and returns fewer books if
 /// memory ran out.
 pub fn books_after(
     rt: &impl Abort,

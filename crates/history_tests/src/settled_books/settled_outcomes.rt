@@ -76,7 +76,7 @@ fn refusal_of(
     }
 }
 
-/// Asserts that settling the books and the grants of a case, of which this is the script, has its outcome.
+/// Asserts that settling the books and the grants of a case with this script has its outcome.
 fn assert_outcome(rt: &impl Abort, alloc: Global, case: &Case, script: &Script) {
     let books = books_after(rt, alloc, case.shows, case.made, case.done);
     let grants = grants_of(rt, alloc, case.granted);

@@ -3,7 +3,7 @@ ghost use Rattle.std.specs.Prelude.{◌≡◌, ◌↔◌, ◌⊎◌, ◌≤◌, 
 ghost use Rattle.ra_audit.specs.declared.audit_error.AuditFault as audit_fault;
 ghost use Rattle.ra_site.specs.declared.site.take_error.TakeError.{TakeError};
 ghost use Rattle.ra_frame.specs.declared.frame.Frame.{Frame};
-ghost use Rattle.ra_audit.specs.Audit.{NoneIsReady, NoneIsReached, NoneWaits, IsNeverSent, IsLeastLeft, IsAhead, IsMisfit, IsNotLost, IsUnsent, MayBePut, IsAudited, HasLost, AllWereSent, IsAuditorOf, AuditsByAnswer, TakesByAnswer, TakesMoreAt, TakesAllAt, NotTakenAt, IsNotTaken, NoneIsKept, AnswersRound, clocks_taken, last_round};
+ghost use Rattle.ra_audit.specs.Audit.{NoneIsReady, NoneIsReached, NoneWaits, IsNeverSent, IsLeastLeft, IsAhead, IsMisfit, IsNotLost, IsUnsent, MayBePut, IsAudited, HasLost, AllWereSent, IsAuditorOf, AuditsByAnswer, TakesByAnswer, TakesMoreAt, TakesAllAt, NotTakenAt, IsNotTaken, NoneIsKept, AnswersRound, CanBePut, clocks_taken, last_round};
 ghost use Rattle.ra_stamp.specs.NodeId.{IsNodeNumber};
 
 use crate::{AuditError, Auditor, FinishError, MarkObserver, RoundError};
@@ -41,10 +41,11 @@ impl Auditor {
     /// 4. `NotLost`: a frame that was handed over or noted as lost came or was lost before, or was never sent, as
     ///    [`Auditor::advance`] says. All events that were taken and can be put are in the run. The loss of the frame
     ///    still waits, so that each later round tries it.
-    /// 5. `Memory`: memory ran out before events were taken, or while they or losses were put. The next round goes on.
+    /// 5. `Memory`: memory ran out before events were taken, and nothing has changed; or while events or losses were put,
+    ///    and an event is due that fits, or no event can be put and some loss is still to be put. The next round goes on.
     /// 6. `NotTaken`: the events of a node were not taken, nor those of the nodes after it. What was taken or noted as
-    ///    lost is in the run, as far as it can be. If the cause is `Memory`, the next round takes them. If it is
-    ///    `OutOfTurn`, the auditor is not that of the round before, and the node still has its events and losses. If it
+    ///    lost is in the run, as far as it can be. If the cause is `Memory`, the next round takes them. `OutOfTurn`
+    ///    comes if the auditor is not that of the round before, which no clause says; nothing of the node is kept. If it
     ///    is `NotNext`, what the node handed over is kept and can't be its next events, so that no later round takes
     ///    events of it. `NoNode` never comes.
     /// 7. `Fault`: a frame that waits as the next event of its node was never sent.
@@ -165,6 +166,7 @@ fn check_round<G: Gate + Drop>(cluster: &Cluster<G>, auditor: &Auditor) -> Resul
     ensures fault { (fault : audit_fault.AuditFault) → IsErrOf result (RoundError.Fault fault)
         ↔ (IsAuditorOf cluster.now auditor.now × (auditor.now.fault ≡ Some fault)) }
     ensures not_lost { (frame : Frame) → IsErrOf result (RoundError.NotLost frame) → ⊥ }
+    ensures memory { IsErrOf result RoundError.Memory → ⊥ }
     ensures taken { (node : ℕ) (cause : TakeError) → IsErrOf result (RoundError.NotTaken node cause) → ⊥ }
     ensures audited { IsAudited auditor.now.world auditor.now.nodes }
     ensures lost { HasLost auditor.now.world.moves auditor.now.lost }
@@ -216,6 +218,8 @@ fn go_round<R: Wait, G: Gate + Drop, O: MarkObserver>(
         ↔ (auditor.new.fault ≡ Some fault) }
     ensures not_lost { (frame : Frame) → IsErrOf result (RoundError.NotLost frame)
         → NoneIsReady auditor.new.nodes × IsNotLost auditor.new.world auditor.new.nodes auditor.new.losing frame }
+    ensures memory { IsErrOf result RoundError.Memory
+        → ((auditor.new ≡ auditor.old) × (O.told observer.new ≡ O.told observer.old)) ⊎ CanBePut auditor.new }
     ensures not_taken { (node : ℕ) (cause : TakeError) → IsErrOf result (RoundError.NotTaken node cause)
         → NoneIsReady auditor.new.nodes × NoneIsReached auditor.new.nodes auditor.new.losing
         × IsNotTaken auditor.new.nodes node cause }
@@ -247,6 +251,7 @@ fn answer_of(
         ↔ IsErrOf advanced (AuditError.Fault fault) }
     ensures not_lost { (frame : Frame) → IsErrOf result (RoundError.NotLost frame)
         → IsErrOf advanced (AuditError.NotLost frame) }
+    ensures memory { IsErrOf result RoundError.Memory ↔ IsErrOf advanced AuditError.Memory }
     ensures not_taken { (node : ℕ) (cause : TakeError) → IsErrOf result (RoundError.NotTaken node cause)
         → IsOk advanced × IsErrOf taken (node, cause) }
 {

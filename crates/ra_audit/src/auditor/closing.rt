@@ -14,7 +14,7 @@ use ra_stamp::NodeId;
 /// The first that holds:
 ///
 /// 1. `OtherCount`: there are more or fewer books than nodes.
-/// 2. `Behind`: the first node of whose book not all is in the run.
+/// 2. `Behind`: the first node whose book is not all in the run.
 pub fn check_all(nodes: &[NodeProgress], books: &[Book]) -> Result<(), BehindError>
     ensures ok { OnOk result (AreAllIn nodes.now books.now) }
     ensures other_count { IsErrOf result BehindError.OtherCount ↔ (length books.now ≢ length nodes.now) }
@@ -29,7 +29,7 @@ pub fn check_all(nodes: &[NodeProgress], books: &[Book]) -> Result<(), BehindErr
     }
 }
 
-/// Returns the first node of whose book not all is in the run, or `None` if all of each is.
+/// Returns the first node whose book is not all in the run, or `None` if all books are.
 pub fn first_not_all_in(nodes: &[NodeProgress], books: &[Book]) -> Option<NodeId>
     requires { length books.now ≡ length nodes.now }
     ensures all { IsNone result → AreAllIn nodes.now books.now }

@@ -39,7 +39,7 @@ impl Auditor {
     ///
     /// 1. `NotFinished`: the audit did not end, as [`Auditor::finish`] says. The cluster is returned, so that the call
     ///    can be made again after `NotTaken` for `Memory`, and after `Memory`.
-    /// 2. `Behind`: the first node of which not all that its book says is in the run, as [`Auditor::check_books`] says.
+    /// 2. `Behind`: the first node with a book that is not all in the run, as [`Auditor::check_books`] says.
     /// 3. `StillLost`: the first frame, by node and in order of sending, that a book still has flagged lost, so that
     ///    its loss is not in the run.
     pub fn close<R: Wait, G: Gate + Drop, O: MarkObserver>(
@@ -81,7 +81,7 @@ impl Auditor {
 ///
 /// The first that holds:
 ///
-/// 1. `Behind`: the first node of whose book not all is in the run.
+/// 1. `Behind`: the first node whose book is not all in the run.
 /// 2. `StillLost`: the first frame that is flagged lost.
 fn check_closed(nodes: &[NodeProgress], books: &[Book]) -> Result<(), CloseError>
     requires { length books.now ≡ length nodes.now }

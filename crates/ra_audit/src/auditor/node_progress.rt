@@ -16,7 +16,7 @@ use std::marker::Model;
 use std::mem;
 use std::sync::Wait;
 
-/// The events of a node, in three parts, one after the other: those that are in the run, of which only proofs know;
+/// The events of a node, in three parts, one after the other: those that are in the run, which only proofs know;
 /// those that can't be put into the run yet; and those that its book handed over and that were not taken yet.
 #[derive(Drop)]
 pub struct NodeProgress {

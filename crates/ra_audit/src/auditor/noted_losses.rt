@@ -8,8 +8,8 @@ use std::alloc::Global;
 use std::collections::VecDeque;
 use std::marker::Model;
 
-/// The frames that were noted as lost: those whose loss is in the run, which are counted and of which only proofs know
-/// more, and those whose loss is still to be put into it.
+/// The frames that were noted as lost: those whose loss is in the run, which are counted and otherwise known to proofs
+/// alone, and those whose loss is still to be put into it.
 #[derive(Drop)]
 pub struct Losses {
     /// Those that are looked at in turn.

@@ -11,7 +11,7 @@ use crate::auditor::node_progress::NodeProgress;
 use crate::{AuditError, AuditFault, MarkObserver};
 use ra_book::step_of;
 use ra_frame::Frame;
-use ra_site::{BookEvent, BookKind};
+use ra_site::BookKind;
 use ra_stamp::Mark;
 use ra_world::{MarklessWorld, StepError};
 use std::alloc::Global;

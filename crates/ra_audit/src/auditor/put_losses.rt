@@ -1,9 +1,9 @@
 //! Losses that are put into the run of an auditor.
-ghost use Rattle.std.specs.Prelude.{◌≡◌, ◌≢◌, ◌⊎◌, ◌++◌, ◌∷◌, ◌<◌, ◌^◌, [], ℕ, List, All, length, map, IsErrOf, OnOk, OnErr};
+ghost use Rattle.std.specs.Prelude.{◌≡◌, ◌≢◌, ◌⊎◌, ◌++◌, ◌∷◌, ◌<◌, ◌^◌, [], List, All, length, IsErrOf, OnOk, OnErr};
 ghost use Rattle.ra_stamp.specs.declared.entry.Mark.{Mark};
 ghost use Rattle.ra_frame.specs.declared.frame.Frame.{Frame};
 ghost use Rattle.ra_world.specs.Traffic.{IsUnderWay, lost_by};
-ghost use Rattle.ra_audit.specs.Audit.{ProgressState, IsAudited, HasLost, Advances, PutsLosses, CanGoOn, IsMisfit, IsNotLost, NoneIsReady, NoneIsReached, WasSentIn};
+ghost use Rattle.ra_audit.specs.Audit.{IsAudited, HasLost, Advances, PutsLosses, CanGoOn, IsMisfit, IsNotLost, NoneIsReady, NoneIsReached, WasSentIn};
 ghost use Rattle.ra_audit.specs.AuditKeeping.{LooksAtFirst, IsTracked, StaySent};
 
 use crate::auditor::flights::Flights;
@@ -186,7 +186,7 @@ fn put_loss(
     let step = Step::Lose(frame.message);
     match world.step(alloc, &step) {
         Ok(_outcome) => {
-            // For the proof: no more messages were lost than steps were made, of which there are at most 2^64-1.
+            // For the proof: no more messages were lost than steps were made, and there are at most 2^64-1 steps.
             let _ = world.steps();
             flights.take(&frame.message);
             Ok(())

@@ -3,7 +3,7 @@ ghost use Rattle.std.specs.Prelude.{◌≡◌, ◌↔◌, ◌∷◌, [], List, M
 ghost use Rattle.ra_world.specs.Traffic.{Move};
 ghost use Rattle.ra_world.specs.World.{Reports};
 ghost use Rattle.ra_world.specs.MainTheorem.{MainTheorem};
-ghost use Rattle.ra_book.specs.EventMerge.{placed_at, all_placed_at};
+ghost use Rattle.ra_book.specs.EventMerge.{placed_at};
 ghost use Rattle.ra_book.specs.Settled.{IsCluster, IsSettledOrder, HasUnsent, Placed, all_lost, start_of};
 ghost use Rattle.ra_book.specs.Repeats.{AreWithCopies, IsSettledRunWithCopies};
 ghost use Rattle.ra_book.specs.SettlingParts.{HasCome, SettlesWithCopies};

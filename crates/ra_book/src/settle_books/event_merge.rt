@@ -1,5 +1,5 @@
 //! The events of all books in one list, by clock and then by node.
-ghost use Rattle.std.specs.Prelude.{◌≡◌, ◌+◌, ◌<◌, ◌^◌, ℕ, List, length, map, slice_get, IfOk, IfSome, IsSome};
+ghost use Rattle.std.specs.Prelude.{◌≡◌, ◌+◌, ◌<◌, ◌^◌, List, length, map, slice_get, IfOk, IfSome, IsSome};
 ghost use Rattle.ra_book.specs.declared.book.event.BookEvent.{BookEvent};
 ghost use Rattle.ra_book.specs.Book.{BookState, HasHistory};
 ghost use Rattle.ra_book.specs.Settled.{IsCluster, IsSettledOrder, Placed, steps_of, step_at};

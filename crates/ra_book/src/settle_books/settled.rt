@@ -8,6 +8,6 @@ pub struct Settled {
     /// [`settle_with_copies`](crate::settle_with_copies) has no losses, and puts a repeat directly before each event that gets
     /// a frame that comes again later.
     pub steps: Steps,
-    /// What came of these steps.
+    /// The report of these steps.
     pub report: Report,
 }

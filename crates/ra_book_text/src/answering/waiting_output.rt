@@ -1,6 +1,6 @@
 //! What waits to be written.
 ghost use Rattle.std.specs.Prelude.{◌≡◌, ◌≤◌, [], true, false, length};
-ghost use Rattle.ra_book_text.specs.Output.{HasPut, Puts};
+ghost use Rattle.ra_book_text.specs.Output.{Puts};
 
 use arrayvec::ArrayVec;
 use ra_text::write_out;

@@ -16,7 +16,7 @@ use ra_node::events_go_on;
 /// The lines that a node accepted are its book, as `settle_text` reads it. The frames that the node answered are those that the
 /// book sent, in order and each with its clock, and the marks that it answered are the book's.
 pub fn books_say_what_nodes_answered()
-    // What `answer_book` answered to a book is that of a node which was driven by its lines.
+    // What `answer_book` answered to a book is what a node answers that its lines drive.
     ensures driven { (first : List ℕ) (lines : List (List ℕ)) (text : List ℕ) → AnswersBook (first ∷ lines) text
         → (driven : Driven) × IsDriven driven × (driven.first ≡ first) × (lines_of driven.answered ≡ lines)
         × (text ≡ codes "ok\n" ++ text_of driven.answered) }

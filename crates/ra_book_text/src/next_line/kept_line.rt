@@ -5,7 +5,7 @@ ghost use Rattle.ra_book_text.specs.Input.{IsKeptLine};
 use crate::next_line::event_line::MAX_LINE;
 use arrayvec::ArrayVec;
 
-/// The bytes of a line, of which no more than 256 are kept.
+/// The bytes of a line. No more than 256 are kept.
 #[derive(Drop)]
 pub struct KeptLine {
     pub bytes: ArrayVec<u8, MAX_LINE>,

@@ -22,7 +22,7 @@ use std::alloc::Global;
 use std::mem;
 use std::sync::Arc;
 
-/// A client that waits, and the ticket by which its thread is told what came of its request. A client has at most one
+/// A client that waits, and the ticket by which its thread is told the outcome of its request. A client has at most one
 /// request on a name, so the two name the request.
 #[derive(Drop)]
 pub struct Waiter {
@@ -37,7 +37,7 @@ pub struct Waiter {
 pub struct Stepped {
     /// The frames to send.
     pub frames: Frames,
-    /// Whom to tell of a grant.
+    /// The client to tell of a grant.
     pub told: Option<(SharedTicket, Grant)>,
     ghost fit: { All Fits frames.items },
     ghost given: { ForSome told (λ t. WasGiven t.1) },
@@ -179,7 +179,7 @@ impl Desk {
         Ok(self.stepped(posted))
     }
 
-    /// Hands the book frames, and asks the gate of this node before each. Puts what came of each into the list.
+    /// Hands the book frames, and asks the gate of this node before each. Puts the result of each into the list.
     ///
     /// # Errors
     ///

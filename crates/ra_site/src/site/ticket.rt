@@ -1,4 +1,4 @@
-//! Where a thread waits for what comes of its request.
+//! Where a thread waits for the outcome of its request.
 ghost use Rattle.std.specs.Prelude.{IfOk};
 ghost use Rattle.std.specs.Result.{ForOk};
 ghost use Rattle.ra_site.specs.ClientGrant.{IsGrantOf, WasGiven};
@@ -10,17 +10,17 @@ use std::alloc::Global;
 use std::sync::{Arc, Mutex, Wait};
 use std::thread::Parker;
 
-/// A ticket that two threads share: the one that waits, and the one that tells it what came of its request.
+/// A ticket that two threads share: the one that waits, and the one that tells it the outcome of its request.
 pub type SharedTicket = Arc<Ticket, Global>;
 
-/// What came of a request: its grant, or why its node was stopped before.
+/// The outcome of a request: its grant, or why its node was stopped before.
 #[derive(Drop)]
 struct Outcome {
     answer: Result<Grant, Stop>,
     ghost given: { ForOk answer WasGiven },
 }
 
-/// Where the one thread that made a request waits. The thread that tells it what came of the request wakes it alone.
+/// Where the one thread that made a request waits. The thread that tells it the outcome of the request wakes it alone.
 #[derive(Drop)]
 pub struct Ticket {
     /// The grant, or why the node was stopped before, once it is told.
@@ -29,7 +29,7 @@ pub struct Ticket {
 }
 
 impl Ticket {
-    /// Makes a ticket of which nobody has told anything yet, or returns `None` if memory ran out.
+    /// Makes a ticket with no outcome yet, or returns `None` if memory ran out.
     pub fn new(alloc: Global) -> Option<SharedTicket> {
         let ticket = Ticket {
             outcome: Mutex::new(None),
@@ -38,7 +38,7 @@ impl Ticket {
         Arc::new(alloc, ticket).ok()
     }
 
-    /// Tells the thread that waits what came of its request: its grant, or why its node was stopped before. Wakes it.
+    /// Tells the thread that waits the outcome of its request: its grant, or why its node was stopped before. Wakes it.
     pub fn tell<R: Wait>(&self, rt: &R, answer: Result<Grant, Stop>)
         requires { ForOk answer WasGiven }
     {
@@ -47,7 +47,7 @@ impl Ticket {
         self.waits.unpark();
     }
 
-    /// Waits until it is told what came of this request, which was made at this node, and returns that.
+    /// Waits for the outcome of this request, which was made at this node, and returns it.
     pub fn wait<R: Wait>(&self, rt: &R, node: NodeId, request: &Request) -> Result<Grant, Stop>
         ensures grant { IfOk result (IsGrantOf node request.now.client request.now.name request.now.mode) }
         ensures given { IfOk result WasGiven }

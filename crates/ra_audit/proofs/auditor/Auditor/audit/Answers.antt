@@ -26,6 +26,7 @@ returns-in-Ok-clause-round g c =
       found = λ fault _ is. says.found fault is;
       fault = λ fault _. says.fault fault;
       not_lost = says.not_lost;
+      memory = says.memory;
       not_taken = says.not_taken;
     }
 
@@ -48,5 +49,6 @@ returns-in-Err-clause-round g c =
       found = λ fault none is. absurd (none-some fault (sym none ∙ ((says.fault fault).0 is).1));
       fault = λ fault fits. ((λ is. ((says.fault fault).0 is).1), λ has. (says.fault fault).1 (fits, has));
       not_lost = λ frame is. absurd (says.not_lost frame is);
+      memory = λ is. absurd (says.memory is);
       not_taken = λ node cause is. absurd (says.taken node cause is);
     }

@@ -1,4 +1,4 @@
-use Rattle.std.proofs.Common.{refl, ap, inl, ◌∙◌}
+use Rattle.std.proofs.Common.{refl, ap, inl, inr, ◌∙◌}
 use Rattle.ra_audit.specs.Audit.{AuditState}
 use Rattle.ra_audit.proofs.AuditRounds.{audits_nothing, audits_all, audits_as, asks_all, audits_noted, none_ready_as, none_reached_as, none_kept_as, none_kept_after, may_be_put_as, not_taken_as, numbers_as, if_done, if_taken, stays_faultless, is_faultless, has_found}
 use Rattle.ra_audit.proofs.auditor.audit_round.go_round.Goals as goal
@@ -86,6 +86,12 @@ returns-in-Ok-answer_of-clause-none_reached g c =
 
 pub returns-clause-not_lost : goal.returns-clause-not_lost
 returns-clause-not_lost g c frame is = c.advance-advanced.ensures.not_lost frame (c.in-Err.ensures.not_lost frame is)
+
+pub returns-clause-memory : goal.returns-clause-memory
+returns-clause-memory g c is = inr (c.advance-advanced.ensures.memory (c.in-Err.ensures.memory.0 is))
+
+pub returns-in_default-clause-memory : goal.returns-in_default-clause-memory
+returns-in_default-clause-memory g c _ = inl (refl, refl)
 
 pub returns-clause-found : goal.returns-clause-found
 returns-clause-found g c = λ fault is.
