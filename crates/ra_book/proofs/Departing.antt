@@ -1,12 +1,12 @@
 -- What is kept for leaves, after each event.
 use Rattle.std.proofs.Common.{◌≡◌, ℕ, ◌+◌, ◌*◌, ◌≤◌, List, [], ◌∷◌, ◌++◌, length, All, Some, refl, ap, ◌∙◌, subst, sym, arith, suc-mul}
 use Rattle.std.specs.Prelude.{Result, Ok, Err, IfOk, IsErrOf, IsErrAnd, IsOkUnless}
-use Rattle.std.proofs.lemmas.List.{length-append}
+use Rattle.std.proofs.lemmas.List.{append-nil, length-append}
 use Rattle.std.proofs.lemmas.List.Elements.{All-nil, All-push, All-pop}
 use Rattle.ra_stamp.specs.Sequence.{Listed}
 use Rattle.ra_frame.specs.declared.frame.Frame.{Frame}
 use Rattle.ra_node.specs.declared.error.LeaveError.{LeaveError}
-use Rattle.ra_node.specs.declared.error.LeaveError.TheVariants.{Memory}
+use Rattle.ra_node.specs.declared.error.LeaveError.TheVariants.{NotHeld, Memory}
 use Rattle.ra_node.specs.declared.outcome.Outcome.{Outcome}
 use Rattle.ra_node.specs.Node.{NodeState, clients_count}
 use Rattle.ra_node.specs.Room.{answer_with}
@@ -78,6 +78,25 @@ taken_out nodes departures departures' departure is each = (All-pop (IsDeparture
 pub is_not_refused : {X : Type 0} (result : Result X LeaveError) (outcome : Outcome) (fault : LeaveError) → result ≡ Err fault → IsOkUnless (answer_with result outcome) Memory → (IsErrOf result Memory → ⊥) → ⊥
 is_not_refused (Ok x) outcome fault is allowed room = absurd cc
 is_not_refused {X} (Err e) outcome fault is allowed room = room (subst (λ (f : LeaveError). IsErrOf {T = X} (Err f) Memory) (sym allowed) refl)
+
+-- and one that is refused is refused for want of a lock
+pub is_not_held : {X : Type 0} (result : Result X LeaveError) (fault : LeaveError) → result ≡ Err fault → (IsErrOf result Memory → ⊥) → IsErrOf result NotHeld
+is_not_held result NotHeld is room = is
+is_not_held result Memory is room = absurd (room is)
+
+-- a departure that was taken out, and is unchanged, is put back
+pub put_back : (departures left departures' : List Departure) (departure : Departure) (outcome : Outcome) → departures ≡ left ++ departure ∷ []
+    → outcome ≡ departure.outcome → departures' ≡ left ++ record departure { outcome = outcome } ∷ [] → departures' ≡ departures
+put_back departures left departures' departure outcome was same is =
+    is ∙ ap (λ (o : Outcome). left ++ record departure { outcome = o } ∷ []) same ∙ sym was
+
+-- a list that is empty, and from which nothing was taken, is as before
+pub still_empty : (departures departures' : List Departure) → departures ≡ departures' ++ [] → departures' ≡ departures
+still_empty departures departures' is = sym (is ∙ append-nil departures')
+
+-- the room is as before
+pub no_less : (spare len capacity : ℕ) → HasGrown spare spare len len capacity capacity
+no_less spare len capacity = record { events = omega arith; len_is = refl; sent = omega arith }
 
 -- what succeeds is not refused
 pub is_no_refusal : {X : Type 0} (v : X) (e : BookError) → IsErrOf (Ok v) e → ⊥

@@ -19,7 +19,7 @@ use Rattle.ra_book.specs.Refused.{refusal_of_ask}
 use Rattle.ra_book.specs.EventChecks.{CanHappen, IsRefusedAfter}
 use Rattle.ra_book.specs.History.{clock_after, clock_of}
 use Rattle.ra_book.specs.Book.{BookState, whole_events, LeadsTo, HasHistory, HasClock, Runs}
-use Rattle.ra_book.specs.Keeping.{Keeps, IsForThisBook, ComesNext, HasNextClock, IsChecked, AnswersAsk, RefusesAsk, AnswersLeave}
+use Rattle.ra_book.specs.Keeping.{Keeps, IsForThisBook, ComesNext, HasNextClock, IsChecked, AnswersAsk, RefusesAsk, AnswersLeave, RefusesLeave}
 
 -- a book leads to one node, so what is said of that node is said of the one that is kept
 pub runs_is :
@@ -97,13 +97,25 @@ module _ {T : Type 0} (book : BookState) (Next : T → Type 0) (history : HasHis
   pub checked_failed : IsChecked book Next (Err Failed)
   checked_failed = record { history = history; next = tt; memory = λ m. absurd (cc) }
 
+-- a clock is left
+pub clock_checked : (book : BookState) (clock : ℕ) (kind : BookKind) → HasHistory book → book.fault ≡ None → clock ≡ clock_of (whole_events book)
+    → (next : ℕ) → ComesAt clock kind (Ok next) → IsChecked book (HasNextClock book kind) (Ok next)
+clock_checked book clock kind history none is next comes = record {
+  history = history;
+  next = record {
+    no_fault = none;
+    clock_is = comes.0 ∙ ap (λ (k : ℕ). clock_after k kind) is;
+    has_clock = has_next book clock kind is (Ok next) comes;
+  };
+  memory = tt;
+}
+
 -- the check of an event at the node that is kept
-pub event_checked : (book : BookState) (node : NodeState) (clock : ℕ) (kind : BookKind) → HasHistory book → IsForThisBook book kind
+pub event_checked : (book : BookState) (node : NodeState) (clock : ℕ) (kind : BookKind) → HasHistory book → book.fault ≡ None
     → clock ≡ clock_of (whole_events book) → (r : Result ℕ BookError) → IfErr r (λ e. e ≢ Memory)
-    → MatchResult r (CanHappen node clock kind) (IsRefusedAfter node clock kind) → IsChecked book (λ next. ComesNext book next kind) r
-event_checked book node clock kind history for_it is (Ok next) other can =
-    record { history = history; next = comes_next book clock kind for_it is next (can.next_is, can.has_clock); memory = tt }
-event_checked book node clock kind history for_it is (Err e) other refused = record { history = history; next = tt; memory = other }
+    → MatchResult r (CanHappen node clock kind) (IsRefusedAfter node clock kind) → IsChecked book (HasNextClock book kind) r
+event_checked book node clock kind history none is (Ok next) other can = clock_checked book clock kind history none is next (can.next_is, can.has_clock)
+event_checked book node clock kind history none is (Err e) other refused = record { history = history; next = tt; memory = other }
 
 -- ---- An answer that is passed on
 
@@ -238,7 +250,7 @@ module _ (book : BookState) (client : ℕ) (name : List ℕ) where
 
   module _ (node : NodeState) (none : book.fault ≡ None) (at : (P : NodeState → Type 0) → Runs book P ↔ ((book.fault ≡ None) × P node)) where
     -- the client does not hold it
-    leave_not_held : {T : Type 0} → (IsHeld node client name → ⊥) → (x : BookError) → x ≡ NotHeld → AnswersLeave {T = T} book client name (Err x)
+    pub leave_not_held : {T : Type 0} → (IsHeld node client name → ⊥) → (x : BookError) → x ≡ NotHeld → AnswersLeave {T = T} book client name (Err x)
     leave_not_held not_held x h = record {
       failed = (λ is. absurd (cc), λ some. absurd (has_fault book.fault some none));
       not_held = (λ _. (at _).1 (none, λ entry holds. not_held (entry, holds)), λ _. ap Err h);
@@ -257,7 +269,7 @@ module _ (book : BookState) (client : ℕ) (name : List ℕ) where
     }
 
     -- it holds it, and a clock is left
-    leave_allowed : {T : Type 0} (v : T) → IsHeld node client name → HasClock book (Gave client name) → AnswersLeave book client name (Ok v)
+    pub leave_allowed : {T : Type 0} (v : T) → IsHeld node client name → HasClock book (Gave client name) → AnswersLeave book client name (Ok v)
     leave_allowed v held has = record {
       failed = (λ is. absurd (cc), λ some. absurd (has_fault book.fault some none));
       not_held = (λ is. absurd (cc), λ runs. absurd (((at _).0 runs).1 held.0 held.1));
@@ -267,12 +279,11 @@ module _ (book : BookState) (client : ℕ) (name : List ℕ) where
 
     -- the check of it
     pub leave_checked : (clock : ℕ) → clock ≡ clock_of (whole_events book) → (r : Result ℕ BookError) → IfErr r (λ e. e ≢ Memory)
-        → MatchResult r (CanHappen node clock (Gave client name)) (IsRefusedAfter node clock (Gave client name)) → AnswersLeave book client name r
-    leave_checked clock is (Ok next) other can =
-        leave_allowed next can.may (has_next book clock (Gave client name) is (Ok next) (can.next_is, can.has_clock))
+        → MatchResult r (CanHappen node clock (Gave client name)) (IsRefusedAfter node clock (Gave client name)) → IfErr r (RefusesLeave book client name)
+    leave_checked clock is (Ok next) other can = tt
     leave_checked clock is (Err e) other refused = by_cause e other refused
       where
-        by_cause : (x : BookError) → x ≢ Memory → IsRefusedAfter node clock (Gave client name) x → AnswersLeave {T = ℕ} book client name (Err x)
+        by_cause : (x : BookError) → x ≢ Memory → IsRefusedAfter node clock (Gave client name) x → RefusesLeave book client name x
         by_cause x other (inl not_held) = leave_not_held (λ held. not_held.1 held.0 held.1) x not_held.0
         by_cause x other (inr (inl full)) = leave_full full.1 (has_next book clock (Gave client name) is (Err ClockFull) (refl, full.2)).1 x full.0
         by_cause x other (inr (inr memory)) = absurd (other memory.0)
@@ -285,13 +296,4 @@ module _ (book : BookState) (client : ℕ) (name : List ℕ) where
     not_held = passed x e NotHeld h answers.not_held;
     clock_full = passed x e ClockFull h answers.clock_full;
     allowed = passed_allowed T S x e Memory h answers.allowed;
-  }
-
-  pub leave_added : {T S : Type 0} (v : T) → AnswersLeave book client name (Ok v)
-      → (r : Result S BookError) → IsOkUnless r Memory → AnswersLeave book client name r
-  leave_added v answers r h = record {
-    failed = other v r Failed h (λ is. absurd (cc)) answers.failed;
-    not_held = other v r NotHeld h (λ is. absurd (cc)) answers.not_held;
-    clock_full = other v r ClockFull h (λ is. absurd (cc)) answers.clock_full;
-    allowed = (λ _. answers.allowed.0 tt, λ _. h);
   }

@@ -133,6 +133,10 @@ pub record AnswersLeave {T : Type 0} (book : BookState) (client : ℕ) (name : L
   pub allowed : IsOkUnless answer Memory
       ↔ Runs book (λ node. ((entry : Entry) × Holds (resource_at node name) client entry) × HasClock book (Gave client name))
 
+-- a leave is refused for this cause, as `Book::leave` says
+abbrev pub RefusesLeave : BookState → ℕ → List ℕ → BookError → Type 0
+RefusesLeave book client name refused = AnswersLeave {T = Posted} book client name (Err refused)
+
 -- bytes that come are answered as `Book::receive` says
 pub record AnswersReceive {T : Type 0} (book : BookState) (bytes : List ℕ) (answer : Result T BookError) : Type 0 where
   pub failed : IsErrOf answer Failed ↔ IsSome book.fault
@@ -184,7 +188,7 @@ pub record IsFirstAt (sent : List Sent) (frame : Frame) (place : ℕ) : Type 0 w
   pub is : (d : Sent) → (slice_index_or sent place d).frame ≡ frame
   pub first : (k : ℕ) (d : Sent) → k < place → (slice_index_or sent k d).frame ≢ frame
 
--- what comes of flagging the first of the sent frames that is equal to this one
+-- how the first of the sent frames that is equal to this one is flagged
 pub record IsFlagged (old : List Sent) (frame : Frame) (new : List Sent) (answer : Result (Unit {0}) MarkLostError) : Type 0 where
   pub ok : OnOk answer (Loses old frame new)
   pub not_sent : IsErrOf answer NotSent ↔ All (λ s. s.frame ≢ frame) old

@@ -10,7 +10,7 @@ pub mod sent;
 pub mod stop;
 pub mod taken;
 
-ghost use Rattle.std.specs.Prelude.{◌≡◌, ◌≢◌, ℕ, ◌<◌, ◌≤◌, ◌⊎◌, ◌↔◌, ◌^◌, List, All, Contains, length, slice_get, unwrap_or, IsErrOf, IsOk, IsOkUnless, IsSome, IfOk, IfSome, OnErr, OnOk, IsTrue, true, false};
+ghost use Rattle.std.specs.Prelude.{◌≡◌, ◌≢◌, ◌<◌, ◌≤◌, ◌⊎◌, ◌↔◌, ◌^◌, All, Contains, length, slice_get, unwrap_or, IsErrOf, IsOk, IsOkUnless, IsSome, IfErr, IfOk, IfSome, OnErr, OnOk, IsTrue, true, false};
 ghost use Rattle.ra_stamp.specs.declared.entry.Entry.{Entry};
 ghost use Rattle.ra_frame.specs.declared.error.FrameError.{FrameError};
 ghost use Rattle.ra_node.specs.Resource.{Holds};
@@ -94,7 +94,7 @@ impl Book {
     ghost use Rattle.ra_node.specs.Node.{NodeState};
     ghost use Rattle.ra_book.specs.History.{clock_of};
     ghost use Rattle.ra_book.specs.Book.{opening_book, whole_events, with_all_taken, IsWhole, LeadsTo, HasHistory, HasClock, Adds, Runs, ReadsFrame, IsFirst, Loses};
-    ghost use Rattle.ra_book.specs.Keeping.{ComesNext, HasNextClock, IsChecked, RefusesAsk, AnswersLeave, AnswersReceive};
+    ghost use Rattle.ra_book.specs.Keeping.{ComesNext, HasNextClock, IsChecked, RefusesAsk, RefusesLeave, AnswersReceive};
 
     /// Makes the book of node `me` of `nodes`, in which nothing has happened yet. The highest number of each resource begins
     /// at `start`, 0 to 2^64-1, which is to be the same at all nodes. It does not allocate until the first event comes.
@@ -224,16 +224,18 @@ impl Book {
     {
         let clock = self.check_leave(client, name)?;
         let Some(departure) = self.departures.pop() else {
-            // The client that holds is one for which there is a departure.
-            unreachable!()
+            // There is a departure for each client that holds.
+            return Err(BookError::NotHeld);
         };
         let Departure {
             mut outcome,
             frames,
         } = departure;
         let Ok(()) = self.node.leave_into(alloc, client, name, &mut outcome) else {
-            // The client holds, and the outcome has room.
-            unreachable!()
+            // The outcome has room, so the client does not hold the name. The departure is as before.
+            self.departures
+                .push_reserved(Departure { outcome, frames });
+            return Err(BookError::NotHeld);
         };
         let kind = BookKind::Gave { client, name };
         let event = BookEvent { clock, kind };
@@ -470,7 +472,7 @@ impl Book {
         clock_after(self.clock(), kind).ok()
     }
 
-    /// Returns why the ask of a client is refused if there is no memory: each other cause comes before `Memory`, as `ask` says.
+    /// Returns why the ask of a client is refused if there is no memory. Each other cause comes before `Memory`, as `ask` says.
     /// It does not allocate.
     pub fn ask_refusal(&self, client: u32, name: Name, mode: Mode) -> BookError
         ensures refused { RefusesAsk self.now client name mode result }
@@ -483,20 +485,25 @@ impl Book {
         event_refusal(&self.node, self.clock(), &kind)
     }
 
-    /// Returns the clock that the leave of a client has.
+    /// Returns the clock that the leave of a client has if the client holds the name. It looks that up only if no clock is left, since
+    /// `NotHeld` comes before `ClockFull`.
     ///
     /// # Errors
     ///
-    /// Those of `leave`, except for `Memory`.
+    /// Those of `leave`, except for `Memory`. `NotHeld` comes only if no clock is left.
     fn check_leave(&self, client: u32, name: Name) -> Result<u64, BookError>
-        ensures checked { IsChecked self.now (λ clock. ComesNext self.now clock (BookKind.Gave client name)) result }
-        ensures answers { AnswersLeave self.now client name result }
+        ensures checked { IsChecked self.now (HasNextClock self.now (BookKind.Gave client name)) result }
+        ensures refused { IfErr result (RefusesLeave self.now client name) }
     {
         if self.fault.is_some() {
             return Err(BookError::Failed);
         }
         let kind = BookKind::Gave { client, name };
-        check_event(&self.node, self.clock(), &kind)
+        let latest = self.clock();
+        match clock_after(latest, &kind) {
+            Ok(clock) => Ok(clock),
+            Err(_) => check_event(&self.node, latest, &kind),
+        }
     }
 
     /// Returns the frame that the bytes are the text of, and the clock that its coming has.
