@@ -20,7 +20,8 @@ use Rattle.ra_book.specs.declared.book.event.BookKind.TheVariants.{Got}
 use Rattle.ra_book.specs.declared.book.event.BookEvent.{BookEvent}
 use Rattle.ra_book.specs.History.{clock_of}
 use Rattle.ra_book.specs.Settled.{received_among}
-use Rattle.ra_audit.specs.Audit.{ProgressState, AreNextAt, IsReached, NoneIsReached, NoneWaits, WasSentIn, taken_of}
+use Rattle.ra_world.specs.World.{WorldState}
+use Rattle.ra_audit.specs.Audit.{ProgressState, IsAudited, HasLost, AreNextAt, IsReached, NoneIsReached, NoneWaits, WasSentIn, taken_of}
 
 -- what the fields represent
 abbrev pub progress_of : Inside → ProgressState
@@ -199,6 +200,14 @@ pub record IsTracked (nodes : List ProgressState) (moves : List Move) (flights :
   pub sent : (message : Message) (clock : ℕ) → HasClock flights message clock
       → WasSentIn nodes moves (record { clock = clock; message = message })
   pub under_way : (message : Message) → IsUnderWay moves message ↔ IsFlying flights message
+
+-- The run of these nodes is audited, with the losses that are in it, and what is sent in it is tracked. Each frame whose loss is in it
+-- was sent in it.
+pub record HasInRun (world : WorldState) (nodes : List ProgressState) (flights : FlightState) (losses : LossState) : Type 0 where
+  pub audited : IsAudited world nodes
+  pub lost : HasLost world.moves losses.lost
+  pub tracked : IsTracked nodes world.moves flights
+  pub sent : All (WasSentIn nodes world.moves) losses.lost
 
 -- what was sent in the run before was sent in it now
 abbrev pub StaySent : List ProgressState → List Move → List ProgressState → List Move → Type 0

@@ -1,7 +1,9 @@
 -- What a book answers to bytes.
 use Rattle.std.proofs.Common.{◌≡◌, ◌≢◌, ◌↔◌, ◌⊎◌, ℕ, ◌<◌, ◌≤◌, ◌^◌, Some, None, List, Result, Ok, Err, refl, sym, ap, ◌∙◌, subst, inl, inr, arith}
 use Rattle.std.specs.Prelude.{IfOk, IfErr, IsErrAnd, IsErrOf, IsOkUnless, IsSome}
-use Rattle.ra_stamp.specs.Message.{from_of}
+use Rattle.ra_stamp.specs.Message.{from_of, to_of}
+use Rattle.ra_automaton.specs.declared.error.ReceiveError.{ReceiveError}
+use Rattle.ra_automaton.specs.declared.error.ReceiveError.TheVariants as receive
 use Rattle.ra_frame.specs.declared.error.FrameError.{FrameError}
 use Rattle.ra_frame.specs.declared.frame.Frame.{Frame as OneFrame}
 use Rattle.ra_frame.specs.Faults.{first_fault}
@@ -13,10 +15,11 @@ use Rattle.ra_book.specs.declared.error.BookError.{BookError}
 use Rattle.ra_book.specs.declared.error.BookError.TheVariants.{Failed, Frame, Busy, Exhausted, NotHeld, WrongNode, Stranger, ClockFull, Memory}
 use Rattle.ra_book.specs.declared.book.event.BookKind.TheVariants.{Got}
 use Rattle.ra_book.specs.History.{clock_after, clock_of}
-use Rattle.ra_book.specs.Book.{BookState, whole_events, HasHistory, HasClock, ReadsFrame}
-use Rattle.ra_book.specs.EventChecks.{IsRefusedAfter}
-use Rattle.ra_book.specs.Keeping.{ComesNext, IsChecked, AnswersReceive, IsFrameFor, IsAccepted, NotAccepted}
-use Rattle.ra_book.proofs.Running.{ComesAt, has_fault, has_next, comes_next, passed, passed_allowed, other}
+use Rattle.ra_book.specs.Book.{BookState, whole_events, HasClock, ReadsFrame}
+use Rattle.ra_book.specs.EventChecks.{IsRefusedAfter, IsRefusedWithClock}
+use Rattle.ra_book.specs.Refused.{refusal_of_receive}
+use Rattle.ra_book.specs.Keeping.{HasNextClock, AnswersReceive, IsRead, IsFrameFor, IsAccepted, NotAccepted}
+use Rattle.ra_book.proofs.Running.{has_fault, has_next, passed, passed_allowed, other}
 
 -- ---- Bytes that are decoded
 
@@ -33,16 +36,6 @@ module _ (me nodes clock : ℕ) (bytes : List ℕ) where
 
       pub not_accepted : (e : BookError) → NotAccepted me nodes clock bytes e → IsAccepted me nodes clock bytes (Err e)
       not_accepted e why = record { accepted = tt; refused = why; one_text = one_text; no_fault = no_fault }
-
-      -- by an error that is passed on
-      pub passed_on : (e : BookError) → NotAccepted me nodes clock bytes e → (r : Result (OneFrame × ℕ) BookError) → IsErrAnd r (λ x. x ≡ e)
-          → IsAccepted me nodes clock bytes r
-      passed_on e why (Ok v) h = absurd h
-      passed_on e why (Err x) h = not_accepted x (subst (NotAccepted me nodes clock bytes) (sym h) why)
-
-      -- a frame for the node is accepted if a clock is left
-      pub accepted : (f : OneFrame) → IsFrameFor me nodes bytes f → (next : ℕ) → ComesAt clock (Got f) (Ok next) → IsAccepted me nodes clock bytes (Ok (f, next))
-      accepted f is next comes = record { accepted = (is, comes.0, comes.1); refused = tt; one_text = one_text; no_fault = no_fault }
 
 -- a frame that the node does not take, or for which no clock is left
 pub not_taken : (node : NodeState) (clock : ℕ) (bytes : List ℕ) (f : OneFrame) → IsFrameText bytes f → Fits f → (why : BookError) → why ≢ Memory
@@ -64,6 +57,13 @@ pub accepted_by : (node : NodeState) (book now : BookState) (clock : ℕ) (bytes
 accepted_by node book now clock bytes r same is accepted =
     subst (λ (b : BookState). IsAccepted b.me b.nodes clock bytes r) is
     (subst (λ (n : ℕ). IsAccepted book.me n clock bytes r) same.1 (subst (λ (m : ℕ). IsAccepted m node.nodes clock bytes r) same.0 accepted))
+
+-- a frame for the node is for the book
+pub for_book : (book now : BookState) (node : NodeState) (f : OneFrame) → (node.me ≡ book.me) × (node.nodes ≡ book.nodes) × IsConsistentNode node → book ≡ now
+    → IsForNode node.me node.nodes f.message → IsForNode now.me now.nodes f.message
+for_book book now node f same is for_it =
+    subst (λ (b : BookState). IsForNode b.me b.nodes f.message) is
+    (subst (λ (n : ℕ). IsForNode book.me n f.message) same.1 (subst (λ (m : ℕ). IsForNode m node.nodes f.message) same.0 for_it))
 
 no_stranger : (me nodes : ℕ) (f : OneFrame) → IsForNode me nodes f.message → (from_of f.message ≡ me) ⊎ (nodes < from_of f.message) → ⊥
 no_stranger me nodes f for_it why =
@@ -165,23 +165,6 @@ module _ (book : BookState) (bytes : List ℕ) where
       pub receive_answers : AnswersReceive book bytes r
       receive_answers = by_answer r accepts.accepted accepts.refused
 
-      -- what is accepted comes next
-      pub receive_checked : HasHistory book → IsChecked book (λ h. IsFrameText bytes h.0 × ComesNext book h.1 (Got h.0)) r
-      receive_checked history = record {
-        history = history;
-        next = next_is r accepts.accepted;
-        memory = no_memory r accepts.refused;
-      }
-        where
-          next_is : (answer : Result (OneFrame × ℕ) BookError) → IfOk answer (λ h. IsFrameFor book.me book.nodes bytes h.0 × (h.1 ≡ clock_after clock (Got h.0)) × (h.1 ≤ 2 ^ 62))
-              → IfOk answer (λ h. IsFrameText bytes h.0 × ComesNext book h.1 (Got h.0))
-          next_is (Ok h) accepted = (accepted.0.text, comes_next book clock (Got h.0) (accepted.0.for_it, accepted.0.fits) clock_is h.1 (accepted.1, accepted.2))
-          next_is (Err e) accepted = tt
-
-          no_memory : (answer : Result (OneFrame × ℕ) BookError) → IfErr answer (NotAccepted book.me book.nodes clock bytes) → IfErr answer (λ e. e ≢ Memory)
-          no_memory (Ok h) refused = tt
-          no_memory (Err e) refused = λ is. subst (NotAccepted book.me book.nodes clock bytes) is refused
-
   pub receive_passed : {T S : Type 0} (e : BookError) → AnswersReceive {T = T} book bytes (Err e)
       → (r : Result S BookError) → IsErrAnd r (λ x. x ≡ e) → AnswersReceive book bytes r
   receive_passed {T} {S} e answers (Ok v) h = absurd h
@@ -204,3 +187,72 @@ module _ (book : BookState) (bytes : List ℕ) where
     clock_full = other v r ClockFull h (λ is. absurd (cc)) answers.clock_full;
     allowed = (λ _. answers.allowed.0 tt, λ _. h);
   }
+
+-- ---- Bytes that were read as a frame, for which a clock is left
+
+-- what was decoded is the one frame of the bytes
+pub one_frame : (bytes : List ℕ) (r : Result OneFrame FrameError) (f : OneFrame) → r ≡ Ok f → IsFrameText bytes f → Fits f
+    → ((g : OneFrame) → IsFrameText bytes g → r ≡ Ok g) → ((e : FrameError) → IsErrOf r e ↔ (first_fault bytes ≡ Some e)) → IsRead bytes f
+one_frame bytes r f is text fits only fault = record {
+  text = text;
+  only = λ g said. let left = only g said in cc;
+  no_fault = λ e has. let left = (fault e).1 has in absurd (cc);
+  fits = fits;
+}
+
+module _ (node : NodeState) (book now : BookState) (bytes : List ℕ) (none : now.fault ≡ None) (f : OneFrame) (read : IsRead bytes f)
+    (same : (node.me ≡ book.me) × (node.nodes ≡ book.nodes) × IsConsistentNode node) (is : book ≡ now) (next : ℕ) (has : HasNextClock now (Got f) next)
+  where
+    abbrev latest : ℕ
+    latest = clock_of (whole_events now)
+
+    answered : (r : Result (OneFrame × ℕ) BookError)
+        → IfOk r (λ h. IsFrameFor node.me node.nodes bytes h.0 × (h.1 ≡ clock_after latest (Got h.0)) × (h.1 ≤ 2 ^ 62))
+        → IfErr r (NotAccepted node.me node.nodes latest bytes) → AnswersReceive now bytes r
+    answered r for_it refused =
+        receive_answers now bytes none latest refl r
+        (accepted_by node book now latest bytes r same is
+        (record {
+          accepted = for_it;
+          refused = refused;
+          one_text = λ a b said said'. read.only a said ∙ sym (read.only b said');
+          no_fault = λ g fault said found. read.no_fault fault found;
+        }))
+
+    -- it is for the node
+    pub frame_taken : {T : Type 0} (r : Result T BookError) → IsOkUnless r Memory → IsForNode node.me node.nodes f.message → AnswersReceive now bytes r
+    frame_taken r h for_it =
+        let is_for : IsFrameFor node.me node.nodes bytes f = record { text = read.text; for_it = for_it; fits = read.fits } in
+        let low : next ≤ 2 ^ 62 = subst (λ (k : ℕ). k ≤ 2 ^ 62) (sym has.clock_is) has.has_clock in
+        receive_added now bytes (f, next) (answered (Ok (f, next)) (is_for, has.clock_is, low) tt) r h
+
+    frame_refused : {T : Type 0} (why : BookError) → NotAccepted node.me node.nodes latest bytes why → (r : Result T BookError) → IsErrAnd r (λ x. x ≡ why)
+        → AnswersReceive now bytes r
+    frame_refused why not r h = receive_passed now bytes why (answered (Err why) tt not) r h
+
+    memory_alone : {T : Type 0} (r : Result T BookError) → IsErrAnd r (λ x. x ≡ Memory) → IsOkUnless r Memory
+    memory_alone (Ok v) h = tt
+    memory_alone (Err x) h = h
+
+    -- the node refuses it
+    pub node_refuses : {S T : Type 0} (e : ReceiveError) → IsErrOf {T = S} (Err e) receive.WrongNode ↔ (to_of f.message ≢ node.me)
+        → IsErrOf {T = S} (Err e) receive.Stranger ↔ ((to_of f.message ≡ node.me) × ((from_of f.message ≡ node.me) ⊎ (node.nodes < from_of f.message)))
+        → IsOkUnless {T = S} (Err e) receive.Memory ↔ IsForNode node.me node.nodes f.message
+        → (r : Result T BookError) → IsErrAnd r (λ x. x ≡ refusal_of_receive e) → AnswersReceive now bytes r
+    node_refuses receive.WrongNode wrong stranger allowed r h = frame_refused WrongNode (f, read.text, wrong.0 refl) r h
+    node_refuses receive.Stranger wrong stranger allowed r h = let s = stranger.0 refl in frame_refused Stranger (f, read.text, s.0, s.1) r h
+    node_refuses receive.Memory wrong stranger allowed r h = frame_taken r (memory_alone r h) (allowed.0 refl)
+
+    -- there is no room for it
+    pub without_room : {T : Type 0} (why : BookError) → IsRefusedWithClock node (Got f) why → AnswersReceive {T = T} now bytes (Err why)
+    without_room why (inl (inl wrong)) = frame_refused WrongNode (f, read.text, wrong.1) (Err why) wrong.0
+    without_room why (inl (inr stranger)) = frame_refused Stranger (f, read.text, stranger.1, stranger.2) (Err why) stranger.0
+    without_room why (inr memory) = frame_taken (Err why) memory.0 memory.1
+
+-- no clock is left, so memory is not the cause
+pub not_for_memory : (node : NodeState) (clock : ℕ) (f : OneFrame) (why : BookError) → IsRefusedAfter node clock (Got f) why → 2 ^ 62 < clock_after clock (Got f)
+    → why ≢ Memory
+not_for_memory node clock f why (inl (inl wrong)) full is = let apart = sym wrong.0 ∙ is in absurd (cc)
+not_for_memory node clock f why (inl (inr stranger)) full is = let apart = sym stranger.0 ∙ is in absurd (cc)
+not_for_memory node clock f why (inr (inl late)) full is = let apart = sym late.0 ∙ is in absurd (cc)
+not_for_memory node clock f why (inr (inr memory)) full is = omega (arith, full, memory.2)

@@ -66,15 +66,6 @@ has_next book clock kind is (Err e) comes =
     let full = subst (λ (k : ℕ). 2 ^ 62 < clock_after k kind) is comes.1 in
     (comes.0, λ has. omega (arith, full, has))
 
-pub comes_next : (book : BookState) (clock : ℕ) (kind : BookKind) → IsForThisBook book kind → clock ≡ clock_of (whole_events book)
-    → (next : ℕ) → ComesAt clock kind (Ok next) → ComesNext book next kind
-comes_next book clock kind for_it is next comes =
-    record {
-      clock_is = comes.0 ∙ ap (λ (k : ℕ). clock_after k kind) is;
-      has_clock = has_next book clock kind is (Ok next) comes;
-      for_this_book = for_it;
-    }
-
 -- the clock that comes next is that of an event of a book without a fault
 pub next_is_ok : (book : BookState) (kind : BookKind) → book.fault ≡ None → (clock : ℕ) → clock ≡ clock_of (whole_events book)
     → (r : Result ℕ BookError) → ComesAt clock kind r → (found : Option ℕ) → found ≡ result_ok r → IfSome found (HasNextClock book kind)

@@ -35,6 +35,10 @@ pub record CanHappen (node : NodeState) (clock : ℕ) (kind : BookKind) (next : 
   pub next_is : next ≡ clock_after clock kind
   pub has_clock : next ≤ 2 ^ 62
 
+-- why an event is refused if a clock is left for it: the node does not take it, or there is no memory
+abbrev pub IsRefusedWithClock : NodeState → BookKind → BookError → Type 0
+IsRefusedWithClock node kind why = NodeRefuses node kind why ⊎ ((why ≡ Memory) × MayTake node kind)
+
 -- why an event is refused after this clock: the node does not take it, or there is no clock for it, or no memory
 abbrev pub IsRefusedAfter : NodeState → ℕ → BookKind → BookError → Type 0
 IsRefusedAfter node clock kind why =

@@ -149,6 +149,17 @@ pub record AnswersReceive {T : Type 0} (book : BookState) (bytes : List ℕ) (an
   pub allowed : IsOkUnless answer Memory
       ↔ ReadsFrame book bytes (λ f. IsForNode book.me book.nodes f.message × HasClock book (Got f))
 
+-- bytes that come are refused for this cause, as `Book::receive` says
+abbrev pub RefusesReceive : BookState → List ℕ → BookError → Type 0
+RefusesReceive book bytes refused = AnswersReceive {T = Posted} book bytes (Err refused)
+
+-- the bytes are the text of this frame alone, and it fits
+pub record IsRead (bytes : List ℕ) (frame : Frame) : Type 0 where
+  pub text : IsFrameText bytes frame
+  pub only : (other : Frame) → IsFrameText bytes other → other ≡ frame
+  pub no_fault : (fault : FrameError) → first_fault bytes ≡ Some fault → ⊥
+  pub fits : Fits frame
+
 -- the bytes are the text of this frame, which is for this one of this many nodes, and fits
 pub record IsFrameFor (me nodes : ℕ) (bytes : List ℕ) (frame : Frame) : Type 0 where
   pub text : IsFrameText bytes frame

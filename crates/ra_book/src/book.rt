@@ -17,7 +17,7 @@ ghost use Rattle.ra_node.specs.Resource.{Holds};
 ghost use Rattle.ra_node.specs.Node.{resource_at};
 
 use crate::book::departure::Departure;
-use crate::book::event_check::{check_event, event_refusal};
+use crate::book::event_check::{check_event, event_refusal, room_refusal};
 use crate::book::event_room::{answers_to, make_room, most_sent, room_to_ask, with_room};
 use crate::book::frame_search::is_kept;
 use crate::book::kept_events::{clock_after, flag_lost, keep};
@@ -94,7 +94,7 @@ impl Book {
     ghost use Rattle.ra_node.specs.Node.{NodeState};
     ghost use Rattle.ra_book.specs.History.{clock_of};
     ghost use Rattle.ra_book.specs.Book.{opening_book, whole_events, with_all_taken, IsWhole, LeadsTo, HasHistory, HasClock, Adds, Runs, ReadsFrame, IsFirst, Loses};
-    ghost use Rattle.ra_book.specs.Keeping.{ComesNext, HasNextClock, IsChecked, RefusesAsk, RefusesLeave, AnswersReceive};
+    ghost use Rattle.ra_book.specs.Keeping.{HasNextClock, IsChecked, RefusesAsk, RefusesLeave, RefusesReceive, IsRead};
 
     /// Makes the book of node `me` of `nodes`, in which nothing has happened yet. The highest number of each resource begins
     /// at `start`, 0 to 2^64-1, which is to be the same at all nodes. It does not allocate until the first event comes.
@@ -233,8 +233,7 @@ impl Book {
         } = departure;
         let Ok(()) = self.node.leave_into(alloc, client, name, &mut outcome) else {
             // The outcome has room, so the client does not hold the name. The departure is as before.
-            self.departures
-                .push_reserved(Departure { outcome, frames });
+            self.departures.push_reserved(Departure { outcome, frames });
             return Err(BookError::NotHeld);
         };
         let kind = BookKind::Gave { client, name };
@@ -290,11 +289,9 @@ impl Book {
             leaves,
         );
         let Ok(frames) = room else {
-            return Err(BookError::Memory);
+            return Err(room_refusal(&self.node, &frame));
         };
-        let Ok(outcome) = self.node.receive(alloc, &frame.message) else {
-            return Err(BookError::Memory);
-        };
+        let outcome = self.node.receive(alloc, &frame.message)?;
         let kind = BookKind::Got(frame);
         let event = BookEvent { clock, kind };
         Ok(keep(&mut self.events, &mut self.sent, frames, event, outcome))
@@ -506,15 +503,16 @@ impl Book {
         }
     }
 
-    /// Returns the frame that the bytes are the text of, and the clock that its coming has.
+    /// Returns the frame that the bytes are the text of, and the clock that its coming has if the node takes it. It looks at the
+    /// frame's nodes only if no clock is left, since `WrongNode` and `Stranger` come before `ClockFull`.
     ///
     /// # Errors
     ///
-    /// Those of `receive`, except for `Memory`.
+    /// Those of `receive`, except for `Memory`. `WrongNode` and `Stranger` come only if no clock is left.
     fn check_receive(&self, bytes: &[u8]) -> Result<(Frame, u64), BookError>
         ensures checked { IsChecked self.now
-            (λ came. IsFrameText bytes.now came.0 × ComesNext self.now came.1 (BookKind.Got came.0)) result }
-        ensures answers { AnswersReceive self.now bytes.now result }
+            (λ came. IsRead bytes.now came.0 × HasNextClock self.now (BookKind.Got came.0) came.1) result }
+        ensures refused { IfErr result (RefusesReceive self.now bytes.now) }
     {
         if self.fault.is_some() {
             return Err(BookError::Failed);
@@ -525,7 +523,11 @@ impl Book {
         };
         // The event's frame is copied through a borrow, since the proof of a copy of the variable is not told of the type of its message.
         let came = &frame;
-        let clock = check_event(&self.node, self.clock(), &BookKind::Got(*came))?;
+        let kind = BookKind::Got(*came);
+        let latest = self.clock();
+        let Ok(clock) = clock_after(latest, &kind) else {
+            return Err(event_refusal(&self.node, latest, &kind));
+        };
         Ok((frame, clock))
     }
 }

@@ -98,10 +98,8 @@ pub fn run_cluster<R: Threads + Wait + Sync, G: Gate>(
     // The report is that of a run of the steps at the script's nodes, and meets the script and the main theorem.
     ensures done { IfOk result (IsDone script.now) }
 {
-    match record_cluster(rt, alloc, script, gate) {
-        Ok(recorded) => Ok(recorded.settled),
-        Err(fault) => Err(fault),
-    }
+    let recorded = record_cluster(rt, alloc, script, gate)?;
+    Ok(recorded.settled)
 }
 
 /// Runs a script by threads, as [`run_cluster`] does and at the same cost, and returns the books of the nodes, too.
@@ -121,10 +119,8 @@ pub fn record_cluster<R: Threads + Wait + Sync, G: Gate>(
 {
     check_script(script)?;
     let (books, grants) = books_of(rt, alloc, script, gate)?;
-    match settle_script(alloc, script, &books, &grants) {
-        Ok(settled) => Ok(Recorded { books, settled }),
-        Err(fault) => Err(fault),
-    }
+    let settled = settle_script(alloc, script, &books, &grants)?;
+    Ok(Recorded { books, settled })
 }
 
 /// Checks whether threads can run a script: whether each client takes its names in ascending order and holds none at

@@ -2,6 +2,7 @@
 //! calls of an automaton that do not fit its phase; and how faults are printed.
 use crate::core_asserting::{assert_same, node};
 use crate::node_tests::automaton_calls::{leave, leave_and_request, receive, request};
+use Call::{Leaves, LeavesAndRequests, Requests};
 use Mode::Shared;
 use ra_automaton::{Automaton, LeaveError, Phase, RequestError};
 use ra_node::{AskError, LeaveError as NodeLeaveError, NewError, Node, ReceiveError};
@@ -158,59 +159,83 @@ fn messages_come_from_another_node_to_this_one(rt: HostRuntime) {
     }
 }
 
-/// Its last request but one has the greatest number but one.
+/// A call of an automaton, and why it is refused, or `None` if it is not.
+#[derive(Clone, Copy)]
+enum Call {
+    Requests(Option<RequestError>),
+    Leaves(Option<LeaveError>),
+    LeavesAndRequests(Option<LeaveError>),
+}
+
+/// A call that an automaton gets.
+struct Called {
+    shows: &'static str,
+    call: Call,
+}
+
+/// The calls of an automaton that begins while it is idle. Its first request has the greatest number.
+const CALLS: &[Called] = &[
+    Called {
+        shows: "it leaves and asks while it is idle",
+        call: LeavesAndRequests(Some(LeaveError::NotHeld)),
+    },
+    Called {
+        shows: "it leaves while it is idle",
+        call: Leaves(Some(LeaveError::NotHeld)),
+    },
+    Called {
+        shows: "it asks while it is idle",
+        call: Requests(None),
+    },
+    Called {
+        shows: "it asks while it is inside",
+        call: Requests(Some(RequestError::NotIdle)),
+    },
+    Called {
+        shows: "it leaves",
+        call: Leaves(None),
+    },
+    Called {
+        shows: "it asks after the greatest number",
+        call: Requests(Some(RequestError::Exhausted)),
+    },
+];
+
+/// Asserts that an automaton refuses a call or not, as the call says.
+fn assert_called(rt: &(impl Abort + AllocGlobal), automaton: &mut Automaton, called: &Called) {
+    let at = row(called.shows);
+    match called.call {
+        Requests(fault) => {
+            let came = request(rt.alloc(), automaton, Shared).err();
+            assert_same(rt, at, &came, &fault);
+        }
+        Leaves(fault) => {
+            let came = leave(rt.alloc(), automaton).err();
+            assert_same(rt, at, &came, &fault);
+        }
+        LeavesAndRequests(fault) => {
+            let came = leave_and_request(rt, automaton, Shared).err();
+            assert_same(rt, at, &came, &fault);
+        }
+    }
+}
+
 #[test]
 fn an_automaton_makes_one_request_at_a_time_up_to_the_greatest_number(rt: HostRuntime) {
     let mut automaton = new_automaton(&rt, 1, 1, u64::MAX - 1);
     assert_same(&rt, row("its node"), &automaton.me().get(), &1);
-    assert_same(
-        &rt,
-        row("its name"),
-        &(automaton.name(), automaton.name() == q()),
-        &(r(), false),
-    );
-    let came = leave_and_request(&rt, &mut automaton, Shared).err();
-    assert_same(
-        &rt,
-        row("it leaves and asks while it is idle"),
-        &came,
-        &Some(LeaveError::NotHeld),
-    );
-    let came = leave(rt.alloc(), &mut automaton).err();
-    assert_same(
-        &rt,
-        row("it leaves while it is idle"),
-        &came,
-        &Some(LeaveError::NotHeld),
-    );
-    let came = request(rt.alloc(), &mut automaton, Shared).err();
-    assert_same(&rt, row("it asks while it is idle"), &came, &None);
-    let came = request(rt.alloc(), &mut automaton, Shared).err();
-    assert_same(
-        &rt,
-        row("it asks while it is inside"),
-        &came,
-        &Some(RequestError::NotIdle),
-    );
-    assert_same(
-        &rt,
-        row("it leaves"),
-        &leave(rt.alloc(), &mut automaton).err(),
-        &None,
-    );
-    let came = request(rt.alloc(), &mut automaton, Shared).err();
-    assert_same(
-        &rt,
-        row("it asks after the greatest number"),
-        &came,
-        &Some(RequestError::Exhausted),
-    );
+    let name = (automaton.name(), automaton.name() == q());
+    assert_same(&rt, row("its name"), &name, &(r(), false));
+    for called in CALLS {
+        assert_called(&rt, &mut automaton, called);
+    }
     let shown = (automaton.phase(), automaton.highest());
+    let expected = (Phase::Idle, u64::MAX);
     assert_same(
         &rt,
         row("its phase and the highest number"),
         &shown,
-        &(Phase::Idle, u64::MAX),
+        &expected,
     );
 }
 

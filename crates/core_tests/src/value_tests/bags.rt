@@ -1,4 +1,5 @@
-//! What the tests of bags share: what a bag, which keeps the messages under way, does or shows, one step after the other.
+//! What the tests of bags share: what a bag, which keeps the messages under way, does or shows, one step after the other. A trace cannot
+//! tell it: no command shows places near which messages are found, copies, or room that is made.
 use crate::core_asserting::assert_same;
 use Step::{
     Contains, Copies, CopiesAmong, CopiesNumbers, Finds, Has, HasCount, HasNumbers, Lacks,

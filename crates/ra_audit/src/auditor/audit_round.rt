@@ -1,9 +1,9 @@
 //! A round of the audit of a cluster whose threads go on.
-ghost use Rattle.std.specs.Prelude.{◌≡◌, ◌↔◌, ◌⊎◌, ◌≤◌, true, false, [], ℕ, length, All, None, Some, IsOk, IsErrOf, OnOk};
+ghost use Rattle.std.specs.Prelude.{◌≡◌, ◌↔◌, ◌⊎◌, ◌≤◌, true, false, [], ℕ, length, All, None, Some, IsOk, IsErrOf, OnOk, MatchResult};
 ghost use Rattle.ra_audit.specs.declared.audit_error.AuditFault as audit_fault;
 ghost use Rattle.ra_site.specs.declared.site.take_error.TakeError.{TakeError};
 ghost use Rattle.ra_frame.specs.declared.frame.Frame.{Frame};
-ghost use Rattle.ra_audit.specs.Audit.{NoneIsReady, NoneIsReached, NoneWaits, IsNeverSent, IsLeastLeft, IsAhead, IsMisfit, IsNotLost, IsUnsent, MayBePut, IsAudited, HasLost, AllWereSent, IsAuditorOf, AuditsByAnswer, TakesByAnswer, TakesMoreAt, TakesAllAt, NotTakenAt, IsNotTaken, NoneIsKept, AnswersRound, CanBePut, clocks_taken, last_round};
+ghost use Rattle.ra_audit.specs.Audit.{NoneIsReady, NoneIsReached, HasAllIn, RefusesFinish, IsMisfit, IsNotLost, IsUnsent, MayBePut, IsAudited, HasLost, AllWereSent, IsAuditorOf, AuditsByAnswer, TakesByAnswer, TakesMoreAt, TakesAllAt, NotTakenAt, IsNotTaken, NoneIsKept, AnswersRound, CanBePut, clocks_taken, last_round};
 ghost use Rattle.ra_stamp.specs.NodeId.{IsNodeNumber};
 
 use crate::{AuditError, Auditor, FinishError, MarkObserver, RoundError};
@@ -59,10 +59,8 @@ impl Auditor {
         ensures round { AnswersRound cluster.now self.old (O.told observer.old) self.new (O.told observer.new) result }
         ensures granted { O.granted observer.new ≡ O.granted observer.old }
     {
-        match check_round(cluster, self) {
-            Ok(()) => go_round(rt, alloc, cluster, self, observer),
-            Err(refused) => Err(refused),
-        }
+        check_round(cluster, self)?;
+        go_round(rt, alloc, cluster, self, observer)
     }
 
     /// Ends the audit of a cluster that its caller alone has, so that all threads have ended: takes what is left at the
@@ -87,12 +85,7 @@ impl Auditor {
     ) -> Result<(), FinishError>
         ensures round { AnswersRound cluster.old self.old (O.told observer.old) self.new (O.told observer.new) (last_round result) }
         ensures granted { O.granted observer.new ≡ O.granted observer.old }
-        ensures ok { OnOk result (NoneWaits self.new.nodes) }
-        ensures all_lost { OnOk result (self.new.losing ≡ []) }
-        ensures never_sent { (fault : audit_fault.AuditFault) → IsErrOf result (FinishError.NeverSent fault)
-            → IsNeverSent self.new.nodes fault × IsLeastLeft self.new.nodes fault }
-        ensures lost_unsent { (frame : Frame) → IsErrOf result (FinishError.LostUnsent frame)
-            → NoneWaits self.new.nodes × IsAhead self.new.nodes self.new.losing frame }
+        ensures ended { MatchResult result (λ _. HasAllIn self.new) (RefusesFinish self.new) }
     {
         self.end(rt, alloc, cluster, observer)
     }
@@ -107,12 +100,7 @@ impl Auditor {
     ) -> Result<(), FinishError>
         ensures round { AnswersRound cluster.now self.old (O.told observer.old) self.new (O.told observer.new) (last_round result) }
         ensures granted { O.granted observer.new ≡ O.granted observer.old }
-        ensures ok { OnOk result (NoneWaits self.new.nodes) }
-        ensures all_lost { OnOk result (self.new.losing ≡ []) }
-        ensures never_sent { (fault : audit_fault.AuditFault) → IsErrOf result (FinishError.NeverSent fault)
-            → IsNeverSent self.new.nodes fault × IsLeastLeft self.new.nodes fault }
-        ensures lost_unsent { (frame : Frame) → IsErrOf result (FinishError.LostUnsent frame)
-            → NoneWaits self.new.nodes × IsAhead self.new.nodes self.new.losing frame }
+        ensures ended { MatchResult result (λ _. HasAllIn self.new) (RefusesFinish self.new) }
     {
         match self.audit(rt, alloc, cluster, observer) {
             Ok(()) => all_settled(self),
@@ -132,12 +120,7 @@ impl Auditor {
 fn all_settled(auditor: &Auditor) -> Result<(), FinishError>
     requires ready { NoneIsReady auditor.now.nodes }
     requires reached { NoneIsReached auditor.now.nodes auditor.now.losing }
-    ensures ok { OnOk result (NoneWaits auditor.now.nodes) }
-    ensures all_lost { OnOk result (auditor.now.losing ≡ []) }
-    ensures never_sent { (fault : audit_fault.AuditFault) → IsErrOf result (FinishError.NeverSent fault)
-        → IsNeverSent auditor.now.nodes fault × IsLeastLeft auditor.now.nodes fault }
-    ensures lost_unsent { (frame : Frame) → IsErrOf result (FinishError.LostUnsent frame)
-        → NoneWaits auditor.now.nodes × IsAhead auditor.now.nodes auditor.now.losing frame }
+    ensures ended { MatchResult result (λ _. HasAllIn auditor.now) (RefusesFinish auditor.now) }
     ensures round { last_round result ≡ Ok tt }
 {
     if let Some(fault) = auditor.unsettled() {
@@ -230,6 +213,7 @@ fn go_round<R: Wait, G: Gate + Drop, O: MarkObserver>(
     };
     let taken = take_all(rt, alloc, cluster, auditor);
     let advanced = auditor.advance(alloc, observer);
+    // No `?`, which is dearer to prove: each clause would be carried over to the answer that it makes.
     match answer_of(taken, advanced) {
         Ok(()) => match auditor.find_unsent(&clocks) {
             Some(fault) => Err(RoundError::Fault(fault)),

@@ -61,9 +61,7 @@ fn unsent_of(nodes: &[NodeProgress], progress: &NodeProgress, known: u64) -> Opt
     ensures unsent { IfSome result (λ fault. (fault.node ≡ progress.now.node) × (slice_get progress.now.waiting 0 ≡ Some fault.event)
         × IsOfNone nodes.now (fault.event.clock ≤ known) fault.event.kind) }
 {
-    let Some(event) = progress.next() else {
-        return None;
-    };
+    let event = progress.next()?;
     if may_come(nodes, &event.kind, event.clock, known) {
         return None;
     }

@@ -174,10 +174,8 @@ impl NodeProgress {
     {
         self.take_kept(alloc)?;
         losses.take_noted()?;
-        match site.hand_over(rt, alloc, self.latest()) {
-            Ok(handed) => self.accept(alloc, handed, losses),
-            Err(refused) => Err(refused),
-        }
+        let handed = site.hand_over(rt, alloc, self.latest())?;
+        self.accept(alloc, handed, losses)
     }
 
     /// Takes what the book of the node handed over, and notes the frames that were lost.

@@ -3,8 +3,8 @@ ghost use Rattle.std.specs.Prelude.{◌≡◌, ◌≢◌, ◌⊎◌, ◌++◌, �
 ghost use Rattle.ra_stamp.specs.declared.entry.Mark.{Mark};
 ghost use Rattle.ra_frame.specs.declared.frame.Frame.{Frame};
 ghost use Rattle.ra_world.specs.Traffic.{IsUnderWay, lost_by};
-ghost use Rattle.ra_audit.specs.Audit.{IsAudited, HasLost, Advances, PutsLosses, CanGoOn, IsMisfit, IsNotLost, NoneIsReady, NoneIsReached, WasSentIn};
-ghost use Rattle.ra_audit.specs.AuditKeeping.{LooksAtFirst, IsTracked, StaySent};
+ghost use Rattle.ra_audit.specs.Audit.{IsAudited, Advances, PutsLosses, CanGoOn, IsMisfit, IsNotLost, NoneIsReady, NoneIsReached, WasSentIn};
+ghost use Rattle.ra_audit.specs.AuditKeeping.{HasInRun, LooksAtFirst, IsTracked, StaySent};
 
 use crate::auditor::flights::Flights;
 use crate::auditor::node_progress::NodeProgress;
@@ -34,16 +34,11 @@ pub fn put_events_and_losses<O: MarkObserver>(
     losses: &mut Losses,
     observer: &mut O,
 ) -> Result<(), AuditError>
-    requires audited { IsAudited world.old nodes.old }
-    requires lost { HasLost world.old.moves losses.old.lost }
-    requires tracked { IsTracked nodes.old world.old.moves flights.old }
-    requires sent { All (WasSentIn nodes.old world.old.moves) losses.old.lost }
-    ensures tracked { IsTracked nodes.new world.new.moves flights.new }
-    ensures sent { All (WasSentIn nodes.new world.new.moves) losses.new.lost }
+    requires { HasInRun world.old nodes.old flights.old losses.old }
+    ensures run { HasInRun world.new nodes.new flights.new losses.new }
     ensures advances { Advances world.old nodes.old (O.told observer.old) world.new nodes.new (O.told observer.new) }
     ensures granted { O.granted observer.new ≡ O.granted observer.old }
     ensures losses { PutsLosses nodes.new losses.old.losing losses.old.lost losses.new.losing losses.new.lost }
-    ensures lost { HasLost world.new.moves losses.new.lost }
     ensures ok { OnOk result (NoneIsReady nodes.new × NoneIsReached nodes.new losses.new.losing) }
     ensures fault { (fault : AuditFault) → IsErrOf result (AuditError.Fault fault) → IsMisfit world.new nodes.new fault }
     ensures memory { IsErrOf result AuditError.Memory
@@ -73,16 +68,11 @@ fn put_losses(
     flights: &mut Flights,
     losses: &mut Losses,
 ) -> Result<(), AuditError>
-    requires audited { IsAudited world.old nodes.now }
-    requires lost { HasLost world.old.moves losses.old.lost }
+    requires run { HasInRun world.old nodes.now flights.old losses.old }
     requires taken { losses.old.noted ≡ [] }
-    requires tracked { IsTracked nodes.now world.old.moves flights.old }
-    requires sent { All (WasSentIn nodes.now world.old.moves) losses.old.lost }
     ensures advances { (told : List Mark) → Advances world.old nodes.now told world.new nodes.now told }
     ensures losses { PutsLosses nodes.now losses.old.losing losses.old.lost losses.new.losing losses.new.lost }
-    ensures lost { HasLost world.new.moves losses.new.lost }
-    ensures tracked { IsTracked nodes.now world.new.moves flights.new }
-    ensures sent { All (WasSentIn nodes.now world.new.moves) losses.new.lost }
+    ensures run { HasInRun world.new nodes.now flights.new losses.new }
     ensures ok { OnOk result (NoneIsReached nodes.now losses.new.losing) }
     ensures some { OnErr result (0 < length losses.new.losing) }
     ensures not_lost { (frame : Frame) → IsErrOf result (AuditError.NotLost frame)
@@ -116,16 +106,11 @@ fn put_first(
     flights: &mut Flights,
     losses: &mut Losses,
 ) -> Result<(), AuditError>
-    requires audited { IsAudited world.old nodes.now }
-    requires lost { HasLost world.old.moves losses.old.lost }
+    requires run { HasInRun world.old nodes.now flights.old losses.old }
     requires taken { losses.old.noted ≡ [] }
-    requires tracked { IsTracked nodes.now world.old.moves flights.old }
-    requires sent { All (WasSentIn nodes.now world.old.moves) losses.old.lost }
     requires some { 0 < length losses.old.losing }
     ensures advances { (told : List Mark) → Advances world.old nodes.now told world.new nodes.now told }
-    ensures lost { HasLost world.new.moves losses.new.lost }
-    ensures tracked { IsTracked nodes.now world.new.moves flights.new }
-    ensures sent { All (WasSentIn nodes.now world.new.moves) losses.new.lost }
+    ensures run { HasInRun world.new nodes.now flights.new losses.new }
     ensures ok { OnOk result (LooksAtFirst nodes.now losses.old losses.new) }
     ensures err { OnErr result (losses.new ≡ losses.old) }
     ensures not_lost { (frame : Frame) → IsErrOf result (AuditError.NotLost frame)

@@ -36,10 +36,8 @@ fn first_of(progress: &NodeProgress) -> Option<AuditFault>
     ensures taken { AreNextAt progress.now.node 0 (taken_of progress.now) }
 {
     let node = progress.node();
-    match progress.next() {
-        Some(event) => Some(AuditFault { node, event }),
-        None => None,
-    }
+    let event = progress.next()?;
+    Some(AuditFault { node, event })
 }
 
 /// Returns the one with the lesser clock, and the first of two with one clock.

@@ -1,10 +1,12 @@
 //! Which events a node takes, and why it does not take the others.
 ghost use Rattle.std.specs.Prelude.{◌≢◌, IfErr, MatchResult};
-ghost use Rattle.ra_book.specs.EventChecks.{MayTake, NodeRefuses, CanHappen, IsRefusedAfter};
+ghost use Rattle.ra_book.specs.EventChecks.{MayTake, NodeRefuses, CanHappen, IsRefusedAfter, IsRefusedWithClock};
+ghost use Rattle.ra_book.specs.declared.book.event.BookKind as kind;
 ghost use Rattle.ra_book.specs.declared.error.BookError.{BookError};
 
 use crate::book::kept_events::clock_after;
 use crate::{BookError, BookKind};
+use ra_frame::Frame;
 use ra_node::Node;
 
 /// Checks that a node takes an event, whatever its clock.
@@ -42,6 +44,19 @@ pub fn check_event(node: &Node, clock: u64, kind: &BookKind) -> Result<u64, Book
 {
     check_node(node, kind)?;
     clock_after(clock, kind)
+}
+
+/// Returns why a frame is refused at a node if there is no memory for it, and a clock is left. It does not allocate.
+///
+/// 1. `WrongNode`, `Stranger`: the node does not take it.
+/// 2. `Memory`: otherwise.
+pub fn room_refusal(node: &Node, frame: &Frame) -> BookError
+    ensures { IsRefusedWithClock node.now (kind.BookKind.Got frame.now) result }
+{
+    if let Err(why) = check_node(node, &BookKind::Got(*frame)) {
+        return why;
+    }
+    BookError::Memory
 }
 
 /// Returns why an event of this kind is refused at a node if there is no memory for it, and this is the clock before it. Each other

@@ -89,14 +89,10 @@ fn take_earliest(books: &[Book], nexts: &mut [Next]) -> Option<Turn>
     ensures taken { IfSome result (λ turn. taken_of nexts.new ≡ with_one_more (taken_of nexts.old) turn.place) }
     ensures next { AreNext books.now nexts.new }
 {
-    let Some(head) = first_head(nexts) else {
-        return None;
-    };
+    let head = first_head(nexts)?;
     let book = &books[head.place];
     let taken = nexts[head.place].taken;
-    let Some(event) = next_of(book, taken) else {
-        return None;
-    };
+    let event = next_of(book, taken)?;
     nexts[head.place] = next_after(book, taken + 1);
     Some(Turn {
         place: head.place,

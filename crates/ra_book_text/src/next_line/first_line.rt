@@ -26,12 +26,8 @@ impl FirstLine {
         if line.len() > MAX_LINE {
             return None;
         }
-        let Some(rest) = rest_after(b"book 1 ", line) else {
-            return None;
-        };
-        let Some(fields) = first_of(rest) else {
-            return None;
-        };
+        let rest = rest_after(b"book 1 ", line)?;
+        let fields = first_of(rest)?;
         let (node, (nodes, start)) = fields;
         match Member::new(node, nodes.get()) {
             Ok(member) => Some(FirstLine { member, start }),

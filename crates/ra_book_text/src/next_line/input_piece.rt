@@ -56,11 +56,7 @@ fn keep_shown(shown: &[u8], line: &mut KeptLine) -> TakenBytes
 fn take_byte<R: Read>(reader: &mut R, line: &mut KeptLine) -> Result<Piece, ReadFault>
     ensures { TakesPiece (R.remaining reader.old) (R.remaining reader.new) line.old line.new result }
 {
-    let came = match next_byte(reader) {
-        Ok(came) => came,
-        Err(fault) => return Err(fault),
-    };
-    let Some(byte) = came else {
+    let Some(byte) = next_byte(reader)? else {
         return Ok(Piece::End);
     };
     if byte == b'\n' {

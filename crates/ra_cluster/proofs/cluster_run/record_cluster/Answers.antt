@@ -15,20 +15,24 @@ returns-in_err-check_script g c =
       recorded = not_ok _ _ c.from_residual.result refused;
     }
 
-pub returns-in-Ok : goal.returns-in-Ok
-returns-in-Ok g c =
-    let says = c.in-Ok.ensures in
+pub returns : goal.returns
+returns g c =
+    let says = c.in_ok-settled.ensures in
     record {
       checked = still_checked c.args.script.now tt _ c.in_ok-check_script.ensures tt;
-      recorded = record_of c.args.script.now c.in_ok-books.books.items c.deref.result.now c.deref-2.result.now c.in-Ok.settled c.deref.ensures.value
+      recorded = record_of c.args.script.now c.in_ok-books.books.items c.deref.result.now c.deref-2.result.now c.in_ok-settled.settled c.deref.ensures.value
           c.in_ok-books.ensures says.outcome says.done says.fault;
     }
 
-pub returns-in-Err : goal.returns-in-Err
-returns-in-Err g c = record {
-  checked = still_checked c.args.script.now tt _ c.in_ok-check_script.ensures c.in-Err.ensures.threads;
-  recorded = tt;
-}
+pub returns-in_err-settled : goal.returns-in_err-settled
+returns-in_err-settled g c =
+    let r = c.from_residual-in_err-settled.result in
+    let refused = c.from_residual-in_err-settled.ensures.1 in
+    let p = err_from_is_err_and r refused in
+    record {
+      checked = still_checked c.args.script.now tt r c.in_ok-check_script.ensures (rw (p.1, p.2) c.in_err-settled.ensures.threads);
+      recorded = not_ok _ _ r refused;
+    }
 
 -- memory may run out at any time
 memory_of_threads : IsOfThreads Memory

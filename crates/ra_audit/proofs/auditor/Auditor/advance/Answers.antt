@@ -1,6 +1,6 @@
 use Rattle.std.proofs.Common.{◌≡◌, ◌<◌, ◌∙◌, All, List, [], ◌∷◌, ◌++◌, inl, inr, length, take, drop, vec_len, arith, ap, sym, subst}
 use Rattle.ra_audit.specs.Audit.{ProgressState, AuditState, IsAudited, AllWereSent, WasSentIn, HasLost, PutsLosses, NoneIsReady, NoneIsReached, CanGoOn, IsNotLost, RunTheorem}
-use Rattle.ra_audit.specs.AuditKeeping.{IsTracked}
+use Rattle.ra_audit.specs.AuditKeeping.{HasInRun, IsTracked}
 use Rattle.ra_audit.proofs.AuditLaws.{runs_meet_the_theorem}
 use Rattle.ra_audit.proofs.AuditLosses.{puts_none}
 use Rattle.ra_audit.proofs.AuditSteps.{on_done, slice_back}
@@ -97,11 +97,13 @@ returns-clause-sent g c =
     slice_back (vec_len c.self.inside.nodes) new items (omega (arith, c.as_mut_slice.ensures.len, len)) (omega (arith, c.put_events_and_losses-answer.auto.nodes, len))
     in
     subst (λ (ns : List ProgressState). AllWereSent ns world.moves losses.lost) (sym same)
-    (record { came = c.put_events_and_losses-answer.ensures.tracked.came; losses = c.put_events_and_losses-answer.ensures.sent })
+    (record { came = c.put_events_and_losses-answer.ensures.run.tracked.came; losses = c.put_events_and_losses-answer.ensures.run.sent })
 
-pub put_events_and_losses-answer-requires-clause-sent : goal.put_events_and_losses-answer-requires-clause-sent
-put_events_and_losses-answer-requires-clause-sent g c =
-    subst (λ (ns : List ProgressState). All (WasSentIn ns c.self.inside.world.moves) c.self.inside.losses.lost) (sym c.as_mut_slice.ensures.value) c.self.invariant.5
+pub put_events_and_losses-answer-requires : goal.put_events_and_losses-answer-requires
+put_events_and_losses-answer-requires g c =
+    let inside = c.self.inside in
+    subst (λ (ns : List ProgressState). HasInRun inside.world ns inside.flights inside.losses) (sym c.as_mut_slice.ensures.value)
+    (record { audited = c.self.invariant.0; lost = c.self.invariant.3; tracked = c.self.invariant.4; sent = c.self.invariant.5 })
 
 pub invariant_of-self : goal.invariant_of-self
 invariant_of-self g c =
@@ -119,9 +121,9 @@ invariant_of-self g c =
       subst (IsAudited world) (sym same) puts.advances.audited,
       c.self.invariant.1 ∙ sym puts.advances.count,
       c.self.invariant.2 ∙ sym puts.advances.start,
-      puts.lost,
-      subst (λ (ns : List ProgressState). IsTracked ns world.moves flights) (sym same) puts.tracked,
-      subst (λ (ns : List ProgressState). All (WasSentIn ns world.moves) losses.lost) (sym same) puts.sent,
+      puts.run.lost,
+      subst (λ (ns : List ProgressState). IsTracked ns world.moves flights) (sym same) puts.run.tracked,
+      subst (λ (ns : List ProgressState). All (WasSentIn ns world.moves) losses.lost) (sym same) puts.run.sent,
     )
 
 not_none : {X : Type 0} (xs : List X) → 0 < length xs → xs ≡ [] → ⊥

@@ -1,14 +1,16 @@
-use Rattle.std.proofs.Common.{◌≡◌, true, false, refl, sym, ◌∙◌}
+use Rattle.std.proofs.Common.{◌≡◌, true, false, Err, ap, refl, subst, sym, ◌∙◌}
+use Rattle.std.proofs.lemmas.Result.{err_from_is_err_and}
 use Rattle.std.proofs.lemmas.Option.{none-some}
 use Rattle.ra_audit.proofs.AuditLaws.{runs_meet_the_theorem}
 use Rattle.ra_audit.proofs.AuditRounds.{audits_nothing, in_any_case}
-use Rattle.ra_audit.specs.Audit.{IsAuditorOf}
+use Rattle.ra_audit.specs.Audit.{IsAuditorOf, AnswersRound}
+use Rattle.ra_audit.specs.declared.audit_error.RoundError.{RoundError}
 use Rattle.ra_audit.proofs.auditor.Auditor.audit.Goals as goal
 
-pub returns-in-Ok-clause-round : goal.returns-in-Ok-clause-round
-returns-in-Ok-clause-round g c =
-    let fits = c.in-Ok.ensures.ok.0 in
-    let faultless = c.in-Ok.ensures.ok.1 in
+pub returns-clause-round : goal.returns-clause-round
+returns-clause-round g c =
+    let fits = c.in_ok-check_round.ensures.ok.0 in
+    let faultless = c.in_ok-check_round.ensures.ok.1 in
     let says = c.go_round.ensures in
     record {
       audits = says.audits.audits;
@@ -30,11 +32,14 @@ returns-in-Ok-clause-round g c =
       not_taken = says.not_taken;
     }
 
-pub returns-in-Err-clause-round : goal.returns-in-Err-clause-round
-returns-in-Err-clause-round g c =
-    let says = c.in-Err.ensures in
-    record {
-      audits = audits_nothing c.args.self.now (g.O.MarkObserver.told c.args.observer.now) says.audited says.lost says.sent;
+pub returns-in_err-check_round-clause-round : goal.returns-in_err-check_round-clause-round
+returns-in_err-check_round-clause-round g c =
+    let says = c.in_err-check_round.ensures in
+    let p = err_from_is_err_and c.from_residual.result c.from_residual.ensures.1 in
+    let told = g.O.MarkObserver.told c.args.observer.now in
+    subst (AnswersRound c.args.cluster.now c.args.self.now told c.args.self.now told) (sym (p.1 ∙ ap (λ (e : RoundError). Err e) p.2))
+    (record {
+      audits = audits_nothing c.args.self.now told says.audited says.lost says.sent;
       theorem = runs_meet_the_theorem _ _ _ says.audited.count says.audited.run;
       fits = tt;
       ok = tt;
@@ -51,4 +56,4 @@ returns-in-Err-clause-round g c =
       not_lost = λ frame is. absurd (says.not_lost frame is);
       memory = λ is. absurd (says.memory is);
       not_taken = λ node cause is. absurd (says.taken node cause is);
-    }
+    })

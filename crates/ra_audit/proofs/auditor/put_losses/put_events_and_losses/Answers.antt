@@ -14,22 +14,32 @@ some_error (Err x) e is h = h
 
 pub put_losses-requires : goal.put_losses-requires
 put_losses-requires g c = record {
-  audited = c.in_ok-put_all.ensures.advances.audited;
-  lost =
-      subst (λ (l : LossState). HasLost c.put_all.new.world.moves l.lost) (sym c.in_ok-take_noted.ensures.ok)
-      (c.in_ok-put_all.ensures.unlost ∙ c.requires.lost);
+  run = record {
+    audited = c.in_ok-put_all.ensures.advances.audited;
+    lost =
+        subst (λ (l : LossState). HasLost c.put_all.new.world.moves l.lost) (sym c.in_ok-take_noted.ensures.ok)
+        (c.in_ok-put_all.ensures.unlost ∙ c.requires.lost);
+    tracked = c.in_ok-put_all.ensures.tracked;
+    sent =
+        subst (λ (l : LossState). All (WasSentIn c.put_all.new.nodes c.put_all.new.world.moves) l.lost) (sym c.in_ok-take_noted.ensures.ok)
+        (lost_still c.args.nodes.now c.put_all.new.nodes c.args.world.now.moves c.put_all.new.world.moves c.args.losses.now.lost c.in_ok-put_all.ensures.stay
+        c.requires.sent);
+  };
   taken = ap (λ (l : LossState). l.noted) c.in_ok-take_noted.ensures.ok;
-  tracked = c.in_ok-put_all.ensures.tracked;
-  sent =
-      subst (λ (l : LossState). All (WasSentIn c.put_all.new.nodes c.put_all.new.world.moves) l.lost) (sym c.in_ok-take_noted.ensures.ok)
-      (lost_still c.args.nodes.now c.put_all.new.nodes c.args.world.now.moves c.put_all.new.world.moves c.args.losses.now.lost c.in_ok-put_all.ensures.stay c.requires.sent);
 }
 
 pub returns-in_err-put_all-clause-losses : goal.returns-in_err-put_all-clause-losses
 returns-in_err-put_all-clause-losses g c = puts_none c.put_all.new.nodes c.args.losses.now.losing c.args.losses.now.lost
 
-pub returns-in_err-put_all-clause-lost : goal.returns-in_err-put_all-clause-lost
-returns-in_err-put_all-clause-lost g c = c.in_err-put_all.ensures.unlost ∙ c.requires.lost
+pub returns-in_err-put_all-clause-run : goal.returns-in_err-put_all-clause-run
+returns-in_err-put_all-clause-run g c = record {
+  audited = c.in_err-put_all.ensures.advances.audited;
+  lost = c.in_err-put_all.ensures.unlost ∙ c.requires.lost;
+  tracked = c.in_err-put_all.ensures.tracked;
+  sent =
+      lost_still c.args.nodes.now c.put_all.new.nodes c.args.world.now.moves c.put_all.new.world.moves c.args.losses.now.lost c.in_err-put_all.ensures.stay
+      c.requires.sent;
+}
 
 pub returns-in_err-take_noted-clause-losses : goal.returns-in_err-take_noted-clause-losses
 returns-in_err-take_noted-clause-losses g c =
@@ -37,10 +47,18 @@ returns-in_err-take_noted-clause-losses g c =
     subst (λ (l : LossState). PutsLosses c.put_all.new.nodes old.losing old.lost l.losing l.lost) (sym c.in_err-take_noted.ensures.err)
     (puts_none c.put_all.new.nodes old.losing old.lost)
 
-pub returns-in_err-take_noted-clause-lost : goal.returns-in_err-take_noted-clause-lost
-returns-in_err-take_noted-clause-lost g c =
-    subst (λ (l : LossState). HasLost c.put_all.new.world.moves l.lost) (sym c.in_err-take_noted.ensures.err)
-    (c.in_ok-put_all.ensures.unlost ∙ c.requires.lost)
+pub returns-in_err-take_noted-clause-run : goal.returns-in_err-take_noted-clause-run
+returns-in_err-take_noted-clause-run g c = record {
+  audited = c.in_ok-put_all.ensures.advances.audited;
+  lost =
+      subst (λ (l : LossState). HasLost c.put_all.new.world.moves l.lost) (sym c.in_err-take_noted.ensures.err)
+      (c.in_ok-put_all.ensures.unlost ∙ c.requires.lost);
+  tracked = c.in_ok-put_all.ensures.tracked;
+  sent =
+      subst (λ (l : LossState). All (WasSentIn c.put_all.new.nodes c.put_all.new.world.moves) l.lost) (sym c.in_err-take_noted.ensures.err)
+      (lost_still c.args.nodes.now c.put_all.new.nodes c.args.world.now.moves c.put_all.new.world.moves c.args.losses.now.lost c.in_ok-put_all.ensures.stay
+      c.requires.sent);
+}
 
 pub returns-clause-advances : goal.returns-clause-advances
 returns-clause-advances g c = advances_then _ _ _ _ _ _ _ _ _ c.in_ok-put_all.ensures.advances (c.put_losses.ensures.advances (g.O.MarkObserver.told c.put_all.new.observer))
@@ -49,15 +67,6 @@ pub returns-clause-losses : goal.returns-clause-losses
 returns-clause-losses g c =
     let new = c.put_losses.new.losses in
     subst (λ (l : LossState). PutsLosses c.put_all.new.nodes l.losing l.lost new.losing new.lost) c.in_ok-take_noted.ensures.ok c.put_losses.ensures.losses
-
-pub returns-in_err-put_all-clause-sent : goal.returns-in_err-put_all-clause-sent
-returns-in_err-put_all-clause-sent g c =
-    lost_still c.args.nodes.now c.put_all.new.nodes c.args.world.now.moves c.put_all.new.world.moves c.args.losses.now.lost c.in_err-put_all.ensures.stay c.requires.sent
-
-pub returns-in_err-take_noted-clause-sent : goal.returns-in_err-take_noted-clause-sent
-returns-in_err-take_noted-clause-sent g c =
-    subst (λ (l : LossState). All (WasSentIn c.put_all.new.nodes c.put_all.new.world.moves) l.lost) (sym c.in_err-take_noted.ensures.err)
-    (lost_still c.args.nodes.now c.put_all.new.nodes c.args.world.now.moves c.put_all.new.world.moves c.args.losses.now.lost c.in_ok-put_all.ensures.stay c.requires.sent)
 
 pub returns-in_err-put_all-clause-memory : goal.returns-in_err-put_all-clause-memory
 returns-in_err-put_all-clause-memory g c is = inl (c.in_err-put_all.ensures.memory (search rules))

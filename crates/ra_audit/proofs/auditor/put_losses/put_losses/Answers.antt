@@ -1,4 +1,4 @@
-use Rattle.std.proofs.Common.{◌<◌, [], length, arith, subst, sym, ◌∙◌}
+use Rattle.std.proofs.Common.{◌<◌, length, arith, subst, sym, ◌∙◌}
 use Rattle.ra_audit.specs.AuditKeeping.{LossState}
 use Rattle.ra_audit.specs.Audit.{PutsLosses}
 use Rattle.ra_audit.proofs.AuditSteps.{advances_none, advances_then}
@@ -7,12 +7,10 @@ use Rattle.ra_audit.proofs.auditor.put_losses.put_losses.Goals as goal
 
 pub loop-left-init : goal.loop-left-init
 loop-left-init c = record {
-  advances = λ told. advances_none c.args.world.now c.args.nodes.now told c.requires.audited;
+  advances = λ told. advances_none c.args.world.now c.args.nodes.now told c.requires.run.audited;
   losses = puts_none c.args.nodes.now c.args.losses.now.losing c.args.losses.now.lost;
-  lost = c.requires.lost;
+  run = c.requires.run;
   taken = c.requires.taken;
-  tracked = c.requires.tracked;
-  sent = c.requires.sent;
   looked = none_looked_at c.args.nodes.now c.losing-left.result c.args.losses.now.losing c.losing-left.ensures;
 }
 
@@ -21,11 +19,8 @@ put_first-requires c =
     let i = c.loop-left.invariant in
     let some : 0 < c.loop-left.left = omega (arith, c.loop-left-test.true) in
     record {
-      audited = (i.advances []).audited;
-      lost = i.lost;
+      run = i.run;
       taken = i.taken;
-      tracked = i.tracked;
-      sent = i.sent;
       some = some_left c.args.nodes.now c.loop-left.left c.loop-left.losses.losing i.looked some;
     }
 
@@ -39,10 +34,8 @@ loop-left-preserved c =
     record {
       advances = λ told. advances_then _ _ _ _ _ _ _ _ _ (i.advances told) (c.in-Ok.ensures.advances told);
       losses = puts_further nodes c.args.losses.now.losing c.args.losses.now.lost old.losing old.lost new.losing new.lost i.losses (puts_first nodes old new c.in-Ok.ensures.ok);
-      lost = c.in-Ok.ensures.lost;
+      run = c.in-Ok.ensures.run;
       taken = noted_as nodes old new c.in-Ok.ensures.ok ∙ i.taken;
-      tracked = c.in-Ok.ensures.tracked;
-      sent = c.in-Ok.ensures.sent;
       looked = one_looked_at nodes c.loop-left.left old new some i.looked c.in-Ok.ensures.ok;
     }
 

@@ -9,29 +9,30 @@ returns-then-line-gt-MAX_LINE c node nodes start h =
     let short : length c.args.line.now ≤ 256 = h.short in
     omega (arith, c.if-line-gt-MAX_LINE.true, short)
 
-pub returns-in_default : goal.returns-in_default
-returns-in_default c = no_book c.args.line.now c.in_default.ensures
+pub returns-in_err-rest : goal.returns-in_err-rest
+returns-in_err-rest c = rw c.from_residual.ensures (no_book c.args.line.now c.in_err-rest.ensures)
 
-pub returns-in_default-first_of : goal.returns-in_default-first_of
-returns-in_default-first_of c =
-    no_first c.args.line.now c.in-Some.rest.now (rest_after-only (codes "book 1 ") c.args.line.now c.in-Some.rest.now c.in-Some.ensures)
-    (sym c.first_of.ensures ∙ c.in_default-first_of.is)
+pub returns-in_err-fields : goal.returns-in_err-fields
+returns-in_err-fields c =
+    rw c.from_residual-in_err-fields.ensures
+    (no_first c.args.line.now c.in_ok-rest.rest.now (rest_after-only (codes "book 1 ") c.args.line.now c.in_ok-rest.rest.now c.in_ok-rest.ensures)
+    (sym c.in_err-fields.ensures))
 
 pub returns-in-Ok : goal.returns-in-Ok
 returns-in-Ok c =
-    let f = c.in-Some-first_of.fields in
-    let is = rest_after-only (codes "book 1 ") c.args.line.now c.in-Some.rest.now c.in-Some.ensures in
+    let f = c.in_ok-fields.fields in
+    let is = rest_after-only (codes "book 1 ") c.args.line.now c.in_ok-rest.rest.now c.in_ok-rest.ensures in
     let member = c.in-Ok.ensures.ok in
     let node : c.in-Ok.member.node ≡ f.0 = ap (λ (m : Membership). m.node) member in
     let nodes : c.in-Ok.member.nodes ≡ f.1.0 = ap (λ (m : Membership). m.nodes) member ∙ c.get.ensures.value in
     let within : f.0 ≤ f.1.0 = omega (arith, node, nodes, c.in-Ok.ensures.valid.last) in
-    rw (node, nodes) (first_read c.args.line.now c.in-Some.rest.now is c.if-line-gt-MAX_LINE.false f (sym c.first_of.ensures ∙ c.in-Some-first_of.is) within)
+    rw (node, nodes) (first_read c.args.line.now c.in_ok-rest.rest.now is c.if-line-gt-MAX_LINE.false f (sym c.in_ok-fields.ensures) within)
 
 pub returns-in-Err : goal.returns-in-Err
 returns-in-Err c =
-    let f = c.in-Some-first_of.fields in
-    let is = rest_after-only (codes "book 1 ") c.args.line.now c.in-Some.rest.now c.in-Some.ensures in
+    let f = c.in_ok-fields.fields in
+    let is = rest_after-only (codes "book 1 ") c.args.line.now c.in_ok-rest.rest.now c.in_ok-rest.ensures in
     let above : f.1.0 < f.0 =
     subst (λ (n : ℕ). n < f.0) c.get.ensures.value
     (no_member c.in-Err.field-0 f.0 c.get.result c.get.ensures.valid c.in-Err.ensures.bad_count c.in-Err.ensures.bad_node) in
-    first_above c.args.line.now c.in-Some.rest.now is f (sym c.first_of.ensures ∙ c.in-Some-first_of.is) above
+    first_above c.args.line.now c.in_ok-rest.rest.now is f (sym c.in_ok-fields.ensures) above
