@@ -40,6 +40,7 @@ fn take_first<B: BufRead, W: Write>(
     ensures reader { IsErrOf result BookFault.Read → HasEnded (B.remaining reader.old) (B.remaining reader.new) input.new.failed }
     ensures writer { IsErrOf result BookFault.Write → out.new.failed ≡ true }
 {
+    // No `?`, which is dearer to prove: each clause would be carried over to the answer that it makes.
     let is_there = match next_line(reader, input, writer, out) {
         Ok(is_there) => is_there,
         Err(fault) => return Err(fault),
@@ -81,6 +82,7 @@ fn take_events<B: BufRead, W: Write>(
     ensures writer { IsErrOf result BookFault.Write → out.new.failed ≡ true }
 {
     for _line in 0..u64::MAX {
+        // No `?`, as in `take_first`.
         let is_there = match next_line(reader, input, writer, out) {
             Ok(is_there) => is_there,
             Err(fault) => return Err(fault),
