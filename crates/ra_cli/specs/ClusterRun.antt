@@ -38,22 +38,23 @@ SaysRun Lines nodes books moves report output = output ≡ report_text report
 SaysRun Trace nodes books moves report output = IsTrace nodes 0 moves output
 SaysRun Books nodes books moves report output = AreWrittenBooks books output
 
--- The output says what came of a run of the script: of books that threads may have recorded of it, or of the one run
--- into which they settle. `IsRecord` tells all that is promised of both. Among it, the marks of each client are those
--- of its operations, in order. Nothing waits or is queued, and no message is lost or under way. Each lock of the script
--- was requested, and exactly two messages were sent for each request and other node.
+-- The output shows books that threads may have recorded of the script, or the one run into which they settle. `IsRecord` tells
+-- all that is promised of both. Among it, the marks of each client are those of its operations, in order. Nothing waits or is
+-- queued, and no message is lost or under way. Each lock of the script was requested, and exactly two messages were sent for each
+-- request and other node.
 pub record SaysScript (printed : ClusterOutput) (script : ScriptState) (output : List ℕ) : Type 0 where
   pub books : List BookState
   pub settled : Settled
   pub recorded : IsRecord script books settled
   pub says : SaysRun printed script.nodes books recorded.outcome.moves settled.report output
 
--- the input is the text of a script, and the output says what came of such a run of it
+-- the input is the text of a script, and the output shows such a run of it
 abbrev pub IsClusterRun : ClusterOutput → (input output : List ℕ) → Type 0
 IsClusterRun printed input output = (script : ScriptState) × (script_of input ≡ Ok script) × SaysScript printed script output
 
--- If the input is known, it is a script with such a record. It was read to its end, and exactly what is printed of the run of
--- that record was written. If it is not known, such a script still exists.
+-- If the input is known, it is the text of a script, and it was read to its end. Exactly what is printed of one such run of the
+-- script was written: of books that threads may have recorded (`IsRecord`), not certainly of those that they did record. If the
+-- input is not known, such a text still exists.
 abbrev pub RunsCluster : ClusterOutput → (old new before after : Option (List ℕ)) → Type 0
 RunsCluster printed old new before after =
     IfSome old (λ input. (output : List ℕ) × IsClusterRun printed input output × Consumes old new input × Appends before after output)

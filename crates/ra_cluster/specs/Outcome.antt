@@ -106,8 +106,8 @@ pub record IsDone (script : ScriptState) (settled : Settled) : Type 0 where
   pub requests : settled.report.requests ≡ locks_of script
   pub count : settled.report.sent ≡ 2 * (script.nodes - 1) * locks_of script
 
--- A record of a script that ran to its end, as threads make one: these books are the histories of its nodes. No node was
--- stopped, no frame is flagged lost, and they settle into this run.
+-- A record of a run that brought the script to its end, as threads make one: these books have the histories of its nodes. No
+-- node was stopped, and no frame is flagged lost. They settle into this run.
 pub record IsRecord (script : ScriptState) (books : List BookState) (settled : Settled) : Type 0 where
   pub histories : All HasHistory books
   pub no_fault : All (λ book. book.fault ≡ None) books
