@@ -11,7 +11,7 @@ use std::io::{BufReader, IsTerminal};
 use std::process::ExitCode;
 use std::{env, io};
 
-/// Returns the arguments of the command line, of which the first is the program's name.
+/// Returns the arguments of the command line. The first is the program's name.
 ///
 /// # Errors
 ///

@@ -1,4 +1,5 @@
-//! The note that tells the user what came of a command: one line, which begins with `ra: `.
+//! The note that tells the user how a command ended: one line, which begins with `ra: `.
+//! It is made here, since `ra_notes` is proved beside `ra_cli` and does not know its refusals.
 use ra_arguments::{Command, Task};
 use ra_cli::{
     AnswerError, BookFault, CommandOutcome, CommandRefusal, Remark, RunScriptError, SettleFault,
@@ -14,7 +15,7 @@ use ra_stamp::NodeId;
 use std::alloc::Global;
 use std::io::Write;
 
-/// Writes the note on what came of a command, and another on a run that was shrunk. If nothing was refused, it adds a
+/// Writes the note on the outcome of a command, and another on a run that was shrunk. If nothing was refused, it adds a
 /// line for each option that has no effect, and one for the seed that was found. It ignores a failure of the writer.
 pub fn write_notes<N: Write>(
     alloc: Global,
@@ -106,7 +107,7 @@ fn of_book(why: BookFault) -> Notice {
     }
 }
 
-/// Returns what there is to say about a frame that this node of so many does not answer.
+/// Returns what there is to say about a frame that this one of `nodes` nodes does not answer.
 fn of_answer(
     alloc: Global,
     source: &NoteSource<'_>,
@@ -126,5 +127,5 @@ fn of_answer(
         AnswerError::Stranger => FrameCause::Node(Unanswered::Stranger),
         AnswerError::ClockFull => FrameCause::Node(Unanswered::ClockFull),
     };
-    frame_notice(alloc, source, cause)
+    frame_notice(alloc, source.seen, node, nodes, cause)
 }

@@ -47,6 +47,13 @@ pub one_option : (name : Text) (rows : List OptionRow) (i : ℕ) (d : OptionRow)
 one_option name rows i d old new rule less before is added =
     added ∙ ap₂ with_rule before is ∙ ap (λ (options : List Rule). record { top = command name options; subs = [] }) (sym (map_more rule_of_row rows i d less))
 
+-- a command with all of its options
+pub all_options : (name : Text) (kind : CommandKind) (rows : List OptionRow) (i : ℕ) (made : App) → length rows ≤ i
+    → made ≡ record { top = command name (map rule_of_row (take i rows)); subs = [] } → AreOfCommand kind (map rule_of_row rows)
+    → (options : List Rule) × AreOfCommand kind options × (made ≡ record { top = command name options; subs = [] })
+all_options name kind rows i made less is are =
+    (map rule_of_row rows, are, is ∙ ap (λ (list : List OptionRow). record { top = command name (map rule_of_row list); subs = [] }) (take_all i rows less))
+
 -- the program with one more command
 pub one_row : (rows : List CommandRow) (i : ℕ) (d : CommandRow) (old sub new : App) → i < length rows
     → (commands : List Shape) × AreCommandsOf (map label_of_row (take i rows)) commands × (old ≡ program_of commands) → IsOfRow (slice_index_or rows i d) sub

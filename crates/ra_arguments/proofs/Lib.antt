@@ -1,4 +1,3 @@
-mod Options
 mod Helping
 mod Settling
 mod SettleArguments

@@ -7,7 +7,7 @@ use Rattle.std.specs.Str.Parse.{AllDigits, IsNumeral, ParsesUnsigned, digits_val
 use Rattle.std.proofs.lemmas.Bool.{false≢true, ltb-true, lt-ltb, leb-true, le-leb}
 use Rattle.std.proofs.lemmas.Slice.Eq.{bytes_eq-Decides}
 use Rattle.std.specs.Str.{bytes_eq}
-use Rattle.clap.specs.Words.{ReadsOne, Text, first_of, first_value, rows_of}
+use Rattle.clap.specs.Words.{ReadsOne, Row, Text, first_of, first_value, rows_of}
 use Rattle.clap.specs.declared.parser.matches.Found.{Found}
 use Rattle.clap.specs.ValueTests.{is_numeral}
 use Rattle.clap.proofs.WalkLemmas.{both, first_value-rows}
@@ -108,3 +108,10 @@ run_refused policy choices printed None some = absurd (false≢true some)
 pub run_taken : (policy : PolicyName) (choices : Text) (printed : OutputKind) (ending : Option Ending) → is_some ending ≡ false → run_by policy choices printed ending ≡ Ok (sim policy choices printed)
 run_taken policy choices printed (Some ending) none = absurd (false≢true (sym none))
 run_taken policy choices printed None none = refl
+
+-- the command of a parse with its values, by its name and by its values
+pub entered : {X : Type 0} (name_of : X → Text) (values_of : X → List Row) (o : Option X) (name : Text) (rows : List Row) → Some name ≡ option_map name_of o
+    → Some rows ≡ option_map (λ (p : Text × List Row). p.1) (option_map {U = Text × List Row} (λ x. (name_of x, values_of x)) o)
+    → option_map {U = Text × List Row} (λ x. (name_of x, values_of x)) o ≡ Some (name, rows)
+entered name_of values_of None name rows first second = cc
+entered name_of values_of (Some x) name rows first second = cc

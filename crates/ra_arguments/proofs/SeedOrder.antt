@@ -16,7 +16,7 @@ use Rattle.ra_arguments.specs.declared.usage_fault.UsageCause.{UsageCause}
 use Rattle.ra_arguments.specs.declared.usage_fault.UsageCause.TheVariants as cause
 use Rattle.ra_arguments.specs.Asked.{AsksForTask, IsTaskFor, meaning_given}
 use Rattle.ra_arguments.specs.declared.command_line.Task.TheVariants as task
-use Rattle.ra_arguments.specs.Meanings.{Meaning, Meant, answer, answer_in, chance_of, check, cluster, cluster_by, cluster_in, cut_at_dots, draw, draw_in, ending_in, flag_in, kind_in, meaning_in, numeral, part_in, plain_number_in, policy_in, printed_in, printing_cause, run_by, search_by, seeds_between, seeds_in, seeds_of, sim, sim_by, sim_in, survey, survey_by, with_value}
+use Rattle.ra_arguments.specs.Meanings.{Meaning, Meant, answer, answer_in, chance_of, check, cluster, cluster_by, cluster_in, cut_at_dots, draw, draw_in, ending_in, flag_in, kind_in, meaning_in, numeral, part_in, plain_number_in, policy_in, printed_in, run_by, search_by, seeds_between, seeds_in, seeds_of, sim, sim_by, sim_in, survey, survey_by, with_value}
 
 InOrder : SeedRange → Type 0
 InOrder seeds = seeds.first ≤ seeds.last
@@ -97,8 +97,7 @@ by_seeds rows policy printed None = run policy (unwrap_or (first_of (codes "choi
 
 of_sim : (rows : List Row) → IsOrdered (sim_in rows)
 of_sim rows = follows IsOrdered _ (ok_or (policy_in rows) cause.Rates) nothing (λ policy.
-    follows IsOrdered _ (ok_or (printed_in policy rows) (printing_cause (flag_in (codes "state") rows) (flag_in (codes "shrink") rows))) nothing
-    (λ printed. by_seeds rows policy printed (first_of (codes "seeds") rows)))
+    follows IsOrdered _ (printed_in policy rows) nothing (λ printed. by_seeds rows policy printed (first_of (codes "seeds") rows)))
 
 an_answer : (node nodes : ℕ) → IsOrdered (Ok (answer node nodes))
 unfolding IsOrdered

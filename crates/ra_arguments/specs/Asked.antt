@@ -26,7 +26,7 @@ use Rattle.ra_arguments.specs.SettleArguments.{AreSettleArguments, AsksToSettle}
 
 -- ---- what the parser makes of the arguments
 
--- the kinds of error, of which the parser gives one; if there is none, it takes the arguments
+-- the kinds of error: the parser gives one of them, and takes the arguments if there is no kind
 abbrev pub refusals : (arguments : List Text) → Kinds
 refusals arguments = fault_of ra_app arguments
 

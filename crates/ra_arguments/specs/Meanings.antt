@@ -1,5 +1,5 @@
 -- What the values of a command's options mean.
-use Rattle.std.specs.Prelude.{◌^◌, ◌+◌, ◌==◌, ◌&&◌, ◌||◌, ℕ, Bool, true, false, List, [], ◌∷◌, Option, Some, None, Result, Ok, Err, if◌then◌else◌, nat_le, nat_lt, codes, ok_or, option_map, option_and_then, unwrap_or}
+use Rattle.std.specs.Prelude.{◌^◌, ◌+◌, ◌==◌, ◌&&◌, ℕ, Bool, true, false, List, [], ◌∷◌, Option, Some, None, Result, Ok, Err, if◌then◌else◌, nat_le, nat_lt, codes, ok_or, option_map, option_and_then, unwrap_or}
 use Rattle.std.specs.Option.{option_map_or}
 use Rattle.std.specs.Str.{bytes_eq}
 use Rattle.std.specs.Str.Parse.{digits_value, without_leading_plus}
@@ -91,14 +91,17 @@ abbrev pub policy_in : List Row → Option PolicyName
 policy_in rows = option_and_then (λ seed. option_and_then (λ faults. option_and_then (policy_named seed faults) (first_of (codes "policy") rows)) (rates_in rows))
     (number_in 64 (codes "seed") rows)
 
--- at most one thing is printed in place of the lines
-abbrev pub printed_by : (traces lists shrinks states : Bool) → Option OutputKind
-printed_by false false false false = Some prints.Lines
-printed_by true false false false = Some prints.Trace
-printed_by false true false false = Some prints.Choices
-printed_by false false true false = Some prints.Shrunk
-printed_by false false false true = Some prints.State
-printed_by _ _ _ _ = None
+-- At most one thing is printed in place of the lines. There is no word for a choice that repeats a message, so neither choices
+-- nor a shorter run can be printed if some may. Otherwise the last of these options that is given is wrong.
+abbrev pub printed_by : (may_repeat traces lists shrinks states : Bool) → Meant OutputKind
+printed_by may_repeat false false false false = Ok prints.Lines
+printed_by may_repeat true false false false = Ok prints.Trace
+printed_by false false true false false = Ok prints.Choices
+printed_by false false false true false = Ok prints.Shrunk
+printed_by may_repeat false false false true = Ok prints.State
+printed_by may_repeat traces lists shrinks true = Err cause.State
+printed_by may_repeat traces lists true false = Err cause.Shrink
+printed_by may_repeat traces lists false false = Err cause.AsChoices
 
 abbrev pub is_faulty : PolicyName → Bool
 is_faulty Oldest = false
@@ -107,20 +110,12 @@ is_faulty (Seeded seed) = false
 is_faulty (Faulty seed faults) = true
 is_faulty Listed = false
 
--- there is no word for a choice that repeats a message, so neither choices nor a shorter run can be printed then
-abbrev pub printed_if : (may_repeat : Bool) → List Row → Option OutputKind
-printed_if may_repeat rows =
-    let lists = flag_in (codes "as-choices") rows in
-    let shrinks = flag_in (codes "shrink") rows in
-    if may_repeat && (lists || shrinks) then None
-    else printed_by (flag_in (codes "trace") rows) lists shrinks (flag_in (codes "state") rows)
+-- a run may repeat messages
+abbrev pub repeats_in : PolicyName → List Row → Bool
+repeats_in policy rows = option_map_or (λ repeat. nat_lt 0 repeat && is_faulty policy) (number_in 16 (codes "repeat") rows) false
 
-abbrev pub printed_in : PolicyName → List Row → Option OutputKind
-printed_in policy rows = option_and_then (λ repeat. printed_if (nat_lt 0 repeat && is_faulty policy) rows) (number_in 16 (codes "repeat") rows)
-
--- the option that is wrong if there is no such thing
-abbrev pub printing_cause : (states shrinks : Bool) → UsageCause
-printing_cause states shrinks = if states then cause.State else (if shrinks then cause.Shrink else cause.AsChoices)
+abbrev pub printed_in : PolicyName → List Row → Meant OutputKind
+printed_in policy rows = printed_by (repeats_in policy rows) (flag_in (codes "trace") rows) (flag_in (codes "as-choices") rows) (flag_in (codes "shrink") rows) (flag_in (codes "state") rows)
 
 abbrev pub ending_named : Text → Ending
 ending_named name = if bytes_eq name (codes "finished") then Finished else Stuck
@@ -187,8 +182,7 @@ sim_by rows policy printed (Some seeds) = with_value (λ asked. Ok (survey asked
 sim_by rows policy printed None = run_by policy (unwrap_or (first_of (codes "choices") rows) []) printed (ending_in rows)
 
 abbrev pub sim_in : List Row → Meant Meaning
-sim_in rows = with_value (λ policy. with_value (λ printed. sim_by rows policy printed (first_of (codes "seeds") rows))
-    (ok_or (printed_in policy rows) (printing_cause (flag_in (codes "state") rows) (flag_in (codes "shrink") rows))))
+sim_in rows = with_value (λ policy. with_value (λ printed. sim_by rows policy printed (first_of (codes "seeds") rows)) (printed_in policy rows))
     (ok_or (policy_in rows) cause.Rates)
 
 -- ---- the other commands

@@ -40,7 +40,7 @@ Label = CommandKind × Text
 abbrev pub label_of_row : CommandRow → Label
 label_of_row row = (row.kind, row.name.now)
 
--- those of all commands, in the order of help
+-- the kinds and names of all commands, in the order of help
 abbrev pub all_labels : List Label
 all_labels = (Answer, codes "answer") ∷ (Sim, codes "sim") ∷ (Cluster, codes "cluster") ∷ (Check, codes "check") ∷ (Draw, codes "draw") ∷ (Node, codes "node")
     ∷ (Settle, codes "settle") ∷ []

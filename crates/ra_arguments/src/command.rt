@@ -50,7 +50,7 @@ pub struct CommandLine<'a> {
     pub fault: Option<UsageFault<'a>>,
 }
 
-/// Reads the arguments of a command line, of which the first is the program's name. They are read once: the first cause for
+/// Reads the arguments of a command line. The first is the program's name. They are read once: the first cause for
 /// which they ask for nothing is kept.
 pub fn read_command_line<'a>(alloc: Global, arguments: &'a [String]) -> CommandLine<'a>
     ensures asks { Asks (map string_bytes arguments.now) result.asked }
@@ -95,7 +95,7 @@ pub fn read_command_line<'a>(alloc: Global, arguments: &'a [String]) -> CommandL
     }
 }
 
-/// Returns what the arguments ask for, of which the first is the program's name.
+/// Returns what the arguments ask for. The first is the program's name.
 pub fn command_of<'a>(alloc: Global, arguments: &'a [String]) -> Command<'a>
     ensures { Asks (map string_bytes arguments.now) result }
 {

@@ -9,7 +9,7 @@ ghost use Rattle.std.specs.Prelude.{◌≡◌, ◌↔◌, Any, IsTrue, MatchResu
 ghost use Rattle.clap.specs.Words.{HasKind, found_of, rows_of, subcommand_rows_of};
 ghost use Rattle.ra_arguments.specs.Arguments.{IsHelpArgument};
 ghost use Rattle.ra_arguments.specs.Asked.{AsksForTask, IsArgumentsFault, IsRefusedBy, IsTaken, IsTaskFor, is_help, meaning_given, refusals};
-ghost use Rattle.ra_arguments.specs.Meanings.{answer_in, chance_of as chance_by, cluster_in, draw_in, check, ending_in, flag_in, kind_in, meaning_in, number_in, part_in, plain_number_in, policy_in, policy_named as policy_by_name, printed_by, printed_in, printing_cause, rates_in, search_by, seeds_in, sim_in, survey_by};
+ghost use Rattle.ra_arguments.specs.Meanings.{answer_in, chance_of as chance_by, cluster_in, draw_in, check, ending_in, flag_in, kind_in, meaning_in, number_in, part_in, plain_number_in, policy_in, policy_named as policy_by_name, printed_by, printed_in, rates_in, repeats_in, search_by, seeds_in, sim_in, survey_by};
 
 use crate::cluster_output::ClusterOutput;
 use crate::command_line::command_rows::matches_of;
@@ -86,9 +86,7 @@ fn short_number(given: &ArgMatches, option: &str) -> Option<u16>
 fn plain_number(given: &ArgMatches, option: &str) -> Option<u16>
     ensures { result ≡ plain_number_in 16 option.now (rows_of (found_of given.now)) }
 {
-    let Some(text) = given.get_str(option) else {
-        return None;
-    };
+    let text = given.get_str(option)?;
     match text.parse() {
         Ok(number) => Some(number),
         Err(_) => None,
@@ -134,12 +132,8 @@ fn answer_task<'a>(given: &ArgMatches<'a>) -> Result<Task<'a>, UsageCause>
 fn faults_of(sim: &ArgMatches) -> Option<Faults>
     ensures { result ≡ rates_in (rows_of (found_of sim.now)) }
 {
-    let Some(lose) = short_number(sim, "lose") else {
-        return None;
-    };
-    let Some(repeat) = short_number(sim, "repeat") else {
-        return None;
-    };
+    let lose = short_number(sim, "lose")?;
+    let repeat = short_number(sim, "repeat")?;
     Faults::new(lose, repeat)
 }
 
@@ -162,16 +156,9 @@ fn policy_named(seed: u64, faults: Faults, name: &str) -> Option<PolicyName>
 fn policy_name(sim: &ArgMatches) -> Option<PolicyName>
     ensures { result ≡ policy_in (rows_of (found_of sim.now)) }
 {
-    let Some(seed) = long_number(sim, "seed") else {
-        return None;
-    };
-    let Some(faults) = faults_of(sim) else {
-        return None;
-    };
-    match sim.get_str("policy") {
-        Some(name) => policy_named(seed, faults, name),
-        None => None,
-    }
+    let seed = long_number(sim, "seed")?;
+    let faults = faults_of(sim)?;
+    policy_named(seed, faults, sim.get_str("policy")?)
 }
 
 /// Returns the seeds of a text, for example of `1..1000`. It does not allocate.
@@ -199,53 +186,58 @@ fn seeds_of(text: &str) -> Result<SeedRange, UsageCause>
     }
 }
 
-/// Returns what is to be printed of a run by these flags, or `None` if they ask for two things. It does not allocate.
-fn flagged_format(traces: bool, lists: bool, shrinks: bool, states: bool) -> Option<OutputKind>
-    ensures { result ≡ printed_by traces lists shrinks states }
+/// Returns what is to be printed of a run by these flags. It does not allocate.
+///
+/// # Errors
+///
+/// The last of the options `--as-choices`, `--shrink` and `--state` that is given, if the flags ask for two things, or for
+/// choices when some may be repeats, for which there is no word.
+fn flagged_format(
+    may_repeat: bool,
+    traces: bool,
+    lists: bool,
+    shrinks: bool,
+    states: bool,
+) -> Result<OutputKind, UsageCause>
+    ensures { result ≡ printed_by may_repeat traces lists shrinks states }
 {
     match (traces, lists, shrinks, states) {
-        (false, false, false, false) => Some(OutputKind::Lines),
-        (true, false, false, false) => Some(OutputKind::Trace),
-        (false, true, false, false) => Some(OutputKind::Choices),
-        (false, false, true, false) => Some(OutputKind::Shrunk),
-        (false, false, false, true) => Some(OutputKind::State),
-        _ => None,
+        (false, false, false, false) => Ok(OutputKind::Lines),
+        (true, false, false, false) => Ok(OutputKind::Trace),
+        (false, true, false, false) if !may_repeat => Ok(OutputKind::Choices),
+        (false, false, true, false) if !may_repeat => Ok(OutputKind::Shrunk),
+        (false, false, false, true) => Ok(OutputKind::State),
+        (_, _, _, true) => Err(UsageCause::State),
+        (_, _, true, _) => Err(UsageCause::Shrink),
+        _ => Err(UsageCause::AsChoices),
     }
 }
 
-/// Returns what is to be printed of a run. Returns `None` if the arguments ask for two things, or for choices when some
-/// may be repeats, for which there is no word. It does not allocate.
-fn format_of(policy: &PolicyName, sim: &ArgMatches) -> Option<OutputKind>
+/// Returns whether a run under this policy may repeat messages. It does not allocate.
+fn may_repeat(policy: &PolicyName, sim: &ArgMatches) -> bool
+    ensures { result ≡ repeats_in policy.now (rows_of (found_of sim.now)) }
+{
+    match short_number(sim, "repeat") {
+        Some(repeat) => repeat > 0 && matches!(policy, PolicyName::Faulty { .. }),
+        None => false,
+    }
+}
+
+/// Returns what is to be printed of a run. It does not allocate.
+///
+/// # Errors
+///
+/// Those of `flagged_format`.
+fn format_of(policy: &PolicyName, sim: &ArgMatches) -> Result<OutputKind, UsageCause>
     ensures { result ≡ printed_in policy.now (rows_of (found_of sim.now)) }
 {
-    let Some(repeat) = short_number(sim, "repeat") else {
-        return None;
-    };
-    let may_repeat = repeat > 0 && matches!(policy, PolicyName::Faulty { .. });
-    let lists = has_flag(sim, "as-choices");
-    let shrinks = has_flag(sim, "shrink");
-    if may_repeat && (lists || shrinks) {
-        return None;
-    }
     flagged_format(
+        may_repeat(policy, sim),
         has_flag(sim, "trace"),
-        lists,
-        shrinks,
+        has_flag(sim, "as-choices"),
+        has_flag(sim, "shrink"),
         has_flag(sim, "state"),
     )
-}
-
-/// Returns which option is wrong if the arguments don't ask for one thing to be printed. It does not allocate.
-fn format_cause(states: bool, shrinks: bool) -> UsageCause
-    ensures { result ≡ printing_cause states shrinks }
-{
-    if states {
-        UsageCause::State
-    } else if shrinks {
-        UsageCause::Shrink
-    } else {
-        UsageCause::AsChoices
-    }
 }
 
 /// Returns the end that the arguments look for, if they do. It does not allocate.
@@ -329,7 +321,7 @@ fn survey_task(
 /// # Errors
 ///
 /// 1. `Rates`: there are no such faults.
-/// 2. `State`, `Shrink` or `AsChoices`: it is not one thing that is to be printed.
+/// 2. Those of `format_of`.
 /// 3. Those of `survey_task`, with `--seeds`.
 /// 4. `Find`: an end is looked for without `--seeds`.
 fn sim_task<'a>(sim: &ArgMatches<'a>) -> Result<Task<'a>, UsageCause>
@@ -338,9 +330,7 @@ fn sim_task<'a>(sim: &ArgMatches<'a>) -> Result<Task<'a>, UsageCause>
     let Some(policy) = policy_name(sim) else {
         return Err(UsageCause::Rates);
     };
-    let Some(format) = format_of(&policy, sim) else {
-        return Err(format_cause(has_flag(sim, "state"), has_flag(sim, "shrink")));
-    };
+    let format = format_of(&policy, sim)?;
     let ending = ending_of(sim);
     if let Some(seeds) = sim.get_str("seeds") {
         let survey = survey_task(policy, seeds, ending, format)?;
@@ -373,12 +363,8 @@ fn kind_of(given: &ArgMatches) -> InputKind
 fn part_of(given: &ArgMatches) -> Option<Part>
     ensures { result ≡ part_in (rows_of (found_of given.now)) }
 {
-    let Some(from) = long_number(given, "from") else {
-        return None;
-    };
-    let Some(to) = long_number(given, "to") else {
-        return None;
-    };
+    let from = long_number(given, "from")?;
+    let to = long_number(given, "to")?;
     if from == 0 || from > to {
         return None;
     }
@@ -492,22 +478,19 @@ fn asks_for_summary(arguments: &[String]) -> bool {
     false
 }
 
-/// Returns the value that is wrong for this cause, if the cause is the value of one option, and otherwise no text. It does not
-/// allocate.
-fn wrong_value<'a>(matches: &ArgMatches<'a>, cause: UsageCause) -> &'a str {
+/// Returns the value that is wrong for this cause, or `None` if the cause is not the value of one option. It does not allocate.
+fn wrong_value<'a>(matches: &ArgMatches<'a>, cause: UsageCause) -> Option<&'a str> {
     let option = match cause {
         UsageCause::Node => "node",
         UsageCause::Nodes => "nodes",
         UsageCause::Seeds | UsageCause::SeedsOrder => "seeds",
-        _ => return "",
+        _ => return None,
     };
-    match matches.subcommand() {
-        Some((_, given)) => given.get_str(option).unwrap_or(""),
-        None => "",
-    }
+    let (_, given) = matches.subcommand()?;
+    given.get_str(option)
 }
 
-/// Returns the task of the arguments, of which the first is the program's name.
+/// Returns the task of the arguments. The first is the program's name.
 ///
 /// # Errors
 ///

@@ -1,7 +1,6 @@
 //! What the arguments of a command line ask for, or the first cause for which they ask for nothing.
 #![tactic(auto)]
 
-mod argument_text;
 mod cluster_output;
 mod command;
 mod command_line;
@@ -11,12 +10,11 @@ mod policy;
 mod settle_arguments;
 mod usage_fault;
 
-pub use argument_text::text_of;
 pub use cluster_output::ClusterOutput;
 pub use command::{Command, CommandLine, command_of, read_command_line};
 pub use command_line::command_rows::command_named;
 pub use command_line::input_kind::InputKind;
-pub use command_line::option_rows::{DEFAULT_POLICY, OptionRow, sim_options, values_of};
+pub use command_line::option_rows::{OptionRow, sim_options, values_of};
 pub use command_line::search::{Search, SurveyTask};
 pub use command_line::{CommandFault, PolicyName, Task};
 pub use laws::{arguments_ask_for_one_command, surveyed_seeds_are_in_order};

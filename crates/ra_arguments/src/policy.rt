@@ -7,7 +7,7 @@ use crate::command_line::PolicyName;
 use ra_schedule::{ChoicesError, Policy, read_choices};
 use std::alloc::Global;
 
-/// Returns the policy of a name. The choices are read whatever the name, so that a user is told of a wrong word.
+/// Returns the policy of a name. The choices are read whatever the name, so that a user learns of a wrong word.
 ///
 /// # Errors
 ///

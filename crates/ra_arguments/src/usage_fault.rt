@@ -48,8 +48,8 @@ pub enum UsageFault<'a> {
     /// The parser takes them, but they mean nothing.
     Meaning {
         cause: UsageCause,
-        /// The value that is wrong, if the cause is the value of one option, and otherwise no text.
-        value: &'a str,
+        /// The value that is wrong, if the cause is the value of one option.
+        value: Option<&'a str>,
     },
 }
 

@@ -71,7 +71,9 @@ pub fn of_choices(alloc: Global, choices: &str, why: ChoicesError) -> Notice {
     if let ChoicesError::Memory = why {
         return Notice::Text(NO_MEMORY);
     }
-    let word = first_no_choice(alloc, choices);
+    let Some(word) = first_no_choice(alloc, choices) else {
+        return Notice::Text(UNEXPLAINED);
+    };
     let text = format!(in alloc;
         "--choices: {word:?} is not a choice: expected c, m or l and a number of 1 to 9 digits without leading zeros, with one space between choices"
     );
@@ -81,14 +83,14 @@ pub fn of_choices(alloc: Global, choices: &str, why: ChoicesError) -> Notice {
     }
 }
 
-/// Returns the first word of a text that is not a choice, or an empty text if every word is one.
-fn first_no_choice(alloc: Global, text: &str) -> &str {
+/// Returns the first word of a text that is not a choice, or `None` if every word is one.
+fn first_no_choice(alloc: Global, text: &str) -> Option<&str> {
     for word in text.split(' ') {
         if !is_choice(alloc, word) {
-            return word;
+            return Some(word);
         }
     }
-    ""
+    None
 }
 
 /// Returns what there is to say about a script that is not performed.
@@ -112,7 +114,7 @@ pub fn of_check(why: TraceError) -> Notice {
     })
 }
 
-/// Returns what there is to say about a part that has none of so many lines.
+/// Returns what there is to say about a part in which no line is, if the input has this many.
 fn of_part(alloc: Global, asked: &Command<'_>, lines: u64) -> Notice {
     let mut note = Note::new(alloc);
     match asked {

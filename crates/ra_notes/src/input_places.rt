@@ -8,7 +8,7 @@ use crate::script_notes::choosing::choices_note;
 use crate::script_notes::order_note::order_note;
 use crate::script_notes::script_fault::script_note;
 use crate::settle_notes::unsettled_note;
-use ra_arguments::{Command, PolicyName, Task, policy_of, text_of};
+use ra_arguments::{Command, PolicyName, Task, policy_of};
 use ra_book_text::TextCause;
 use ra_cluster::ClusterError;
 use ra_explain::{LineCause, Unanswered, digits_note, frame_note, line_note, unanswered_note};
@@ -82,16 +82,18 @@ pub enum FrameCause {
     Node(Unanswered),
 }
 
-/// Returns what there is to say about a frame that a node does not answer.
-pub fn frame_notice(alloc: Global, source: &NoteSource<'_>, why: FrameCause) -> Notice {
-    let place = match (source.seen, why) {
+/// Returns what there is to say about a frame that this one of `nodes` nodes does not answer.
+pub fn frame_notice(
+    alloc: Global,
+    frame: Option<&[u8]>,
+    node: u16,
+    nodes: u16,
+    why: FrameCause,
+) -> Notice {
+    let place = match (frame, why) {
         (Some(input), FrameCause::Digits) => digits_note(alloc, input),
         (Some(input), FrameCause::Frame(fault)) => frame_note(alloc, input, fault),
-        (Some(input), FrameCause::Node(why)) => {
-            let node = text_of(source.arguments, "--node").unwrap_or("");
-            let nodes = text_of(source.arguments, "--nodes").unwrap_or("");
-            unanswered_note(alloc, input, node, nodes, why)
-        }
+        (Some(input), FrameCause::Node(why)) => unanswered_note(alloc, input, node, nodes, why),
         (None, _) => Ok(None),
     };
     placed(place, Notice::Text(UNEXPLAINED))

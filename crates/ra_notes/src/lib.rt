@@ -1,9 +1,10 @@
-//! The notes that tell a person what came of a command, and the reader and the writer that remember what they need.
+//! The notes that tell a person how a command ended, and the reader and the writer that remember what they need.
 #![tactic(auto)]
 
 mod book_openings;
 mod command_notes;
 mod end_reader;
+mod given_options;
 mod input_places;
 mod note_source;
 mod note_texts;

@@ -1,10 +1,10 @@
-//! What notes are made of, besides what came of the command.
+//! What notes are made of, besides the outcome of the command.
 use ra_arguments::{Command, Task, UsageFault};
 
-/// What notes are made of, besides what came of the command.
+/// What notes are made of, besides the outcome of the command.
 #[derive(Clone, Copy)]
 pub struct NoteSource<'a> {
-    /// The arguments of the command line, of which notes quote options.
+    /// The arguments of the command line, whose options notes quote.
     pub arguments: &'a [String],
     /// What they ask for.
     pub asked: &'a Command<'a>,
@@ -18,7 +18,7 @@ pub struct NoteSource<'a> {
     pub last_seed: Option<u64>,
 }
 
-/// The text of which a line is wrong.
+/// The text that has the wrong line.
 #[derive(Clone, Copy)]
 pub enum JudgedText<'a> {
     /// It was checked. `None` if there was no memory to keep it.

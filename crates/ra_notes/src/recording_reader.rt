@@ -75,7 +75,7 @@ pub struct RecordingReader<R> {
 }
 
 impl<R> RecordingReader<R> {
-    /// Makes one of a reader, for a command with these arguments, of which the first is the program's name. It does not
+    /// Makes one of a reader, for a command with these arguments. The first is the program's name. It does not
     /// allocate, and reads that follow do so for what they remember, unless memory runs out.
     pub fn new(alloc: Global, arguments: &[String], inner: R) -> RecordingReader<R>
         ensures { result.inner ≡ inner }

@@ -34,8 +34,8 @@ fn seed_note(alloc: Global, shrinks: bool, seed: u64) -> PlaceNote {
     note.finish()
 }
 
-/// Writes the hints on a command that was done, or ended with something left to do. The arguments tell which options have no effect.
-/// It ignores a failure of the writer.
+/// Writes the hints on a command that was done, or ended with something left to do. The arguments tell which options
+/// are given. It ignores a failure of the writer.
 pub fn write_hints<N: Write>(alloc: Global, source: &NoteSource<'_>, is_done: bool, notes: &mut N) {
     let Command::Task(task) = source.asked else {
         return;
@@ -55,7 +55,7 @@ pub fn write_hints<N: Write>(alloc: Global, source: &NoteSource<'_>, is_done: bo
         },
         _ => return,
     };
-    write_unused_options(source.arguments, notes);
+    write_unused_options(source.arguments, task, notes);
     if let Ok(Some(text)) = &told {
         write_line(notes, text.as_str());
     }

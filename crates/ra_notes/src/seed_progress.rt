@@ -1,4 +1,4 @@
-//! What the user is told while many seeds take long.
+//! What the user reads while many seeds take long.
 use crate::notice::write_line;
 use ra_explain::push_number_in;
 use ra_schedule::{Observer, RunCost, SeedOutcome};

@@ -1,34 +1,34 @@
 //! Options of `sim` that are given but have no effect.
+use crate::given_options::is_given;
 use crate::notice::write_line;
-use ra_arguments::{DEFAULT_POLICY, sim_options, text_of};
+use ra_arguments::{PolicyName, Task, sim_options};
 use std::io::Write;
 
-/// Returns whether an argument is the option of a name, or the option, `=` and its value. It does not allocate.
-fn is_option(argument: &str, name: &str) -> bool {
-    let Some(option) = argument.strip_prefix("--") else {
-        return false;
-    };
-    match option.strip_prefix(name) {
-        Some(rest) => rest.is_empty() || rest.starts_with('='),
-        None => false,
+/// Returns the word for the policy of a task, or `None` if the task has no policy.
+fn policy_word(task: &Task<'_>) -> Option<&'static str> {
+    match task {
+        Task::Sim { policy, .. } => Some(match policy {
+            PolicyName::Oldest => "oldest",
+            PolicyName::Newest => "newest",
+            PolicyName::Seeded(_) => "seeded",
+            PolicyName::Faulty { .. } => "faulty",
+            PolicyName::Listed => "listed",
+        }),
+        Task::Survey(survey) => Some(if survey.faults.is_some() {
+            "faulty"
+        } else {
+            "seeded"
+        }),
+        _ => None,
     }
 }
 
-/// Returns whether the arguments give an option that takes a value. The first argument is the program's name. It does not
-/// allocate.
-fn is_given(arguments: &[String], name: &str) -> bool {
-    for place in 1..arguments.len() {
-        if is_option(arguments[place].as_str(), name) {
-            return true;
-        }
-    }
-    false
-}
-
-/// Writes a line for each option of `sim` that is given but has no effect. It does not allocate, and ignores a failure
+/// Writes a line for each option of `sim` that is given for a task but has no effect. It does not allocate, and ignores a failure
 /// of the writer.
-pub fn write_unused_options<N: Write>(arguments: &[String], notes: &mut N) {
-    let policy = text_of(arguments, "--policy").unwrap_or(DEFAULT_POLICY);
+pub fn write_unused_options<N: Write>(arguments: &[String], task: &Task<'_>, notes: &mut N) {
+    let Some(policy) = policy_word(task) else {
+        return;
+    };
     for option in sim_options() {
         if let Some(text) = option.unused_under(policy)
             && is_given(arguments, option.name())
@@ -36,13 +36,18 @@ pub fn write_unused_options<N: Write>(arguments: &[String], notes: &mut N) {
             write_line(notes, text);
         }
     }
-    if policy == "listed" && text_of(arguments, "--choices").unwrap_or("").is_empty() {
-        write_line(
+    match task {
+        Task::Sim {
+            policy: PolicyName::Listed,
+            choices,
+            ..
+        } if choices.is_empty() => write_line(
             notes,
             "--policy listed has nothing to do: --choices is missing or empty",
-        );
-    }
-    if is_given(arguments, "seeds") && is_given(arguments, "seed") {
-        write_line(notes, "--seed is ignored: --seeds gives the seeds");
+        ),
+        Task::Survey(_) if is_given(arguments, "seed") => {
+            write_line(notes, "--seed is ignored: --seeds gives the seeds");
+        }
+        _ => {}
     }
 }

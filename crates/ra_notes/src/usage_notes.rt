@@ -1,8 +1,10 @@
-//! What is said of arguments that are not a command line, on one line.
+//! What is said of arguments that are not a command line, on one line. The parser's error has a kind and a text, and nothing
+//! more: the option, the value and the nearest word are only in the text, so they are cut out of it.
+use crate::given_options::is_given;
 use crate::notice::Notice;
 use clap::Error as ParseError;
 use clap::error::ErrorKind;
-use ra_arguments::{UsageCause, UsageFault, command_named, text_of, values_of};
+use ra_arguments::{UsageCause, UsageFault, command_named, values_of};
 use ra_schedule::read_choices;
 use ra_text::Note;
 use std::alloc::Global;
@@ -38,15 +40,11 @@ fn between<'a>(said: &'a str, first: &str, second: &str) -> Option<(&'a str, &'a
     }
 }
 
-/// Returns the option of which the parser says that its number is wrong, and that number, or `None`. It says why after
+/// Returns the option whose number the parser finds wrong, and that number, or `None`. It says why after
 /// a colon, and otherwise lists the words that an option takes, and the nearest one.
 fn wrong_number_in(said: &str) -> Option<(&str, &str)> {
-    let Some((value, rest)) = between(said, "invalid value '", "' for '") else {
-        return None;
-    };
-    let Some((option, after)) = cut_at(rest, " <") else {
-        return None;
-    };
+    let (value, rest) = between(said, "invalid value '", "' for '")?;
+    let (option, after) = cut_at(rest, " <")?;
     if cut_at(after, ">': ").is_some() {
         Some((option, value))
     } else {
@@ -54,13 +52,22 @@ fn wrong_number_in(said: &str) -> Option<(&str, &str)> {
     }
 }
 
-/// Adds the value of an option, and which ones it takes.
-fn push_range(note: &mut Note, option: &str, value: &str) {
+/// Adds an option and its value, and what follows.
+fn push_wrong(note: &mut Note, option: &str, value: &str, why: &str) {
     note.push(option);
     note.push(" is ");
     note.quoted_text(value);
-    note.push(": must be ");
-    note.push(values_of(option).unwrap_or(""));
+    note.push(why);
+}
+
+/// Adds the wrong value of an option, and which ones it takes, and returns whether the option takes a value.
+fn push_range(note: &mut Note, option: &str, value: &str) -> bool {
+    let Some(values) = values_of(option) else {
+        return false;
+    };
+    push_wrong(note, option, value, ": must be ");
+    note.push(values);
+    true
 }
 
 /// Adds which values an option takes if a wrong one is given, and returns whether one is.
@@ -69,14 +76,10 @@ fn push_value(note: &mut Note, arguments: &[String], said: &str) -> bool {
         Some(wrong) => Some(wrong),
         None => wrong_number_in(said),
     };
-    let Some((option, value)) = wrong else {
-        return false;
-    };
-    if values_of(option).is_none() {
-        return false;
+    match wrong {
+        Some((option, value)) => push_range(note, option, value),
+        None => false,
     }
-    push_range(note, option, value);
-    true
 }
 
 /// Adds what the parser says, without the lines of the usage and what follows them: a tip after a semicolon, and any
@@ -129,7 +132,7 @@ fn push_parsed(alloc: Global, note: &mut Note, arguments: &[String], said: &str)
     if argument.starts_with('-') {
         return;
     }
-    if text_of(arguments, "--choices").is_some() && is_choice(alloc, argument) {
+    if is_given(arguments, "choices") && is_choice(alloc, argument) {
         note.push("; all choices are one argument: quote them, as in --choices \"c1 m0\"");
     } else {
         note.push("; to read a file, run ra ");
@@ -146,7 +149,7 @@ fn push_error(alloc: Global, note: &mut Note, arguments: &[String], error: &Pars
         error.kind(),
         ErrorKind::DisplayHelp | ErrorKind::DisplayVersion
     ) {
-        note.push(cause_text(UsageCause::NoCommand));
+        push_cause(note, UsageCause::NoCommand, None);
         return;
     }
     match format!(in alloc; "{error}") {
@@ -155,9 +158,9 @@ fn push_error(alloc: Global, note: &mut Note, arguments: &[String], error: &Pars
     }
 }
 
-/// Returns what is said of a cause that is not the value of one option.
-fn cause_text(cause: UsageCause) -> &'static str {
-    match cause {
+/// Returns what is said of a cause, or `None` if it is the value of one option.
+fn cause_text(cause: UsageCause) -> Option<&'static str> {
+    Some(match cause {
         UsageCause::NoCommand => "-h and -V must be arguments of their own",
         UsageCause::Rates =>
             "--repeat must be at most 400, and --lose and --repeat together at most 1000",
@@ -175,22 +178,33 @@ fn cause_text(cause: UsageCause) -> &'static str {
         UsageCause::Books => "--books cannot be used with --trace",
         UsageCause::OfNode => "node takes no arguments",
         UsageCause::OfSettle => "settle takes no arguments but --repeats and --trace",
-        UsageCause::Node | UsageCause::Nodes | UsageCause::Seeds | UsageCause::SeedsOrder => "",
-    }
+        UsageCause::Node | UsageCause::Nodes | UsageCause::Seeds | UsageCause::SeedsOrder => {
+            return None;
+        }
+    })
+}
+
+/// Adds why the value of one option is wrong.
+fn push_wrong_value(note: &mut Note, cause: UsageCause, value: &str) {
+    let option = match cause {
+        UsageCause::Node => "--node",
+        UsageCause::Nodes => "--nodes",
+        UsageCause::SeedsOrder => {
+            let why = ": the first seed is above the last";
+            push_wrong(note, "--seeds", value, why);
+            return;
+        }
+        _ => "--seeds",
+    };
+    push_range(note, option, value);
 }
 
 /// Adds why arguments that the parser takes mean nothing, with the value that is wrong, if the cause is that of one option.
-fn push_cause(note: &mut Note, cause: UsageCause, value: &str) {
-    match cause {
-        UsageCause::Node => push_range(note, "--node", value),
-        UsageCause::Nodes => push_range(note, "--nodes", value),
-        UsageCause::Seeds => push_range(note, "--seeds", value),
-        UsageCause::SeedsOrder => {
-            note.push("--seeds is ");
-            note.quoted_text(value);
-            note.push(": the first seed is above the last");
-        }
-        _ => note.push(cause_text(cause)),
+fn push_cause(note: &mut Note, cause: UsageCause, value: Option<&str>) {
+    if let Some(text) = cause_text(cause) {
+        note.push(text);
+    } else if let Some(value) = value {
+        push_wrong_value(note, cause, value);
     }
 }
 

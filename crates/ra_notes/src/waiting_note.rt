@@ -1,4 +1,4 @@
-//! What the user at a terminal is told that a command waits for.
+//! What a command waits for, as a user at a terminal reads it.
 use crate::notice::write_line;
 use ra_arguments::{Command, InputKind, Task};
 use std::io::Write;

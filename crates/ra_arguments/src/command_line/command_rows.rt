@@ -110,7 +110,7 @@ fn command_of<'a>(
     Ok(command)
 }
 
-/// Returns what the parser makes of the arguments, of which the first is the program's name. It knows the whole help of
+/// Returns what the parser makes of the arguments. The first is the program's name. The parser knows the whole help of
 /// each command, or its summary.
 ///
 /// # Errors

@@ -12,7 +12,7 @@ use std::alloc::Global;
 const POLICIES: &[&str] = &[DEFAULT_POLICY, "newest", "seeded", "faulty", "listed"];
 
 /// The word for the policy if none is given.
-pub const DEFAULT_POLICY: &str = "oldest";
+const DEFAULT_POLICY: &str = "oldest";
 
 /// The words for the ends of runs.
 const ENDINGS: &[&str] = &["finished", "stuck"];
@@ -29,15 +29,20 @@ pub struct OptionRow<'a> {
     is_required: bool,
     defaults: &'a [&'a str],
     hides_default: bool,
-    /// Which values it takes, as a note says it after 'must be'. Only a flag has no such text.
-    values: &'a str,
-    /// The policies under which it has an effect, or none if it has one under all.
+    /// Which values it takes, as a note says it after 'must be'. A flag takes none.
+    values: Option<&'a str>,
+    /// The policies under which it has an effect, if it has none under another.
+    effect: Option<Effect<'a>>,
+}
+
+/// The policies under which an option has an effect, and what a note says under another.
+#[derive(Clone, Copy)]
+pub struct Effect<'a> {
     policies: &'a [&'a str],
-    /// What a note says if it has no effect.
     unused: &'a str,
 }
 
-/// An option that takes nothing.
+/// An option that takes nothing. Each row has a name and a help of its own.
 const FLAG: OptionRow = OptionRow {
     name: "",
     short: None,
@@ -47,9 +52,8 @@ const FLAG: OptionRow = OptionRow {
     is_required: false,
     defaults: &[],
     hides_default: false,
-    values: "",
-    policies: &[],
-    unused: "",
+    values: None,
+    effect: None,
 };
 
 /// An option that takes a text.
@@ -86,14 +90,14 @@ const ANSWER_OPTIONS: &[OptionRow] = &[
         name: "node",
         help: "Answer as this node, 1 to the value of --nodes",
         is_required: true,
-        values: "1 to the value of --nodes",
+        values: Some("1 to the value of --nodes"),
         ..SHORT
     },
     OptionRow {
         name: "nodes",
         help: "Set the number of nodes, 1 to 64",
         is_required: true,
-        values: "1 to 64",
+        values: Some("1 to 64"),
         ..SHORT
     },
     HELP,
@@ -106,34 +110,40 @@ const SIM_OPTIONS: &[OptionRow] = &[
         help: "Choose each step by this policy",
         parser: ValueParser::Names(POLICIES),
         defaults: &[DEFAULT_POLICY],
-        values: "oldest, newest, seeded, faulty or listed",
+        values: Some("oldest, newest, seeded, faulty or listed"),
         ..TEXT
     },
     OptionRow {
         name: "seed",
         help: "Set the random seed, 0 to 2^64 - 1",
         defaults: &["0"],
-        values: "0 to 18446744073709551615",
-        policies: &["seeded", "faulty"],
-        unused: "--seed is ignored: only --policy seeded and faulty use it",
+        values: Some("0 to 18446744073709551615"),
+        effect: Some(Effect {
+            policies: &["seeded", "faulty"],
+            unused: "--seed is ignored: only --policy seeded and faulty use it",
+        }),
         ..LONG
     },
     OptionRow {
         name: "lose",
         help: "Lose 0 to 1000 of 1000 messages",
         defaults: &["0"],
-        values: "0 to 1000, of 1000 messages",
-        policies: &["faulty"],
-        unused: "--lose is ignored: only --policy faulty uses it",
+        values: Some("0 to 1000, of 1000 messages"),
+        effect: Some(Effect {
+            policies: &["faulty"],
+            unused: "--lose is ignored: only --policy faulty uses it",
+        }),
         ..SHORT
     },
     OptionRow {
         name: "repeat",
         help: "Repeat 0 to 400 of 1000 messages",
         defaults: &["0"],
-        values: "0 to 400, of 1000 messages",
-        policies: &["faulty"],
-        unused: "--repeat is ignored: only --policy faulty uses it",
+        values: Some("0 to 400, of 1000 messages"),
+        effect: Some(Effect {
+            policies: &["faulty"],
+            unused: "--repeat is ignored: only --policy faulty uses it",
+        }),
         ..SHORT
     },
     OptionRow {
@@ -141,22 +151,26 @@ const SIM_OPTIONS: &[OptionRow] = &[
         help: "Make these choices, under listed [default: none]",
         defaults: &[""],
         hides_default: true,
-        values: "choices with one space between them, each c, m or l and a number of 1 to 9 digits without leading zeros",
-        policies: &["listed"],
-        unused: "--choices is ignored: only --policy listed uses it",
+        values: Some(
+            "choices with one space between them, each c, m or l and a number of 1 to 9 digits without leading zeros",
+        ),
+        effect: Some(Effect {
+            policies: &["listed"],
+            unused: "--choices is ignored: only --policy listed uses it",
+        }),
         ..TEXT
     },
     OptionRow {
         name: "seeds",
         help: "Survey the seeds of a range, such as 1..1000",
-        values: "A..B, such as 1..1000, with two numbers from 0 to 18446744073709551615",
+        values: Some("A..B, such as 1..1000, with two numbers from 0 to 18446744073709551615"),
         ..TEXT
     },
     OptionRow {
         name: "find",
         help: "With --seeds, trace the first finished or stuck run",
         parser: ValueParser::Names(ENDINGS),
-        values: "finished or stuck",
+        values: Some("finished or stuck"),
         ..TEXT
     },
     OptionRow {
@@ -233,7 +247,7 @@ const DRAW_OPTIONS: &[OptionRow] = &[
         name: "from",
         help: "Draw from this line on, counted from 1",
         defaults: &["1"],
-        values: "the number of a line, 1 or more",
+        values: Some("the number of a line, 1 or more"),
         ..LONG
     },
     OptionRow {
@@ -241,7 +255,7 @@ const DRAW_OPTIONS: &[OptionRow] = &[
         help: "Draw up to and including this line [default: the last]",
         defaults: &["18446744073709551615"],
         hides_default: true,
-        values: "the number of a line, at least that of --from",
+        values: Some("the number of a line, at least that of --from"),
         ..LONG
     },
     HELP,
@@ -274,29 +288,28 @@ impl<'a> OptionRow<'a> {
     /// Returns what there is to say of the option if it is given and has no effect under this policy, or `None` if it has one. It
     /// does not allocate.
     pub fn unused_under(&self, policy: &str) -> Option<&'a str> {
-        if self.policies.is_empty() || self.policies.contains(&policy) {
+        let effect = self.effect?;
+        if effect.policies.contains(&policy) {
             None
         } else {
-            Some(self.unused)
+            Some(effect.unused)
         }
     }
 }
 
 /// Returns the options of the command `sim`, in the order of help. It does not allocate.
 pub fn sim_options() -> &'static [OptionRow<'static>] {
-    SIM_OPTIONS
+    options_of(CommandKind::Sim)
 }
 
 /// Returns which values the option takes that an argument names, or `None` if it names none that takes a value. No two
 /// commands have an option of one name that takes other values. It does not allocate.
 pub fn values_of(argument: &str) -> Option<&'static str> {
-    let Some(name) = argument.strip_prefix("--") else {
-        return None;
-    };
+    let name = argument.strip_prefix("--")?;
     for row in all_rows() {
         for option in options_of(row.kind) {
-            if option.name == name && !option.values.is_empty() {
-                return Some(option.values);
+            if option.name == name && option.values.is_some() {
+                return option.values;
             }
         }
     }

@@ -17,12 +17,12 @@ pub const NAME: usize = 8;
 /// The index of a byte of the name.
 pub const NAME_BYTE: usize = 9;
 
-/// The index of the field that each fault is in, in the order of `FrameError`. It is that of the name if none before it has the fault.
+/// The index of the field that each fault is in, in the order of `FrameError`. It is the name if no field before it has the fault.
 pub const FAULTY: [usize; 12] = [
     NAME, 0, 1, SENDER, RECEIVER, RECEIVER, MODE, 5, CLOCK, 7, NAME, NAME,
 ];
 
-/// The names of the fields, in their order, and that of a byte of the last one.
+/// The names of the fields, in their order, and the name of a byte of the last one.
 pub const NAMES: [&str; 10] = [
     "the version",
     "the kind",
@@ -52,7 +52,7 @@ const RANGES: [&str; 9] = [
 /// A field of a frame, or a byte of its name.
 #[derive(Clone, Copy)]
 pub struct FrameField {
-    /// Its index in the order of all, or that of the name's bytes.
+    /// Its index in the order of all, or the index of the name's bytes.
     pub index: usize,
     /// Where it begins, in bytes counted from 0.
     pub place: usize,

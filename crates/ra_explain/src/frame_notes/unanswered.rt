@@ -20,7 +20,7 @@ pub enum Unanswered {
 
 /// Returns a note on why a node does not answer the frame in an input of hexadecimal digits. It says which field is the
 /// reason, where its bytes are, what they are, which node or clock they name, and what would be right. Returns `None`
-/// if there is nothing more to say. `node` is the node and `nodes` is the number of nodes, both as texts.
+/// if there is nothing more to say.
 ///
 /// # Errors
 ///
@@ -28,8 +28,8 @@ pub enum Unanswered {
 pub fn unanswered_note(
     alloc: Global,
     input: &[u8],
-    node: &str,
-    nodes: &str,
+    node: u16,
+    nodes: u16,
     why: Unanswered,
 ) -> Result<Option<String>, Memory> {
     let mut note = Note::new(alloc);
@@ -48,14 +48,14 @@ pub fn unanswered_note(
         Unanswered::WrongNode => {
             let text = ": the frame is for node ";
             push_number_in(&mut note, text, number, ", but --node is ");
-            note.push(node);
+            note.number(node);
         }
         // The sender is not this node: a frame from its own receiver is faulty, and one for another node is not
         // answered.
         Unanswered::Stranger => {
             let text = ": the frame is from node ";
             push_number_in(&mut note, text, number, ", but --nodes is ");
-            note.push(nodes);
+            note.number(nodes);
         }
         Unanswered::ClockFull => note.push(", the greatest: no clock is left for an answer"),
     }

@@ -15,7 +15,7 @@ pub trait TellsBlocker {
     fn push_blocker(&self, note: &mut Note, request: &OpenRequest);
 }
 
-/// Each is told with its line.
+/// Each is named with its line.
 pub struct ByLine;
 
 impl TellsBlocker for ByLine {

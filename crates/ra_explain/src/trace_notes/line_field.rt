@@ -1,4 +1,4 @@
-//! The fields of the lines of traces and mark logs, as a person is told of them.
+//! The fields of the lines of traces and mark logs, as notes describe them.
 use ra_trace::{Field, Version, client_of, mode_of, name_of, node_of, seq_of, start_of};
 
 /// What each field is called, in the order of `Field`.

@@ -52,7 +52,7 @@ pub struct OpenRequests {
 }
 
 impl OpenRequests {
-    /// Makes that of a text of which no line was followed yet.
+    /// Makes the requests of a text before its first line.
     pub fn new(alloc: Global) -> OpenRequests {
         OpenRequests {
             clients: HashMap::new(alloc),

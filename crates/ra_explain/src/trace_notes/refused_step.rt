@@ -8,8 +8,8 @@ use ra_text::Note;
 use ra_trace::Line;
 use ra_world::Step;
 
-/// Adds what a client has done with a name, in which mode and since which line: for example that it has waited for it. Without
-/// `reached`, it adds that the client does not hold the name. With `node`, it adds at which node.
+/// Adds how far a client is with a name, for example `client 1 has waited for 'r' (X) at node 2 since line 3`. If it has not asked for
+/// the name, it adds `client 1 does not hold 'r' at node 2`. A note on a book leaves the node out.
 pub fn push_stage(
     note: &mut Note,
     client: u32,

@@ -1,4 +1,4 @@
-//! The lines before a wrong line, gone through once more for what they say of it.
+//! The lines before a wrong line, read once more for what they say of the wrong line.
 use crate::trace_notes::open_request::Stage;
 use crate::trace_notes::open_requests::OpenRequests;
 use ra_stamp::{Entry, Mark, Message, Stamp};
@@ -18,7 +18,7 @@ pub struct Granted {
     pub line: u64,
 }
 
-/// What the lines before a wrong line say of it.
+/// What the lines before a wrong line of a trace say of the wrong line.
 #[derive(Drop)]
 pub struct Replay {
     /// How many nodes there are, if the first line is that of a trace.
@@ -33,7 +33,7 @@ pub struct Replay {
     pub released_at: Option<u64>,
     /// The last entry that its node released on its name, and the line in which it did.
     pub released: Option<(Entry, u64)>,
-    /// For each number of a node, whether a REPLY of that node to its request was delivered.
+    /// For each number of a node, whether a REPLY of that node to the request of the mark was delivered.
     replied: [bool; NUMBERS],
     /// The message that the wrong line delivers, loses or repeats, if it does.
     pub message: Option<Message>,
@@ -44,7 +44,7 @@ pub struct Replay {
 }
 
 impl Replay {
-    /// Goes through these lines for what they say of the wrong line after them, which is empty if the text ends there. The cost
+    /// Reads these lines for what they say of the wrong line after them, `subject`, which is empty if the text ends there. The cost
     /// is linear in them.
     pub fn of(alloc: Global, lines: &[u8], subject: &[u8]) -> Replay {
         let (mark, message) = match &Line::parse(subject) {
@@ -77,7 +77,7 @@ impl Replay {
         replay
     }
 
-    /// Takes the line with this number. Until its request is made, a client that asks is queued.
+    /// Notes what the line with this number says. A client that asks is queued until its request is made.
     fn take(&mut self, line: &[u8], number: u64) {
         match &Line::parse(line) {
             Some(Line::First { nodes, .. }) => self.nodes = Some(nodes.get()),
@@ -114,11 +114,11 @@ impl Replay {
         }
     }
 
-    /// Notes what the line with this number says of the wrong one by the message that it delivers or loses:
+    /// Notes what the line with this number, which delivers or loses a message, says of the wrong line:
     ///
-    /// - The wrong line has the same message: which line took it, and whether it was lost.
-    /// - The message in the wrong line answers it, and it is delivered: in which line it came.
-    /// - It is a REPLY to the request of the mark in the wrong line, and it is delivered: that its sender has replied.
+    /// - If the wrong line takes the same message: this line took it, and perhaps lost it.
+    /// - If the wrong line takes a REPLY, and this line delivers the REQUEST that it answers: the REQUEST came in this line.
+    /// - If the wrong line has a mark, and this line delivers a REPLY to its request: that node has replied.
     fn take_message(&mut self, message: &Message, number: u64, is_lost: bool) {
         if let Some(sought) = self.message {
             if *message == sought {
@@ -195,8 +195,8 @@ impl Replay {
         }
     }
 
-    /// Returns the first of the other nodes whose REPLY to the request of an entry was not delivered, and how many there are after
-    /// it. Returns `None` if each other node has replied.
+    /// Returns the first of the other nodes whose REPLY to the request of an entry was not delivered, and how many more such nodes
+    /// there are. Returns `None` if each other node has replied.
     pub fn missing(&self, entry: &Entry) -> Option<(u16, u16)> {
         let (mut first, mut others) = (None, 0);
         for before in 0..self.nodes.unwrap_or(0) {

@@ -8,9 +8,7 @@ use std::alloc::Global;
 /// Returns why a lock table refuses a mark after these lines of a trace, all of whose marks it takes. Returns `None` if it takes
 /// this one, too, or if memory runs out. The cost is that of the marks.
 pub fn refusal_after(alloc: Global, lines: &[u8], mark: &Mark) -> Option<MarkCause> {
-    let Ok(mut table) = Table::new(alloc) else {
-        return None;
-    };
+    let mut table = Table::new(alloc).ok()?;
     let (mut rest, mut is_whole) = (lines, true);
     for _ in 0..u64::MAX {
         let (line, Some(after)) = cut(rest, b'\n') else {

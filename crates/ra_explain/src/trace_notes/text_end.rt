@@ -23,7 +23,7 @@ struct LeftOver {
     holding: u64,
 }
 
-/// How many lines came of those that change what is left.
+/// How many lines came that change what is left.
 #[derive(Clone, Copy)]
 struct LineCounts {
     asks: u64,

@@ -6,7 +6,7 @@ use ra_stamp::Memory;
 use ra_text::Note;
 use std::alloc::Global;
 
-/// The most names that are told of each client.
+/// The most names that the note lists for each client.
 const MAX_NAMES: u64 = 4;
 
 /// Adds the names that a client holds at its end, after this many other clients that hold names. Returns how many

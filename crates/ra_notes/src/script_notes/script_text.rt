@@ -1,4 +1,4 @@
-//! The script of a text of which something is said, and its runs.
+//! The script in the text that a note is about, and its runs.
 use ra_schedule::{DriveError, Policy, Script, Summary, summarize};
 use ra_script::{MAX_TURNS, ScriptError, read_script};
 use ra_text::Note;

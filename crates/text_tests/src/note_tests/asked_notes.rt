@@ -125,7 +125,7 @@ fn said_of_digits(alloc: Global, input: &str) -> Told {
 
 /// Returns what is said of a frame that node 2 of 3 does not answer.
 fn said_of_unanswered(alloc: Global, frame: &str, why: ra_explain::Unanswered) -> Told {
-    unanswered_note(alloc, frame.as_bytes(), "2", "3", why)
+    unanswered_note(alloc, frame.as_bytes(), 2, 3, why)
 }
 
 /// Returns what is said of a script that cannot be read.

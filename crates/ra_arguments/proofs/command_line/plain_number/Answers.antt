@@ -5,13 +5,13 @@ use Rattle.ra_arguments.proofs.command_line.plain_number.Goals as goal
 
 pub returns-in-Ok : goal.returns-in-Ok
 returns-in-Ok c =
-    let given = text_given (found_of c.args.given.now) c.args.option.now c.in-Some.text.now c.in-Some.ensures in
-    rw (given, number_of 16 c.in-Some.text.now c.parse.result c.parse.ensures.value.0 c.in-Ok.number c.in-Ok.is) refl
+    let given = text_given (found_of c.args.given.now) c.args.option.now c.in_ok-text.text.now c.in_ok-text.ensures in
+    rw (given, number_of 16 c.in_ok-text.text.now c.parse.result c.parse.ensures.value.0 c.in-Ok.number c.in-Ok.is) refl
 
 pub returns-in-Err : goal.returns-in-Err
 returns-in-Err c =
-    let given = text_given (found_of c.args.given.now) c.args.option.now c.in-Some.text.now c.in-Some.ensures in
-    rw (given, no_number_of 16 c.in-Some.text.now c.parse.result c.parse.ensures.value.0 (λ n ok. let clash = sym ok ∙ c.in-Err.is in cc)) refl
+    let given = text_given (found_of c.args.given.now) c.args.option.now c.in_ok-text.text.now c.in_ok-text.ensures in
+    rw (given, no_number_of 16 c.in_ok-text.text.now c.parse.result c.parse.ensures.value.0 (λ n ok. let clash = sym ok ∙ c.in-Err.is in cc)) refl
 
-pub returns-in_default : goal.returns-in_default
-returns-in_default c = rw (none_given (found_of c.args.given.now) c.args.option.now c.in_default.ensures) refl
+pub returns-in_err-text : goal.returns-in_err-text
+returns-in_err-text c = rw (c.from_residual.ensures, none_given (found_of c.args.given.now) c.args.option.now c.in_err-text.ensures) refl
