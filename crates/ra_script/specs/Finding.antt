@@ -9,7 +9,7 @@ use Rattle.ra_text.specs.declared.output_kind.OutputKind.{OutputKind}
 use Rattle.ra_script.specs.Performed.{IsPerformedAs, Unwritten, turn_limit}
 use Rattle.ra_script.specs.ScriptText.{script_of}
 
--- the text says in this format what came of the script of the input by the least of these seeds that brings it to this
+-- the text shows in this format the run of the script of the input by the least of these seeds that brings it to this
 -- end; `finished` says whether that run is finished
 pub record IsFirstRun (format : OutputKind) (faults : Option FaultRates) (ending : Ending) (first last : ℕ) (input text : List ℕ) (finished : Bool) : Type 0 where
   pub script : ScriptState
@@ -25,7 +25,7 @@ pub record NoneEndsSo (faults : Option FaultRates) (ending : Ending) (first last
   pub none : IsFirstSeed script faults turn_limit ending first last None
 
 -- the choices of the run by the least of these seeds that brings the script of the input to this end are to be written,
--- and no word stands for one of them
+-- and one of them has no word
 pub record IsFirstUnwritten (format : OutputKind) (faults : Option FaultRates) (ending : Ending) (first last : ℕ) (input : List ℕ) : Type 0 where
   pub script : ScriptState
   pub script_is : script_of input ≡ Ok script

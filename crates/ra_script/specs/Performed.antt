@@ -55,7 +55,7 @@ Says Choices policy script moves report output = SaysChoices policy script moves
 Says Shrunk policy script moves report output = SaysShrunk script moves output
 Says State policy script moves report output = ShowsState script moves output
 
--- The output says in this format what came of the script that the input is, under this policy, which was followed to
+-- The output shows in this format the run of the script that the input is, under this policy, which was followed to
 -- its end. `finished` says whether this run is finished.
 pub record IsPerformedAs (format : OutputKind) (policy : Policy) (input output : List ℕ) (finished : Bool) : Type 0 where
   pub script : ScriptState
@@ -65,7 +65,7 @@ pub record IsPerformedAs (format : OutputKind) (policy : Policy) (input output :
   pub run : IsWholeRun script policy turn_limit moves report finished
   pub says : Says format policy script moves report output
 
--- the policy's run repeats a message, and no word stands for a repeat
+-- the policy's run repeats a message, and a repeat has no word
 pub record HasNoWords (policy : Policy) (input : List ℕ) : Type 0 where
   pub script : ScriptState
   pub script_is : script_of input ≡ Ok script
@@ -74,7 +74,7 @@ pub record HasNoWords (policy : Policy) (input : List ℕ) : Type 0 where
   pub ends : Ends script policy moves
   pub repeats : repeated_by moves ≢ []
 
--- choices are to be written, and no word stands for one of them
+-- choices are to be written, and one of them has no word
 abbrev pub Unwritten : OutputKind → Policy → List ℕ → Type 0
 Unwritten Lines policy input = ⊥
 Unwritten Trace policy input = ⊥
@@ -113,7 +113,7 @@ pub record BringsToEnd (policy : Policy) (known : Option (List ℕ)) (result : R
 
 -- ---- The answer
 
--- The answer of each of the three, which write what comes of a script in this format. `old` and `new` are what is left in
+-- The answer of each of the three, which write the run of a script in this format. `old` and `new` are what is left in
 -- the reader before and after it, and `before` and `after` what the writer contains, if they tell. `Untouched` says that
 -- the writer is as before.
 pub record PerformsScript (format : OutputKind) (policy : Policy) (old new before after : Option (List ℕ)) (Untouched : Type 0)
@@ -122,7 +122,7 @@ pub record PerformsScript (format : OutputKind) (policy : Policy) (old new befor
   pub ok : IfOk result (λ finished. IfSome old (λ input. (output : List ℕ) × IsPerformedAs format policy input output finished
       × Consumes old new input × Appends before after output))
   pub refused : IfErr result (λ why. IfSome old (λ input. RefusesAs format policy input why))
-  -- if the reader tells nothing of its input, there still is one of which this holds
+  -- if the reader tells nothing of its input, this still holds of some input
   pub performed : IfOk result (λ finished. (input output : List ℕ) × IsPerformedAs format policy input output finished
       × Appends before after output)
   pub cause : IfErr result (λ why. (input : List ℕ) × RefusesAs format policy input why)

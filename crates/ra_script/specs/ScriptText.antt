@@ -49,12 +49,12 @@ fitting done (Unlock name) = if is_held_after done name then Ok (Unlock name) el
 abbrev pub next_op : List Op → List ℕ → Result Op ScriptError
 next_op done string = result_and_then (fitting done) (ok_or (op_of string) fault.Op)
 
--- the operations that are done, and after them those of these strings
+-- the operations that are done, and after them the operations of these strings
 abbrev pub ops_after : List Op → List (List ℕ) → Result (List Op) ScriptError
 ops_after done [] = Ok done
 ops_after done (string ∷ strings) = result_and_then (λ op. ops_after (done ++ op ∷ []) strings) (next_op done string)
 
--- the operations of a client, of which there are at most 1,024
+-- the operations of a client, at most 1,024 of them
 abbrev pub script_ops : List (List ℕ) → Result (List Op) ScriptError
 script_ops strings = if nat_lt 1024 (length strings) then Err fault.Limit else ops_after [] strings
 
@@ -62,7 +62,7 @@ script_ops strings = if nat_lt 1024 (length strings) then Err fault.Limit else o
 abbrev pub script_client : ClientTable → Result ScriptClient ScriptError
 script_client client = result_and_then (λ ops. Ok (record { node = natural client.node; ops = ops })) (script_ops client.ops)
 
--- the clients that are done, and after them those of these tables
+-- the clients that are done, and after them the clients of these tables
 abbrev pub clients_after : List ScriptClient → List ClientTable → Result (List ScriptClient) ScriptError
 clients_after done [] = Ok done
 clients_after done (client ∷ clients) = result_and_then (λ c. clients_after (done ++ c ∷ []) clients) (script_client client)

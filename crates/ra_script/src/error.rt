@@ -61,7 +61,7 @@ pub enum PerformError {
 
 // By hand, since derived ones take several times as long to prove.
 impl fmt::Display for PerformError {
-    /// Prints one word: that of the inner refusal, or the name of the variant.
+    /// Prints one word: the word of the inner refusal, or the name of the variant.
     fn fmt<W: fmt::Write>(&self, f: &mut fmt::Formatter<W>) -> fmt::Result {
         let word = match self {
             PerformError::Script(refusal) => return fmt::Display::fmt(refusal, f),

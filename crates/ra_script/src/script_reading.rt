@@ -52,7 +52,7 @@ fn tree_of(alloc: Global, text: &[u8]) -> Result<Table, ScriptError>
     }
 }
 
-/// Adds the operation of a string to the last client, of which there is one.
+/// Adds the operation of a string to the last client. There is one.
 ///
 /// # Errors
 ///
@@ -106,10 +106,7 @@ fn add_client(
     }
     script.add_client(alloc, node)?;
     for &string in strings {
-        match add_op(script, string) {
-            Ok(()) => {}
-            Err(fault) => return Err(fault),
-        }
+        add_op(script, string)?;
     }
     Ok(())
 }
@@ -154,7 +151,7 @@ fn script_in(alloc: Global, document: &DocumentRef<'_>) -> Result<Script, Script
     script_with(alloc, nodes, &document.clients)
 }
 
-/// Returns the script of these clients, each of which is at one of the nodes.
+/// Returns the script of these clients. Each is at one of the nodes.
 ///
 /// # Errors
 ///
@@ -173,10 +170,7 @@ fn script_with(alloc: Global, nodes: u16, clients: &[ClientRef<'_>]) -> Result<S
     for client in clients {
         // Each client is at one of the nodes.
         let node = client.node_up_to(nodes).unwrap();
-        match add_client(alloc, &mut script, node, &client.ops) {
-            Ok(()) => {}
-            Err(fault) => return Err(fault),
-        }
+        add_client(alloc, &mut script, node, &client.ops)?;
     }
     Ok(script)
 }
@@ -184,7 +178,7 @@ fn script_with(alloc: Global, nodes: u16, clients: &[ClientRef<'_>]) -> Result<S
 /// Reads the text of a script: a TOML document with the keys `nodes`, an integer, and `client`, an array of tables. Each of these
 /// has the keys `node`, an integer, and `ops`, an array of strings. The word of a mode (`X`, `S`, `IS`, `IX` or `SIX`), one space
 /// and a name lock the name in that mode, and `U NAME` unlocks it. Clients are numbered from 1 by place, and may have names at
-/// the end. The cost is that of the parser, and for each client at most the square of its operations.
+/// the end. It costs what the parser costs, and for each client at most the square of its operations.
 ///
 /// # Errors
 ///
@@ -212,13 +206,7 @@ pub fn read_script(alloc: Global, text: &[u8]) -> Result<Script, ScriptError>
     ensures only { (script : ScriptState) → Means text.now script
         → MatchResult result (λ read. read ≡ script) (λ fault. fault ≡ ScriptError.Memory) }
 {
-    let tree = match tree_of(alloc, text) {
-        Ok(tree) => tree,
-        Err(fault) => return Err(fault),
-    };
-    let document = match document_of(alloc, &tree) {
-        Ok(document) => document,
-        Err(fault) => return Err(fault),
-    };
+    let tree = tree_of(alloc, text)?;
+    let document = document_of(alloc, &tree)?;
     script_in(alloc, &document)
 }

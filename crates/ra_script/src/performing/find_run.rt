@@ -14,7 +14,7 @@ use ra_text::OutputKind;
 use std::alloc::Global;
 
 /// Returns what is written in a format of the run of a script by the least seed of a range by which it comes to an end by chance, with
-/// faults or without, each in at most 16,777,216 turns. It is `None` if no seed brings the script to that end. The observer is told of each
+/// faults or without, each in at most 16,777,216 turns. It is `None` if no seed brings the script to that end. The observer learns of each
 /// seed that is tried, the last of which made the run. The cost is that of the runs up to that one, and for it
 /// what [`perform_as`](crate::perform_as) says of the format.
 ///
@@ -22,9 +22,9 @@ use std::alloc::Global;
 ///
 /// The first that holds, except that `Memory` may come before the other:
 ///
-/// 1. `Choice`: the choices are to be written, and a message is repeated, for which there is no word. The observer was told of each seed
+/// 1. `Choice`: the choices are to be written, and a message is repeated, for which there is no word. The observer learned of each seed
 ///    up to that of the run.
-/// 2. `Memory`: memory ran out at some seed, and the observer was told of those before it; or for the text, and the observer was told of
+/// 2. `Memory`: memory ran out at some seed, and the observer learned of those before it; or for the text, and the observer learned of
 ///    each seed up to that of the run.
 pub fn find_run<O: Observer>(
     alloc: Global,

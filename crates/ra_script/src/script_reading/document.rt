@@ -139,10 +139,8 @@ fn clients_of<'a>(alloc: Global, tables: &'a Array) -> Result<Vec<ClientRef<'a>>
 {
     let mut clients = Vec::new(alloc);
     for table in tables {
-        match client_of(alloc, table) {
-            Ok(client) => clients.push(client)?,
-            Err(fault) => return Err(fault),
-        }
+        let client = client_of(alloc, table)?;
+        clients.push(client)?;
     }
     Ok(clients)
 }

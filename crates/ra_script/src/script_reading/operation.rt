@@ -21,12 +21,8 @@ pub fn operation(string: &str) -> Option<Op>
 fn operation_of(text: &[u8]) -> Option<Op>
     ensures { result ≡ spec.op_of text.now }
 {
-    let Some((word, name)) = split_once(text, b' ') else {
-        return None;
-    };
-    let Some(name) = name_of(name) else {
-        return None;
-    };
+    let (word, name) = split_once(text, b' ')?;
+    let name = name_of(name)?;
     if let Some(mode) = mode_of(word) {
         return Some(Op::Lock(name, mode));
     }

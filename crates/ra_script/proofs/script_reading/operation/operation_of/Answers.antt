@@ -25,9 +25,10 @@ no_parts text none = rw (sym (same_cut text) ∙ none)
 no_name : (text : List ℕ) (parts : List ℕ × List ℕ) → forms.cut 32 text ≡ Some parts → forms.name_of parts.1 ≡ None → None ≡ op_of text
 no_name text parts is none = rw (sym (same_cut text) ∙ is, sym (same_name parts.1) ∙ none)
 
-pub returns-in_default : goal.returns-in_default
-returns-in_default c = no_parts c.args.text.now (rw c.in_default.is at c.split_once.ensures)
+pub returns-in_err-word : goal.returns-in_err-word
+returns-in_err-word c = c.from_residual.ensures ∙ no_parts c.args.text.now (rw c.in_err-word.was at c.split_once.ensures)
 
-pub returns-in_default-name_of : goal.returns-in_default-name_of
-returns-in_default-name_of c =
-    no_name c.args.text.now (c.in-Some.word.now, c.in-Some.name.now) (rw c.in-Some.is at c.split_once.ensures) (sym c.name_of.ensures ∙ c.in_default-name_of.is)
+pub returns-in_err-name : goal.returns-in_err-name
+returns-in_err-name c =
+    c.from_residual-in_err-name.ensures
+    ∙ no_name c.args.text.now (c.in_ok-word.word.now, c.in_ok-word.name.now) (rw c.in_ok-word.was at c.split_once.ensures) (sym c.name_of.ensures ∙ c.in_err-name.was)
