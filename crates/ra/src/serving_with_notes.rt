@@ -1,11 +1,15 @@
 //! What `ra` does, with notes for a person.
 ghost use Rattle.std.specs.Prelude.{◌≡◌, map, string_bytes};
+ghost use Rattle.ra_arguments.specs.Helping.{helps_of};
 ghost use Rattle.ra_cli.specs.Commands.{Serves};
 ghost use Rattle.ra_cli.specs.Refusals.{command_word, refused_line};
 ghost use Rattle.ra_cli.specs.Statuses.{Writes};
 
 use crate::user_notes::write_notes;
-use ra_arguments::{Command, Task, read_command_line};
+use ra_arguments::{
+    ANSWER_HELP, CHECK_HELP, CLUSTER_HELP, Command, DRAW_HELP, NODE_HELP, SETTLE_HELP, SIM_HELP,
+    STATUS_HELP, SUMMARY_HELP, Task, read_command_line,
+};
 use ra_cli::{CommandFault, do_alone, refuse_arguments, run_by_threads};
 use ra_notes::{
     NoteSource, RecordingReader, RecordingWriter, SeedProgress, write_arguments_note,
@@ -56,7 +60,8 @@ pub fn serve_with_notes<T: Threads + Wait + Sync, R: BufRead, W: Write, N: Write
     notes: &mut N,
 ) -> u8
     // What is promised of the status, the reader and the writer is the same, whatever becomes of the note.
-    ensures { Serves (map string_bytes arguments.now) (R.remaining reader.old.inner) (R.remaining reader.new.inner)
+    ensures { Serves (helps_of ANSWER_HELP.now SIM_HELP.now CLUSTER_HELP.now CHECK_HELP.now DRAW_HELP.now NODE_HELP.now SETTLE_HELP.now SUMMARY_HELP.now STATUS_HELP.now)
+        (map string_bytes arguments.now) (R.remaining reader.old.inner) (R.remaining reader.new.inner)
         (W.contents writer.old.inner) (W.contents writer.new.inner) (reader.new ≡ reader.old) result }
 {
     let line = read_command_line(alloc, arguments);

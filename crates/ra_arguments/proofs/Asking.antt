@@ -1,6 +1,6 @@
 -- What arguments ask for, by what the parser makes of them.
-use Rattle.std.proofs.Common.{◌≡◌, ◌∙◌, Bool, true, false, not, List, [], ◌∷◌, Result, Ok, Err, String, Global, refl, sym, subst, ap, inl, inr}
-use Rattle.std.specs.Prelude.{Any, IfOk}
+use Rattle.std.proofs.Common.{◌≡◌, ◌∙◌, ◌⊎◌, Bool, true, false, not, List, [], ◌∷◌, Result, Ok, Err, String, Global, refl, sym, subst, ap, inl, inr}
+use Rattle.std.specs.Prelude.{IfOk}
 use Rattle.std.proofs.lemmas.Bool.{false≢true}
 use Rattle.std.proofs.lemmas.Result.{IfOk-weaker}
 use Rattle.std.specs.List.{list_any}
@@ -11,11 +11,11 @@ use Rattle.clap.specs.declared.error.kind.ErrorKind.{ErrorKind}
 use Rattle.clap.specs.declared.error.kind.ErrorKind.TheVariants as kind
 use Rattle.ra_arguments.specs.declared.command_line.Task.{Task}
 use Rattle.ra_arguments.specs.declared.command_line.Task.TheVariants as task
-use Rattle.ra_arguments.specs.Arguments.{IsHelpArgument}
 use Rattle.ra_arguments.specs.Application.{HasWords, WordList, ending_words, policy_words, program_with, ra_app}
 use Rattle.ra_arguments.specs.declared.usage_fault.UsageFault.{UsageFault}
 use Rattle.ra_arguments.specs.declared.usage_fault.UsageFault.TheVariants as usage
 use Rattle.ra_arguments.specs.Asked.{AsksForNothing, AsksForTask, IsParsed, IsTaskFor, IsUsageFault, is_help, meaning_of, refusals}
+use Rattle.ra_arguments.specs.Helping.{Helps, IsHelpText, IsShown}
 use Rattle.ra_arguments.specs.Meanings.{Meaning, Meant}
 use Rattle.ra_arguments.proofs.Parsing.{same_command, same_refusals, simple, simple_and_free}
 
@@ -89,6 +89,33 @@ nothing_asked arguments (usage.Parser error) (at, other) = go (is_help (kind_of 
 
 pub help_is_no_memory : (k : ErrorKind) → is_help k ≡ true → k ≡ kind.OutOfMemory → ⊥
 help_is_no_memory k help memory = false≢true (sym (ap is_help memory) ∙ help)
+
+help_kind : (k : ErrorKind) → is_help k ≡ true → (k ≡ kind.DisplayHelp) ⊎ (k ≡ kind.DisplayVersion)
+help_kind kind.InvalidValue is = absurd (false≢true is)
+help_kind kind.UnknownArgument is = absurd (false≢true is)
+help_kind kind.InvalidSubcommand is = absurd (false≢true is)
+help_kind kind.NoEquals is = absurd (false≢true is)
+help_kind kind.ValueValidation is = absurd (false≢true is)
+help_kind kind.TooManyValues is = absurd (false≢true is)
+help_kind kind.TooFewValues is = absurd (false≢true is)
+help_kind kind.WrongNumberOfValues is = absurd (false≢true is)
+help_kind kind.ArgumentConflict is = absurd (false≢true is)
+help_kind kind.MissingRequiredArgument is = absurd (false≢true is)
+help_kind kind.MissingSubcommand is = absurd (false≢true is)
+help_kind kind.DisplayHelp is = inl refl
+help_kind kind.DisplayHelpOnMissingArgumentOrSubcommand is = absurd (false≢true is)
+help_kind kind.DisplayVersion is = inr refl
+help_kind kind.Io is = absurd (false≢true is)
+help_kind kind.Format is = absurd (false≢true is)
+help_kind kind.OutOfMemory is = absurd (false≢true is)
+
+-- a text that is shown is the help of the command that the arguments name, or the version
+pub shown : (helps : Helps) (arguments : List Text) (error : Error) (text : Text) → HasKind (refusals arguments) error → is_help (kind_of error) ≡ true
+    → IsShown helps arguments (kind_of error) text → IsAmong kind.DisplayVersion (refusals arguments) ⊎ IsHelpText helps arguments text
+shown helps arguments error text has is shows = elim (help_kind (kind_of error) is) [
+  | inl help ↦ inr (shows help)
+  | inr version ↦ inl (subst (λ (k : ErrorKind). IsAmong k (refusals arguments)) version (refused arguments error has (help_is_no_memory (kind_of error) is)))
+]
 
 -- what the parser made of the arguments, by the commands that were built
 pub parsed_by : (made : App) (policies endings : WordList) → HasWords policies policy_words → HasWords endings ending_words → made ≡ program_with policies endings

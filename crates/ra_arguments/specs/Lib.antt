@@ -6,3 +6,4 @@ pub mod Application
 pub mod OptionTable
 pub mod Meanings
 pub mod Asked
+pub mod Helping

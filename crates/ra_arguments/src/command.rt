@@ -1,7 +1,12 @@
 //! The command that arguments ask for.
 ghost use Rattle.std.specs.Prelude.{map, string_bytes};
 ghost use Rattle.ra_arguments.specs.Asked.{Asks, IsCauseWith};
+ghost use Rattle.ra_arguments.specs.Helping.{ShowsHelpOf, helps_of};
 
+use crate::command_line::helps::{
+    ANSWER_HELP, CHECK_HELP, CLUSTER_HELP, DRAW_HELP, NODE_HELP, SETTLE_HELP, SIM_HELP,
+    STATUS_HELP, SUMMARY_HELP,
+};
 use crate::command_line::search::{Search, SurveyTask};
 use crate::command_line::{CommandFault, PolicyName, Task, parse};
 use crate::lone_command::is_command_alone;
@@ -55,6 +60,7 @@ pub struct CommandLine<'a> {
 pub fn read_command_line<'a>(alloc: Global, arguments: &'a [String]) -> CommandLine<'a>
     ensures asks { Asks (map string_bytes arguments.now) result.asked }
     ensures cause { IsCauseWith (map string_bytes arguments.now) result.asked result.fault }
+    ensures help { ShowsHelpOf (helps_of ANSWER_HELP.now SIM_HELP.now CLUSTER_HELP.now CHECK_HELP.now DRAW_HELP.now NODE_HELP.now SETTLE_HELP.now SUMMARY_HELP.now STATUS_HELP.now) (map string_bytes arguments.now) result.asked }
 {
     if is_command_alone(arguments, "node") {
         return CommandLine {
@@ -97,7 +103,8 @@ pub fn read_command_line<'a>(alloc: Global, arguments: &'a [String]) -> CommandL
 
 /// Returns what the arguments ask for. The first is the program's name.
 pub fn command_of<'a>(alloc: Global, arguments: &'a [String]) -> Command<'a>
-    ensures { Asks (map string_bytes arguments.now) result }
+    ensures asks { Asks (map string_bytes arguments.now) result }
+    ensures help { ShowsHelpOf (helps_of ANSWER_HELP.now SIM_HELP.now CLUSTER_HELP.now CHECK_HELP.now DRAW_HELP.now NODE_HELP.now SETTLE_HELP.now SUMMARY_HELP.now STATUS_HELP.now) (map string_bytes arguments.now) result }
 {
     read_command_line(alloc, arguments).asked
 }

@@ -5,14 +5,19 @@ pub mod input_kind;
 pub mod option_rows;
 pub mod search;
 
-ghost use Rattle.std.specs.Prelude.{◌≡◌, ◌↔◌, Any, IsTrue, MatchResult, Ok, map, string_bytes};
-ghost use Rattle.clap.specs.Words.{HasKind, found_of, rows_of, subcommand_rows_of};
+ghost use Rattle.std.specs.Prelude.{◌≡◌, ◌↔◌, Any, IfOk, IsTrue, MatchResult, Ok, map, string_bytes};
+ghost use Rattle.clap.specs.Words.{HasKind, found_of, kind_of, rows_of, subcommand_rows_of};
 ghost use Rattle.ra_arguments.specs.Arguments.{IsHelpArgument};
 ghost use Rattle.ra_arguments.specs.Asked.{AsksForTask, IsArgumentsFault, IsRefusedBy, IsTaken, IsTaskFor, is_help, meaning_given, refusals};
+ghost use Rattle.ra_arguments.specs.Helping.{IsShown, ShowsHelp, helps_of};
 ghost use Rattle.ra_arguments.specs.Meanings.{answer_in, chance_of as chance_by, cluster_in, draw_in, check, ending_in, flag_in, kind_in, meaning_in, number_in, part_in, plain_number_in, policy_in, policy_named as policy_by_name, printed_by, printed_in, rates_in, repeats_in, search_by, seeds_in, sim_in, survey_by};
 
 use crate::cluster_output::ClusterOutput;
 use crate::command_line::command_rows::matches_of;
+use crate::command_line::helps::{
+    ANSWER_HELP, CHECK_HELP, CLUSTER_HELP, DRAW_HELP, NODE_HELP, SETTLE_HELP, SIM_HELP,
+    STATUS_HELP, SUMMARY_HELP, help_below,
+};
 use crate::command_line::input_kind::InputKind;
 use crate::command_line::search::{Search, SurveyTask};
 use crate::usage_fault::{ArgumentsFault, UsageCause, UsageFault};
@@ -20,7 +25,7 @@ use clap::error::ErrorKind;
 use clap::{ArgMatches, Error as ParseError};
 use ra_schedule::{Ending, Faults, SeedRange};
 use ra_text::{OutputKind, Part};
-use std::alloc::Global;
+use std::alloc::{AllocError, Global};
 
 /// Which policy the arguments name.
 #[derive(Clone, Copy)]
@@ -465,19 +470,6 @@ fn asks_for_help(arguments: &[String]) -> bool
     false
 }
 
-/// Returns whether the arguments ask for the summary of a command's help: the first of them that asks for help is `-h`.
-/// It does not allocate.
-fn asks_for_summary(arguments: &[String]) -> bool {
-    for argument in arguments {
-        match argument.as_str() {
-            "-h" => return true,
-            "--help" => return false,
-            _ => {}
-        }
-    }
-    false
-}
-
 /// Returns the value that is wrong for this cause, or `None` if the cause is not the value of one option. It does not allocate.
 fn wrong_value<'a>(matches: &ArgMatches<'a>, cause: UsageCause) -> Option<&'a str> {
     let option = match cause {
@@ -496,9 +488,10 @@ fn wrong_value<'a>(matches: &ArgMatches<'a>, cause: UsageCause) -> Option<&'a st
 ///
 /// `Usage`: they ask for nothing, for this cause. `Memory`: memory ran out.
 pub fn parse<'a>(alloc: Global, arguments: &'a [String]) -> Result<Task<'a>, ArgumentsFault<'a>>
-    ensures { MatchResult result (AsksForTask (map string_bytes arguments.now)) (IsArgumentsFault (map string_bytes arguments.now)) }
+    ensures task { MatchResult result (AsksForTask (map string_bytes arguments.now)) (IsArgumentsFault (map string_bytes arguments.now)) }
+    ensures help { IfOk result (ShowsHelp (helps_of ANSWER_HELP.now SIM_HELP.now CLUSTER_HELP.now CHECK_HELP.now DRAW_HELP.now NODE_HELP.now SETTLE_HELP.now SUMMARY_HELP.now STATUS_HELP.now) (map string_bytes arguments.now)) }
 {
-    let Ok(parsed) = matches_of(alloc, arguments, asks_for_summary(arguments)) else {
+    let Ok(parsed) = matches_of(alloc, arguments) else {
         return Err(ArgumentsFault::Memory);
     };
     match parsed {
@@ -524,6 +517,23 @@ fn is_help_kind(kind: ErrorKind) -> bool
     matches!(kind, ErrorKind::DisplayHelp | ErrorKind::DisplayVersion)
 }
 
+/// Returns a text of help or the version: the parser's text and, if it is help, the text below it.
+///
+/// # Errors
+///
+/// `AllocError`: there was no memory for it.
+fn help_text(alloc: Global, arguments: &[String], error: &ParseError) -> Result<String, AllocError>
+    ensures { IfOk result (λ text. IsShown (helps_of ANSWER_HELP.now SIM_HELP.now CLUSTER_HELP.now CHECK_HELP.now DRAW_HELP.now NODE_HELP.now SETTLE_HELP.now SUMMARY_HELP.now STATUS_HELP.now) (map string_bytes arguments.now) (kind_of error.now) (string_bytes text)) }
+{
+    let mut text = format!(in alloc; "{error}")?;
+    if let ErrorKind::DisplayHelp = error.kind() {
+        text.push_str("\n")?;
+        text.push_str(help_below(arguments))?;
+        text.push_str("\n")?;
+    }
+    Ok(text)
+}
+
 /// Returns the text of help, or the version, for which the arguments ask, if that is why the parser stopped.
 ///
 /// # Errors
@@ -535,13 +545,14 @@ fn help_of<'a>(
     error: &ParseError,
 ) -> Result<Task<'a>, CommandFault>
     requires { HasKind (refusals (map string_bytes arguments.now)) error.now }
-    ensures { MatchResult result (AsksForTask (map string_bytes arguments.now)) (IsRefusedBy (map string_bytes arguments.now) error.now) }
+    ensures task { MatchResult result (AsksForTask (map string_bytes arguments.now)) (IsRefusedBy (map string_bytes arguments.now) error.now) }
+    ensures help { IfOk result (ShowsHelp (helps_of ANSWER_HELP.now SIM_HELP.now CLUSTER_HELP.now CHECK_HELP.now DRAW_HELP.now NODE_HELP.now SETTLE_HELP.now SUMMARY_HELP.now STATUS_HELP.now) (map string_bytes arguments.now)) }
 {
     if is_help_kind(error.kind()) {
         if !asks_for_help(arguments) {
             return Err(CommandFault::Usage);
         }
-        return match format!(in alloc; "{error}") {
+        return match help_text(alloc, arguments, error) {
             Ok(text) => Ok(Task::Help(text)),
             Err(_) => Err(CommandFault::Memory),
         };

@@ -1,4 +1,4 @@
--- What comes of a call of `answer`.
+-- What a call of `answer` does.
 use Rattle.std.specs.Prelude.{◌≡◌, ◌≢◌, ◌⊎◌, ℕ, List, Result, Option, IfSome, IfErr, OnOk}
 use Rattle.std.specs.Io.KnownBytes.{Consumes, Appends}
 use Rattle.ra_automaton.specs.declared.error.ReceiveError.{ReceiveError}

@@ -36,7 +36,7 @@ abbrev pub is_valid : Verdict → Bool
 is_valid (Valid requests messages) = true
 is_valid (Invalid line cause) = false
 
--- What came of a check, for any kind of text. A kind has its verdicts on an input, `is_right` says which of them say that the
+-- The outcome of a check, for any kind of text. A kind has its verdicts on an input, `is_right` says which of them say that the
 -- input is of the kind, and `lines_of` has the lines of each. If the input is known, it has a verdict, right or not, and
 -- exactly the lines of the verdict were written. It was read from its beginning, and to its end if the verdict is right. If
 -- it is not known, a text with such a verdict still exists.
@@ -49,7 +49,7 @@ Judges {V} IsVerdictOn is_right lines_of old new before after right =
     × ((input : List ℕ) × (verdict : V) × IsVerdictOn input verdict × (is_right verdict ≡ right)
     × Appends before after (lines_of verdict))
 
--- what came of a check of a trace
+-- the outcome of a check of a trace
 abbrev pub Checks : (old new before after : Option (List ℕ)) → Bool → Type 0
 Checks = Judges IsVerdict is_valid verdict_text
 
@@ -77,7 +77,7 @@ abbrev pub is_run : MarksVerdict → Bool
 is_run (marks.Valid requests grants) = true
 is_run (marks.Invalid line cause) = false
 
--- what came of a check of a mark log
+-- the outcome of a check of a mark log
 abbrev pub ChecksMarks : (old new before after : Option (List ℕ)) → Bool → Type 0
 ChecksMarks = Judges IsMarksVerdict is_run marks_verdict_text
 

@@ -1,8 +1,9 @@
--- What comes of a command, and of the arguments that ask for it.
+-- What a command does, and what the program does with the arguments that ask for it.
 use Rattle.std.specs.Prelude.{◌≡◌, ◌≢◌, ⊤, ℕ, List, Option, None, string_bytes}
 use Rattle.ra_stamp.specs.Member.{IsMember}
 use Rattle.ra_schedule.specs.ChoicesText.{choices_of}
 use Rattle.ra_arguments.specs.Asked.{Asks}
+use Rattle.ra_arguments.specs.Helping.{Helps, ShowsHelpOf}
 use Rattle.ra_arguments.specs.declared.cluster_output.ClusterOutput.{ClusterOutput}
 use Rattle.ra_arguments.specs.declared.command.Command.{Command}
 use Rattle.ra_arguments.specs.declared.command.Command.TheVariants.{Node, Settle, Task, Unknown}
@@ -13,7 +14,7 @@ use Rattle.ra_cli.specs.SettleRun.{ServesSettle}
 use Rattle.ra_cli.specs.Statuses.{Writes}
 use Rattle.ra_cli.specs.Tasks.{Does}
 
--- What came of a command that ended with this status. `old` and `new` are what is left in the reader before and after it,
+-- What a command did that ended with this status. `old` and `new` are what is left in the reader before and after it,
 -- and `before` and `after` what the writer contains, if they tell. A text of help is printed as it is. For an
 -- unknown command, the line of its refusal is.
 abbrev pub DoesCommand : Command → (old new before after : Option (List ℕ)) → (status : ℕ) → Type 0
@@ -38,10 +39,11 @@ ReadsNothing (Unknown fault) = ⊤
 abbrev pub NeedsNoThreads : Command → Type 0
 NeedsNoThreads asked = (printed : ClusterOutput) → asked ≢ Task (task.Cluster printed)
 
--- What the program did when it was run with these arguments and ended with this status: what they ask for. `Untouched`
--- says that nothing was read.
-pub record Serves (arguments : List (List ℕ)) (old new before after : Option (List ℕ)) (Untouched : Type 0) (status : ℕ) : Type 0 where
+-- What the program did when it was run with these arguments and ended with this status: what they ask for. If that is help, it is
+-- the help of the command that they name. `Untouched` says that nothing was read.
+pub record Serves (helps : Helps) (arguments : List (List ℕ)) (old new before after : Option (List ℕ)) (Untouched : Type 0) (status : ℕ) : Type 0 where
   pub asked : Command
   pub asks : Asks arguments asked
+  pub help : ShowsHelpOf helps arguments asked
   pub does : DoesCommand asked old new before after status
   pub unread : ReadsNothing asked → Untouched

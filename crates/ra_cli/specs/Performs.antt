@@ -6,7 +6,7 @@ use Rattle.ra_text.specs.declared.output_kind.OutputKind.{OutputKind}
 use Rattle.ra_script.specs.Performed.{IsPerformedAs}
 
 -- If the input is known, it is a script that was performed under this policy, finished or not. It was read to its end,
--- and exactly what came of it was written, in this format. If it is not known, such a script still exists.
+-- and exactly what it led to was written, in this format. If it is not known, such a script still exists.
 abbrev pub PerformsBy : Policy → OutputKind → (old new before after : Option (List ℕ)) → Bool → Type 0
 PerformsBy policy format old new before after finished =
     IfSome old (λ input. (output : List ℕ) × IsPerformedAs format policy input output finished

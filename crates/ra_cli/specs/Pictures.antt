@@ -60,12 +60,12 @@ abbrev pub Shows : InputKind → Part → (input : List ℕ) → (before after :
 Shows kind part input before after = IsOfKind kind input × IsDrawable part input
     × (picture : List ℕ) × IsPicture part input picture × Appends before after picture
 
--- what came of an input: a picture, or a denial that says why there is none. `Untouched` says that nothing was written.
+-- the outcome of an input: a picture, or a denial that says why there is none. `Untouched` says that nothing was written.
 abbrev pub ShowsOrDenies : InputKind → Part → (input : List ℕ) → (before after : Option (List ℕ)) → (Untouched : Type 0) → Option Denial → Type 0
 ShowsOrDenies kind part input before after Untouched None = Shows kind part input before after
 ShowsOrDenies kind part input before after Untouched (Some denial) = SaysWhyNot kind input (string_bytes denial.line) × Untouched
 
--- What came of an attempt to draw a part. `old` and `new` are what is left in the reader before and after it, and
+-- The outcome of an attempt to draw a part. `old` and `new` are what is left in the reader before and after it, and
 -- `before` and `after` what the writer contains, if they tell.
 pub record Attempts (kind : InputKind) (part : Part) (old new before after : Option (List ℕ)) (Untouched : Type 0)
     (result : Result (Option Denial) DrawError) : Type 0 where

@@ -46,7 +46,7 @@ abbrev pub Contradicts : SettleTask → (input output : List ℕ) → Type 0
 Contradicts asked input output =
     (number : ℕ) × (why : TextCause) × IsWrong asked.repeats input number why × (output ≡ unsettled_line number why)
 
--- what comes of an input that was read, by the status
+-- what an input that was read leads to, by the status
 pub record TellsSettled (asked : SettleTask) (input : List ℕ) (before after : Option (List ℕ)) (status : ℕ) : Type 0 where
   pub range : status ≤ 3
   pub done : status ≡ 0 → (output : List ℕ) × Settles asked input output × Appends before after output

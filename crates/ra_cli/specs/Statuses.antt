@@ -9,7 +9,7 @@ use Rattle.ra_cli.specs.Refusals.{IsOfReader, IsOfWriter, refused_line, word_of}
 abbrev pub Writes : (text : List ℕ) → (wanted : ℕ) → (before after : Option (List ℕ)) → (status : ℕ) → Type 0
 Writes text wanted before after status = ((status ≡ wanted) × Appends before after text) ⊎ ((status ≡ 1) × BreaksOff text before after)
 
--- status 2: the line of a refusal was written and nothing else, and it is another refusal than that the reader or the
+-- status 2: the line of a refusal was written and nothing else, and the refusal is not that the reader or the
 -- writer failed
 abbrev pub IsRefused : (before after : Option (List ℕ)) → Type 0
 IsRefused before after = (refusal : CommandRefusal) × (IsOfReader refusal → ⊥) × (IsOfWriter refusal → ⊥)
@@ -21,7 +21,7 @@ abbrev pub IsSaid : CommandRefusal → (before after : Option (List ℕ)) → Ty
 IsSaid refusal before after = (IsOfReader refusal × Appends before after (refused_line (word_of refusal)))
     ⊎ BreaksOff (refused_line (word_of refusal)) before after
 
--- What comes of a refusal, by the status. `Unwritten` says that nothing was written.
+-- What a refusal leads to, by the status. `Unwritten` says that nothing was written.
 pub record PrintsRefusal (refusal : CommandRefusal) (before after : Option (List ℕ)) (Unwritten : Type 0) (status : ℕ) : Type 0 where
   pub range : status ≤ 2
   pub not_done : 1 ≤ status

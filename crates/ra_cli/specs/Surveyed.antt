@@ -40,7 +40,7 @@ survey_text survey =
 abbrev pub AllFinished : Survey → Type 0
 AllFinished survey = (survey.stuck ≡ None) × (survey.limit ≡ None)
 
--- the input is the text of a script, and the output says what came of its random runs, with or without faults, under
+-- the input is the text of a script, and the output sums up its random runs, with or without faults, under
 -- the seeds that are asked for
 pub record IsSurveyed (asked : SurveyTask) (input output : List ℕ) (finished : Bool) : Type 0 where
   pub script : ScriptState
@@ -57,7 +57,7 @@ abbrev pub none_found_is_success : Ending → Bool
 none_found_is_success Finished = false
 none_found_is_success Stuck = true
 
--- The output says, in the format of the search, what came of the input's script by the first of the seeds that brings
+-- The output shows, in the format of the search, the run of the input's script by the first of the seeds that brings
 -- it to the end that is looked for, and `finished` says whether that run finished. Or no seed does, and the output is the
 -- line `none`.
 abbrev pub IsFound : SurveyTask → Search → (input output : List ℕ) → (finished : Bool) → Type 0
@@ -66,13 +66,13 @@ IsFound asked search input output finished =
     ⊎ (NoneEndsSo asked.faults search.ending asked.seeds.first asked.seeds.last input × (output ≡ codes "none\n")
     × (finished ≡ none_found_is_success search.ending))
 
--- the output says what came of the seeds: it counts them or, if an end is looked for, it tells of the first run that came
+-- the output sums up the seeds: it counts them or, if an end is looked for, it tells of the first run that came
 -- to that end
 abbrev pub IsTold : SurveyTask → (input output : List ℕ) → (finished : Bool) → Type 0
 IsTold asked input output finished =
     MatchOption asked.find (IsSurveyed asked input output finished) (λ search. IsFound asked search input output finished)
 
--- the choices of the run that is looked for are to be printed, and no word stands for one of them
+-- the choices of the run that is looked for are to be printed, and one of them has no word
 abbrev pub FoundHasNoWords : SurveyTask → (input : List ℕ) → Type 0
 FoundHasNoWords asked input = MatchOption asked.find ⊥
     (λ search. IsFirstUnwritten search.format asked.faults search.ending asked.seeds.first asked.seeds.last input)

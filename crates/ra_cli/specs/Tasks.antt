@@ -145,9 +145,9 @@ abbrev pub IsBrokenBy : Task → (old new before after : Option (List ℕ)) → 
 IsBrokenBy asked old new before after = IsUnreadBy asked old new before after ⊎ IsUnsaidBy asked old new before after
     ⊎ IfSome old (λ input. IsCutBy asked input before after)
 
--- ---- What came of it
+-- ---- The outcome
 
--- What came of a task that ended with this status. `old` and `new` are what is left in the reader before and after it,
+-- What a task did that ended with this status. `old` and `new` are what is left in the reader before and after it,
 -- and `before` and `after` what the writer contains, if they tell.
 pub record Does (asked : Task) (old new before after : Option (List ℕ)) (status : ℕ) : Type 0 where
   pub range : status ≤ 3

@@ -27,7 +27,7 @@ pub const REFUSED: u8 = 2;
 /// The run ended with something left to do, the text is not a trace or not a mark log, or the books do not settle.
 pub const UNFINISHED: u8 = 3;
 
-/// What came of a command: its exit status, and what there is to say of it to a person, if anything.
+/// The outcome of a command: its exit status, and what a note tells a person about it, if anything.
 #[derive(Clone, Copy)]
 pub struct CommandOutcome {
     pub status: u8,
@@ -53,7 +53,7 @@ impl CommandOutcome {
     }
 }
 
-/// Writes a text and returns the status, or that of a fault if the writer fails. It does not allocate.
+/// Writes a text and returns the status, or `BROKEN` if the writer fails. It does not allocate.
 fn written<W: Write>(writer: &mut W, text: &[u8], status: u8) -> u8
     ensures { Writes text.now status (W.contents writer.old) (W.contents writer.new) result }
 {

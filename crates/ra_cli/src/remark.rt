@@ -1,10 +1,10 @@
-//! What there is to say to a person of what came of a command.
+//! What a note tells a person about the outcome of a command.
 use crate::refusal_lines::CommandRefusal;
 use ra_book_text::TextCause;
 use ra_stamp::Mark;
 use ra_trace::{Cause, MarkCause};
 
-/// What there is to say to a person of what came of a command. A note is made of it when everything else is done, so that it
+/// What a note tells a person about the outcome of a command. A note is made of it when everything else is done, so that it
 /// takes no part in what is printed.
 #[derive(Clone, Copy)]
 pub enum Remark {

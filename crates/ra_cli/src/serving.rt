@@ -1,5 +1,6 @@
 //! Each command is done by its own function.
 ghost use Rattle.std.specs.Prelude.{◌≡◌, map, string_bytes};
+ghost use Rattle.ra_arguments.specs.Helping.{helps_of};
 ghost use Rattle.ra_cli.specs.Commands.{DoesCommand, NeedsNoThreads, ReadsNothing, Serves};
 
 use crate::commands::answer_command::respond;
@@ -12,15 +13,18 @@ use crate::commands::sim_command::simulate;
 use crate::commands::survey_command::survey_seeds;
 use crate::output::{ALL_DONE, CommandOutcome, print_text, refuse};
 use crate::refusal_lines::CommandRefusal;
-use ra_arguments::{Command, Task, command_of};
+use ra_arguments::{
+    ANSWER_HELP, CHECK_HELP, CLUSTER_HELP, Command, DRAW_HELP, NODE_HELP, SETTLE_HELP, SIM_HELP,
+    STATUS_HELP, SUMMARY_HELP, Task, command_of,
+};
 use ra_schedule::Observer;
 use std::alloc::Global;
 use std::io::{BufRead, Write};
 use std::sync::Wait;
 use std::thread::Threads;
 
-/// Does a command other than `cluster`, which [`run_by_threads`] does, and returns what came of it. It starts no thread, and
-/// waits for nobody but the reader and the writer. The observer is told of each seed. A text that is to be drawn or settled
+/// Does a command other than `cluster`, which [`run_by_threads`] does, and returns its outcome. It starts no thread, and
+/// waits for nobody but the reader and the writer. The observer learns of each seed. A text that is to be drawn or settled
 /// is left in `text`, unless that is refused.
 pub fn do_alone<R: BufRead, W: Write, O: Observer>(
     alloc: Global,
@@ -60,7 +64,7 @@ pub fn do_alone<R: BufRead, W: Write, O: Observer>(
     }
 }
 
-/// Does what the arguments ask for, of which the first is the program's name, and returns the exit status:
+/// Does what the arguments ask for, and returns the exit status (the first argument is the program's name):
 ///
 /// - 0: done.
 /// - 1: a fault of the input or the output.
@@ -78,7 +82,8 @@ pub fn serve<T: Threads + Wait + Sync, R: BufRead, W: Write>(
     reader: &mut R,
     writer: &mut W,
 ) -> u8
-    ensures { Serves (map string_bytes arguments.now) (R.remaining reader.old) (R.remaining reader.new)
+    ensures { Serves (helps_of ANSWER_HELP.now SIM_HELP.now CLUSTER_HELP.now CHECK_HELP.now DRAW_HELP.now NODE_HELP.now SETTLE_HELP.now SUMMARY_HELP.now STATUS_HELP.now)
+        (map string_bytes arguments.now) (R.remaining reader.old) (R.remaining reader.new)
         (W.contents writer.old) (W.contents writer.new) (reader.new ≡ reader.old) result }
 {
     let asked = command_of(alloc, arguments);

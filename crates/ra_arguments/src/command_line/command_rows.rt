@@ -1,10 +1,10 @@
 //! The commands of `ra`, each a row of a table, so that the same few lines make them all.
-ghost use Rattle.std.specs.Prelude.{◌≡◌, map, IfOk, string_bytes};
+ghost use Rattle.std.specs.Prelude.{◌≡◌, map, IfOk, option_map, string_bytes};
 ghost use Rattle.clap.specs.Words.{app_of};
 ghost use Rattle.ra_arguments.specs.Asked.{IsParsed};
+ghost use Rattle.ra_arguments.specs.Helping.{command_called, command_in};
 ghost use Rattle.ra_arguments.specs.OptionTable.{IsOfRow, all_labels, label_of_row};
 
-use crate::command_line::helps::{STATUS_HELP, help_on};
 use crate::command_line::option_rows::{option_of, options_of};
 use clap::{ArgMatches, Command, Error as ParseError};
 use std::alloc::{AllocError, Global};
@@ -72,17 +72,32 @@ const COMMANDS: &[CommandRow] = &[
     },
 ];
 
-/// Returns the command that the arguments name, or `None`. It does not allocate.
-pub fn command_named(arguments: &[String]) -> Option<&str> {
-    let [_, name, ..] = arguments else {
-        return None;
-    };
-    for row in COMMANDS {
-        if row.name == name.as_str() {
-            return Some(row.name);
+/// Returns the command of a name, or `None`. It does not allocate.
+fn row_of(name: &str) -> Option<CommandRow<'static>>
+    ensures { option_map (λ row. row.kind) result ≡ command_called name.now }
+{
+    for row in all_rows() {
+        if row.name == name {
+            return Some(*row);
         }
     }
     None
+}
+
+/// Returns the command that the arguments name after the program, or `None`. It does not allocate.
+pub fn row_named(arguments: &[String]) -> Option<CommandRow<'static>>
+    ensures { option_map (λ row. row.kind) result ≡ command_in (map string_bytes arguments.now) }
+{
+    match arguments {
+        [_, name, ..] => row_of(name.as_str()),
+        _ => None,
+    }
+}
+
+/// Returns the name of the command that the arguments name, or `None`. It does not allocate.
+pub fn command_named(arguments: &[String]) -> Option<&'static str> {
+    let row = row_named(arguments)?;
+    Some(row.name)
 }
 
 /// Returns the commands, in the order of help.
@@ -92,17 +107,12 @@ pub fn all_rows() -> &'static [CommandRow<'static>]
     COMMANDS
 }
 
-/// Makes a command with its options, and with the whole of its help or its summary.
-fn command_of<'a>(
-    alloc: Global,
-    row: &CommandRow<'a>,
-    is_summary: bool,
-) -> Result<Command<'a>, AllocError>
+/// Makes a command with its options, and without the help below them.
+fn command_of<'a>(alloc: Global, row: &CommandRow<'a>) -> Result<Command<'a>, AllocError>
     ensures { IfOk result (λ made. IsOfRow row.now (app_of made)) }
 {
     let mut command = Command::new(alloc, row.name)
         .about(row.about)
-        .after_help(help_on(row.kind, is_summary))
         .disable_help_flag(true);
     for option in options_of(row.kind) {
         command = command.arg(option_of(alloc, option))?;
@@ -110,8 +120,8 @@ fn command_of<'a>(
     Ok(command)
 }
 
-/// Returns what the parser makes of the arguments. The first is the program's name. The parser knows the whole help of
-/// each command, or its summary.
+/// Returns what the parser makes of the arguments. The first is the program's name. The parser has of each
+/// help what is above the text of `help_below`.
 ///
 /// # Errors
 ///
@@ -119,18 +129,16 @@ fn command_of<'a>(
 pub fn matches_of<'a>(
     alloc: Global,
     arguments: &'a [String],
-    is_summary: bool,
 ) -> Result<Result<ArgMatches<'a>, ParseError>, AllocError>
     ensures { IfOk result (IsParsed (map string_bytes arguments.now)) }
 {
     let mut program = Command::new(alloc, "ra")
         .version(VERSION)
         .about("Simulate, run, check and draw a lock cluster that works by messages alone")
-        .after_help(STATUS_HELP)
         .disable_help_subcommand(true)
         .subcommand_required(true);
     for row in all_rows() {
-        let command = command_of(alloc, row, is_summary)?;
+        let command = command_of(alloc, row)?;
         program = program.subcommand(command)?;
     }
     Ok(program.try_get_matches_from(arguments))

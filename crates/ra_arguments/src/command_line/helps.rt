@@ -1,8 +1,12 @@
 //! The help of the program and of each command, below their options.
-use crate::command_line::command_rows::CommandKind;
+ghost use Rattle.std.specs.Prelude.{◌≡◌, map, string_bytes};
+ghost use Rattle.ra_arguments.specs.Helping as spec;
+ghost use Rattle.ra_arguments.specs.Helping.{asks_summary, help_of, helps_of};
+
+use crate::command_line::command_rows::{CommandKind, row_named};
 
 /// The help of the command `answer`, below its options.
-const ANSWER_HELP: &str = "\
+pub const ANSWER_HELP: &str = "\
 Read one frame of version 1 or 2 from standard input, as a line of hexadecimal
 digits, and print the frames with which the node answers, in version 2, one per
 line. The node is idle: it has seen no sequence number, and its event clock is
@@ -25,7 +29,7 @@ Exit status:
   2  the command line or the frame was refused";
 
 /// The help of the command `sim`, below its options.
-const SIM_HELP: &str = "\
+pub const SIM_HELP: &str = "\
 Read a script from standard input. A script is a TOML document with the number
 of nodes, 1 to 64, and with 1 to 64 clients. Each client has a node and at most
 1024 operations, which it does in order: `X r` locks the name r in mode X, and
@@ -100,7 +104,7 @@ Exit status:
   3  a run did not finish, or --find finished found none";
 
 /// The help of the command `check`, below its options.
-const CHECK_HELP: &str = "\
+pub const CHECK_HELP: &str = "\
 Read a trace from standard input: the steps of a run, one per line, each with
 its marks on the lines after it.
   trace 2 2 0
@@ -160,7 +164,7 @@ Exit status:
   3  invalid";
 
 /// The help of the command `draw`, below its options.
-const DRAW_HELP: &str = "\
+pub const DRAW_HELP: &str = "\
 Read a trace from standard input, as `ra sim --trace` prints it and `ra check
 --help` describes it. Print its picture as one SVG file, which any browser
 shows. Each node has a lane, and time goes down. An arrow leads from where a
@@ -187,7 +191,7 @@ Exit status:
   3  not valid: the first wrong line is printed, as by `ra check`";
 
 /// The help of the command `cluster`, below its options.
-const CLUSTER_HELP: &str = "\
+pub const CLUSTER_HELP: &str = "\
 Read a script from standard input, as `ra sim --help` describes it: 1 to 64
 nodes, and 1 to 64 clients that lock names in these modes:
   S    shared
@@ -236,7 +240,7 @@ Exit status:
      whole script";
 
 /// The help of the command `node`, below its options.
-const NODE_HELP: &str = "\
+pub const NODE_HELP: &str = "\
 Be one node of a cluster, for a host in any language that carries the frames
 from node to node. Read a book from standard input: what happens at the node,
 one event per line. Answer each line on standard output.
@@ -283,7 +287,7 @@ Exit status:
      `refused Line`";
 
 /// The help of the command `settle`, below its options.
-const SETTLE_HELP: &str = "\
+pub const SETTLE_HELP: &str = "\
 Read the books of all nodes of a cluster from standard input, one after the
 other, each as `ra node --help` describes it. They may be in any order. Find out
 whether they are one run of the cluster: whether each frame that came was sent,
@@ -316,7 +320,7 @@ Exit status:
   3  invalid";
 
 /// The summary of the help of each command, below its options.
-const SUMMARY_HELP: &str = "\
+pub const SUMMARY_HELP: &str = "\
 The command reads standard input. See --help for what it reads and prints, an
 example, and the exit statuses.";
 
@@ -330,34 +334,46 @@ Exit status:
   2  refused: standard output has the cause as one word
   3  a run did not finish, or a trace, a mark log or books are not valid";
 
-/// Returns the help of the command `sim`. Each of these texts but the shortest two has a function of its own, since the
-/// cost of proving a function grows with the square of the bytes of the texts that it names.
-fn sim_help() -> &'static str {
+/// Returns the help of the command `sim`. Each of these texts but the shortest has a function of its own, since the cost of
+/// proving a function grows with the square of the bytes of the texts that it names.
+fn sim_help() -> &'static str
+    ensures { result.now ≡ SIM_HELP.now }
+{
     SIM_HELP
 }
 
 /// Returns the help of the command `cluster`.
-fn cluster_help() -> &'static str {
+fn cluster_help() -> &'static str
+    ensures { result.now ≡ CLUSTER_HELP.now }
+{
     CLUSTER_HELP
 }
 
 /// Returns the help of the command `check`.
-fn check_help() -> &'static str {
+fn check_help() -> &'static str
+    ensures { result.now ≡ CHECK_HELP.now }
+{
     CHECK_HELP
 }
 
 /// Returns the help of the command `node`.
-fn node_help() -> &'static str {
+fn node_help() -> &'static str
+    ensures { result.now ≡ NODE_HELP.now }
+{
     NODE_HELP
 }
 
 /// Returns the help of the command `settle`.
-fn settle_help() -> &'static str {
+fn settle_help() -> &'static str
+    ensures { result.now ≡ SETTLE_HELP.now }
+{
     SETTLE_HELP
 }
 
 /// Returns the help of a command, below its options, or its summary, which names --help.
-pub fn help_on(kind: CommandKind, is_summary: bool) -> &'static str {
+fn help_on(kind: CommandKind, is_summary: bool) -> &'static str
+    ensures { result.now ≡ help_of (helps_of ANSWER_HELP.now SIM_HELP.now CLUSTER_HELP.now CHECK_HELP.now DRAW_HELP.now NODE_HELP.now SETTLE_HELP.now SUMMARY_HELP.now STATUS_HELP.now) is_summary kind }
+{
     match kind {
         _ if is_summary => SUMMARY_HELP,
         CommandKind::Answer => ANSWER_HELP,
@@ -367,5 +383,40 @@ pub fn help_on(kind: CommandKind, is_summary: bool) -> &'static str {
         CommandKind::Draw => DRAW_HELP,
         CommandKind::Node => node_help(),
         CommandKind::Settle => settle_help(),
+    }
+}
+
+/// Returns whether an argument asks for the summary of a command's help, if it asks for help. It does not allocate.
+fn summary_by(argument: &str) -> Option<bool>
+    ensures { result ≡ spec.summary_by argument.now }
+{
+    match argument {
+        "-h" => Some(true),
+        "--help" => Some(false),
+        _ => None,
+    }
+}
+
+/// Returns whether the arguments ask for the summary of a command's help: the first of them that asks for help is `-h`.
+/// It does not allocate.
+fn asks_for_summary(arguments: &[String]) -> bool
+    ensures { result ≡ asks_summary (map string_bytes arguments.now) }
+{
+    for argument in arguments {
+        if let Some(is_summary) = summary_by(argument.as_str()) {
+            return is_summary;
+        }
+    }
+    false
+}
+
+/// Returns the help below the options of the command that the arguments name or, if they name none, below the commands of the
+/// program. It does not allocate.
+pub fn help_below(arguments: &[String]) -> &'static str
+    ensures { result.now ≡ spec.help_below (helps_of ANSWER_HELP.now SIM_HELP.now CLUSTER_HELP.now CHECK_HELP.now DRAW_HELP.now NODE_HELP.now SETTLE_HELP.now SUMMARY_HELP.now STATUS_HELP.now) (map string_bytes arguments.now) }
+{
+    match row_named(arguments) {
+        Some(row) => help_on(row.kind, asks_for_summary(arguments)),
+        None => STATUS_HELP,
     }
 }

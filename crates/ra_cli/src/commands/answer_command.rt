@@ -227,7 +227,7 @@ pub fn respond<R: Read, W: Write>(
 ) -> CommandOutcome
     ensures does { Does (Task.Answer node nodes) (R.remaining reader.old) (R.remaining reader.new)
         (W.contents writer.old) (W.contents writer.new) result.status }
-    // Numbers that are those of no node are refused before anything is read.
+    // Numbers of no node are refused before anything is read.
     ensures unread { ¬ IsMember node nodes → reader.new ≡ reader.old }
 {
     match answer(alloc, node, nodes, reader, writer) {

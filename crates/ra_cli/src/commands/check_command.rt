@@ -14,7 +14,7 @@ use ra_trace::{MarksVerdict, TraceError, Verdict, check_buffered_with_due, check
 use std::alloc::Global;
 use std::io::{BufRead, Write};
 
-/// Returns what comes of a verdict that is printed. If it is that a line is wrong for its marks, `due` is the mark that is due.
+/// Returns the outcome of a verdict that is printed. If it is that a line is wrong for its marks, `due` is the mark that is due.
 fn outcome_of(verdict: &Verdict, due: Option<Mark>) -> CommandOutcome
     ensures { ((result.status ≡ 0) × (is_valid verdict.now ≡ true)) ⊎ ((result.status ≡ 3) × (is_valid verdict.now ≡ false)) }
 {
@@ -30,7 +30,7 @@ fn outcome_of(verdict: &Verdict, due: Option<Mark>) -> CommandOutcome
     }
 }
 
-/// Returns what comes of a verdict on a mark log that is printed.
+/// Returns the outcome of a verdict on a mark log that is printed.
 fn marks_outcome_of(verdict: &MarksVerdict) -> CommandOutcome
     ensures { ((result.status ≡ 0) × (is_run verdict.now ≡ true)) ⊎ ((result.status ≡ 3) × (is_run verdict.now ≡ false)) }
 {

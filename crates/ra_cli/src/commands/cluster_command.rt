@@ -105,10 +105,10 @@ pub fn run_script<T: Threads + Wait + Sync, R: Read>(
     printed: ClusterOutput,
     reader: &mut R,
 ) -> Result<String, RunScriptError>
-    // What is read is a script to its end, and the text tells what came of it.
+    // What is read is a script to its end, and the text shows its run.
     ensures ok { IfOk result (λ text. IfSome (R.remaining reader.old) (λ input.
         IsClusterRun printed input (string_bytes text) × Consumes (R.remaining reader.old) (R.remaining reader.new) input)) }
-    // If the reader tells nothing of its input, there still is one of which this holds.
+    // If the reader tells nothing of its input, this still holds of some input.
     ensures read { IfOk result (λ text. (input : List ℕ) × IsClusterRun printed input (string_bytes text)) }
     ensures reads { ReadsInput RunScriptError.Read 65537 RefusesRun (R.remaining reader.old) (R.remaining reader.new) result }
 {

@@ -9,8 +9,8 @@ use ra_book_text::{BookFault, answer_book};
 use std::alloc::Global;
 use std::io::{BufRead, Write};
 
-/// Answers the lines of the reader's book as the node that its first line names, and returns what came of it. The status
-/// is 0 at the end of the input, 2 if its first line is not that of a book, and 1 if the reader or the writer failed.
+/// Answers the lines of the reader's book as the node that its first line names, and returns the outcome. The status
+/// is 0 at the end of the input, 2 if its first line does not begin a book, and 1 if the reader or the writer failed.
 pub fn be_a_node<R: BufRead, W: Write>(
     alloc: Global,
     reader: &mut R,

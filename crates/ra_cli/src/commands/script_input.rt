@@ -21,7 +21,7 @@ use std::io::Read;
 pub fn script_from<R: Read>(alloc: Global, reader: &mut R) -> Result<Script, RunScriptError>
     ensures ok { IfOk result (λ script. IfSome (R.remaining reader.old) (λ input.
         (script_of input ≡ Ok script) × Consumes (R.remaining reader.old) (R.remaining reader.new) input)) }
-    // If the reader tells nothing of its input, there still is one of which this holds.
+    // If the reader tells nothing of its input, this still holds of some input.
     ensures read { IfOk result (λ script. (input : List ℕ) × (script_of input ≡ Ok script)) }
     ensures reads { ReadsInput RunScriptError.Read 65537 RefusesRun (R.remaining reader.old) (R.remaining reader.new) result }
     ensures unrun { IfErr result (λ fault. (why : ClusterError) → fault ≢ RunScriptError.Cluster why) }

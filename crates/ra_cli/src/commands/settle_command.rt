@@ -94,7 +94,7 @@ fn contradict<W: Write>(alloc: Global, refused: SettleTextError, writer: &mut W)
     }
 }
 
-/// Settles the books of a text, and prints what comes of it.
+/// Settles the books of a text, and prints the run, or why they do not settle.
 fn settle_input<W: Write>(
     alloc: Global,
     asked: SettleTask,

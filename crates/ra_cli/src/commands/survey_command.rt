@@ -1,4 +1,4 @@
-//! A script under many seeds, from its text to the lines of what came of it.
+//! A script under many seeds, from its text to the lines of the survey.
 ghost use Rattle.std.specs.Prelude.{◌≡◌, ◌↔◌, ◌⊎◌, List, ℕ, Ok, codes, string_bytes, true, false, IsTrue, IfOk, IfSome, IsErrOf};
 ghost use Rattle.std.specs.Io.KnownBytes.{Consumes};
 ghost use Rattle.ra_script.specs.Finding.{IsFirstUnwritten};
@@ -29,7 +29,7 @@ fn all_finished(survey: &Survey) -> bool
     survey.stuck.is_none() && survey.limit.is_none()
 }
 
-/// Drives a cluster through a script under each seed, and returns the lines of what came of them, and whether each run is finished.
+/// Drives a cluster through a script under each seed, and returns the lines of the survey, and whether each run is finished.
 ///
 /// # Errors
 ///
@@ -107,7 +107,7 @@ fn none_found_is_success(ending: Ending) -> bool
     matches!(ending, Ending::Stuck)
 }
 
-/// Returns what is told of a script's runs under seeds.
+/// Returns what is printed of a script's runs under seeds.
 ///
 /// # Errors
 ///
@@ -131,10 +131,10 @@ fn told_of<O: Observer>(
 }
 
 /// Reads the text of a script, and drives a cluster through it by chance, with faults or without, under each seed from the first
-/// to the last, both of them included, each in at most 16,777,216 turns. Returns the lines of what came of them, and whether each
+/// to the last, both of them included, each in at most 16,777,216 turns. Returns the lines of the survey, and whether each
 /// run is finished. If an end is looked for, it goes up to the first seed whose run comes to it, and returns that run's trace or
 /// choices, and whether it is finished. If there is no such run, it returns the line `none`, and whether it is runs that are stuck
-/// that were looked for. The observer is told of each seed. It takes at most 65,537 bytes from the reader, and no read that failed
+/// that were looked for. The observer learns of each seed. It takes at most 65,537 bytes from the reader, and no read that failed
 /// is tried again.
 ///
 /// # Errors
@@ -153,7 +153,7 @@ pub fn survey_script<R: Read, O: Observer>(
 ) -> Result<Printed, RunScriptError>
     ensures ok { IfOk result (λ told. IfSome (R.remaining reader.old) (λ input.
         IsTold asked.now input (string_bytes told.text) told.finished × Consumes (R.remaining reader.old) (R.remaining reader.new) input)) }
-    // If the reader tells nothing of its input, there still is one of which this holds.
+    // If the reader tells nothing of its input, this still holds of some input.
     ensures read { IfOk result (λ told. (input : List ℕ) × IsTold asked.now input (string_bytes told.text) told.finished) }
     ensures reads { ReadsInput RunScriptError.Read 65537 (RefusesSurvey asked.now)
         (R.remaining reader.old) (R.remaining reader.new) result }

@@ -9,12 +9,14 @@ returns g c =
           rw (w.reader-is, w.writer-is, w.outcome-is) (record {
             asked = c.read_command_line-line.result.asked;
             asks = c.read_command_line-line.ensures.asks;
+            help = c.read_command_line-line.ensures.help;
             does = rw w.in-Task-Cluster.is (rw is w.run_by_threads-outcome.ensures);
             unread = rw w.in-Task-Cluster.is (rw is (λ nothing. absurd nothing));
           })
       | in_default w ↦ rw (w.reader-is, w.writer-is, w.outcome-is) (record {
         asked = c.read_command_line-line.result.asked;
         asks = c.read_command_line-line.ensures.asks;
+        help = c.read_command_line-line.ensures.help;
         does = w.do_alone-outcome.ensures.does;
         unread = w.do_alone-outcome.ensures.unread;
       })

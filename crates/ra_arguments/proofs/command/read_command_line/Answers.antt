@@ -26,7 +26,7 @@ returns-in-Ok-clause-asks c = (
     no_node = λ are. false≢true (sym c.if-is_command_alone.false ∙ c.is_command_alone.ensures.1 are);
     no_books = none_asked (map string_bytes c.args.arguments.now) c.settle_arguments.result c.settle_arguments.ensures c.in_default.not-Some;
   },
-  c.in-Ok.ensures,
+  c.in-Ok.ensures.task,
 )
 
 pub returns-in-Err-Usage-clause-asks : goal.returns-in-Err-Usage-clause-asks
@@ -36,11 +36,11 @@ returns-in-Err-Usage-clause-asks c = (
     no_books = none_asked (map string_bytes c.args.arguments.now) c.settle_arguments.result c.settle_arguments.ensures c.in_default.not-Some;
   },
   λ are. false≢true (sym c.if-is_command_alone-2.false ∙ c.is_command_alone-2.ensures.1 are),
-  nothing_asked (map string_bytes c.args.arguments.now) c.in-Err-Usage.fault (rw c.in-Err-Usage.field-0-is at c.in-Err-Usage.ensures),
+  nothing_asked (map string_bytes c.args.arguments.now) c.in-Err-Usage.fault (rw c.in-Err-Usage.field-0-is at c.in-Err-Usage.ensures.task),
 )
 
 pub returns-in-Err-Usage-clause-cause : goal.returns-in-Err-Usage-clause-cause
-returns-in-Err-Usage-clause-cause c = rw c.in-Err-Usage.field-0-is at c.in-Err-Usage.ensures
+returns-in-Err-Usage-clause-cause c = rw c.in-Err-Usage.field-0-is at c.in-Err-Usage.ensures.task
 
 pub returns-in-Err-Memory-clause-asks : goal.returns-in-Err-Memory-clause-asks
 returns-in-Err-Memory-clause-asks c = (
@@ -51,3 +51,6 @@ returns-in-Err-Memory-clause-asks c = (
   λ are. false≢true (sym c.if-is_command_alone-2.false ∙ c.is_command_alone-2.ensures.1 are),
   tt,
 )
+
+pub returns-in-Ok-clause-help : goal.returns-in-Ok-clause-help
+returns-in-Ok-clause-help c = c.in-Ok.ensures.help
