@@ -1,4 +1,4 @@
--- What comes of adding an operation to a client. No public contract speaks of it.
+-- What adding an operation to a client does. No public contract speaks of it.
 use Rattle.std.specs.Prelude.{◌≡◌, ℕ, ◌<◌, ◌≤◌, List, [], ◌∷◌, ◌++◌, length, Result, Ok, Err}
 use Rattle.ra_stamp.specs.declared.mode.Mode.{Mode}
 use Rattle.ra_schedule.specs.declared.error.AddOpError.{AddOpError}

@@ -39,7 +39,7 @@ abbrev pub choices_in : List (List ℕ) → Option (List Choice)
 choices_in [] = Some []
 choices_in (word ∷ words) = option_and_then (λ choice. option_map (λ choices. choice ∷ choices) (choices_in words)) (choice_of word)
 
--- the choices of a text: those of the words between its spaces, and no choices if it is empty
+-- the choices of a text: the choices of the words between its spaces, and no choices if it is empty
 abbrev pub choices_of : List ℕ → Option (List Choice)
 choices_of [] = Some []
 choices_of (byte ∷ bytes) = choices_in (slice_split (λ b. b == 32) (byte ∷ bytes))

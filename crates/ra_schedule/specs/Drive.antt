@@ -1,4 +1,4 @@
--- What comes of driving a cluster through a script.
+-- What driving a cluster through a script gives.
 use Rattle.std.specs.Prelude.{◌≡◌, ◌≢◌, ◌⊎◌, ◌↔◌, ℕ, ◌<◌, ◌≤◌, Bool, List, length, Result, IsTrue, IfOk, IfSome, IsNone, IsErrOf, IsOkUnless}
 use Rattle.ra_world.specs.declared.text.report.Report.{Report}
 use Rattle.ra_world.specs.Traffic.{Move}

@@ -1,6 +1,6 @@
 -- Which clients are enabled, as the driver keeps it from turn to turn if the choice is random. No public contract
 -- speaks of it.
-use Rattle.std.specs.Prelude.{◌≡◌, ◌≢◌, ◌↔◌, ℕ, ◌+◌, ◌-◌, ◌<◌, Bool, List, [], ◌∷◌, length, slice_index_or, Option, Some, None, option_map, IsTrue, All, Contains, if◌then◌else◌}
+use Rattle.std.specs.Prelude.{◌≡◌, ◌≢◌, ◌↔◌, ◌⊎◌, ℕ, ◌+◌, ◌-◌, ◌<◌, Bool, List, [], ◌∷◌, length, slice_index_or, Option, Some, None, option_map, IsTrue, All, Contains, if◌then◌else◌}
 use Rattle.ra_stamp.specs.declared.entry.Mark.{Mark}
 use Rattle.ra_stamp.specs.Message.{to_of}
 use Rattle.ra_world.specs.declared.step.Step.{Step}
@@ -19,12 +19,17 @@ pub record AreFlags (script : ScriptState) (moves : List Move) (flags : List Boo
   pub length_is : length flags ≡ length script.clients
   pub each : (k : ℕ) (d : Bool) → k < length flags → IsFlag script moves (k + 1) (slice_index_or flags k d)
 
+-- after some clients were looked at again, each flag is right, or it is as before and its client is one of the others
+abbrev pub AreRightOrKept : ScriptState → List Move → (old new : List Bool) → (IsOther : ℕ → Type 0) → Type 0
+AreRightOrKept script moves old new IsOther = (k : ℕ) (d : Bool) → k < length old → IsFlag script moves (k + 1) (slice_index_or new k d)
+    ⊎ ((slice_index_or new k d ≡ slice_index_or old k d) × IsOther (k + 1))
+
 -- the numbers of those whose flag is set, if the first flag is that of this number
 abbrev pub numbers_from : ℕ → List Bool → List ℕ
 numbers_from n [] = []
 numbers_from n (flag ∷ flags) = if flag then n ∷ numbers_from (n + 1) flags else numbers_from (n + 1) flags
 
--- there is a flag for each client of the script, and the count is that of the flags that are set
+-- there is a flag for each client of the script, and the count is the number of flags that are set
 pub record CountsFlags (script : ScriptState) (enabled : Enabled) : Type 0 where
   pub one_each : length enabled.flags.items ≡ length script.clients
   pub count_is : enabled.count ≡ length (numbers_from 1 enabled.flags.items)

@@ -19,7 +19,7 @@ use Rattle.ra_schedule.specs.Shrinking.{IsStuckRun, ComesOf, IsInVain, cut}
 abbrev pub SomeoneWaits : List Progress → Type 0
 SomeoneWaits clients = (place : ℕ) × (place < length clients) × ((d : Progress) → IsTrue (slice_index_or clients place d).waiting)
 
--- one choice for each move, which stands for its step
+-- one choice for each move, which means its step
 pub record AreChoicesFor (script : ScriptState) (choices : List Choice) (moves : List Move) : Type 0 where
   pub one_each : length choices ≡ length moves
   pub each : (before after : List Move) (move : Move) → moves ≡ before ++ move ∷ after
@@ -44,7 +44,7 @@ pub record IsStuckList (script : ScriptState) (moves : List Move) (list : Listed
   pub makes : AreChoicesOf script list.choices moves
   pub stuck : IsStuckRun script moves
 
--- it is such a run, and came of these steps, and has fewer of them than the limit
+-- it is such a run, made from these steps, and has fewer of them than the limit
 pub record IsShorter (script : ScriptState) (steps : List Step) (limit : ℕ) (list : Listed) : Type 0 where
   pub moves : List Move
   pub is : IsStuckList script moves list

@@ -1,4 +1,4 @@
--- What comes of a script under many seeds.
+-- The outcomes of a script under many seeds.
 use Rattle.std.specs.Prelude.{◌≡◌, ℕ, ◌+◌, ◌-◌, ◌≤◌, Bool, true, false, List, [], ◌∷◌, length, map, filter, flat_map, Option, Some, None, option_map, slice_get, All, Contains, IfSome}
 use Rattle.std.specs.List.{position_from}
 use Rattle.ra_world.specs.declared.text.report.Report.{Report}
@@ -33,13 +33,13 @@ pub record HasEnded (script : ScriptState) (policy : Policy) (limit : ℕ) (figu
   pub turns : figures.turns ≡ length moves
   pub messages : figures.messages ≡ report.sent
 
--- what came of a script under a policy, within this many turns: finished, stuck, or a choice left at the limit
+-- the outcome of a script under a policy, within this many turns: finished, stuck, or a choice left at the limit
 abbrev pub IsOutcome : ScriptState → Policy → ℕ → SeedOutcome → Type 0
 IsOutcome script policy limit (Finished figures) = HasEnded script policy limit figures true
 IsOutcome script policy limit (Stuck figures) = HasEnded script policy limit figures false
 IsOutcome script policy limit Limit = (moves : List Move) × Follows script policy moves × Stops script policy limit moves TurnLimit
 
--- what came of a script under each seed, from this one on
+-- the outcome of a script under each seed, from this one on
 abbrev pub AreOutcomes : ScriptState → Option FaultRates → (limit first : ℕ) → List SeedOutcome → Type 0
 AreOutcomes script faults limit first outcomes = (place : ℕ) (outcome : SeedOutcome) → slice_get outcomes place ≡ Some outcome
     → IsOutcome script (chance faults (first + place)) limit outcome
@@ -94,7 +94,7 @@ IsLeastAndMost numbers None = numbers ≡ []
 IsLeastAndMost numbers (Some spread) = Contains numbers spread.least × Contains numbers spread.most
     × All (λ number. (spread.least ≤ number) × (number ≤ spread.most)) numbers
 
--- the survey counts what came of the seeds from this one on
+-- the survey counts the outcomes of the seeds from this one on
 pub record Tallies (first : ℕ) (outcomes : List SeedOutcome) (survey : Survey) : Type 0 where
   pub finished : survey.finished ≡ tally_of is_finished first outcomes
   pub stuck : survey.stuck ≡ tally_of is_stuck first outcomes

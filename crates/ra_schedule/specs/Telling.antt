@@ -1,11 +1,11 @@
--- What an observer is told of the runs by many seeds.
+-- What an observer learns of the runs by many seeds.
 use Rattle.std.specs.Prelude.{◌≡◌, ℕ, ◌+◌, ◌-◌, ◌<◌, List, [], ◌∷◌, ◌++◌, length, Option, Some, None, ⊤}
 use Rattle.ra_schedule.specs.declared.surveys.seed_outcomes.SeedOutcome.{SeedOutcome}
 use Rattle.ra_schedule.specs.Faults.{FaultRates}
 use Rattle.ra_schedule.specs.Script.{ScriptState}
 use Rattle.ra_schedule.specs.Survey.{AreOutcomes}
 
--- a seed, and what came of it
+-- a seed, and its outcome
 pub record Told : Type 0 where
   pub seed : ℕ
   pub outcome : SeedOutcome
@@ -21,7 +21,7 @@ abbrev pub with_seeds : ℕ → List SeedOutcome → List Told
 with_seeds seed [] = []
 with_seeds seed (outcome ∷ outcomes) = record { seed = seed; outcome = outcome } ∷ with_seeds (seed + 1) outcomes
 
--- the observer was told what came of so many seeds, in order from the first one
+-- the observer learned the outcomes of this many seeds, in order from the first one
 pub record TellsSeeds (script : ScriptState) (faults : Option FaultRates) (limit first count : ℕ) (old new : Option (List Told)) : Type 0 where
   pub outcomes : List SeedOutcome
   pub each : AreOutcomes script faults limit first outcomes

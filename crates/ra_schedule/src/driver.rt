@@ -79,7 +79,7 @@ impl Driver {
         })
     }
 
-    /// Makes turns until no choice is left. At each, the policy makes a choice, and what it stands for is done.
+    /// Makes turns until no choice is left. At each, the policy makes a choice, and the step that it means is made.
     ///
     /// # Errors
     ///
@@ -131,7 +131,7 @@ impl Driver {
         )
     }
 
-    /// Makes the step that a choice stands for, if there is one. Both are recorded before the step is made, so that there is memory
+    /// Makes the step that a choice means, if there is one. Both are recorded before the step is made, so that there is memory
     /// for the record.
     ///
     /// # Errors
@@ -177,7 +177,7 @@ impl Driver {
     }
 }
 
-/// Adds a step and the choice that stands for it to those that are recorded, if any are.
+/// Adds a step and its choice to those that are recorded, if any are.
 ///
 /// # Errors
 ///

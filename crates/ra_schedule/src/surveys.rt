@@ -25,7 +25,7 @@ pub fn chance(faults: Option<Faults>, seed: u64) -> Policy
     }
 }
 
-/// Returns what comes of a script by chance under a seed, with faults or without, within `limit` turns.
+/// Returns the outcome of a script by chance under a seed, with faults or without, within `limit` turns.
 ///
 /// # Errors
 ///
@@ -58,7 +58,7 @@ pub fn outcome_of(
 }
 
 /// Drives a cluster through a script by chance, with faults or without, under each seed of a range, each within `limit` turns, and
-/// counts what came of them. The observer is told of each seed. It costs what [`summarize`] costs, for each seed, and keeps nothing
+/// counts their outcomes. The observer learns of each seed. It costs what [`summarize`] costs, for each seed, and keeps nothing
 /// of a run but its figures.
 ///
 /// # Errors

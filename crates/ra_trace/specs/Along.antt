@@ -33,13 +33,13 @@ pub record IsDone (limit left : ℕ) (old now : Option (List ℕ)) (checker : Ch
   pub trace : IsTraceIn checker.version checker.world.count checker.world.start checker.world.moves (flat_map line_text prefix)
   pub lines : prefix ≡ trace_lines checker.version checker.world.count checker.world.start checker.world.moves
 
--- what comes of the first line, of this many bytes: the checker has taken it, or the line is wrong, or a fault came
+-- what happens at the first line, of this many bytes: the checker has taken it, or the line is wrong, or a fault came
 abbrev pub Opens : ℕ → Option (List ℕ) → Option (List ℕ) → ℕ → Result (Option Checker) TraceError → Type 0
 Opens limit old new count (Ok (Some checker)) = IsAlong limit (limit - count) old new checker 2
 Opens limit old new count (Ok None) = Judges limit old new (Invalid 1 cause.Line)
 Opens limit old new count (Err fault) = Answers limit old new (Err fault)
 
--- what comes of the line with this number, of this many bytes: the checker has taken it, or the trace is over, or the
+-- what happens at the line with this number, of this many bytes: the checker has taken it, or the trace is over, or the
 -- line is wrong, or a fault came
 abbrev pub Turns : ℕ → ℕ → Option (List ℕ) → Option (List ℕ) → Checker → ℕ → ℕ → Result Judgement TraceError → Type 0
 Turns limit left old new after number count (Ok Right) = IsAlong limit (left - count) old new after (number + 1)

@@ -18,7 +18,7 @@ use Rattle.ra_trace.specs.Reading.{Judges, ReadsOn, PassesLimit, StopsAfter}
 use Rattle.ra_trace.specs.Marks.{grants_in, IsMarkRun, IsMarksVerdict, marks_text}
 use Rattle.ra_trace.specs.MarksReading.{JudgesMarks, ReadsOnMarks, PassesMarksLimit, StopsAfterMarks}
 
--- The answer of a check of a trace, which may have so many bytes. `old` is what was left in the reader before it, if the
+-- The answer of a check of a trace, which may have this many bytes. `old` is what was left in the reader before it, if the
 -- reader tells, and `new` is what is left after it.
 pub record ChecksTrace (most : ℕ) (old new : Option (List ℕ)) (result : Result Verdict TraceError) : Type 0 where
   -- the verdict is that of the whole input, even if that is longer than what was read
@@ -45,7 +45,7 @@ pub record ChecksTrace (most : ℕ) (old new : Option (List ℕ)) (result : Resu
   -- at most one byte is read beyond what the text may have
   pub at_most : (taken : List ℕ) × (length taken ≤ most + 1) × Consumes old new taken
 
--- the answer of a check of a mark log, which may have so many bytes, likewise
+-- the answer of a check of a mark log, which may have this many bytes, likewise
 pub record ChecksLog (most : ℕ) (old new : Option (List ℕ)) (result : Result MarksVerdict TraceError) : Type 0 where
   -- the verdict is that of the whole input, even if that is longer than what was read
   pub ok : IfOk result (λ verdict. IfSome old (λ input. IsMarksVerdict input verdict))

@@ -72,13 +72,13 @@ JudgedLine old (line.Stepped step) new result = JudgedOther result
 JudgedLine old (line.Marked mark) new result = JudgedMark old mark new result
 JudgedLine old line.Last new result = JudgedOther result
 
--- what comes of this many bytes that are not a line: the text is at its end, or they are a wrong line
+-- what happens at this many bytes that are not a line: the text is at its end, or they are a wrong line
 abbrev pub IsMissing : ℕ → MarkJudgement → Type 0
 IsMissing count Right = ⊥
 IsMissing count End = count ≡ 0
 IsMissing count (Wrong why) = (why ≡ cause.Line) × (count ≢ 0)
 
--- what comes of the line with this number, of this many bytes: the log has taken it, or the text is at its end, or the
+-- what happens at the line with this number, of this many bytes: the log has taken it, or the text is at its end, or the
 -- line is wrong, or a fault occurred
 abbrev pub TurnsMarks : ℕ → ℕ → Option (List ℕ) → Option (List ℕ) → MarkLog → ℕ → ℕ → Result MarkJudgement TraceError → Type 0
 TurnsMarks limit left old new after number count (Ok Right) = IsAlongMarks limit (left - count) old new after (number + 1)

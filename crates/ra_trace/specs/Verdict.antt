@@ -42,7 +42,7 @@ marks_in lines = flat_map marks_in_line lines
 abbrev pub TableGoesOn : List Mark → Mark → Type 0
 TableGoesOn marks mark = (table : LockTable) × TableRun (marks ++ mark ∷ []) table
 
--- the step is that of a client that asks or leaves
+-- the step is of a client that asks or leaves
 abbrev pub IsOfClient : Step → Type 0
 IsOfClient (Ask node client name mode) = Unit {0}
 IsOfClient (Leave node client name) = Unit {0}
@@ -50,7 +50,7 @@ IsOfClient (Deliver message) = ⊥
 IsOfClient (Lose message) = ⊥
 IsOfClient (Repeat message) = ⊥
 
--- the step is that of a message that is delivered, lost or repeated
+-- the step is of a message that is delivered, lost or repeated
 abbrev pub IsOfMessage : Step → Type 0
 IsOfMessage (Ask node client name mode) = ⊥
 IsOfMessage (Leave node client name) = ⊥

@@ -1,3 +1,4 @@
+// Each line that is checked comes here, so `let .. else` and `match`, which are cheaper to prove, replace `?`.
 pub mod check_text;
 pub mod verdict;
 

@@ -32,7 +32,7 @@ pub enum WriteTraceError {
 
 // By hand, since a derived one takes twice as long to prove.
 impl fmt::Display for WriteTraceError {
-    /// Prints one word: that of the inner refusal, or the name of the variant.
+    /// Prints one word: the word of the inner refusal, or the name of the variant.
     fn fmt<W: fmt::Write>(&self, f: &mut fmt::Formatter<W>) -> fmt::Result {
         match self {
             WriteTraceError::Run(refusal) => fmt::Display::fmt(refusal, f),

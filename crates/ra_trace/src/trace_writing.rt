@@ -77,7 +77,7 @@ fn push_move(text: &mut Draft, step: &Step, marks: &Marks)
     }
 }
 
-/// Makes a step of a run, that of this place, counted from 0, and adds its lines.
+/// Makes the step of a run at this place, counted from 0, and adds its lines.
 ///
 /// # Errors
 ///
@@ -137,10 +137,7 @@ fn trace_steps(
         → (place : ℕ) × (place < length steps.now.items) × WorldRun n start (take (place + 1) steps.now.items) }
 {
     for (place, step) in steps.as_slice().iter().enumerate() {
-        match trace_step(alloc, text, world, place, step) {
-            Ok(()) => {}
-            Err(fault) => return Err(fault),
-        }
+        trace_step(alloc, text, world, place, step)?;
     }
     Ok(())
 }
@@ -166,10 +163,7 @@ fn trace_run(
     text.push_number(nodes);
     text.push_number(start);
     text.end_line();
-    match trace_steps(alloc, text, world, steps) {
-        Ok(()) => {}
-        Err(fault) => return Err(fault),
-    }
+    trace_steps(alloc, text, world, steps)?;
     text.push("end\n");
     Ok(())
 }

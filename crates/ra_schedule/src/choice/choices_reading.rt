@@ -37,9 +37,7 @@ fn choice_of(word: &[u8]) -> Option<Choice>
     let [letter, digits @ ..] = word else {
         return None;
     };
-    let Some(number) = decimal_of(digits) else {
-        return None;
-    };
+    let number = decimal_of(digits)?;
     match letter {
         b'c' => Some(Choice::Client(number)),
         b'm' => Some(Choice::Message(u64::from(number))),

@@ -9,7 +9,7 @@ use crate::{Choice, Choices, ChoicesError};
 use ra_stamp::Memory;
 use std::alloc::Global;
 
-/// Returns whether a word stands for a choice. It does not allocate.
+/// Returns whether a choice has a word. It does not allocate.
 fn has_word(choice: &Choice) -> bool
     ensures { IsTrue result ↔ HasText choice.now }
 {
@@ -20,7 +20,7 @@ fn has_word(choice: &Choice) -> bool
     }
 }
 
-/// Returns whether a word stands for each choice. It does not allocate.
+/// Returns whether each choice has a word. It does not allocate.
 fn have_words(choices: &[Choice]) -> bool
     ensures { IsTrue result ↔ All HasText choices.now }
 {
@@ -68,7 +68,7 @@ fn words_of(alloc: Global, choices: &Choices) -> Result<String, Memory>
 ///
 /// The first that holds:
 ///
-/// 1. `Choice`: no word stands for a choice, which is a repeat, or has a number of more than nine digits.
+/// 1. `Choice`: a choice has no word, since it is a repeat, or has a number of more than nine digits.
 /// 2. `Memory`: memory ran out.
 pub fn choices_text(alloc: Global, choices: &Choices) -> Result<String, ChoicesError>
     ensures ok { IfOk result (λ text. Lists (string_bytes text) choices.now.items) }

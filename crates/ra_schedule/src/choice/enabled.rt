@@ -1,8 +1,8 @@
 //! Which clients are enabled, kept from turn to turn.
-ghost use Rattle.std.specs.Prelude.{◌≡◌, ◌≢◌, ◌⊎◌, ◌+◌, ◌<◌, ℕ, Bool, All, Contains, length, slice_get, slice_index_or, IfOk};
+ghost use Rattle.std.specs.Prelude.{◌≡◌, ◌≢◌, ◌+◌, ◌<◌, ℕ, Bool, All, Contains, length, slice_get, slice_index_or, IfOk};
 ghost use Rattle.ra_schedule.specs.Schedule.{Enters};
 ghost use Rattle.ra_schedule.specs.Progress.{Tracks};
-ghost use Rattle.ra_schedule.specs.Enabled.{CountsFlags, AreFlags, IsFlag, numbers_from};
+ghost use Rattle.ra_schedule.specs.Enabled.{CountsFlags, AreFlags, AreRightOrKept, IsFlag, numbers_from};
 
 use crate::Script;
 use crate::choice::picking::enabled_step;
@@ -73,10 +73,8 @@ impl Enabled {
         requires tracked { Tracks script.now world.now clients.now }
         requires counted { CountsFlags script.now self.old }
         ensures counted { CountsFlags script.now self.new }
-        ensures flags { (k : ℕ) (d : Bool) → k < length self.old.flags.items
-            → IsFlag script.now world.now.moves (k + 1) (slice_index_or self.new.flags.items k d)
-            ⊎ ((slice_index_or self.new.flags.items k d ≡ slice_index_or self.old.flags.items k d)
-            × (Contains members.now (k + 1) → ⊥)) }
+        ensures flags { AreRightOrKept script.now world.now.moves self.old.flags.items self.new.flags.items
+            (λ client. Contains members.now client → ⊥) }
     {
         for member in members {
             self.look_at(script, world, clients, *member);
@@ -94,10 +92,8 @@ impl Enabled {
         requires tracked { Tracks script.now world.now clients.now }
         requires counted { CountsFlags script.now self.old }
         ensures counted { CountsFlags script.now self.new }
-        ensures flags { (k : ℕ) (d : Bool) → k < length self.old.flags.items
-            → IsFlag script.now world.now.moves (k + 1) (slice_index_or self.new.flags.items k d)
-            ⊎ ((slice_index_or self.new.flags.items k d ≡ slice_index_or self.old.flags.items k d)
-            × All (λ mark. Enters (k + 1) mark → ⊥) marks.now) }
+        ensures flags { AreRightOrKept script.now world.now.moves self.old.flags.items self.new.flags.items
+            (λ client. All (λ mark. Enters client mark → ⊥) marks.now) }
     {
         for mark in marks {
             if let Mark::Entered(entry) = mark {

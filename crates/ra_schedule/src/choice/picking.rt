@@ -1,4 +1,4 @@
-//! Which choice comes next, and what it stands for.
+//! Which choice comes next, and what it means.
 ghost use Rattle.std.specs.Prelude.{◌≡◌, ◌≢◌, ◌<◌, ◌+◌, ◌⊎◌, ℕ, List, Some, length, option_map, slice_get, IsSome, IsNone, IsErrOf, IfOk, IfErr, IfSome};
 ghost use Rattle.ra_world.specs.declared.step.Step.{Step};
 ghost use Rattle.ra_schedule.specs.declared.choice.Choice.{Choice};
@@ -44,7 +44,7 @@ pub fn enabled_step(script: &Script, world: &World, client: u32, progress: Progr
     }
 }
 
-/// A choice, and the step that it stands for, or why it can't be made.
+/// A choice, and the step that it means, or why it can't be made.
 #[derive(Clone, Copy)]
 pub struct Picked {
     pub choice: Choice,
@@ -144,7 +144,7 @@ pub fn pick(
     Some(with_meaning(script, world, clients, choice))
 }
 
-/// Returns what a choice stands for.
+/// Returns what a choice means.
 ///
 /// # Errors
 ///

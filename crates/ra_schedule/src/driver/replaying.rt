@@ -68,9 +68,7 @@ fn choice_for(world: &World, step: &Step) -> Option<Choice>
         }
         Step::Deliver(message) | Step::Lose(message) | Step::Repeat(message) => message,
     };
-    let Some(place) = place_like(world, message) else {
-        return None;
-    };
+    let place = place_like(world, message)?;
     Some(match step {
         Step::Lose(_) => Choice::Lost(place),
         Step::Repeat(_) => Choice::Repeated(place),

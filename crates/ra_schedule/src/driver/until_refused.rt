@@ -13,14 +13,14 @@ use std::alloc::Global;
 pub struct DrivenPart {
     /// How many turns were made. If the next one was refused, this is the place of its choice, counted from 0.
     pub turns: u64,
-    /// What came of these turns.
+    /// What these turns led to.
     pub report: Report,
     /// Why the next turn was not made, never `Memory`, or `None` if no choice was left.
     pub refusal: Option<DriveError>,
 }
 
 /// Drives a cluster through a script, as [`drive`](crate::drive) does, until no choice is left or one is refused. Returns how many
-/// turns were made, what came of them, and why there was no further one. It costs what [`summarize`](crate::summarize) does.
+/// turns were made, what they led to, and why there was no further one. It costs what [`summarize`](crate::summarize) does.
 ///
 /// # Errors
 ///

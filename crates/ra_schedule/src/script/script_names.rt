@@ -40,7 +40,7 @@ fn in_order(alloc: Global, names: &BTreeSet<Name>) -> Result<Vec<Name>, Memory>
     Ok(list)
 }
 
-/// Returns the names of a script, each once, in ascending order of their bytes. The cost is that of sorting them.
+/// Returns the names of a script, each once, in ascending order of their bytes. It costs what sorting them costs.
 ///
 /// # Errors
 ///

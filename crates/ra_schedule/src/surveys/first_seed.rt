@@ -20,7 +20,7 @@ pub enum Ending {
     Stuck,
 }
 
-/// Returns whether this came of a run that comes to such an end. It does not allocate.
+/// Returns whether a run with this outcome comes to such an end. It does not allocate.
 fn is_end(ending: Ending, outcome: SeedOutcome) -> bool
     ensures { result ≡ spec.is_end ending outcome }
 {
@@ -31,11 +31,11 @@ fn is_end(ending: Ending, outcome: SeedOutcome) -> bool
 }
 
 /// Looks for the least seed of a range by which a script comes to an end by chance, with faults or without, within `limit` turns. The
-/// observer is told of each seed up to that one. It costs what [`summarize`](crate::summarize) costs, for each of them.
+/// observer learns of each seed up to that one. It costs what [`summarize`](crate::summarize) costs, for each of them.
 ///
 /// # Errors
 ///
-/// `Memory`: memory ran out at some seed. The observer was told of those before it.
+/// `Memory`: memory ran out at some seed. The observer learned of those before it.
 pub fn first_seed<O: Observer>(
     alloc: Global,
     script: &Script,

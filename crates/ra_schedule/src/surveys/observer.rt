@@ -1,4 +1,4 @@
-//! Observers, which are told how far many seeds have come.
+//! Observers, which learn how far a survey of many seeds is.
 ghost use Rattle.std.specs.Prelude.{[], ◌∷◌, List, Option, None};
 ghost use Rattle.ra_schedule.specs.Telling.{Told, Tells};
 

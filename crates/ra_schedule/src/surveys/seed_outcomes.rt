@@ -1,4 +1,4 @@
-//! What came of a script under many seeds, counted.
+//! The outcomes of a script under many seeds, counted.
 ghost use Rattle.std.specs.Prelude.{◌≡◌, ◌<◌, ◌+◌, ◌^◌, ◌++◌, ◌∷◌, ℕ, List, [], length, Some, IfSome};
 ghost use Rattle.ra_schedule.specs.Survey.{IsLeastAndMost, Tallies, tally_with};
 
@@ -11,7 +11,7 @@ pub struct RunCost {
     pub messages: u128,
 }
 
-/// What came of a script under one seed.
+/// The outcome of a script under one seed.
 #[derive(Clone, Copy, Debug, PartialEq, Eq)]
 pub enum SeedOutcome {
     /// Every operation is done, and nothing waits, is queued or under way.
@@ -36,7 +36,7 @@ pub struct Spread {
     pub most: u128,
 }
 
-/// What came of a script under many seeds.
+/// The outcomes of a script under many seeds.
 #[derive(Clone, Copy)]
 pub struct Survey {
     /// Those whose run is finished.
@@ -97,7 +97,7 @@ pub fn no_survey() -> Survey
     }
 }
 
-/// Counts what came of one more seed, the one after those that were counted.
+/// Counts the outcome of one more seed, the one after those that were counted.
 pub fn with_outcome(survey: Survey, seed: u64, outcome: SeedOutcome) -> Survey
     requires { (first : ℕ) × (outcomes : List SeedOutcome) × Tallies first outcomes survey × (first + length outcomes ≡ seed) }
     ensures { (first : ℕ) (outcomes : List SeedOutcome) → Tallies first outcomes survey → first + length outcomes ≡ seed

@@ -1,4 +1,5 @@
 //! The forms of lines.
+// Each line that is checked comes here, so `let .. else` and `match`, which are cheaper to prove, replace `?`.
 ghost use Rattle.std.specs.Prelude.{◌≡◌, ◌++◌, ℕ, List, Some, None, MatchOption, drop};
 ghost use Rattle.ra_trace.specs.Forms as spec;
 

@@ -33,17 +33,17 @@ spells (byte ∷ bytes) letter number choice some value at is =
     ∙ ap (λ (l : ℕ). choice_with l number) (sym at)
     ∙ with_it (is_decimal bytes) (decimal_value bytes) number (choice_with byte) (subst (λ (digits : List ℕ). Some number ≡ decimal_of digits) (tail_is byte bytes) value)
 
-pub returns-in_default-decimal_of : goal.returns-in_default-decimal_of
-returns-in_default-decimal_of c = no_number c.args.word.now c.in-len1-up.len_at_least c.in_default-decimal_of.ensures
+pub returns-in_err-number : goal.returns-in_err-number
+returns-in_err-number c = c.from_residual.ensures ∙ no_number c.args.word.now c.in-len1-up.len_at_least c.in_err-number.ensures
 
 pub returns-in-99 : goal.returns-in-99
 returns-in-99 c =
-    spells c.args.word.now 99 c.in-Some.number (Client c.in-Some.number) c.in-len1-up.len_at_least c.in-Some.ensures c.in-99.is refl
+    spells c.args.word.now 99 c.in_ok-number.number (Client c.in_ok-number.number) c.in-len1-up.len_at_least c.in_ok-number.ensures c.in-99.is refl
 
 pub returns-in-109 : goal.returns-in-109
 returns-in-109 c =
-    spells c.args.word.now 109 c.in-Some.number (Message c.from.result) c.in-len1-up.len_at_least c.in-Some.ensures c.in-109.is (ap (λ (n : ℕ). Some (Message n)) (sym c.from.ensures))
+    spells c.args.word.now 109 c.in_ok-number.number (Message c.from.result) c.in-len1-up.len_at_least c.in_ok-number.ensures c.in-109.is (ap (λ (n : ℕ). Some (Message n)) (sym c.from.ensures))
 
 pub returns-in-108 : goal.returns-in-108
 returns-in-108 c =
-    spells c.args.word.now 108 c.in-Some.number (Lost c.from-in-108.result) c.in-len1-up.len_at_least c.in-Some.ensures c.in-108.is (ap (λ (n : ℕ). Some (Lost n)) (sym c.from-in-108.ensures))
+    spells c.args.word.now 108 c.in_ok-number.number (Lost c.from-in-108.result) c.in-len1-up.len_at_least c.in_ok-number.ensures c.in-108.is (ap (λ (n : ℕ). Some (Lost n)) (sym c.from-in-108.ensures))
